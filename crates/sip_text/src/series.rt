@@ -1,10 +1,10 @@
 //! A list of values.
-ghost use Rattle.std.specs.Prelude.{◌≡◌, ◌++◌, ◌∷◌, [], ◌==◌, length, IfOk, IfErr, OnErr, OnOk};
+ghost use Rattle.std.specs.Prelude.{◌≡◌, ◌++◌, ◌∷◌, [], ◌==◌, length, OnErr, OnOk};
 ghost use Rattle.std.specs.Option.{option_copied};
 ghost use Rattle.std.specs.List.{slice_get};
 ghost use Rattle.std.specs.Cmp.Lexicographic.{pointwise, lists_per, lists_equiv};
 
-use std::alloc::{AllocError, AllocFailed, Global};
+use std::alloc::{AllocError, Global};
 use std::marker::Model;
 
 /// Values in order. A contract sees it as their list.
@@ -71,13 +71,15 @@ impl<T> Series<T> {
         self.values.as_slice().first()
     }
 
-    /// Adds a value at its end. Where there is no memory the value comes back.
-    pub fn push(&mut self, value: T) -> Result<(), AllocFailed<T>>
+    /// Adds a value at its end. Without memory the list stays as it is, and the value is gone.
+    pub fn push(&mut self, value: T) -> Result<(), AllocError>
+    where
+        T: Drop,
         ensures ok { OnOk result (self.new ≡ self.old ++ value ∷ []) }
         ensures err { OnErr result (self.new ≡ self.old) }
-        ensures value_returned { IfErr result (λ e. e.value ≡ value) }
     {
-        self.values.push(value)
+        self.values.push(value)?;
+        Ok(())
     }
 }
 

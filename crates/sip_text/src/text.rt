@@ -36,7 +36,7 @@ impl Text {
     }
 
     /// A copy of these bytes.
-    pub fn from_slice(alloc: Global, bytes: &[u8]) -> Result<Text, AllocError>
+    pub fn copy_of(alloc: Global, bytes: &[u8]) -> Result<Text, AllocError>
         ensures { IfOk result (λ text. text ≡ bytes.now) }
     {
         Ok(Text {
