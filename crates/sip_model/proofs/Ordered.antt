@@ -1,18 +1,22 @@
 -- Lists of keys in order, and look-ups among entries whose keys are in order.
-use Rattle.std.proofs.Common.{◌≡◌, ℕ, Bool, true, false, cond, ◌||◌, List, [], ◌∷◌, ◌++◌, length, refl, sym, ◌∙◌, ap, subst, rules, arith, append_assoc}
-use Rattle.std.specs.Prelude.{Option, None, Some, is_some, IsSome, filter}
+use Rattle.std.proofs.Common.{◌≡◌, Bool, true, false, cond, ◌||◌, List, [], ◌∷◌, ◌++◌, refl, sym, ◌∙◌, ap}
+use Rattle.std.specs.Prelude.{None, Some, is_some, filter}
 use Rattle.std.specs.declared.cmp.Ordering.{Ordering}
 use Rattle.std.specs.declared.cmp.Ordering.TheVariants.{Less, Equal, Greater}
-use Rattle.std.specs.Ordering.{is_eq, ordering_reverse, eq_by_cmp}
+use Rattle.std.specs.Ordering.{is_eq, ordering_reverse}
 use Rattle.std.specs.Cmp.{IsTotalOrder}
 use Rattle.std.specs.BTreeMap.{is_at}
 use Rattle.std.specs.Map.{lookup, keys_of}
-use Rattle.std.specs.List.{flat_map, list_any, AllByRecursion}
+use Rattle.std.specs.List.{flat_map, list_any, AllByRecursion, AllZip}
 use Rattle.std.specs.List.Sorted.{IsStrictlySortedBy}
 use Rattle.std.proofs.lemmas.Map.Keys.{sorted_head, sorted_tail}
 use Rattle.std.proofs.lemmas.Map.Lookups.{CmpEqualImpliesEq}
-use Rattle.std.proofs.lemmas.Cmp.{tied_itself, tied_back}
+use Rattle.std.proofs.lemmas.Cmp.{tied_itself}
 use Rattle.std.proofs.lemmas.Bool.{false≢true}
+
+pub ordered_nil : {K : Type 0} (cmp : K → K → Ordering) → IsStrictlySortedBy cmp []
+unfolding IsStrictlySortedBy
+ordered_nil cmp = tt
 
 -- the three answers of a comparison
 pub by_ordering : {G : Type 0} (o : Ordering) → (o ≡ Less → G) → (o ≡ Equal → G) → (o ≡ Greater → G) → G
@@ -90,46 +94,46 @@ module _ {K : Type 0} {cmp : K → K → Ordering} (total : IsTotalOrder cmp) wh
   below_all x k ks less below = (less, all_both (λ y p q. total.trans x k y less p) ks below below)
 
   -- what a test keeps of keys in order is the keys in order that pass it
-  pub filter_is : (p : K → Bool) (keys held : List K) → IsStrictlySortedBy cmp keys → IsStrictlySortedBy cmp held → CmpEqualImpliesEq cmp
-      → AllByRecursion (λ k. p k ≡ list_any (is_at (cmp k)) held) keys → AllByRecursion (λ h. list_any (is_at (cmp h)) keys ≡ true) held → filter p keys ≡ held
-  filter_is p [] [] keys_ordered held_ordered exact passes among = refl
-  filter_is p [] (h ∷ hs) keys_ordered held_ordered exact passes among = absurd (false≢true among.0)
-  filter_is p (k ∷ ks) [] keys_ordered held_ordered exact passes among =
-      rw (passes.0) (filter_is p ks [] (sorted_tail cmp k ks keys_ordered) held_ordered exact passes.1 among)
-  filter_is p (k ∷ ks) (h ∷ hs) keys_ordered held_ordered exact passes among =
+  pub filter_tied : (p : K → Bool) (keys held : List K) → IsStrictlySortedBy cmp keys → IsStrictlySortedBy cmp held
+      → AllByRecursion (λ k. p k ≡ list_any (is_at (cmp k)) held) keys → AllByRecursion (λ h. list_any (is_at (cmp h)) keys ≡ true) held → AllZip (λ k h. cmp k h ≡ Equal) (filter p keys) held
+  filter_tied p [] [] keys_ordered held_ordered passes among = tt
+  filter_tied p [] (h ∷ hs) keys_ordered held_ordered passes among = absurd (false≢true among.0)
+  filter_tied p (k ∷ ks) [] keys_ordered held_ordered passes among =
+      rw (passes.0) (filter_tied p ks [] (sorted_tail cmp k ks keys_ordered) held_ordered passes.1 among)
+  filter_tied p (k ∷ ks) (h ∷ hs) keys_ordered held_ordered passes among =
       let above_k : AllByRecursion (λ y. cmp k y ≡ Less) ks = sorted_head cmp k ks keys_ordered in
       let above_h : AllByRecursion (λ y. cmp h y ≡ Less) hs = sorted_head cmp h hs held_ordered in
       let ks_ordered : IsStrictlySortedBy cmp ks = sorted_tail cmp k ks keys_ordered in
       let hs_ordered : IsStrictlySortedBy cmp hs = sorted_tail cmp h hs held_ordered in
       by_ordering (cmp k h)
       (λ less.
-        let apart : list_any (is_at (cmp k)) (h ∷ hs) ≡ false = none_below k (h ∷ hs) (below_all k h hs less above_h) in
-        let drops : p k ≡ false = passes.0 ∙ apart in
-        let later : AllByRecursion (λ x. list_any (is_at (cmp x)) ks ≡ true) (h ∷ hs) =
-            all_both (λ x lower found. sym (ap (λ b. b || list_any (is_at (cmp x)) ks) (not_at_lower k x lower)) ∙ found) (h ∷ hs) (below_all k h hs less above_h) among in
-        rw drops (filter_is p ks (h ∷ hs) ks_ordered held_ordered exact passes.1 later))
+      let apart : list_any (is_at (cmp k)) (h ∷ hs) ≡ false = none_below k (h ∷ hs) (below_all k h hs less above_h) in
+      let drops : p k ≡ false = passes.0 ∙ apart in
+      let later : AllByRecursion (λ x. list_any (is_at (cmp x)) ks ≡ true) (h ∷ hs) =
+      all_both (λ x lower found. sym (ap (λ b. b || list_any (is_at (cmp x)) ks) (not_at_lower k x lower)) ∙ found) (h ∷ hs) (below_all k h hs less above_h) among in
+      rw drops (filter_tied p ks (h ∷ hs) ks_ordered held_ordered passes.1 later))
       (λ equal.
-        let same : k ≡ h = exact k h equal in
-        let keeps : p k ≡ true = passes.0 ∙ ap (λ o. is_eq o || list_any (is_at (cmp k)) hs) equal in
-        let above : AllByRecursion (λ y. cmp h y ≡ Less) ks = subst (λ x. AllByRecursion (λ y. cmp x y ≡ Less) ks) same above_k in
-        let below : AllByRecursion (λ y. cmp k y ≡ Less) hs = subst (λ x. AllByRecursion (λ y. cmp x y ≡ Less) hs) (sym same) above_h in
-        let tests : AllByRecursion (λ q. p q ≡ list_any (is_at (cmp q)) hs) ks =
-            all_both (λ q lower pass. pass ∙ ap (λ b. b || list_any (is_at (cmp q)) hs) (not_at_lower h q lower)) ks above passes.1 in
-        let found : AllByRecursion (λ x. list_any (is_at (cmp x)) ks ≡ true) hs =
-            all_both (λ x lower is. sym (ap (λ b. b || list_any (is_at (cmp x)) ks) (not_at_lower k x lower)) ∙ is) hs below among.1 in
-        rw keeps (ap (λ x. x ∷ filter p ks) same ∙ ap (λ rest. h ∷ rest) (filter_is p ks hs ks_ordered hs_ordered exact tests found)))
+      let keeps : p k ≡ true = passes.0 ∙ ap (λ o. is_eq o || list_any (is_at (cmp k)) hs) equal in
+      let above : AllByRecursion (λ y. cmp h y ≡ Less) ks = all_both (λ y lower again. sym (total.congr k h y equal) ∙ lower) ks above_k above_k in
+      let below : AllByRecursion (λ y. cmp k y ≡ Less) hs = all_both (λ y lower again. total.congr k h y equal ∙ lower) hs above_h above_h in
+      let tests : AllByRecursion (λ q. p q ≡ list_any (is_at (cmp q)) hs) ks =
+      all_both (λ q lower pass. pass ∙ ap (λ b. b || list_any (is_at (cmp q)) hs) (not_at_lower h q lower)) ks above passes.1 in
+      let found : AllByRecursion (λ x. list_any (is_at (cmp x)) ks ≡ true) hs =
+      all_both (λ x lower is. sym (ap (λ b. b || list_any (is_at (cmp x)) ks) (not_at_lower k x lower)) ∙ is) hs below among.1 in
+      rw keeps (equal, filter_tied p ks hs ks_ordered hs_ordered tests found))
       (λ greater.
-        let less : cmp h k ≡ Less = total.antisymm h k ∙ ap ordering_reverse greater in
-        absurd (false≢true (sym (none_below h (k ∷ ks) (below_all h k ks less above_k)) ∙ among.0)))
+      let less : cmp h k ≡ Less = total.antisymm h k ∙ ap ordering_reverse greater in
+      absurd (false≢true (sym (none_below h (k ∷ ks) (below_all h k ks less above_k)) ∙ among.0)))
 
   -- each entry is what a look-up finds
   pub found_entries : {S : Type 0} (es : List (K × S)) → IsStrictlySortedBy cmp (keys_of es) → AllByRecursion (λ (e : K × S). lookup (is_at (cmp e.0)) es ≡ Some e.1) es
   found_entries [] ordered = tt
   found_entries {S} (e ∷ es) ordered =
       let tail : AllByRecursion (λ (f : K × S). lookup (is_at (cmp f.0)) es ≡ Some f.1) es = found_entries es (sorted_tail cmp e.0 (keys_of es) ordered) in
-      let above : AllByRecursion (λ (f : K × S). cmp e.0 f.0 ≡ Less) es = all_entries (λ k. cmp e.0 k ≡ Less) es (sorted_head cmp e.0 (keys_of es) ordered) in
-      (ap (λ b. cond b (Some e.1) (lookup (is_at (cmp e.0)) es)) (is_at_itself e.0)
-      , all_both (λ f lower found. ap (λ b. cond b (Some e.1) (lookup (is_at (cmp f.0)) es)) (not_at_lower e.0 f.0 lower) ∙ found) es above tail)
+      let above : AllByRecursion (λ (f : K × S). cmp e.0 f.0 ≡ Less) es = all_entries (λ k. cmp e.0 k ≡ Less) es (sorted_head cmp e.0 (keys_of es) ordered) in (
+        ap (λ b. cond b (Some e.1) (lookup (is_at (cmp e.0)) es)) (is_at_itself e.0),
+        all_both (λ f lower found. ap (λ b. cond b (Some e.1) (lookup (is_at (cmp f.0)) es)) (not_at_lower e.0 f.0 lower) ∙ found) es above tail,
+      )
 
   -- a key is found where it is among the keys
   pub is_some-lookup : {S : Type 0} (q : K) (es : List (K × S)) → is_some (lookup (is_at (cmp q)) es) ≡ list_any (is_at (cmp q)) (keys_of es)

@@ -1,18 +1,17 @@
 -- One tick of every held key: what has been said and kept so far, and what is left.
-use Rattle.std.proofs.Common.{◌≡◌, Bool, true, false, cond, List, [], ◌∷◌, ◌++◌, refl, sym, ◌∙◌, ap, subst, append_assoc, append-nil}
+use Rattle.std.proofs.Common.{◌≡◌, true, false, cond, List, [], ◌∷◌, ◌++◌, refl, sym, ◌∙◌, ap, subst, append_assoc, append-nil}
 use Rattle.std.specs.Prelude.{Option, None, Some, is_some, IsSome}
 use Rattle.std.specs.declared.cmp.Ordering.{Ordering}
 use Rattle.std.specs.Cmp.{IsTotalOrder}
 use Rattle.std.specs.BTreeMap.{is_at}
 use Rattle.std.specs.Map.{lookup, keys_of}
-use Rattle.std.specs.List.{flat_map, list_any, AllByRecursion}
+use Rattle.std.specs.List.{flat_map}
 use Rattle.std.specs.List.Sorted.{IsStrictlySortedBy}
-use Rattle.std.specs.Ordering.{is_eq}
 use Rattle.std.proofs.lemmas.Map.Keys.{sorted_head, sorted_tail}
 use Rattle.std.proofs.lemmas.Map.Lookups.{CmpEqualImpliesEq}
 use Rattle.std.proofs.lemmas.Bool.{false≢true}
 use Rattle.sip_model.specs.Machine.{Machine, IsQuiet}
-use Rattle.sip_model.specs.Table.{Covers, StepsAll, state_at}
+use Rattle.sip_model.specs.Table.{StepsAll}
 use Rattle.sip_model.proofs.Ordered.{by_bool, is_at_back, lookup_below, exact_at}
 use Rattle.sip_model.proofs.Held.{flat_map-covered}
 
@@ -58,13 +57,13 @@ module _ {K S I O : Type 0} {cmp : K → K → Ordering} (total : IsTotalOrder c
         apart = λ q found. by_bool (is_at (cmp k) q)
             (λ hit. absurd (none_is_not_some (here q rest) (missing q hit) found))
             (λ miss. keeps q ∙ ap (λ b. cond b new (here q kept)) miss
-              ∙ left.apart q (subst IsSome (sym (ap (λ b. cond b (Some s) (here q rest)) (is_at_back total k q false miss))) found));
+            ∙ left.apart q (subst IsSome (sym (ap (λ b. cond b (Some s) (here q rest)) (is_at_back total k q false miss))) found));
         states = λ q. by_bool (is_at (cmp k) q)
             (λ hit. ap (then' q (here q after)) (missing q hit) ∙ keeps q ∙ ap (λ b. cond b new (here q kept)) hit ∙ is_new
-              ∙ ap (λ x. machine.next x (Some s) input) (exact_at total exact k q hit)
-              ∙ sym (ap (λ b. then' q (here q kept) (cond b (Some s) (here q rest))) (is_at_back total k q true hit)) ∙ left.states q)
+            ∙ ap (λ x. machine.next x (Some s) input) (exact_at total exact k q hit)
+            ∙ sym (ap (λ b. then' q (here q kept) (cond b (Some s) (here q rest))) (is_at_back total k q true hit)) ∙ left.states q)
             (λ miss. ap (λ o. then' q o (here q rest)) (keeps q ∙ ap (λ b. cond b new (here q kept)) miss)
-              ∙ sym (ap (λ b. then' q (here q kept) (cond b (Some s) (here q rest))) (is_at_back total k q false miss)) ∙ left.states q);
+            ∙ sym (ap (λ b. then' q (here q kept) (cond b (Some s) (here q rest))) (is_at_back total k q false miss)) ∙ left.states q);
         said = append_assoc outputs more (said_by cmp machine input rest) ∙ ap (λ m. outputs ++ (m ++ said_by cmp machine input rest)) is_more ∙ left.said;
       }
 
@@ -80,7 +79,7 @@ module _ {K S I O : Type 0} {cmp : K → K → Ordering} (total : IsTotalOrder c
   tick_left_at_end all kept outputs ordered quiet left = record {
     sound = refl;
     states = λ q. left.states q ∙ next_of q (find cmp machine input q all);
-    added = λ keys covers. sym (append-nil outputs) ∙ left.said ∙ flat_map-covered total exact all ordered (λ k s. machine.adds k s input) quiet.silent keys covers;
+    added = λ keys covers. sym (append-nil outputs) ∙ left.said ∙ flat_map-covered total all ordered exact (λ k s. machine.adds k s input) quiet.silent keys covers;
   } where
     next_of : (q : K) (found : Option S) → state_then cmp machine input q None found ≡ machine.next q found input
     next_of q None = sym (quiet.stays q)

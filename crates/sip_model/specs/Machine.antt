@@ -1,5 +1,5 @@
 -- A machine of each key, and its fold over the key's own inputs.
-use Rattle.std.specs.Prelude.{◌≡◌, List, [], ◌∷◌, ◌++◌, Option, None}
+use Rattle.std.specs.Prelude.{◌≡◌, List, [], ◌∷◌, Option, None}
 
 -- one step of each key's machine, from a state or from none: the state after it, and the outputs that it adds
 pub record Machine (K S I O : Type 0) : Type 0 where

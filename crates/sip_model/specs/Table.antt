@@ -1,5 +1,5 @@
 -- What a table of held keys shows: its entries in key order, or `None` once it is broken.
-use Rattle.std.specs.Prelude.{◌≡◌, ℕ, Bool, true, List, [], ◌∷◌, length, Option, None, Some, IsSome, is_some, cond, count_by}
+use Rattle.std.specs.Prelude.{◌≡◌, true, List, [], Option, None, Some, IsSome, cond}
 use Rattle.std.specs.declared.cmp.Ordering.{Ordering}
 use Rattle.std.specs.BTreeMap.{is_at}
 use Rattle.std.specs.Map.{lookup}

@@ -9,8 +9,11 @@ use std::alloc::{AllocError, Global};
 /// A machine for each key, as code over one key's state.
 pub trait StateMachine {
     type Key: Ord + Drop;
+
     type State: Drop;
+
     type Input: Drop;
+
     type Output: Drop;
 
     /// The machine that `step` computes.

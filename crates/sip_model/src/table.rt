@@ -1,19 +1,18 @@
 //! The table of the held keys.
 
-ghost use Rattle.std.specs.Prelude.{◌≡◌, ℕ, List, Option, Some, None, [], IfOk, OnOk, OnErr, cond, length, true};
+ghost use Rattle.std.specs.Prelude.{◌≡◌, ℕ, List, Option, Some, None, [], IfOk, OnOk, OnErr, cond, length, true, count_by, is_some};
 ghost use Rattle.std.specs.Option.{option_copied};
 ghost use Rattle.std.specs.BTreeMap.{get, is_at, BTreeMap};
 ghost use Rattle.std.specs.List.{flat_map};
 ghost use Rattle.sip_model.specs.Machine.{Machine};
-ghost use Rattle.sip_model.specs.Table.{Held, state_at, entries_of, StepsKey, StepsAll};
+ghost use Rattle.sip_model.specs.Table.{Held, state_at, entries_of, Covers, StepsKey, StepsAll};
 ghost use Rattle.sip_model.specs.History.{AddsInput, AddsInputs};
-
-use std::alloc::{AllocError, Global};
-use std::collections::BTreeMap;
-use std::marker::Model;
 
 use crate::fault::ShardFault;
 use crate::machine::StateMachine;
+use std::alloc::{AllocError, Global};
+use std::collections::BTreeMap;
+use std::marker::Model;
 
 /// The keys whose machine holds a state, with those states.
 ///
@@ -47,7 +46,8 @@ impl<K: Ord + Drop, S: Drop> Table<K, S> {
 
     /// How many keys are held.
     pub fn live(&self) -> usize
-        ensures { result ≡ length (entries_of self.now) }
+        ensures entries { result ≡ length (entries_of self.now) }
+        ensures counts { (keys : List K) → Covers K.cmp keys (state_at K.cmp self.now) → result ≡ count_by (λ key. is_some (state_at K.cmp self.now key)) keys }
     {
         match &self.held {
             None => 0,
@@ -74,6 +74,7 @@ impl<K: Ord + Drop, S: Drop> Table<K, S> {
         ensures only_broken { result ≡ Err ShardFault.Broken → self.old ≡ None }
         ensures err { OnErr result (self.new ≡ None) }
         ensures step { IfOk result (λ outputs. StepsKey K.cmp (M.machine machine.now) self.old self.new key input outputs.items) }
+        ensures histories { IfOk result (λ outputs. AddsInput K.cmp (M.machine machine.now) self.old self.new key input outputs.items) }
     {
         let mut held = self.held.take().ok_or(ShardFault::Broken)?;
         let outputs = step_key(self.alloc, machine, &mut held, key, input)?;
@@ -92,6 +93,7 @@ impl<K: Ord + Drop, S: Drop> Table<K, S> {
         ensures only_broken { result ≡ Err ShardFault.Broken → self.old ≡ None }
         ensures err { OnErr result (self.new ≡ None) }
         ensures step { IfOk result (λ outputs. StepsAll K.cmp (M.machine machine.now) self.old self.new (M.tick now) outputs.items) }
+        ensures histories { IfOk result (λ outputs. AddsInputs K.cmp (M.machine machine.now) self.old self.new (M.tick now) outputs.items) }
     {
         let held = self.held.take().ok_or(ShardFault::Broken)?;
         let (held, outputs) = step_all(self.alloc, machine, held, now)?;

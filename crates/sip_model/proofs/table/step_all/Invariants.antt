@@ -1,4 +1,3 @@
-use Rattle.std.proofs.Common.{◌≡◌}
 use Rattle.sip_model.proofs.Tick.{TickLeft}
 use Rattle.sip_model.proofs.table.step_all.Given as goal
 
