@@ -1,0 +1,4 @@
+pub mod Held
+pub mod History
+pub mod Ordered
+pub mod Tick
