@@ -1,0 +1,15 @@
+-- The value of a parameter (RFC 3261, section 7.3.1).
+use Rattle.std.specs.Prelude.{ℕ, Bool, not, ◌&&◌, ◌||◌, ◌==◌, List, codes}
+use Rattle.std.specs.List.{list_any}
+use Rattle.sip_text.specs.Character.{is_blank, is_line_byte}
+use Rattle.sip_text.specs.Token.{is_run}
+use Rattle.sip_message.specs.Quoted.{is_quoted}
+
+unfoldable pub is_value_byte : ℕ → Bool
+is_value_byte b = not (is_blank b) && not (is_line_byte b) && not (list_any (λ c. c == b) (codes ";,<>\""))
+
+unfoldable pub is_value_word : List ℕ → Bool
+is_value_word text = is_run is_value_byte text
+
+unfoldable pub is_parameter_value : List ℕ → Bool
+is_parameter_value text = is_quoted text || is_value_word text
