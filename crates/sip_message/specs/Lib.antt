@@ -17,3 +17,4 @@ pub mod Via
 pub mod Party
 pub mod Message
 pub mod Key
+pub mod Written

@@ -33,6 +33,7 @@ mod uri;
 mod via;
 mod vias;
 mod word;
+mod writer;
 
 pub use addr::{Addr, ip_text};
 pub use call_id::CallId;
@@ -63,3 +64,4 @@ pub use token::Token;
 pub use uri::Uri;
 pub use via::Via;
 pub use vias::Vias;
+pub use writer::write;
