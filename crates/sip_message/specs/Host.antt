@@ -1,15 +1,15 @@
 -- The host of a Via (RFC 3261, section 20.42): a name, an IPv4 address, or a text in brackets.
-use Rattle.std.specs.Prelude.{ℕ, Bool, true, false, not, ◌&&◌, ◌==◌, List, [], ◌∷◌, codes, if◌then◌else◌, Option, Some, None}
-use Rattle.std.specs.List.{list_any, list_all}
-use Rattle.sip_text.specs.Character.{is_blank, is_line_byte}
+use Rattle.std.specs.Prelude.{ℕ, Bool, true, false, not, ◌==◌, List, [], ◌∷◌, codes, if◌then◌else◌, Option, Some, None}
+use Rattle.std.specs.List.{list_all}
+use Rattle.sip_text.specs.Character.{is_among}
 use Rattle.sip_text.specs.Cut.{cut_at}
 
 unfoldable pub is_host_byte : ℕ → Bool
-is_host_byte b = not (is_blank b) && not (is_line_byte b) && not (list_any (λ c. c == b) (codes ":;,[\"<>"))
+is_host_byte b = not (is_among (codes " \t\r\n:;,[\"<>") b)
 
 -- a byte between brackets
 unfoldable pub is_bracket_byte : ℕ → Bool
-is_bracket_byte b = not (is_blank b) && not (is_line_byte b) && not (list_any (λ c. c == b) (codes ",;]\"<>"))
+is_bracket_byte b = not (is_among (codes " \t\r\n,;]\"<>") b)
 
 abbrev pub is_closed : Option (List ℕ × List ℕ) → Bool
 is_closed None = false

@@ -17,3 +17,8 @@ pub mod Via
 pub mod Party
 pub mod Message
 pub mod Key
+pub mod Written
+pub mod TopVia
+pub mod MessageKey
+pub mod Response
+pub mod Source

@@ -1,12 +1,11 @@
 -- The value of a parameter (RFC 3261, section 7.3.1).
-use Rattle.std.specs.Prelude.{ℕ, Bool, not, ◌&&◌, ◌||◌, ◌==◌, List, codes}
-use Rattle.std.specs.List.{list_any}
-use Rattle.sip_text.specs.Character.{is_blank, is_line_byte}
+use Rattle.std.specs.Prelude.{ℕ, Bool, not, ◌||◌, List, codes}
+use Rattle.sip_text.specs.Character.{is_among}
 use Rattle.sip_text.specs.Token.{is_run}
 use Rattle.sip_message.specs.Quoted.{is_quoted}
 
 unfoldable pub is_value_byte : ℕ → Bool
-is_value_byte b = not (is_blank b) && not (is_line_byte b) && not (list_any (λ c. c == b) (codes ";,<>\""))
+is_value_byte b = not (is_among (codes " \t\r\n;,<>\"") b)
 
 unfoldable pub is_value_word : List ℕ → Bool
 is_value_word text = is_run is_value_byte text

@@ -1,5 +1,6 @@
 //! Addresses of the network.
-ghost use Rattle.std.specs.Prelude.{◌≡◌, ◌≤◌, ◌+◌, ◌++◌, decimal};
+ghost use Rattle.std.specs.Prelude.{◌≡◌, ◌≤◌, ◌+◌, ◌++◌, decimal, IsTrue};
+ghost use Rattle.sip_message.specs.ParameterValue.{is_parameter_value};
 ghost use Rattle.arrayvec.specs.ArrayVec.{array_vec_len};
 ghost use Rattle.sip_message.specs.Ip.{ip_text};
 
@@ -24,7 +25,8 @@ impl fmt::Display for Addr {
 
 /// The IP address as four decimal numbers with dots between them. Takes no memory.
 pub fn ip_text(ip: [u8; 4]) -> ArrayVec<u8, 15>
-    ensures { result.items ≡ ip_text ip }
+    ensures value { result.items ≡ ip_text ip }
+    ensures rule { IsTrue (is_parameter_value result.items) }
 {
     let [a, b, c, d] = ip;
     let mut text = ArrayVec::new();

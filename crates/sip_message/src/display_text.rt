@@ -8,7 +8,7 @@ ghost use Rattle.std.specs.List.{list_all};
 
 use crate::header_value::has_no_blank_ends;
 use crate::quoted::is_quoted;
-use sip_text::{Text, is_line_byte};
+use sip_text::Text;
 use std::alloc::AllocError;
 use std::marker::Model;
 
@@ -108,5 +108,5 @@ fn each_is_display_text_byte(text: &[u8]) -> bool
 fn is_display_text_byte(byte: u8) -> bool
     ensures { result ≡ rule.is_display_text_byte byte }
 {
-    !is_line_byte(byte) && !matches!(byte, b'<' | b'>' | b'"' | b',')
+    !matches!(byte, b'\r' | b'\n' | b'<' | b'>' | b'"' | b',')
 }

@@ -6,7 +6,7 @@ ghost use Rattle.std.specs.Cmp.Lexicographic.{pointwise, nat_list_eq_equiv};
 ghost use Rattle.sip_message.specs.Host as rule;
 ghost use Rattle.std.specs.List.{list_all};
 
-use sip_text::{Text, cut, is_blank, is_line_byte};
+use sip_text::{Text, cut};
 use std::alloc::AllocError;
 use std::marker::Model;
 
@@ -118,9 +118,10 @@ fn each_is_bracket_byte(text: &[u8]) -> bool
 fn is_bracket_byte(byte: u8) -> bool
     ensures { result ≡ rule.is_bracket_byte byte }
 {
-    !is_blank(byte)
-        && !is_line_byte(byte)
-        && !matches!(byte, b',' | b';' | b']' | b'"' | b'<' | b'>')
+    !matches!(
+        byte,
+        b' ' | b'\t' | b'\r' | b'\n' | b',' | b';' | b']' | b'"' | b'<' | b'>'
+    )
 }
 
 fn each_is_host_byte(text: &[u8]) -> bool
@@ -133,7 +134,8 @@ fn each_is_host_byte(text: &[u8]) -> bool
 fn is_host_byte(byte: u8) -> bool
     ensures { result ≡ rule.is_host_byte byte }
 {
-    !is_blank(byte)
-        && !is_line_byte(byte)
-        && !matches!(byte, b':' | b';' | b',' | b'[' | b'"' | b'<' | b'>')
+    !matches!(
+        byte,
+        b' ' | b'\t' | b'\r' | b'\n' | b':' | b';' | b',' | b'[' | b'"' | b'<' | b'>'
+    )
 }

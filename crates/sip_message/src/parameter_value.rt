@@ -7,7 +7,7 @@ ghost use Rattle.sip_message.specs.ParameterValue as rule;
 ghost use Rattle.std.specs.List.{list_all};
 
 use crate::quoted::is_quoted;
-use sip_text::{Text, is_blank, is_line_byte};
+use sip_text::Text;
 use std::alloc::AllocError;
 use std::marker::Model;
 
@@ -117,5 +117,8 @@ fn each_is_value_byte(text: &[u8]) -> bool
 pub(crate) fn is_value_byte(byte: u8) -> bool
     ensures { result ≡ rule.is_value_byte byte }
 {
-    !is_blank(byte) && !is_line_byte(byte) && !matches!(byte, b';' | b',' | b'<' | b'>' | b'"')
+    !matches!(
+        byte,
+        b' ' | b'\t' | b'\r' | b'\n' | b';' | b',' | b'<' | b'>' | b'"'
+    )
 }

@@ -54,6 +54,13 @@ impl PartyParameters {
         self.parameters.as_slice()
     }
 
+    /// The parameters as a plain list. Takes no memory.
+    pub fn into_series(self) -> Series<Parameter>
+        ensures { result ≡ self }
+    {
+        self.parameters
+    }
+
     /// The tag: empty where there is none.
     pub fn tag(&self) -> &[u8]
         ensures { result.now ≡ tags.tag_in self.now }

@@ -6,7 +6,7 @@ ghost use Rattle.std.specs.Cmp.Lexicographic.{pointwise, nat_list_eq_equiv};
 ghost use Rattle.sip_message.specs.Uri as rule;
 ghost use Rattle.std.specs.List.{list_all};
 
-use sip_text::{Text, is_blank, is_line_byte};
+use sip_text::Text;
 use std::alloc::AllocError;
 use std::marker::Model;
 
@@ -108,5 +108,5 @@ fn each_is_uri_byte(text: &[u8]) -> bool
 pub(crate) fn is_uri_byte(byte: u8) -> bool
     ensures { result ≡ rule.is_uri_byte byte }
 {
-    !is_blank(byte) && !is_line_byte(byte) && !matches!(byte, b'<' | b'>' | b'"')
+    !matches!(byte, b' ' | b'\t' | b'\r' | b'\n' | b'<' | b'>' | b'"')
 }

@@ -3,8 +3,6 @@ ghost use Rattle.std.specs.Prelude.{◌≡◌};
 ghost use Rattle.std.specs.List.{list_all};
 ghost use Rattle.sip_message.specs.Word as rule;
 
-use sip_text::{is_blank, is_line_byte};
-
 /// Whether the text is one or more bytes without spaces, tabs and line ends.
 #[tactic(auto, unfolding(crate::specs::Word::is_word))]
 pub(crate) fn is_word(text: &[u8]) -> bool
@@ -26,5 +24,5 @@ fn each_is_word_byte(text: &[u8]) -> bool
 fn is_word_byte(byte: u8) -> bool
     ensures { result ≡ rule.is_word_byte byte }
 {
-    !is_blank(byte) && !is_line_byte(byte)
+    !matches!(byte, b' ' | b'\t' | b'\r' | b'\n')
 }
