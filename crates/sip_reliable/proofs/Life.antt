@@ -1,11 +1,11 @@
 -- What one happening more does to the ledger that is read from all that happened.
-use Rattle.std.proofs.Common.{◌≡◌, ℕ, zero, suc, ◌+◌, ◌*◌, ◌^◌, ◌≤◌, ◌<◌, ◌==◌, nat_le, nat_eq, not, ◌||◌, Bool, true, false, cond, List, [], ◌∷◌, ◌++◌, length, map, filter, count_by, fold, Option, Some, None, refl, sym, ap, subst, ◌∙◌, append-nil, arith, add-one, add-zero}
+use Rattle.std.proofs.Common.{◌≡◌, ℕ, ◌+◌, ◌*◌, ◌==◌, not, ◌||◌, Bool, true, false, cond, List, [], ◌∷◌, ◌++◌, map, filter, count_by, fold, Option, Some, None, refl, sym, ap, ◌∙◌, arith, add-one, add-zero}
 use Rattle.std.specs.List.{list_any}
 use Rattle.std.specs.Option.{option_map}
 use Rattle.std.proofs.Math.Bool.{or-false}
 use Rattle.std.proofs.Math.Nat.{two-pow-succ}
-use Rattle.sip_reliable.specs.Happening.{Happening, Sends, Repeats, GivesUp, Acknowledges, Closes, is_sending, is_repeat_of, is_acknowledgment_of, is_giving_up, is_closing}
-use Rattle.sip_reliable.specs.Ledger.{Ledger, Provisional, Retransmission, interval_after, last_moment, retransmission_after, sent_before, waiting_after, ledger_after, is_repeated, given_up, sent_again}
+use Rattle.sip_reliable.specs.Happening.{Happening, Sends, Repeats, GivesUp, Acknowledges, Closes, is_repeat_of, is_acknowledgment_of, is_giving_up}
+use Rattle.sip_reliable.specs.Ledger.{Provisional, Retransmission, interval_after, last_moment, retransmission_after, sent_before, waiting_after, given_up, sent_again}
 
 any_push : {X : Type 0} (p : X → Bool) (xs : List X) (x : X) → list_any p (xs ++ x ∷ []) ≡ (list_any p xs || p x)
 any_push p [] x = or-false (p x)

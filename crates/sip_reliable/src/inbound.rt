@@ -7,7 +7,7 @@ use std::marker::Model;
 /// Which reliable provisional responses of one early dialog a caller takes, by their RSeq numbers (RFC 3262 section 4).
 ///
 /// Contracts see it as the latest number taken.
-#[derive(Clone, Copy, Debug)]
+#[derive(Clone, Copy)]
 pub struct Inbound {
     latest: Option<u32>,
 }

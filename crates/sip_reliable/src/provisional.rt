@@ -7,7 +7,7 @@ use crate::Tick;
 const T1: u64 = 500;
 
 /// A reliable provisional response that waits for its PRACK.
-#[derive(Clone, Copy, Debug)]
+#[derive(Clone, Copy)]
 pub(crate) struct Provisional {
     pub(crate) number: u32,
     pub(crate) has_body: bool,
@@ -20,7 +20,7 @@ pub(crate) struct Provisional {
 }
 
 /// When a response is sent again, and the interval before it, both in ms.
-#[derive(Clone, Copy, Debug)]
+#[derive(Clone, Copy)]
 pub(crate) struct Retransmission {
     pub(crate) due: u64,
     pub(crate) interval: u64,

@@ -8,7 +8,7 @@ fn sends_again_until_it_is_given_up(rt: HostRuntime) {
     assert_eq!(rt; outbound.next_due(), Some(500));
     assert!(rt; !outbound.body_waits());
     for (now, tick) in [
-        (499, Tick::Nothing),
+        (499u32, Tick::Nothing),
         (500, Tick::Again),
         (1499, Tick::Nothing),
         (1500, Tick::Again),
@@ -22,7 +22,7 @@ fn sends_again_until_it_is_given_up(rt: HostRuntime) {
         (32_000, Tick::Nothing),
         (99_000, Tick::Nothing),
     ] {
-        assert_eq!(rt; outbound.tick(now), tick, "at {now}");
+        assert_eq!(rt; outbound.tick(u64::from(now)), tick, "at {now}");
     }
     assert_eq!(rt; outbound.next_due(), None);
     assert_eq!(rt; outbound.acknowledge(1), Ok(()));

@@ -1,4 +1,3 @@
-use Rattle.sip_reliable.specs.Ledger.{tick_answer, IsNextDue}
 use Rattle.sip_reliable.proofs.Ledgers.{next_is_earliest}
 use Rattle.sip_reliable.proofs.outbound.Outbound.next_due.Goals as goal
 
