@@ -1,5 +1,5 @@
 -- Lemmas on the entries of a queue: the earliest moment, and what `take_due` gives and leaves.
-use Rattle.std.proofs.Common.{◌≡◌, ℕ, suc, ◌≤◌, ◌<◌, ◌++◌, Bool, true, false, cond, List, [], ◌∷◌, ◌⊎◌, inl, inr, Option, Some, None, refl, sym, ap, subst, append_assoc, All, ◌∙◌, arith, rules, min, filter, nat_le, nat_lt, IfSome, IfNone, is_some, length}
+use Rattle.std.proofs.Common.{◌≡◌, ℕ, suc, ◌≤◌, ◌<◌, ◌++◌, Bool, true, false, cond, List, [], ◌∷◌, ◌⊎◌, inl, inr, Option, Some, None, refl, sym, ap, subst, append_assoc, All, ◌∙◌, arith, min, filter, nat_le, nat_lt, IfSome, is_some}
 use Rattle.std.specs.List.{reduce, fold, list_any, slice_get, AllByRecursion}
 use Rattle.std.specs.List.Sorted.{IsStrictlySortedBy}
 use Rattle.std.specs.Cmp.{IsTotalOrder, eq_by_cmp_equiv}

@@ -1,4 +1,4 @@
-ghost use Rattle.std.specs.Prelude.{◌≡◌, ℕ, ◌≤◌, [], Some, None, All, min, if◌then◌else◌, OnOk, OnErr, IfOk, IfSome, IfNone};
+ghost use Rattle.std.specs.Prelude.{◌≡◌, ℕ, ◌≤◌, [], Some, None, All, min, nat_lt, if◌then◌else◌, OnOk, OnErr, IfOk, IfSome, IfNone};
 ghost use Rattle.std.specs.List.{reduce, list_any};
 ghost use Rattle.std.specs.BTreeMap.{is_at, insert_entry};
 ghost use Rattle.std.specs.Map.{keys_of, values_of, remove_entry};
@@ -97,7 +97,12 @@ impl<K: Ord + Clone + Drop> Queue<K> {
             → moment K.cmp self.new q ≡ if_later now (moment K.cmp self.old q)) }
     {
         let due = self.due(now)?;
-        self.moments.retain(|_, moment| *moment > now);
+        self.moments.retain(
+            |_, moment: &mut u64| -> bool
+                ensures answer { result ≡ nat_lt now moment.old }
+                ensures same { moment.new ≡ moment.old }
+            { *moment > now },
+        );
         Ok(due)
     }
 
@@ -115,3 +120,6 @@ impl<K: Ord + Clone + Drop> Queue<K> {
         Ok(keys)
     }
 }
+
+#[cfg(test)]
+mod tests;

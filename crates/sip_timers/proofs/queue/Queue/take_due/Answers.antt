@@ -1,4 +1,4 @@
-use Rattle.std.proofs.Common.{◌≡◌, ◌∙◌, ap, sym, refl, rules, nat_lt}
+use Rattle.std.proofs.Common.{◌≡◌, ◌∙◌, ap, sym, refl, nat_lt}
 use Rattle.std.specs.List.Sorted.{IsStrictlySortedBy}
 use Rattle.std.specs.Map.{keys_of}
 use Rattle.std.proofs.lemmas.Map.Entries.{filter_from_retain_pairs}
@@ -15,10 +15,10 @@ pub returns-clause-ok : goal.returns-clause-ok
 returns-clause-ok g c =
     filter_from_retain_pairs _ (λ f. f.0.now ≡ c.args.now) (λ e. nat_lt c.args.now e.1)
     (λ f k v b w f' i t.
-    let said = t.called.met.0.said-raw.1.1.1.1 in (
+    let said = t.called.met.1 in (
       said.0 ∙ ap (λ n. nat_lt n t.value.now) i ∙ ap (λ n. nat_lt c.args.now n) t.shows.1,
       sym t.leaves ∙ said.1 ∙ t.shows.1,
-      ap (λ x. x.now) t.called.met.1 ∙ i,
+      ap (λ x. x.now) t.called.met.0 ∙ i,
     ))
     _ c.self.inside.moments.entries c.retain.new.self.entries refl c.retain.ensures.filtered
     ∙ ap (later c.args.now) c.self.view_is
