@@ -1,5 +1,5 @@
 -- The tables of the four machines as lists of rows (RFC 3261 section 17, RFC 6026 section 7).
-use Rattle.std.specs.Prelude.{ℕ, Bool, true, false, ◌==◌, ◌&&◌, ◌+◌, List, [], ◌∷◌, Option, None, Some, option_map, find}
+use Rattle.std.specs.Prelude.{ℕ, Bool, ◌==◌, ◌&&◌, ◌+◌, List, [], ◌∷◌, Option, None, Some, option_map, find}
 use Rattle.std.specs.List.{list_any}
 use Rattle.sip_transactions.specs.declared.state.State.{State}
 use Rattle.sip_transactions.specs.declared.state.State.TheVariants.{Calling, Trying, Proceeding, Completed, Accepted, Confirmed}

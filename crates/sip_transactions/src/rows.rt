@@ -8,7 +8,7 @@ use crate::step::{Due, Handed, Next, Sent, Step};
 use crate::trigger::{Class, Trigger};
 
 /// How long the last response is kept to be sent again, in milliseconds: 64 times T1 (timer J).
-const KEPT_RESPONSE: u64 = 32_000;
+const KEPT_RESPONSE: u32 = 32_000;
 
 /// The row of a table that fits a state and a trigger. No state is `None`.
 pub fn step_of(role: Role, state: Option<State>, trigger: Trigger) -> Option<Step>
@@ -62,12 +62,14 @@ fn server_step(state: Option<State>, trigger: Trigger) -> Option<Step>
             sent: Sent::Nothing,
             due: Due::Clear,
         }),
-        (Some(State::Trying | State::Proceeding), Trigger::Answer(Class::Provisional)) => Some(Step {
-            next: Next::Become(State::Proceeding),
-            handed: Handed::Nothing,
-            sent: Sent::Given,
-            due: Due::Clear,
-        }),
+        (Some(State::Trying | State::Proceeding), Trigger::Answer(Class::Provisional)) => Some(
+            Step {
+                next: Next::Become(State::Proceeding),
+                handed: Handed::Nothing,
+                sent: Sent::Given,
+                due: Due::Clear,
+            },
+        ),
         (
             Some(State::Trying | State::Proceeding),
             Trigger::Answer(Class::Success | Class::Failure),
@@ -89,12 +91,14 @@ fn server_step(state: Option<State>, trigger: Trigger) -> Option<Step>
             sent: Sent::Nothing,
             due: Due::Clear,
         }),
-        (Some(State::Trying | State::Proceeding | State::Completed), Trigger::Failed) => Some(Step {
-            next: Next::Same,
-            handed: Handed::Failed,
-            sent: Sent::Nothing,
-            due: Due::Keep,
-        }),
+        (Some(State::Trying | State::Proceeding | State::Completed), Trigger::Failed) => Some(
+            Step {
+                next: Next::Same,
+                handed: Handed::Failed,
+                sent: Sent::Nothing,
+                due: Due::Keep,
+            },
+        ),
         _ => None,
     }
 }

@@ -1,7 +1,7 @@
 //! The states of a transaction, and which table it goes by.
 
 /// The state of a transaction that is held (RFC 3261 section 17, RFC 6026 section 7).
-#[derive(Clone, Copy, Debug)]
+#[derive(Clone, Copy, Debug, PartialEq, Eq)]
 pub enum State {
     /// An INVITE client that has no response.
     Calling,
@@ -18,7 +18,7 @@ pub enum State {
 }
 
 /// Which of the four tables a transaction goes by.
-#[derive(Clone, Copy, Debug)]
+#[derive(Clone, Copy)]
 pub enum Role {
     /// Sent an INVITE.
     InviteClient,

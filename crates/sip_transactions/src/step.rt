@@ -3,7 +3,7 @@
 use crate::state::State;
 
 /// The state after a row.
-#[derive(Clone, Copy, Debug)]
+#[derive(Clone, Copy)]
 pub enum Next {
     /// The state stays.
     Same,
@@ -14,7 +14,7 @@ pub enum Next {
 }
 
 /// What a row hands up.
-#[derive(Clone, Copy, Debug)]
+#[derive(Clone, Copy)]
 pub enum Handed {
     /// Nothing.
     Nothing,
@@ -29,7 +29,7 @@ pub enum Handed {
 }
 
 /// What a row sends.
-#[derive(Clone, Copy, Debug)]
+#[derive(Clone, Copy)]
 pub enum Sent {
     /// Nothing.
     Nothing,
@@ -40,18 +40,18 @@ pub enum Sent {
 }
 
 /// What a row does to the two due moments. All times are in milliseconds, from the moment of the input.
-#[derive(Clone, Copy, Debug)]
+#[derive(Clone, Copy)]
 pub enum Due {
     /// Both stay.
     Keep,
     /// Nothing is due any more.
     Clear,
     /// The end alone is due after this time.
-    Ending(u64),
+    Ending(u32),
 }
 
 /// What a row does.
-#[derive(Clone, Copy, Debug)]
+#[derive(Clone, Copy)]
 pub struct Step {
     pub next: Next,
     pub handed: Handed,

@@ -1,7 +1,14 @@
 //! What an input is to a transaction.
 
+ghost use Rattle.std.specs.Prelude.{◌≡◌, codes};
+ghost use Rattle.sip_transactions.specs.Input.{class_of, trigger_of, arrival_of, answer_of, tick_of, is_due, is_method};
+
+use crate::input::Input;
+use crate::life::Life;
+use sip_message::{Message, StartLine, StatusCode};
+
 /// The class of a response's status.
-#[derive(Clone, Copy, Debug)]
+#[derive(Clone, Copy)]
 pub enum Class {
     /// 100.
     Trying,
@@ -14,7 +21,7 @@ pub enum Class {
 }
 
 /// What an input is to a transaction, by which its row is chosen.
-#[derive(Clone, Copy, Debug)]
+#[derive(Clone, Copy)]
 pub enum Trigger {
     /// The user starts a client transaction.
     Start,
@@ -32,4 +39,75 @@ pub enum Trigger {
     Ack,
     /// The user answers with a response.
     Answer(Class),
+}
+
+/// The class of a status code.
+pub fn class_of(status: StatusCode) -> Class
+    ensures { result ≡ class_of status }
+{
+    match status.code() {
+        100 => Class::Trying,
+        101..=199 => Class::Provisional,
+        200..=299 => Class::Success,
+        _ => Class::Failure,
+    }
+}
+
+/// What an input at a moment is to a transaction.
+pub fn trigger_of(held: &Option<Life>, now: u64, input: &Input) -> Option<Trigger>
+    ensures { result ≡ trigger_of held.now now input.now }
+{
+    match input {
+        Input::Tick => tick_of(now, held),
+        Input::Receive { message, .. } => Some(arrival_of(message)),
+        Input::Start { .. } => Some(Trigger::Start),
+        Input::Answer { message, .. } => answer_of(message),
+        Input::Failed { .. } => Some(Trigger::Failed),
+    }
+}
+
+fn arrival_of(message: &Message) -> Trigger
+    ensures { result ≡ arrival_of message.now.start message.now.cseq.method }
+{
+    match &message.start {
+        StartLine::Request { .. } if is_ack(message) => Trigger::Ack,
+        StartLine::Request { .. } => Trigger::Request,
+        StartLine::Response { status, .. } => Trigger::Response(class_of(*status)),
+    }
+}
+
+/// Whether the message's method is ACK.
+pub fn is_ack(message: &Message) -> bool
+    ensures { result ≡ is_method message.now.cseq.method (codes "ACK") }
+{
+    message.cseq.method.as_slice() == b"ACK".as_slice()
+}
+
+fn answer_of(message: &Message) -> Option<Trigger>
+    ensures { result ≡ answer_of message.now.start }
+{
+    match &message.start {
+        StartLine::Request { .. } => None,
+        StartLine::Response { status, .. } => Some(Trigger::Answer(class_of(*status))),
+    }
+}
+
+fn tick_of(now: u64, held: &Option<Life>) -> Option<Trigger>
+    ensures { result ≡ tick_of now held.now }
+{
+    match held {
+        None => None,
+        Some(life) if is_due(now, life.ending) => Some(Trigger::EndingDue),
+        Some(life) if is_due(now, life.repeat) => Some(Trigger::RepeatDue),
+        Some(_) => None,
+    }
+}
+
+fn is_due(now: u64, due: Option<u64>) -> bool
+    ensures { result ≡ is_due now due }
+{
+    match due {
+        None => false,
+        Some(due) => due <= now,
+    }
 }

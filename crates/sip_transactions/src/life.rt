@@ -1,0 +1,25 @@
+//! What is held of a transaction.
+
+use crate::state::State;
+use sip_message::{Addr, CallId, Id};
+use sip_text::Text;
+
+/// A life of a transaction: from the input that made it to the one that ends it.
+#[derive(Drop)]
+pub struct Life {
+    pub state: State,
+    /// The event of the first input.
+    pub id: Id,
+    /// The Call-ID of the first input.
+    pub call_id: CallId,
+    /// Where what it sends goes.
+    pub to: Addr,
+    /// What it sent last.
+    pub last: Option<Text>,
+    /// The moment at which that is sent again, in milliseconds.
+    pub repeat: Option<u64>,
+    /// How often it was sent again since that moment was first set.
+    pub fired: u32,
+    /// The moment at which the life ends, in milliseconds.
+    pub ending: Option<u64>,
+}
