@@ -14,6 +14,7 @@ use Rattle.sip_transactions.specs.declared.trigger.Trigger.TheVariants as on
 use Rattle.sip_transactions.specs.declared.input.Input.{Input}
 use Rattle.sip_transactions.specs.declared.input.Input.TheVariants.{Tick, Receive, Start, Answer, Failed}
 use Rattle.sip_transactions.specs.declared.life.Life.{Life}
+use Rattle.sip_transactions.specs.Timers.{is_due}
 
 -- methods are compared with their case
 abbrev pub is_method : List ℕ → List ℕ → Bool
@@ -38,18 +39,13 @@ abbrev pub answer_of : StartLine → Option Trigger
 answer_of (start.Request uri) = None
 answer_of (start.Response status reason) = Some (on.Answer (class_of status))
 
--- a moment that has come
-abbrev pub is_due : ℕ → Option ℕ → Bool
-is_due now None = false
-is_due now (Some due) = nat_le due now
-
 -- what a tick is: the ending moment if it has come, otherwise the repeating moment if it has come, otherwise nothing
 abbrev pub due_of : ℕ → Option ℕ → Option ℕ → Option Trigger
 due_of now ending repeat = if is_due now ending then Some on.EndingDue else if is_due now repeat then Some on.RepeatDue else None
 
 abbrev pub tick_of : ℕ → Option Life → Option Trigger
 tick_of now None = None
-tick_of now (Some life) = due_of now life.ending life.repeat
+tick_of now (Some life) = due_of now life.timers.ending life.timers.repeat
 
 -- what an input at a moment is to a transaction
 abbrev pub trigger_of : Option Life → ℕ → Input → Option Trigger

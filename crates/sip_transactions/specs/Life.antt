@@ -11,7 +11,7 @@ use Rattle.sip_transactions.specs.declared.step.Step.{Step}
 use Rattle.sip_transactions.specs.declared.step.Next.{Next}
 use Rattle.sip_transactions.specs.declared.step.Next.TheVariants.{Same, Ended, Become}
 use Rattle.sip_transactions.specs.declared.step.Due.{Due}
-use Rattle.sip_transactions.specs.declared.step.Due.TheVariants.{Keep, Clear, Ending}
+use Rattle.sip_transactions.specs.Timers.{rearmed, no_dues}
 use Rattle.sip_transactions.specs.Rows.{row_of, rows_of}
 use Rattle.sip_transactions.specs.Input.{role_of, trigger_of}
 use Rattle.sip_transactions.specs.Output.{outputs_of, sent_bytes}
@@ -23,9 +23,9 @@ step_for key held now input = option_and_then (row_of (rows_of (role_of key)) (o
 -- the life that an input begins, with the id and the Call-ID of that input
 unfoldable pub begun : Input → Option Life
 begun (Receive id message reply_to) =
-    Some (record { state = Trying; id = id; call_id = message.call_id; to = reply_to; last = None; repeat = None; fired = 0; ending = None })
+    Some (record { state = Trying; id = id; call_id = message.call_id; to = reply_to; last = None; timers = no_dues })
 begun (Start id call_id message to) =
-    Some (record { state = Trying; id = id; call_id = call_id; to = to; last = None; repeat = None; fired = 0; ending = None })
+    Some (record { state = Trying; id = id; call_id = call_id; to = to; last = None; timers = no_dues })
 begun Tick = None
 begun (Answer id message) = None
 begun (Failed id) = None
@@ -35,11 +35,9 @@ abbrev pub life_of : Option Life → Input → Option Life
 life_of None input = begun input
 life_of (Some life) input = Some life
 
--- the due moments after a row
-abbrev pub rearmed : Due → ℕ → Life → Life
-rearmed Keep now life = life
-rearmed Clear now life = record life { repeat = None; fired = 0; ending = None }
-rearmed (Ending after) now life = record life { repeat = None; fired = 0; ending = Some (now + after) }
+-- the life with its due moments after a row
+abbrev pub armed : Due → ℕ → Life → Life
+armed due now life = record life { timers = rearmed due now life.timers }
 
 -- the state after a row
 abbrev pub entered : Next → Life → Option Life
@@ -54,7 +52,7 @@ last_of (Some bytes) life = record life { last = Some bytes }
 
 -- the life after a row, if it goes on
 unfoldable pub life_after : Life → Step → ℕ → Option (List ℕ) → Option Life
-life_after life step now bytes = entered step.next (rearmed step.due now (last_of bytes life))
+life_after life step now bytes = entered step.next (armed step.due now (last_of bytes life))
 
 -- a row at a life: what is held after it, and what it says
 abbrev pub acted : Key → ℕ → Input → Life → Step → Option Life × List Out

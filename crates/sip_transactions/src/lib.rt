@@ -10,6 +10,7 @@ mod shard;
 mod state;
 mod step;
 mod stray;
+mod timers;
 mod trigger;
 
 pub use input::Command;

@@ -1,6 +1,7 @@
 //! What is held of a transaction.
 
 use crate::state::State;
+use crate::timers::Timers;
 use sip_message::{Addr, CallId, Id};
 use sip_text::Text;
 
@@ -16,10 +17,6 @@ pub struct Life {
     pub to: Addr,
     /// What it sent last.
     pub last: Option<Text>,
-    /// The moment at which that is sent again, in milliseconds.
-    pub repeat: Option<u64>,
-    /// How often it was sent again since that moment was first set.
-    pub fired: u32,
-    /// The moment at which the life ends, in milliseconds.
-    pub ending: Option<u64>,
+    /// When that is sent again, and when the life ends.
+    pub timers: Timers,
 }

@@ -1,8 +1,10 @@
 //! One input of one transaction.
 
-ghost use Rattle.std.specs.Prelude.{◌≡◌, ◌≤◌, ◌^◌, IfOk, None};
+ghost use Rattle.std.specs.Prelude.{◌≡◌, ◌≤◌, ◌^◌, IfOk, IfSome, None};
 ghost use Rattle.sip_transactions.specs.Input.{role_of};
-ghost use Rattle.sip_transactions.specs.Life.{step_for, begun, life_of, life_after, rearmed, entered, last_of, stepped, acted, acted_if};
+ghost use Rattle.sip_transactions.specs.Life.{step_for, begun, life_of, life_after, entered, last_of, stepped, acted, acted_if};
+ghost use Rattle.sip_transactions.specs.Timers.{IsTimely, no_dues};
+ghost use Rattle.sip_transactions.specs.Repeats.{RepeatsInTime};
 ghost use Rattle.sip_transactions.specs.Output.{handed_out, sent_bytes, given_bytes, outputs_of, message_out, up_out, send_out, drop_out, kind_of};
 
 use crate::input::{Input, Timed};
@@ -10,7 +12,8 @@ use crate::life::Life;
 use crate::output::{DropReason, Kind, Out, Up};
 use crate::rows::step_of;
 use crate::state::{Role, State};
-use crate::step::{Due, Handed, Next, Sent, Step};
+use crate::step::{Handed, Next, Sent, Step};
+use crate::timers::Timers;
 use crate::trigger::{is_ack, trigger_of};
 use sip_message::{Addr, CallId, Id, Key, Message, StartLine, write};
 use sip_model::StateMachine;
@@ -33,7 +36,8 @@ fn role_of(key: &Key) -> Role
 // What the row for an input does, if there is one.
 #[tactic(auto, unfolding(crate::specs::Life::step_for))]
 fn step_for(key: &Key, held: &Option<Life>, now: u64, input: &Input) -> Option<Step>
-    ensures { result ≡ step_for key.now held.now now input.now }
+    ensures value { result ≡ step_for key.now held.now now input.now }
+    ensures timely { IfSome result (λ step. RepeatsInTime step.due now held.now) }
 {
     let trigger = trigger_of(held, now, input)?;
     step_of(role_of(key), held.as_ref().map(|life| life.state), trigger)
@@ -61,7 +65,7 @@ fn begin(input: &Input) -> Result<Option<Life>, AllocError>
 }
 
 fn new_life(id: Id, call_id: CallId, to: Addr) -> Life
-    ensures { result ≡ record { state = State.Trying; id = id; call_id = call_id; to = to; last = None; repeat = None; fired = 0; ending = None } }
+    ensures { result ≡ record { state = State.Trying; id = id; call_id = call_id; to = to; last = None; timers = no_dues } }
 {
     Life {
         state: State::Trying,
@@ -69,9 +73,7 @@ fn new_life(id: Id, call_id: CallId, to: Addr) -> Life
         call_id,
         to,
         last: None,
-        repeat: None,
-        fired: 0,
-        ending: None,
+        timers: Timers::new(),
     }
 }
 
@@ -169,10 +171,13 @@ fn drop_out(input: Input) -> Option<Out>
 // The life after a row, if it goes on.
 #[tactic(auto, unfolding(crate::specs::Life::life_after))]
 fn life_after(life: Life, step: Step, now: u64, bytes: Option<Text>) -> Option<Life>
-    requires { now ≤ 2 ^ 62 }
+    requires bound { now ≤ 2 ^ 62 }
+    requires timely { IsTimely step.due now life.timers }
     ensures { result ≡ life_after life step now bytes }
 {
-    entered(step.next, rearmed(step.due, now, with_last(bytes, life)))
+    let life = with_last(bytes, life);
+    let timers = life.timers.rearmed(step.due, now);
+    entered(step.next, Life { timers, ..life })
 }
 
 fn with_last(bytes: Option<Text>, life: Life) -> Life
@@ -182,27 +187,6 @@ fn with_last(bytes: Option<Text>, life: Life) -> Life
         None => life,
         Some(bytes) => Life {
             last: Some(bytes),
-            ..life
-        },
-    }
-}
-
-fn rearmed(due: Due, now: u64, life: Life) -> Life
-    requires { now ≤ 2 ^ 62 }
-    ensures { result ≡ rearmed due now life }
-{
-    match due {
-        Due::Keep => life,
-        Due::Clear => Life {
-            repeat: None,
-            fired: 0,
-            ending: None,
-            ..life
-        },
-        Due::Ending(after) => Life {
-            repeat: None,
-            fired: 0,
-            ending: Some(now + u64::from(after)),
             ..life
         },
     }
@@ -228,7 +212,8 @@ fn act(
     life: Life,
     step: Step,
 ) -> Result<(Option<Life>, Vec<Out>), AllocError>
-    requires { now ≤ 2 ^ 62 }
+    requires bound { now ≤ 2 ^ 62 }
+    requires timely { IsTimely step.due now life.timers }
     ensures next { IfOk result (λ after. after.0 ≡ (acted key.now now input life step).0) }
     ensures adds { IfOk result (λ after. after.1.items ≡ (acted key.now now input life step).1) }
 {
@@ -262,7 +247,8 @@ fn act_if(
     held: Option<Life>,
     step: Step,
 ) -> Result<(Option<Life>, Vec<Out>), AllocError>
-    requires { now ≤ 2 ^ 62 }
+    requires bound { now ≤ 2 ^ 62 }
+    requires timely { RepeatsInTime step.due now held }
     ensures next { IfOk result (λ after. after.0 ≡ (acted_if key.now now input (life_of held input) step).0) }
     ensures adds { IfOk result (λ after. after.1.items ≡ (acted_if key.now now input (life_of held input) step).1) }
 {

@@ -1,6 +1,7 @@
 //! The tables, as code.
 
-ghost use Rattle.std.specs.Prelude.{◌≡◌};
+ghost use Rattle.std.specs.Prelude.{◌≡◌, IfSome};
+ghost use Rattle.sip_transactions.specs.Repeats.{FiresWhenDue};
 ghost use Rattle.sip_transactions.specs.Rows.{row_of, rows_of, client_rows, invite_server_rows, server_rows};
 
 use crate::state::{Role, State};
@@ -12,7 +13,8 @@ const KEPT_RESPONSE: u32 = 32_000;
 
 /// The row of a table that fits a state and a trigger. No state is `None`.
 pub fn step_of(role: Role, state: Option<State>, trigger: Trigger) -> Option<Step>
-    ensures { result ≡ row_of (rows_of role) state trigger }
+    ensures row { result ≡ row_of (rows_of role) state trigger }
+    ensures repeat { IfSome result (λ step. FiresWhenDue step.due trigger) }
 {
     match role {
         Role::InviteClient | Role::Client => client_step(state, trigger),
@@ -23,7 +25,8 @@ pub fn step_of(role: Role, state: Option<State>, trigger: Trigger) -> Option<Ste
 
 // The tables of both client machines.
 fn client_step(state: Option<State>, trigger: Trigger) -> Option<Step>
-    ensures { result ≡ row_of client_rows state trigger }
+    ensures row { result ≡ row_of client_rows state trigger }
+    ensures repeat { IfSome result (λ step. FiresWhenDue step.due trigger) }
 {
     match (state, trigger) {
         (None, Trigger::Response(_)) => Some(Step {
@@ -38,7 +41,8 @@ fn client_step(state: Option<State>, trigger: Trigger) -> Option<Step>
 
 // The table of the server of an INVITE.
 fn invite_server_step(state: Option<State>, trigger: Trigger) -> Option<Step>
-    ensures { result ≡ row_of invite_server_rows state trigger }
+    ensures row { result ≡ row_of invite_server_rows state trigger }
+    ensures repeat { IfSome result (λ step. FiresWhenDue step.due trigger) }
 {
     match (state, trigger) {
         (None, Trigger::Ack) => Some(Step {
@@ -53,7 +57,8 @@ fn invite_server_step(state: Option<State>, trigger: Trigger) -> Option<Step>
 
 // The table of the server of any other request.
 fn server_step(state: Option<State>, trigger: Trigger) -> Option<Step>
-    ensures { result ≡ row_of server_rows state trigger }
+    ensures row { result ≡ row_of server_rows state trigger }
+    ensures repeat { IfSome result (λ step. FiresWhenDue step.due trigger) }
 {
     match (state, trigger) {
         (None, Trigger::Request) => Some(Step {

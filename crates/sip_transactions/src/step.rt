@@ -39,15 +39,30 @@ pub enum Sent {
     Latest,
 }
 
-/// What a row does to the two due moments. All times are in milliseconds, from the moment of the input.
+/// The intervals between repeats. `j` counts how often the repeat has fired.
+#[derive(Clone, Copy)]
+pub enum Pace {
+    /// 500 * 2^j ms.
+    Doubled,
+    /// 500 * 2^j ms, at most 4,000 ms.
+    Capped,
+    /// 4,000 ms.
+    Even,
+}
+
+/// What a row does to the two due moments.
 #[derive(Clone, Copy)]
 pub enum Due {
     /// Both stay.
     Keep,
     /// Nothing is due any more.
     Clear,
-    /// The end alone is due after this time.
+    /// The end alone is due, after this time in milliseconds.
     Ending(u32),
+    /// The repeat is due after 500 ms, and the end after 32,000 ms.
+    Both,
+    /// The repeat has fired, and is due again after the next interval. The end stays.
+    Again(Pace),
 }
 
 /// What a row does.

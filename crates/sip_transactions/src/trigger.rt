@@ -1,7 +1,8 @@
 //! What an input is to a transaction.
 
-ghost use Rattle.std.specs.Prelude.{◌≡◌, codes};
-ghost use Rattle.sip_transactions.specs.Input.{class_of, trigger_of, arrival_of, answer_of, tick_of, is_due, is_method};
+ghost use Rattle.std.specs.Prelude.{◌≡◌, codes, IfSome};
+ghost use Rattle.sip_transactions.specs.Repeats.{RepeatIsDue};
+ghost use Rattle.sip_transactions.specs.Input.{class_of, trigger_of, arrival_of, answer_of, tick_of, is_method};
 
 use crate::input::Input;
 use crate::life::Life;
@@ -55,7 +56,8 @@ pub fn class_of(status: StatusCode) -> Class
 
 /// What an input at a moment is to a transaction.
 pub fn trigger_of(held: &Option<Life>, now: u64, input: &Input) -> Option<Trigger>
-    ensures { result ≡ trigger_of held.now now input.now }
+    ensures value { result ≡ trigger_of held.now now input.now }
+    ensures repeat { IfSome result (λ trigger. RepeatIsDue trigger now held.now) }
 {
     match input {
         Input::Tick => tick_of(now, held),
@@ -93,21 +95,13 @@ fn answer_of(message: &Message) -> Option<Trigger>
 }
 
 fn tick_of(now: u64, held: &Option<Life>) -> Option<Trigger>
-    ensures { result ≡ tick_of now held.now }
+    ensures value { result ≡ tick_of now held.now }
+    ensures repeat { IfSome result (λ trigger. RepeatIsDue trigger now held.now) }
 {
     match held {
         None => None,
-        Some(life) if is_due(now, life.ending) => Some(Trigger::EndingDue),
-        Some(life) if is_due(now, life.repeat) => Some(Trigger::RepeatDue),
+        Some(life) if life.timers.is_ending_due(now) => Some(Trigger::EndingDue),
+        Some(life) if life.timers.is_repeat_due(now) => Some(Trigger::RepeatDue),
         Some(_) => None,
-    }
-}
-
-fn is_due(now: u64, due: Option<u64>) -> bool
-    ensures { result ≡ is_due now due }
-{
-    match due {
-        None => false,
-        Some(due) => due <= now,
     }
 }
