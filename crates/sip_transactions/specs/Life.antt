@@ -1,5 +1,5 @@
 -- A transaction's life, and one input of it.
-use Rattle.std.specs.Prelude.{ℕ, ◌+◌, List, [], Option, None, Some, option_map, option_and_then}
+use Rattle.std.specs.Prelude.{ℕ, List, [], Option, None, Some, option_map, option_and_then}
 use Rattle.sip_message.specs.declared.key.Key.{Key}
 use Rattle.sip_transactions.specs.declared.state.State.TheVariants.{Trying}
 use Rattle.sip_transactions.specs.declared.input.Input.{Input}

@@ -2,6 +2,7 @@
 #![tactic(auto)]
 
 mod input;
+pub mod laws;
 mod life;
 mod machine;
 mod output;
