@@ -1,7 +1,11 @@
 -- The bytes that SIP's words are made of (RFC 3261, section 25.1).
-use Rattle.std.specs.Prelude.{ℕ, Bool, ◌||◌, ◌==◌, codes}
+use Rattle.std.specs.Prelude.{ℕ, Bool, ◌||◌, ◌==◌, List, codes}
 use Rattle.std.specs.List.{list_any}
 use Rattle.std.specs.Char.{is_ascii_alphanumeric}
+
+-- one of these bytes
+abbrev pub is_among : List ℕ → ℕ → Bool
+is_among bytes b = list_any (λ c. c == b) bytes
 
 -- a space or a tab, of which the white space inside a line is made
 abbrev pub is_blank : ℕ → Bool
@@ -13,4 +17,4 @@ is_line_byte b = b == 13 || b == 10
 
 -- a letter, a digit, or one of the ten marks of a token
 unfoldable pub is_token_byte : ℕ → Bool
-is_token_byte b = is_ascii_alphanumeric b || list_any (λ c. c == b) (codes "-.!%*_+`'~")
+is_token_byte b = is_ascii_alphanumeric b || is_among (codes "-.!%*_+`'~") b

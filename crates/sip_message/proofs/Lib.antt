@@ -1,0 +1,4 @@
+pub mod Bytes
+pub mod Copies
+pub mod Tags
+pub mod Stamps

@@ -1,0 +1,7 @@
+use Rattle.std.proofs.Common.{◌≡◌, ◌++◌, take, codes}
+use Rattle.std.specs.List.{flat_map}
+use Rattle.sip_message.specs.Written as written
+use Rattle.sip_message.proofs.writer.push_others.Given as goal
+
+abbrev pub invariant-loop-header : goal.invariant-loop-header
+invariant-loop-header l = l.out.items ≡ l.fn.out.items ++ flat_map written.other_line (take l.header-index l.others)

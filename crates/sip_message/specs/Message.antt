@@ -1,0 +1,48 @@
+-- Messages (RFC 3261, section 7).
+use Rattle.std.specs.Prelude.{ℕ, Bool, true, false, List, [], ◌∷◌, ◌++◌, codes, Option}
+use Rattle.sip_message.specs.declared.start_line.StartLine.{StartLine}
+use Rattle.sip_message.specs.declared.start_line.StartLine.TheVariants.{Request, Response}
+use Rattle.sip_message.specs.declared.header.Header.{Header}
+use Rattle.sip_message.specs.declared.via.Via.{Via}
+use Rattle.sip_message.specs.declared.party.Party.{Party}
+use Rattle.sip_message.specs.declared.name_addr.NameAddr.{NameAddr}
+use Rattle.sip_message.specs.declared.cseq.CSeq.{CSeq}
+use Rattle.sip_message.specs.declared.rack.RAck.{RAck}
+use Rattle.sip_message.specs.declared.message.Message.{Message}
+
+abbrev pub is_request_line : StartLine → Bool
+is_request_line (Request uri) = true
+is_request_line (Response status reason) = false
+
+abbrev pub is_request_message : Message → Bool
+is_request_message message = is_request_line message.start
+
+-- `Content-Type: application/sdp`
+abbrev pub content_type : Header
+content_type = record { name = codes "Content-Type"; value = codes "application/sdp" }
+
+-- the message with this body and its type; an empty body changes nothing
+unfoldable pub with_body_of : Message → List ℕ → Message
+with_body_of message [] = message
+with_body_of message (b ∷ bs) = record message { others = message.others ++ content_type ∷ []; body = b ∷ bs }
+
+-- a message of its parts
+unfoldable pub assembled : (StartLine × List Via × Party × Party) → (List NameAddr × List NameAddr × List NameAddr) → (List (List ℕ) × List (List ℕ) × Option RAck × List Header) → (List ℕ × CSeq × List ℕ) → (Option ℕ × Option ℕ) → Message
+assembled who routing extensions content numbers = record {
+  start = who.0;
+  vias = who.1;
+  max_forwards = numbers.0;
+  from = who.2;
+  to = who.3;
+  call_id = content.0;
+  cseq = content.1;
+  contacts = routing.0;
+  record_routes = routing.1;
+  routes = routing.2;
+  require = extensions.0;
+  supported = extensions.1;
+  rseq = numbers.1;
+  rack = extensions.2;
+  others = extensions.3;
+  body = content.2;
+}

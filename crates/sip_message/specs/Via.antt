@@ -1,0 +1,18 @@
+-- Via values (RFC 3261, sections 8.1.1.7 and 20.42).
+use Rattle.std.specs.Prelude.{ℕ, Bool, false, List, [], ◌∷◌, codes, take}
+use Rattle.std.specs.Str.{str_eq_ignore_ascii_case}
+use Rattle.sip_message.specs.declared.via.Via.{Via}
+use Rattle.sip_message.specs.Parameters.{value_named}
+
+-- the branch, empty where there is none
+abbrev pub branch_of : Via → List ℕ
+branch_of via = value_named (codes "branch") via.parameters
+
+-- the branch begins with `z9hG4bK`, in any case of the letters
+unfoldable pub has_cookie : List ℕ → Bool
+has_cookie branch = str_eq_ignore_ascii_case (take 7 branch) (codes "z9hG4bK")
+
+-- at least one value, and the first has such a branch
+unfoldable pub are_vias : List Via → Bool
+are_vias [] = false
+are_vias (via ∷ vias) = has_cookie (branch_of via)

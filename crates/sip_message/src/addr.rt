@@ -1,0 +1,50 @@
+//! Addresses of the network.
+ghost use Rattle.std.specs.Prelude.{◌≡◌, ◌≤◌, ◌+◌, ◌++◌, decimal, IsTrue};
+ghost use Rattle.sip_message.specs.ParameterValue.{is_parameter_value};
+ghost use Rattle.arrayvec.specs.ArrayVec.{array_vec_len};
+ghost use Rattle.sip_message.specs.Ip.{ip_text};
+
+use arrayvec::ArrayVec;
+use sip_text::decimal;
+use std::fmt;
+
+/// An IPv4 address and a UDP port. It is printed as `a.b.c.d:port`.
+#[derive(Clone, Copy, Debug, PartialEq, Eq)]
+pub struct Addr {
+    pub ip: [u8; 4],
+    pub port: u16,
+}
+
+impl fmt::Display for Addr {
+    fn fmt<W: fmt::Write>(&self, f: &mut fmt::Formatter<W>) -> fmt::Result {
+        let [a, b, c, d] = self.ip;
+        let port = self.port;
+        write!(f, "{a}.{b}.{c}.{d}:{port}")
+    }
+}
+
+/// The IP address as four decimal numbers with dots between them. Takes no memory.
+pub fn ip_text(ip: [u8; 4]) -> ArrayVec<u8, 15>
+    ensures value { result.items ≡ ip_text ip }
+    ensures rule { IsTrue (is_parameter_value result.items) }
+{
+    let [a, b, c, d] = ip;
+    let mut text = ArrayVec::new();
+    push_octet(&mut text, a);
+    text.push(b'.');
+    push_octet(&mut text, b);
+    text.push(b'.');
+    push_octet(&mut text, c);
+    text.push(b'.');
+    push_octet(&mut text, d);
+    text
+}
+
+fn push_octet(text: &mut ArrayVec<u8, 15>, octet: u8)
+    requires { array_vec_len text.old ≤ 12 }
+    ensures items { text.new.items ≡ text.old.items ++ decimal octet }
+    ensures len { array_vec_len text.new ≤ array_vec_len text.old + 3 }
+{
+    text.try_extend_from_slice(&decimal(u64::from(octet)))
+        .unwrap();
+}

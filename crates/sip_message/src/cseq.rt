@@ -1,0 +1,23 @@
+//! The CSeq (RFC 3261, section 20.16).
+ghost use Rattle.std.specs.Prelude.{◌≡◌};
+
+use crate::token::Token;
+use std::alloc::AllocError;
+
+/// A number in the order of a dialog's requests, and a method.
+#[derive(Drop)]
+pub struct CSeq {
+    pub number: u32,
+    pub method: Token,
+}
+
+impl Clone for CSeq {
+    ghost is_clone = { λ original copy. copy ≡ original };
+
+    fn clone(&self) -> Result<CSeq, AllocError> {
+        Ok(CSeq {
+            number: self.number,
+            method: self.method.clone()?,
+        })
+    }
+}

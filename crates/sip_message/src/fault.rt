@@ -1,0 +1,87 @@
+//! Why a text isn't a message.
+use crate::header_name::HeaderName;
+use std::alloc::{AllocError, AllocFailed};
+use std::fmt;
+
+/// What is wrong with a text. The fault is the first of these whose condition holds; NoMemory may stand in place of the
+/// fault that would have followed.
+#[derive(Clone, Copy, Debug, PartialEq, Eq)]
+pub enum ReadFault {
+    /// It has more than 65,535 bytes.
+    TooLong,
+    /// No empty line follows the start line.
+    NoEmptyLine,
+    /// The start line is neither a request line nor a status line.
+    BadStartLine,
+    /// A header line isn't one, or a header's value isn't in the form of its header, numbers aside.
+    BadHeader,
+    /// A header that each message has isn't there.
+    Missing(HeaderName),
+    /// A header that stands at most once is there twice.
+    Repeated(HeaderName),
+    /// A word in a number's place isn't a number, or is too large a one.
+    BadNumber,
+    /// The top Via's branch doesn't begin with `z9hG4bK`.
+    OldBranch,
+    /// The CSeq of a request has another method.
+    MethodMismatch,
+    /// Fewer bytes follow the empty line than the Content-Length says.
+    Truncated,
+    /// A growth was refused.
+    NoMemory,
+}
+
+impl ReadFault {
+    /// The name of the fault.
+    pub fn as_str(self) -> &'static str {
+        match self {
+            ReadFault::TooLong => "TooLong",
+            ReadFault::NoEmptyLine => "NoEmptyLine",
+            ReadFault::BadStartLine => "BadStartLine",
+            ReadFault::BadHeader => "BadHeader",
+            ReadFault::Missing(_) => "Missing",
+            ReadFault::Repeated(_) => "Repeated",
+            ReadFault::BadNumber => "BadNumber",
+            ReadFault::OldBranch => "OldBranch",
+            ReadFault::MethodMismatch => "MethodMismatch",
+            ReadFault::Truncated => "Truncated",
+            ReadFault::NoMemory => "NoMemory",
+        }
+    }
+}
+
+/// The fault's name, and after Missing and Repeated a space and the header's name.
+impl fmt::Display for ReadFault {
+    fn fmt<W: fmt::Write>(&self, f: &mut fmt::Formatter<W>) -> fmt::Result {
+        f.write_str(self.as_str())?;
+        match self {
+            ReadFault::Missing(header) | ReadFault::Repeated(header) => {
+                f.write_str(" ")?;
+                f.write_str(header.as_str())
+            }
+            _ => Ok(()),
+        }
+    }
+}
+
+impl From<AllocError> for ReadFault {
+    ghost use Rattle.std.specs.Prelude.{◌≡◌};
+    ghost use Rattle.sip_message.specs.declared.fault.ReadFault.TheVariants.{NoMemory};
+
+    ghost from_gives = { λ _ fault. fault ≡ NoMemory };
+
+    fn from(_error: AllocError) -> ReadFault {
+        ReadFault::NoMemory
+    }
+}
+
+impl<T: Drop> From<AllocFailed<T>> for ReadFault {
+    ghost use Rattle.std.specs.Prelude.{◌≡◌};
+    ghost use Rattle.sip_message.specs.declared.fault.ReadFault.TheVariants.{NoMemory};
+
+    ghost from_gives = { λ _ fault. fault ≡ NoMemory };
+
+    fn from(_error: AllocFailed<T>) -> ReadFault {
+        ReadFault::NoMemory
+    }
+}

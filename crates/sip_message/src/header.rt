@@ -1,0 +1,24 @@
+//! Headers that stay as they stand (RFC 3261, section 7.3.1).
+ghost use Rattle.std.specs.Prelude.{◌≡◌};
+
+use crate::header_value::HeaderValue;
+use crate::other_name::OtherName;
+use std::alloc::AllocError;
+
+/// A header that isn't read into a field of its own.
+#[derive(Drop)]
+pub struct Header {
+    pub name: OtherName,
+    pub value: HeaderValue,
+}
+
+impl Clone for Header {
+    ghost is_clone = { λ original copy. copy ≡ original };
+
+    fn clone(&self) -> Result<Header, AllocError> {
+        Ok(Header {
+            name: self.name.clone()?,
+            value: self.value.clone()?,
+        })
+    }
+}

@@ -1,0 +1,189 @@
+//! Messages (RFC 3261, section 7).
+ghost use Rattle.std.specs.Prelude.{◌≡◌, IfOk, codes};
+ghost use Rattle.sip_message.specs.Message as message;
+
+use crate::call_id::CallId;
+use crate::cseq::CSeq;
+use crate::header::Header;
+use crate::header_value::HeaderValue;
+use crate::name_addr::NameAddr;
+use crate::other_name::OtherName;
+use crate::party::Party;
+use crate::rack::RAck;
+use crate::start_line::StartLine;
+use crate::token::Token;
+use crate::vias::Vias;
+use sip_text::{Series, Text};
+use std::alloc::{AllocError, Global};
+
+/// A request or a response. Lists are in the order of the message; the top Via is the first.
+#[derive(Drop)]
+pub struct Message {
+    pub start: StartLine,
+    pub vias: Vias,
+    pub max_forwards: Option<u32>,
+    pub from: Party,
+    pub to: Party,
+    pub call_id: CallId,
+    pub cseq: CSeq,
+    pub contacts: Series<NameAddr>,
+    pub record_routes: Series<NameAddr>,
+    pub routes: Series<NameAddr>,
+    pub require: Series<Token>,
+    pub supported: Series<Token>,
+    pub rseq: Option<u32>,
+    pub rack: Option<RAck>,
+    pub others: Series<Header>,
+    pub body: Text,
+}
+
+impl Message {
+    ghost use Rattle.sip_message.specs.Message.{is_request_message, with_body_of};
+
+    pub fn is_request(&self) -> bool
+        ensures { result ≡ is_request_message self.now }
+    {
+        match &self.start {
+            StartLine::Request { .. } => true,
+            StartLine::Response { .. } => false,
+        }
+    }
+
+    /// The method of a request, and of the request that a response answers.
+    pub fn method(&self) -> &Token
+        ensures { result.now ≡ self.now.cseq.method }
+    {
+        &self.cseq.method
+    }
+
+    /// The message with this body, and after its other headers `Content-Type: application/sdp`. An empty body leaves
+    /// the message as it is.
+    #[tactic(auto, unfolding(crate::specs::Message::with_body_of))]
+    pub fn with_body(mut self, alloc: Global, body: Text) -> Result<Message, AllocError>
+        ensures { IfOk result (λ made. made ≡ with_body_of self body) }
+    {
+        if body.is_empty() {
+            return Ok(self);
+        }
+        self.others.push(content_type(alloc)?)?;
+        self.body = body;
+        Ok(self)
+    }
+}
+
+fn content_type(alloc: Global) -> Result<Header, AllocError>
+    ensures { IfOk result (λ header. header ≡ message.content_type) }
+{
+    Ok(Header {
+        name: content_type_name(alloc)?,
+        value: content_type_value(alloc)?,
+    })
+}
+
+#[tactic(auto, unfolding(crate::specs::OtherName::is_other_name, crate::specs::HeaderName::is_long_name, crate::specs::HeaderName::is_compact_name, sip_text::specs::Token::is_token, sip_text::specs::Character::is_token_byte))]
+fn content_type_name(alloc: Global) -> Result<OtherName, AllocError>
+    ensures { IfOk result (λ name. name ≡ codes "Content-Type") }
+{
+    Ok(OtherName::from_text(Text::copy_of(alloc, b"Content-Type")?))
+}
+
+#[tactic(auto, unfolding(crate::specs::HeaderValue::is_header_value))]
+fn content_type_value(alloc: Global) -> Result<HeaderValue, AllocError>
+    ensures { IfOk result (λ value. value ≡ codes "application/sdp") }
+{
+    Ok(HeaderValue::from_text(Text::copy_of(alloc, b"application/sdp")?))
+}
+
+impl Clone for Message {
+    ghost is_clone = { λ original copy. copy ≡ original };
+
+    fn clone(&self) -> Result<Message, AllocError> {
+        let who = self.addressing()?;
+        let routes = self.routing()?;
+        let others = self.extensions()?;
+        let content = self.content()?;
+        Ok(assembled(who, routes, others, content, (self.max_forwards, self.rseq)))
+    }
+}
+
+type Addressing = (StartLine, Vias, Party, Party);
+
+type Routing = (Series<NameAddr>, Series<NameAddr>, Series<NameAddr>);
+
+type Extensions = (Series<Token>, Series<Token>, Option<RAck>, Series<Header>);
+
+type Content = (CallId, CSeq, Text);
+
+#[tactic(auto, unfolding(crate::specs::Message::assembled))]
+fn assembled(
+    who: Addressing,
+    routing: Routing,
+    extensions: Extensions,
+    content: Content,
+    numbers: (Option<u32>, Option<u32>),
+) -> Message
+    ensures { result ≡ message.assembled who routing extensions content numbers }
+{
+    Message {
+        start: who.0,
+        vias: who.1,
+        max_forwards: numbers.0,
+        from: who.2,
+        to: who.3,
+        call_id: content.0,
+        cseq: content.1,
+        contacts: routing.0,
+        record_routes: routing.1,
+        routes: routing.2,
+        require: extensions.0,
+        supported: extensions.1,
+        rseq: numbers.1,
+        rack: extensions.2,
+        others: extensions.3,
+        body: content.2,
+    }
+}
+
+impl Message {
+    fn addressing(&self) -> Result<Addressing, AllocError>
+        ensures { IfOk result (λ c. c ≡ (self.now.start, self.now.vias, self.now.from, self.now.to)) }
+    {
+        Ok((
+            self.start.clone()?,
+            self.vias.clone()?,
+            self.from.clone()?,
+            self.to.clone()?,
+        ))
+    }
+
+    fn routing(&self) -> Result<(Series<NameAddr>, Series<NameAddr>, Series<NameAddr>), AllocError>
+        ensures { IfOk result (λ c. c ≡ (self.now.contacts, self.now.record_routes, self.now.routes)) }
+    {
+        Ok((
+            self.contacts.clone()?,
+            self.record_routes.clone()?,
+            self.routes.clone()?,
+        ))
+    }
+
+    fn content(&self) -> Result<Content, AllocError>
+        ensures { IfOk result (λ c. c ≡ (self.now.call_id, self.now.cseq, self.now.body)) }
+    {
+        Ok((
+            self.call_id.clone()?,
+            self.cseq.clone()?,
+            self.body.clone()?,
+        ))
+    }
+
+    fn extensions(&self) -> Result<Extensions, AllocError>
+        ensures { IfOk result (λ c. c ≡ (self.now.require, self.now.supported, self.now.rack, self.now.others)) }
+    {
+        Ok((
+            self.require.clone()?,
+            self.supported.clone()?,
+            self.rack.clone()?,
+            self.others.clone()?,
+        ))
+    }
+}

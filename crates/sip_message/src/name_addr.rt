@@ -1,0 +1,28 @@
+//! Addresses in lists: Contact, Record-Route and Route (RFC 3261, section 20.10).
+ghost use Rattle.std.specs.Prelude.{◌≡◌};
+
+use crate::display_text::DisplayText;
+use crate::parameter::Parameter;
+use crate::uri::Uri;
+use sip_text::Series;
+use std::alloc::AllocError;
+
+/// A display text, a URI and parameters.
+#[derive(Drop)]
+pub struct NameAddr {
+    pub display: DisplayText,
+    pub uri: Uri,
+    pub parameters: Series<Parameter>,
+}
+
+impl Clone for NameAddr {
+    ghost is_clone = { λ original copy. copy ≡ original };
+
+    fn clone(&self) -> Result<NameAddr, AllocError> {
+        Ok(NameAddr {
+            display: self.display.clone()?,
+            uri: self.uri.clone()?,
+            parameters: self.parameters.clone()?,
+        })
+    }
+}

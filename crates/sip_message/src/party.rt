@@ -1,0 +1,65 @@
+//! From and To (RFC 3261, sections 20.20 and 20.39).
+ghost use Rattle.std.specs.Prelude.{◌≡◌, IfOk};
+ghost use Rattle.sip_message.specs.Party as party;
+
+use crate::party_display::PartyDisplay;
+use crate::party_parameters::PartyParameters;
+use crate::response::tag_parameter;
+use crate::token::Token;
+use crate::uri::Uri;
+use sip_text::{Series, Text};
+use std::alloc::{AllocError, Global};
+
+/// The value of a From or a To: a display text, a URI and parameters, among them the tag.
+#[derive(Drop)]
+pub struct Party {
+    pub display: PartyDisplay,
+    pub uri: Uri,
+    pub parameters: PartyParameters,
+}
+
+impl Party {
+    ghost use Rattle.sip_message.specs.Party.{tag_of, party_of};
+
+    /// The party of this URI, without a display text, and with this tag where there is one.
+    #[tactic(auto, unfolding(crate::specs::PartyDisplay::is_party_display, crate::specs::Quoted::is_quoted))]
+    pub fn new(alloc: Global, uri: Uri, tag: Option<Token>) -> Result<Party, AllocError>
+        ensures { IfOk result (λ party. party ≡ party_of uri tag) }
+    {
+        Ok(Party {
+            display: PartyDisplay::from_text(Text::from_vec(Vec::new(alloc))),
+            uri,
+            parameters: tag_alone(alloc, tag)?,
+        })
+    }
+
+    /// The tag: empty where there is none.
+    pub fn tag(&self) -> &[u8]
+        ensures { result.now ≡ tag_of self.now }
+    {
+        self.parameters.tag()
+    }
+}
+
+#[tactic(auto, unfolding(crate::specs::Tag::has_good_tag))]
+fn tag_alone(alloc: Global, tag: Option<Token>) -> Result<PartyParameters, AllocError>
+    ensures { IfOk result (λ parameters. parameters ≡ party.tag_alone tag) }
+{
+    let mut parameters = Series::new(alloc);
+    if let Some(tag) = tag {
+        parameters.push(tag_parameter(alloc, &tag)?)?;
+    }
+    Ok(PartyParameters::from_series(parameters))
+}
+
+impl Clone for Party {
+    ghost is_clone = { λ original copy. copy ≡ original };
+
+    fn clone(&self) -> Result<Party, AllocError> {
+        Ok(Party {
+            display: self.display.clone()?,
+            uri: self.uri.clone()?,
+            parameters: self.parameters.clone()?,
+        })
+    }
+}

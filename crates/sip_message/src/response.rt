@@ -1,0 +1,121 @@
+//! Responses made from requests (RFC 3261, section 8.2.6).
+ghost use Rattle.std.specs.Prelude.{◌≡◌, ◌++◌, ◌∷◌, [], None, IfOk, OnOk, IsTrue, codes};
+ghost use Rattle.sip_text.specs.Token as token_rule;
+ghost use Rattle.sip_message.specs.Parameters.{parameter_named};
+ghost use Rattle.sip_message.specs.Response as response;
+
+use crate::message::Message;
+use crate::parameter::Parameter;
+use crate::parameter_value::ParameterValue;
+use crate::parameters::parameter_named;
+use crate::party::Party;
+use crate::party_parameters::PartyParameters;
+use crate::reason::Reason;
+use crate::start_line::StartLine;
+use crate::status_code::StatusCode;
+use crate::token::Token;
+use sip_text::{Series, Text};
+use std::alloc::{AllocError, Global};
+
+/// The response to the request: its Via, From, To, Call-ID and CSeq, no other header and no body. To gets the tag as its
+/// last parameter where it has none and the status isn't 100.
+#[tactic(auto, unfolding(crate::specs::Response::response_of))]
+pub fn response_to(
+    alloc: Global,
+    request: &Message,
+    status: StatusCode,
+    reason: Reason,
+    tag: &Token,
+) -> Result<Message, AllocError>
+    ensures { IfOk result (λ made. made ≡ response.response_of request.now status reason tag.now) }
+{
+    let vias = request.vias.clone()?;
+    let from = request.from.clone()?;
+    let to = answering_to(alloc, &request.to, status, tag)?;
+    Ok(Message {
+        start: StartLine::Response { status, reason },
+        vias,
+        max_forwards: None,
+        from,
+        to,
+        call_id: request.call_id.clone()?,
+        cseq: request.cseq.clone()?,
+        contacts: Series::new(alloc),
+        record_routes: Series::new(alloc),
+        routes: Series::new(alloc),
+        require: Series::new(alloc),
+        supported: Series::new(alloc),
+        rseq: None,
+        rack: None,
+        others: Series::new(alloc),
+        body: Text::from_vec(Vec::new(alloc)),
+    })
+}
+
+fn answering_to(
+    alloc: Global,
+    to: &Party,
+    status: StatusCode,
+    tag: &Token,
+) -> Result<Party, AllocError>
+    ensures { IfOk result (λ party. party ≡ response.answering_to to.now status tag.now) }
+{
+    if status.code() == 100 {
+        return to.clone();
+    }
+    tagged(alloc, to, tag)
+}
+
+/// The party with this tag as its last parameter, where it has none.
+#[tactic(auto, unfolding(crate::specs::Response::tagged))]
+pub(crate) fn tagged(alloc: Global, party: &Party, tag: &Token) -> Result<Party, AllocError>
+    ensures { IfOk result (λ made. made ≡ response.tagged party.now tag.now) }
+{
+    if is_tagged(party) {
+        return party.clone();
+    }
+    Ok(Party {
+        display: party.display.clone()?,
+        uri: party.uri.clone()?,
+        parameters: with_tag(alloc, &party.parameters, tag)?,
+    })
+}
+
+#[tactic(auto, unfolding(crate::specs::Response::is_tagged))]
+fn is_tagged(party: &Party) -> bool
+    ensures { result ≡ response.is_tagged party.now }
+{
+    parameter_named(party.parameters.as_slice(), b"tag").is_some()
+}
+
+fn with_tag(
+    alloc: Global,
+    parameters: &PartyParameters,
+    tag: &Token,
+) -> Result<PartyParameters, AllocError>
+    requires { parameter_named (codes "tag") parameters.now ≡ None }
+    ensures { IfOk result (λ made. made ≡ parameters.now ++ response.tag_parameter tag.now ∷ []) }
+{
+    let mut all = parameters.clone()?.into_series();
+    all.push(tag_parameter(alloc, tag)?)?;
+    Ok(PartyParameters::from_series(all))
+}
+
+/// The parameter `tag` with this value.
+#[tactic(auto, unfolding(sip_text::specs::Token::is_token, sip_text::specs::Character::is_token_byte))]
+pub(crate) fn tag_parameter(alloc: Global, tag: &Token) -> Result<Parameter, AllocError>
+    ensures value { IfOk result (λ parameter. parameter ≡ response.tag_parameter tag.now) }
+    ensures rule { OnOk result (IsTrue (token_rule.is_token tag.now)) }
+{
+    Ok(Parameter {
+        name: Token::from_text(Text::copy_of(alloc, b"tag")?),
+        value: Some(token_value(alloc, tag)?),
+    })
+}
+
+fn token_value(alloc: Global, token: &Token) -> Result<ParameterValue, AllocError>
+    ensures value { IfOk result (λ value. value ≡ token.now) }
+    ensures rule { OnOk result (IsTrue (token_rule.is_token token.now)) }
+{
+    Ok(ParameterValue::from_text(Text::copy_of(alloc, token.as_slice())?))
+}

@@ -1,0 +1,23 @@
+//! The sent-by of a key (RFC 3261, section 17.2.3).
+ghost use Rattle.std.specs.Prelude.{◌≡◌};
+
+use sip_text::Text;
+use std::alloc::AllocError;
+
+/// The host and the port of a Via.
+#[derive(Drop)]
+pub struct SentBy {
+    pub host: Text,
+    pub port: u16,
+}
+
+impl Clone for SentBy {
+    ghost is_clone = { λ original copy. copy ≡ original };
+
+    fn clone(&self) -> Result<SentBy, AllocError> {
+        Ok(SentBy {
+            host: self.host.clone()?,
+            port: self.port,
+        })
+    }
+}

@@ -1,0 +1,28 @@
+//! The start line (RFC 3261, sections 7.1 and 7.2).
+ghost use Rattle.std.specs.Prelude.{◌≡◌};
+
+use crate::reason::Reason;
+use crate::request_uri::RequestUri;
+use crate::status_code::StatusCode;
+use std::alloc::AllocError;
+
+/// A request line, whose method is that of the CSeq, or a status line.
+#[derive(Drop)]
+pub enum StartLine {
+    Request { uri: RequestUri },
+    Response { status: StatusCode, reason: Reason },
+}
+
+impl Clone for StartLine {
+    ghost is_clone = { λ original copy. copy ≡ original };
+
+    fn clone(&self) -> Result<StartLine, AllocError> {
+        match self {
+            StartLine::Request { uri } => Ok(StartLine::Request { uri: uri.clone()? }),
+            StartLine::Response { status, reason } => Ok(StartLine::Response {
+                status: *status,
+                reason: reason.clone()?,
+            }),
+        }
+    }
+}

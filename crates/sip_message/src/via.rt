@@ -1,0 +1,42 @@
+//! Via values (RFC 3261, section 20.42).
+ghost use Rattle.std.specs.Prelude.{◌≡◌};
+
+use crate::host::Host;
+use crate::parameter::Parameter;
+use crate::parameters::value_named;
+use crate::token::Token;
+use sip_text::Series;
+use std::alloc::AllocError;
+
+/// One value of a Via: a hop that the request made.
+#[derive(Drop)]
+pub struct Via {
+    pub transport: Token,
+    pub host: Host,
+    pub port: Option<u16>,
+    pub parameters: Series<Parameter>,
+}
+
+impl Via {
+    ghost use Rattle.sip_message.specs.Via.{branch_of};
+
+    /// The branch: empty where there is none.
+    pub fn branch(&self) -> &[u8]
+        ensures { result.now ≡ branch_of self.now }
+    {
+        value_named(self.parameters.as_slice(), b"branch")
+    }
+}
+
+impl Clone for Via {
+    ghost is_clone = { λ original copy. copy ≡ original };
+
+    fn clone(&self) -> Result<Via, AllocError> {
+        Ok(Via {
+            transport: self.transport.clone()?,
+            host: self.host.clone()?,
+            port: self.port,
+            parameters: self.parameters.clone()?,
+        })
+    }
+}
