@@ -1,6 +1,6 @@
 //! The table of the held keys.
 
-ghost use Rattle.std.specs.Prelude.{◌≡◌, ℕ, List, Option, Some, None, [], IfOk, OnOk, OnErr, cond, length, true, count_by, is_some};
+ghost use Rattle.std.specs.Prelude.{◌≡◌, ℕ, List, Option, Some, None, [], IfOk, OnOk, OnErr, cond, length, true, count_by, is_some, IsErr};
 ghost use Rattle.std.specs.Option.{option_copied};
 ghost use Rattle.std.specs.BTreeMap.{get, is_at, BTreeMap};
 ghost use Rattle.std.specs.List.{flat_map};
@@ -60,6 +60,20 @@ impl<K: Ord + Drop, S: Drop> Table<K, S> {
         ensures { option_copied result ≡ state_at K.cmp self.now key.now }
     {
         self.held.as_ref()?.get(key)
+    }
+
+    /// Passes on what was made outside the table. Where memory was refused, the table is broken from then on.
+    pub fn check<T: Drop>(&mut self, given: Result<T, AllocError>) -> Result<T, ShardFault>
+        ensures broken { self.old ≡ None → result ≡ Err ShardFault.Broken }
+        ensures only_broken { result ≡ Err ShardFault.Broken → self.old ≡ None }
+        ensures err { OnErr result (self.new ≡ None) }
+        ensures refused { IsErr given → IsErr result }
+        ensures ok { IfOk result (λ value. (given ≡ Ok value) × (self.new ≡ self.old)) }
+    {
+        let held = self.held.take().ok_or(ShardFault::Broken)?;
+        let value = given?;
+        self.held = Some(held);
+        Ok(value)
     }
 
     /// Gives one key an input, and answers what its machine says.

@@ -1,0 +1,213 @@
+-- One input of a transaction, as the laws see it.
+use Rattle.std.proofs.Common.{◌≡◌, ℕ, ◌+◌, Bool, true, false, cond, ◌&&◌, ◌||◌, List, [], ◌++◌, refl, sym, ◌∙◌, ap, subst, add-zero}
+use Rattle.std.specs.Prelude.{not, Option, None, Some, is_none, option_map, option_to_list, codes}
+use Rattle.std.specs.List.{AllByRecursion}
+use Rattle.std.proofs.lemmas.Bool.{false≢true}
+use Rattle.std.proofs.lemmas.Option.{option_and_then_some}
+use Rattle.std.proofs.lemmas.List.Sums.{sum_by-append}
+use Rattle.sip_message.specs.declared.id.Id.{Id}
+use Rattle.sip_message.specs.declared.key.Key.{Key}
+use Rattle.sip_message.specs.declared.key.Key.TheVariants as key
+use Rattle.sip_message.specs.declared.start_line.StartLine.{StartLine}
+use Rattle.sip_message.specs.declared.start_line.StartLine.TheVariants as start
+use Rattle.sip_transactions.specs.declared.input.Command.{Command}
+use Rattle.sip_transactions.specs.declared.input.Command.TheVariants as command
+use Rattle.sip_transactions.specs.declared.input.Input.{Input}
+use Rattle.sip_transactions.specs.declared.input.Timed.{Timed}
+use Rattle.sip_transactions.specs.declared.life.Life.{Life}
+use Rattle.sip_transactions.specs.declared.output.Out.{Out}
+use Rattle.sip_transactions.specs.declared.state.State.{State}
+use Rattle.sip_transactions.specs.declared.state.Role.{Role}
+use Rattle.sip_transactions.specs.declared.state.Role.TheVariants.{InviteClient, Client, InviteServer, Server}
+use Rattle.sip_transactions.specs.declared.step.Step.{Step}
+use Rattle.sip_transactions.specs.declared.step.Next.{Next}
+use Rattle.sip_transactions.specs.declared.step.Next.TheVariants.{Same, Ended, Become}
+use Rattle.sip_transactions.specs.declared.step.Handed.{Handed}
+use Rattle.sip_transactions.specs.declared.step.Handed.TheVariants as up
+use Rattle.sip_transactions.specs.declared.trigger.Trigger.{Trigger}
+use Rattle.sip_transactions.specs.declared.trigger.Trigger.TheVariants as on
+use Rattle.sip_transactions.specs.Rows.{row_of, rows_of}
+use Rattle.sip_transactions.specs.Input.{role_of, trigger_of, is_method, answer_of, class_of}
+use Rattle.sip_transactions.specs.Output.{outputs_of, handed_out, sent_bytes, send_out}
+use Rattle.sip_transactions.specs.Life.{stepped, step_for, stepped_by, acted_if, life_of}
+use Rattle.sip_transactions.specs.Laws.{IsSend, CommandsOnlySend, IsServer, is_request_up, requests_in}
+use Rattle.sip_transactions.specs.Shard.{order}
+use Rattle.sip_transactions.proofs.RowFacts.{by_test, table_passes, row_passes}
+
+-- ---- the row of an input
+pub record RowFor (key : Key) (held : Option Life) (timed : Timed) (step : Step) : Type 0 where
+  pub trigger : Trigger
+  pub triggered : trigger_of held timed.moment timed.input ≡ Some trigger
+  pub row : row_of (rows_of (role_of key)) (option_map (λ life. life.state) held) trigger ≡ Some step
+
+row_for : (key : Key) (held : Option Life) (timed : Timed) (step : Step) → step_for key held timed.moment timed.input ≡ Some step → RowFor key held timed step
+unfolding step_for
+row_for key held timed step found =
+    option_and_then_some {P = RowFor key held timed step} (row_of (rows_of (role_of key)) (option_map (λ life. life.state) held)) (trigger_of held timed.moment timed.input) step found
+    (λ trigger is row. record { trigger = trigger; triggered = is; row = row })
+
+by_option : {T : Type 0} (G : Option T → Type 0) (o : Option T) → (o ≡ None → G None) → ((x : T) → o ≡ Some x → G (Some x)) → G o
+by_option G None none some = none refl
+by_option G (Some x) none some = some x refl
+
+-- an input does nothing, or what its row says
+pub by_step : (G : Option Life × List Out → Type 0) (key : Key) (held : Option Life) (timed : Timed) → G (held, []) → ((step : Step) → RowFor key held timed step → G (acted_if key timed.moment timed.input (life_of held timed.input) step)) → G (stepped key held timed)
+unfolding stepped
+by_step G key held timed nothing acts =
+    by_option (λ o. G (stepped_by key held timed.moment timed.input o)) (step_for key held timed.moment timed.input) (λ none. nothing) (λ step found. acts step (row_for key held timed step found))
+
+-- ---- tests of the tables
+abbrev pub is_request : Trigger → Bool
+is_request on.Start = false
+is_request on.RepeatDue = false
+is_request on.EndingDue = false
+is_request on.Failed = false
+is_request on.Request = true
+is_request on.Ack = false
+is_request (on.Response c) = false
+is_request (on.Answer c) = false
+
+abbrev pub is_response : Trigger → Bool
+is_response on.Start = false
+is_response on.RepeatDue = false
+is_response on.EndingDue = false
+is_response on.Failed = false
+is_response on.Request = false
+is_response on.Ack = false
+is_response (on.Response c) = true
+is_response (on.Answer c) = false
+
+abbrev is_order : Trigger → Bool
+is_order on.Start = true
+is_order on.RepeatDue = false
+is_order on.EndingDue = false
+is_order on.Failed = false
+is_order on.Request = false
+is_order on.Ack = false
+is_order (on.Response c) = false
+is_order (on.Answer c) = true
+
+abbrev pub is_ended : Next → Bool
+is_ended Same = false
+is_ended Ended = true
+is_ended (Become s) = false
+
+abbrev pub is_message : Handed → Bool
+is_message up.Nothing = false
+is_message up.Message = true
+is_message up.Timeout = false
+is_message up.Failed = false
+is_message up.NoTransaction = false
+
+abbrev pub is_report : Handed → Bool
+is_report up.Nothing = false
+is_report up.Message = false
+is_report up.Timeout = true
+is_report up.Failed = true
+is_report up.NoTransaction = false
+
+-- a command reports nothing
+abbrev orders_report_nothing : Option State → Trigger → Step → Bool
+orders_report_nothing s t step = not (is_order t) || not (is_report step.handed)
+
+-- what begins a life of a server is a request, and is handed up
+abbrev pub begins_by_request : Option State → Trigger → Step → Bool
+begins_by_request s t step = not (is_none s) || (is_ended step.next || (is_message step.handed && is_request t))
+
+-- a request to a life isn't handed up
+abbrev pub later_not_handed_up : Option State → Trigger → Step → Bool
+later_not_handed_up s t step = is_none s || not (is_message step.handed && is_request t)
+
+-- a response begins no life, and is handed up only to a life
+abbrev pub response_needs_life : Option State → Trigger → Step → Bool
+response_needs_life s t step = not (is_none s && is_response t) || (is_ended step.next && not (is_message step.handed || is_report step.handed))
+
+orders_in_tables : (role : Role) → table_passes orders_report_nothing (rows_of role) ≡ true
+orders_in_tables InviteClient = refl
+orders_in_tables Client = refl
+orders_in_tables InviteServer = refl
+orders_in_tables Server = refl
+
+pub later_in_tables : (role : Role) → table_passes later_not_handed_up (rows_of role) ≡ true
+later_in_tables InviteClient = refl
+later_in_tables Client = refl
+later_in_tables InviteServer = refl
+later_in_tables Server = refl
+
+pub responses_in_tables : (role : Role) → table_passes response_needs_life (rows_of role) ≡ true
+responses_in_tables InviteClient = refl
+responses_in_tables Client = refl
+responses_in_tables InviteServer = refl
+responses_in_tables Server = refl
+
+-- of a server's key
+pub server_tables : (key : Key) → IsServer key → table_passes begins_by_request (rows_of (role_of key)) ≡ true
+server_tables (key.Client branch method) none = absurd none
+server_tables (key.Server branch sent_by method) server =
+    by_test (is_method method (codes "INVITE"))
+    (λ hit. ap (λ b. table_passes begins_by_request (rows_of (cond b InviteServer Server))) hit)
+    (λ miss. ap (λ b. table_passes begins_by_request (rows_of (cond b InviteServer Server))) miss)
+
+pub not-is_true : (b : Bool) → not b ≡ true → b ≡ false
+not-is_true true e = absurd (false≢true e)
+not-is_true false e = refl
+
+-- ---- what a row says
+-- it is nothing, where what it hands up and what it sends are nothing that counts
+counts_none : (life : Life) (key : Key) (o : Option (List ℕ)) → requests_in (option_to_list (option_map (send_out key life.to) o)) ≡ 0
+counts_none life key None = refl
+counts_none life key (Some bytes) = refl
+
+pub requests-outputs : (key : Key) (life : Life) (step : Step) (input : Input) → requests_in (outputs_of key life step input) ≡ requests_in (option_to_list (handed_out key life step.handed input))
+unfolding outputs_of
+requests-outputs key life step input =
+    sum_by-append (λ o. cond (is_request_up o) 1 0) (option_to_list (handed_out key life step.handed input)) (option_to_list (option_map (send_out key life.to) (sent_bytes life step.sent input)))
+    ∙ ap (λ n. requests_in (option_to_list (handed_out key life step.handed input)) + n) (counts_none life key (sent_bytes life step.sent input)) ∙ add-zero _
+
+-- ---- a command only sends
+sends_only : (key : Key) (life : Life) (o : Option (List ℕ)) → AllByRecursion IsSend (option_to_list (option_map (send_out key life.to) o))
+sends_only key life None = tt
+sends_only key life (Some bytes) = (tt, tt)
+
+order_handed : (key : Key) (life : Life) (handed : Handed) (id : Id) (command : Command) (now : ℕ) → not (is_report handed) ≡ true → handed_out key life handed (order id command now).input ≡ None
+unfolding handed_out
+order_handed key life up.Nothing id command now quiet = refl
+order_handed key life up.Message id (command.Start k call_id message to) now quiet = refl
+order_handed key life up.Message id (command.Answer k message) now quiet = refl
+order_handed key life up.Timeout id command now quiet = absurd (false≢true quiet)
+order_handed key life up.Failed id command now quiet = absurd (false≢true quiet)
+order_handed key life up.NoTransaction id (command.Start k call_id message to) now quiet = refl
+order_handed key life up.NoTransaction id (command.Answer k message) now quiet = refl
+
+order_outputs : (key : Key) (life : Life) (step : Step) (id : Id) (command : Command) (now : ℕ) → not (is_report step.handed) ≡ true → AllByRecursion IsSend (outputs_of key life step (order id command now).input)
+unfolding outputs_of
+order_outputs key life step id command now quiet =
+    let input = (order id command now).input in
+    subst (λ o. AllByRecursion IsSend (option_to_list o ++ option_to_list (option_map (send_out key life.to) (sent_bytes life step.sent input)))) (sym (order_handed key life step.handed id command now quiet))
+    (sends_only key life (sent_bytes life step.sent input))
+
+answer_is_order : (line : StartLine) (trigger : Trigger) → answer_of line ≡ Some trigger → is_order trigger ≡ true
+answer_is_order (start.Request uri) trigger e = cc
+answer_is_order (start.Response status reason) trigger e = let same : on.Answer (class_of status) ≡ trigger = cc in subst (λ t. is_order t ≡ true) same refl
+
+is_order_trigger : (held : Option Life) (id : Id) (command : Command) (now : ℕ) (trigger : Trigger) → trigger_of held now (order id command now).input ≡ Some trigger → is_order trigger ≡ true
+is_order_trigger held id (command.Start k call_id message to) now trigger e = let same : on.Start ≡ trigger = cc in subst (λ t. is_order t ≡ true) same refl
+is_order_trigger held id (command.Answer k message) now trigger e = answer_is_order message.start trigger e
+
+moment-order : (id : Id) (command : Command) (now : ℕ) → (order id command now).moment ≡ now
+moment-order id (command.Start k call_id message to) now = refl
+moment-order id (command.Answer k message) now = refl
+
+orders_send : (key : Key) (life : Option Life) (step : Step) (id : Id) (command : Command) (now moment : ℕ) → not (is_report step.handed) ≡ true
+    → AllByRecursion IsSend (acted_if key moment (order id command now).input life step).1
+orders_send key None step id command now moment quiet = tt
+orders_send key (Some life) step id command now moment quiet = order_outputs key life step id command now quiet
+
+pub commands_only_send : CommandsOnlySend
+commands_only_send key held id command now =
+    by_step (λ after. AllByRecursion IsSend after.1) key held (order id command now) tt
+    (λ step row.
+    let ordered : is_order row.trigger ≡ true = is_order_trigger held id command now row.trigger (subst (λ m. trigger_of held m (order id command now).input ≡ Some row.trigger) (moment-order id command now) row.triggered) in
+    let passed : orders_report_nothing (option_map (λ life. life.state) held) row.trigger step ≡ true = row_passes orders_report_nothing (rows_of (role_of key)) (orders_in_tables (role_of key)) _ row.trigger step row.row in
+    let quiet : not (is_report step.handed) ≡ true = sym (ap (λ b. not b || not (is_report step.handed)) ordered) ∙ passed in
+    orders_send key (life_of held (order id command now).input) step id command now (order id command now).moment quiet)

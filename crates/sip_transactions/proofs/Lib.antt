@@ -1,0 +1,5 @@
+pub mod AfterTheEnd
+pub mod LawSteps
+pub mod OneRequest
+pub mod Pace
+pub mod RowFacts

@@ -1,0 +1,56 @@
+-- What an input is to a transaction: its table and its trigger.
+use Rattle.std.specs.Prelude.{ℕ, Bool, ◌==◌, nat_lt, nat_eq, if◌then◌else◌, List, codes, Option, None, Some}
+use Rattle.std.specs.Cmp.Lexicographic.{pointwise}
+use Rattle.sip_message.specs.declared.key.Key.{Key}
+use Rattle.sip_message.specs.declared.key.Key.TheVariants as key
+use Rattle.sip_message.specs.declared.start_line.StartLine.{StartLine}
+use Rattle.sip_message.specs.declared.start_line.StartLine.TheVariants as start
+use Rattle.sip_transactions.specs.declared.state.Role.{Role}
+use Rattle.sip_transactions.specs.declared.state.Role.TheVariants as role
+use Rattle.sip_transactions.specs.declared.trigger.Class.{Class}
+use Rattle.sip_transactions.specs.declared.trigger.Class.TheVariants.{Trying, Provisional, Success, Failure}
+use Rattle.sip_transactions.specs.declared.trigger.Trigger.{Trigger}
+use Rattle.sip_transactions.specs.declared.trigger.Trigger.TheVariants as on
+use Rattle.sip_transactions.specs.declared.input.Input.{Input}
+use Rattle.sip_transactions.specs.declared.input.Input.TheVariants.{Tick, Receive, Start, Answer, Failed}
+use Rattle.sip_transactions.specs.declared.life.Life.{Life}
+use Rattle.sip_transactions.specs.Timers.{is_due}
+
+-- methods are compared with their case
+abbrev pub is_method : List ℕ → List ℕ → Bool
+is_method method name = pointwise nat_eq method name
+
+-- the table of a key
+abbrev pub role_of : Key → Role
+role_of (key.Client branch method) = if is_method method (codes "INVITE") then role.InviteClient else role.Client
+role_of (key.Server branch sent_by method) = if is_method method (codes "INVITE") then role.InviteServer else role.Server
+
+-- the class of a status code
+abbrev pub class_of : ℕ → Class
+class_of code = if code == 100 then Trying else if nat_lt code 200 then Provisional else if nat_lt code 300 then Success else Failure
+
+-- a message that came, by its start line and its method
+abbrev pub arrival_of : StartLine → List ℕ → Trigger
+arrival_of (start.Request uri) method = if is_method method (codes "ACK") then on.Ack else on.Request
+arrival_of (start.Response status reason) method = on.Response (class_of status)
+
+-- a message that the user answers with
+abbrev pub answer_of : StartLine → Option Trigger
+answer_of (start.Request uri) = None
+answer_of (start.Response status reason) = Some (on.Answer (class_of status))
+
+-- what a tick is: the ending moment if it has come, otherwise the repeating moment if it has come, otherwise nothing
+abbrev pub due_of : ℕ → Option ℕ → Option ℕ → Option Trigger
+due_of now ending repeat = if is_due now ending then Some on.EndingDue else if is_due now repeat then Some on.RepeatDue else None
+
+abbrev pub tick_of : ℕ → Option Life → Option Trigger
+tick_of now None = None
+tick_of now (Some life) = due_of now life.timers.ending life.timers.repeat
+
+-- what an input at a moment is to a transaction
+abbrev pub trigger_of : Option Life → ℕ → Input → Option Trigger
+trigger_of held now Tick = tick_of now held
+trigger_of held now (Receive id message reply_to) = Some (arrival_of message.start message.cseq.method)
+trigger_of held now (Start id call_id message to) = Some on.Start
+trigger_of held now (Answer id message) = answer_of message.start
+trigger_of held now (Failed id) = Some on.Failed

@@ -1,0 +1,100 @@
+-- What holds of every transaction, over any list of its inputs.
+use Rattle.std.specs.Prelude.{◌≡◌, ℕ, ◌==◌, ◌≤◌, ◌&&◌, Bool, true, false, List, [], ◌∷◌, ◌++◌, Option, None, Some, count_by, filter_map}
+use Rattle.std.specs.List.{AllByRecursion, list_any, IsDistinct}
+use Rattle.sip_message.specs.declared.id.Id.{Id}
+use Rattle.sip_message.specs.declared.key.Key.{Key}
+use Rattle.sip_message.specs.declared.key.Key.TheVariants as key
+use Rattle.sip_message.specs.declared.start_line.StartLine.{StartLine}
+use Rattle.sip_message.specs.declared.start_line.StartLine.TheVariants as start
+use Rattle.sip_model.specs.Machine.{state_after, outputs_from, IsLife}
+use Rattle.sip_transactions.specs.declared.input.Command.{Command}
+use Rattle.sip_transactions.specs.declared.input.Input.{Input}
+use Rattle.sip_transactions.specs.declared.input.Input.TheVariants.{Tick, Receive, Start, Answer, Failed}
+use Rattle.sip_transactions.specs.declared.input.Timed.{Timed}
+use Rattle.sip_transactions.specs.declared.life.Life.{Life}
+use Rattle.sip_transactions.specs.declared.output.Kind.{Kind}
+use Rattle.sip_transactions.specs.declared.output.Kind.TheVariants as kind
+use Rattle.sip_transactions.specs.declared.output.Out.{Out}
+use Rattle.sip_transactions.specs.declared.output.Out.TheVariants as out
+use Rattle.sip_transactions.specs.declared.state.Role.{Role}
+use Rattle.sip_transactions.specs.declared.state.State.{State}
+use Rattle.sip_transactions.specs.declared.trigger.Trigger.{Trigger}
+use Rattle.sip_transactions.specs.Machine.{transaction_machine}
+use Rattle.sip_transactions.specs.Rows.{fits, rows_of}
+use Rattle.sip_transactions.specs.Shard.{order}
+
+-- of each table at most one row fits a state and a trigger
+abbrev pub AtMostOneRow : Type 0
+AtMostOneRow = (role : Role) (state : Option State) (trigger : Trigger) → count_by (λ row. fits row state trigger) (rows_of role) ≤ 1
+
+-- neither handed up nor dropped
+abbrev pub IsSend : Out → Type 0
+IsSend (out.Send key to bytes) = Unit {0}
+IsSend (out.Up up) = ⊥
+IsSend (out.Dropped place reason) = ⊥
+
+-- a command hands nothing up and drops nothing
+abbrev pub CommandsOnlySend : Type 0
+CommandsOnlySend = (key : Key) (held : Option Life) (id : Id) (command : Command) (now : ℕ) → AllByRecursion IsSend (transaction_machine.adds key held (order id command now))
+
+abbrev pub IsServer : Key → Type 0
+IsServer (key.Client branch method) = ⊥
+IsServer (key.Server branch sent_by method) = Unit {0}
+
+-- a request that is handed up, ACKs aside
+abbrev pub is_request_kind : Kind → Bool
+is_request_kind (kind.Request message reply_to) = true
+is_request_kind (kind.Ack message) = false
+is_request_kind (kind.Response message) = false
+is_request_kind kind.Timeout = false
+is_request_kind kind.Failed = false
+
+abbrev pub is_request_up : Out → Bool
+is_request_up (out.Up up) = is_request_kind up.kind
+is_request_up (out.Send key to bytes) = false
+is_request_up (out.Dropped place reason) = false
+
+abbrev pub requests_in : List Out → ℕ
+requests_in outs = count_by is_request_up outs
+
+-- a life of a server key hands its request up once, by its first input
+abbrev pub OneRequestUp : Type 0
+OneRequestUp = (key : Key) → IsServer key → (before : List Timed) (first : Timed) (rest : List Timed) → IsLife transaction_machine key before first rest
+    → (requests_in (transaction_machine.adds key (state_after transaction_machine key before) first) ≡ 1)
+    × (requests_in (outputs_from transaction_machine key (state_after transaction_machine key (before ++ first ∷ [])) rest) ≡ 0)
+
+-- the id of an input, where it has one
+abbrev pub id_of : Input → Option Id
+id_of Tick = None
+id_of (Receive id message reply_to) = Some id
+id_of (Start id call_id message to) = Some id
+id_of (Answer id message) = Some id
+id_of (Failed id) = Some id
+
+-- the id of a request that came, ACKs among them, or of a start
+abbrev pub arrival_id : StartLine → Id → Option Id
+arrival_id (start.Request uri) id = Some id
+arrival_id (start.Response status reason) id = None
+
+abbrev pub naming_id : Input → Option Id
+naming_id Tick = None
+naming_id (Receive id message reply_to) = arrival_id message.start id
+naming_id (Start id call_id message to) = Some id
+naming_id (Answer id message) = None
+naming_id (Failed id) = None
+
+abbrev pub same_id : Id → Id → Bool
+same_id a b = (a.round == b.round) && (a.place == b.place)
+
+-- something handed up under this id
+abbrev pub carries : Id → Out → Bool
+carries id (out.Up up) = same_id id up.id
+carries id (out.Send key to bytes) = false
+carries id (out.Dropped place reason) = false
+
+-- where ids differ, nothing is handed up under a life's id after the life has ended
+abbrev pub NothingAfterTheEnd : Type 0
+NothingAfterTheEnd = (key : Key) (before : List Timed) (first : Timed) (rest after : List Timed) (id : Id) → IsLife transaction_machine key before first rest
+    → state_after transaction_machine key (before ++ first ∷ rest) ≡ None → id_of first.input ≡ Some id
+    → IsDistinct same_id (filter_map (λ timed. naming_id timed.input) (before ++ first ∷ rest ++ after))
+    → list_any (carries id) (outputs_from transaction_machine key None after) ≡ false

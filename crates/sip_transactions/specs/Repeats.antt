@@ -1,0 +1,37 @@
+-- A row that lets the repeat fire is for the trigger that it is due.
+use Rattle.std.specs.Prelude.{◌≡◌, ℕ, true, false, Option, None, Some}
+use Rattle.sip_transactions.specs.declared.life.Life.{Life}
+use Rattle.sip_transactions.specs.declared.step.Due.{Due}
+use Rattle.sip_transactions.specs.declared.step.Due.TheVariants.{Keep, Clear, Ending, Both, Again}
+use Rattle.sip_transactions.specs.declared.trigger.Trigger.{Trigger}
+use Rattle.sip_transactions.specs.declared.trigger.Trigger.TheVariants as on
+use Rattle.sip_transactions.specs.Timers.{is_due}
+
+-- a row fires the repeat only of a life whose repeat is due, and its end isn't
+abbrev pub RepeatsInTime : Due → ℕ → Option Life → Type 0
+RepeatsInTime Keep now held = Unit {0}
+RepeatsInTime Clear now held = Unit {0}
+RepeatsInTime (Ending after) now held = Unit {0}
+RepeatsInTime Both now held = Unit {0}
+RepeatsInTime (Again pace) now None = ⊥
+RepeatsInTime (Again pace) now (Some life) = (is_due now life.timers.repeat ≡ true) × (is_due now life.timers.ending ≡ false)
+
+-- the trigger that the repeat is due comes only to such a life
+abbrev pub RepeatIsDue : Trigger → ℕ → Option Life → Type 0
+RepeatIsDue on.RepeatDue now None = ⊥
+RepeatIsDue on.RepeatDue now (Some life) = (is_due now life.timers.repeat ≡ true) × (is_due now life.timers.ending ≡ false)
+RepeatIsDue on.Start now held = Unit {0}
+RepeatIsDue on.EndingDue now held = Unit {0}
+RepeatIsDue on.Failed now held = Unit {0}
+RepeatIsDue (on.Response class) now held = Unit {0}
+RepeatIsDue on.Request now held = Unit {0}
+RepeatIsDue on.Ack now held = Unit {0}
+RepeatIsDue (on.Answer class) now held = Unit {0}
+
+-- a step that fires the repeat is for that trigger
+abbrev pub FiresWhenDue : Due → Trigger → Type 0
+FiresWhenDue Keep trigger = Unit {0}
+FiresWhenDue Clear trigger = Unit {0}
+FiresWhenDue (Ending after) trigger = Unit {0}
+FiresWhenDue Both trigger = Unit {0}
+FiresWhenDue (Again pace) trigger = trigger ≡ on.RepeatDue

@@ -1,0 +1,43 @@
+-- What a shard of transactions shows, and what its calls are to one transaction.
+use Rattle.std.specs.Prelude.{ℕ, Bool, not, ◌&&◌, Option}
+use Rattle.sip_message.specs.declared.addr.Addr.{Addr}
+use Rattle.sip_message.specs.declared.id.Id.{Id}
+use Rattle.sip_message.specs.declared.key.Key.{Key}
+use Rattle.sip_message.specs.declared.message.Message.{Message}
+use Rattle.sip_message.specs.Key.{key_cmp}
+use Rattle.sip_message.specs.KeyOf.{is_sent_by_of}
+use Rattle.sip_message.specs.Message.{is_request_message}
+use Rattle.sip_transactions.specs.declared.input.Command.{Command}
+use Rattle.sip_transactions.specs.declared.input.Command.TheVariants as command
+use Rattle.sip_transactions.specs.declared.input.Input.TheVariants.{Receive, Start, Answer, Failed}
+use Rattle.sip_transactions.specs.declared.input.Timed.{Timed}
+use Rattle.sip_transactions.specs.declared.life.Life.{Life}
+use Rattle.sip_model.specs.Table.{Held, state_at}
+
+-- the agent's address, and the lives that are held by key; a broken shard holds `None`
+pub record Lives : Type 0 where
+  pub local : Addr
+  pub held : Held Key Life
+
+-- the life that is held for a key
+abbrev pub life_at : Lives → Key → Option Life
+life_at shard key = state_at key_cmp shard.held key
+
+-- a response whose top Via names another sender than the agent
+abbrev pub is_stray : Addr → Message → Bool
+is_stray local message = not (is_request_message message) && not (is_sent_by_of message local)
+
+-- a message that came, a command and a failure, as inputs of one transaction
+abbrev pub receipt : Id → Message → Addr → ℕ → Timed
+receipt id message reply_to now = record { moment = now; input = Receive id message reply_to }
+
+abbrev pub failure : Id → ℕ → Timed
+failure id now = record { moment = now; input = Failed id }
+
+abbrev pub command_key : Command → Key
+command_key (command.Start key call_id message to) = key
+command_key (command.Answer key message) = key
+
+abbrev pub order : Id → Command → ℕ → Timed
+order id (command.Start key call_id message to) now = record { moment = now; input = Start id call_id message to }
+order id (command.Answer key message) now = record { moment = now; input = Answer id message }

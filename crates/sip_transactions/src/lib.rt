@@ -1,0 +1,21 @@
+//! Transactions: the machine of one transaction, as a table of rows, and the shard that holds many.
+#![tactic(auto)]
+
+mod input;
+pub mod laws;
+mod life;
+mod machine;
+mod output;
+mod rows;
+mod shard;
+mod state;
+mod step;
+mod stray;
+mod timers;
+mod trigger;
+
+pub use input::Command;
+pub use output::{DropReason, Kind, Out, Up};
+pub use shard::Shard;
+pub use sip_model::ShardFault;
+pub use state::State;

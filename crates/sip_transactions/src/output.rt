@@ -1,0 +1,48 @@
+//! What a transaction says.
+
+use sip_message::{Addr, CallId, Id, Key, Message};
+use sip_text::Text;
+
+/// What is handed up to the call.
+#[derive(Drop)]
+pub enum Kind {
+    /// The request that began the transaction, and where its answers go.
+    Request(Message, Addr),
+    /// An ACK.
+    Ack(Message),
+    /// A response.
+    Response(Message),
+    /// No final response came in time, or no ACK.
+    Timeout,
+    /// A send failed.
+    Failed,
+}
+
+/// Something handed up, under the id and the Call-ID of the input that began the transaction's life.
+#[derive(Drop)]
+pub struct Up {
+    pub key: Key,
+    pub id: Id,
+    pub call_id: CallId,
+    pub kind: Kind,
+}
+
+/// Why a datagram was dropped.
+#[derive(Clone, Copy, Debug, PartialEq, Eq)]
+pub enum DropReason {
+    /// A response whose top Via names another sender.
+    NotOurs,
+    /// A response to no transaction.
+    NoTransaction,
+}
+
+/// What a transaction says.
+#[derive(Drop)]
+pub enum Out {
+    /// It hands something up.
+    Up(Up),
+    /// It sends bytes.
+    Send { key: Key, to: Addr, bytes: Text },
+    /// It drops the message of the event at this place.
+    Dropped { place: u32, reason: DropReason },
+}

@@ -1,0 +1,175 @@
+//! A shard: the transactions of some keys.
+
+ghost use Rattle.std.specs.Prelude.{◌≡◌, ◌≤◌, ◌^◌, [], ◌∷◌, List, Some, None, length, count_by, option_map, is_some, true, false, IfOk, OnErr};
+ghost use Rattle.sip_model.specs.Table.{state_at, entries_of, Covers, StepsKey, StepsAll};
+ghost use Rattle.sip_model.specs.History.{AddsInput, AddsInputs};
+ghost use Rattle.sip_message.specs.Key.{key_cmp};
+ghost use Rattle.sip_message.specs.KeyOf.{key_of_message};
+ghost use Rattle.sip_transactions.specs.Machine.{transaction_machine, tick_at};
+
+use crate::input::{Command, Input, Timed};
+use crate::life::Life;
+use crate::machine::Transactions;
+use crate::output::{DropReason, Out};
+use crate::state::State;
+use crate::stray::is_stray;
+use sip_message::{Addr, Id, Key, Message, key_of};
+use sip_model::{ShardFault, Table};
+use std::alloc::{AllocError, Global};
+use std::marker::Model;
+
+/// The transactions of some keys.
+///
+/// After a call answered [`ShardFault::NoMemory`] the shard is broken: it holds nothing, and every call that can
+/// fail answers [`ShardFault::Broken`].
+#[derive(Drop)]
+pub struct Shard {
+    alloc: Global,
+    local: Addr,
+    table: Table<Key, Life>,
+}
+
+impl Model for Shard {
+    ghost use Rattle.sip_transactions.specs.Shard.{Lives};
+
+    ghost Value = { Lives };
+
+    ghost view = { λ s. record { local = s.local; held = s.table } };
+}
+
+impl Shard {
+    ghost use Rattle.sip_transactions.specs.Shard.{Lives, life_at, is_stray, receipt, failure, command_key, order};
+
+    /// A shard without transactions, of the agent at the address `local`.
+    pub fn new(alloc: Global, local: Addr) -> Self
+        ensures { result ≡ record { local = local; held = Some [] } }
+    {
+        Shard {
+            alloc,
+            local,
+            table: Table::new(alloc),
+        }
+    }
+
+    /// How many transactions are held.
+    pub fn live(&self) -> usize
+        ensures entries { result ≡ length (entries_of self.now.held) }
+        ensures counts { (keys : List Key) → Covers key_cmp keys (life_at self.now) → result ≡ count_by (λ key. is_some (life_at self.now key)) keys }
+    {
+        self.table.live()
+    }
+
+    /// The state of a transaction, if it has one.
+    pub fn state_of(&self, key: &Key) -> Option<State>
+        ensures { result ≡ option_map (λ life. life.state) (life_at self.now key.now) }
+    {
+        self.table.state(key).map(|life| life.state)
+    }
+
+    /// Lets every transaction see the moment, in milliseconds, in key order: at most one timer of each fires.
+    pub fn tick(&mut self, now: u64) -> Result<Vec<Out>, ShardFault>
+        requires { now ≤ 2 ^ 62 }
+        ensures local { self.new.local ≡ self.old.local }
+        ensures broken { self.old.held ≡ None → result ≡ Err ShardFault.Broken }
+        ensures only_broken { result ≡ Err ShardFault.Broken → self.old.held ≡ None }
+        ensures err { OnErr result (self.new.held ≡ None) }
+        ensures step { IfOk result (λ outs. StepsAll key_cmp transaction_machine self.old.held self.new.held (tick_at now) outs.items) }
+        ensures histories { IfOk result (λ outs. AddsInputs key_cmp transaction_machine self.old.held self.new.held (tick_at now) outs.items) }
+    {
+        self.table.tick(&Transactions, now)
+    }
+
+    /// Takes a message that came: a request that is stamped with its source, with the address of its answers, or a
+    /// response.
+    pub fn receive(
+        &mut self,
+        id: Id,
+        message: Message,
+        reply_to: Addr,
+        now: u64,
+    ) -> Result<Vec<Out>, ShardFault>
+        requires { now ≤ 2 ^ 62 }
+        ensures local { self.new.local ≡ self.old.local }
+        ensures broken { self.old.held ≡ None → result ≡ Err ShardFault.Broken }
+        ensures only_broken { result ≡ Err ShardFault.Broken → self.old.held ≡ None }
+        ensures err { OnErr result (self.new.held ≡ None) }
+
+        // A response to another sender is dropped, and is no input.
+        ensures stray { is_stray self.old.local message ≡ true
+            → IfOk result (λ outs. (outs.items ≡ Out.Dropped id.place DropReason.NotOurs ∷ []) × (self.new ≡ self.old)) }
+        ensures step { is_stray self.old.local message ≡ false
+            → IfOk result (λ outs. StepsKey key_cmp transaction_machine self.old.held self.new.held (key_of_message message) (receipt id message reply_to now) outs.items) }
+        ensures histories { is_stray self.old.local message ≡ false
+            → IfOk result (λ outs. AddsInput key_cmp transaction_machine self.old.held self.new.held (key_of_message message) (receipt id message reply_to now) outs.items) }
+    {
+        if is_stray(self.local, &message) {
+            return self.table.check(not_ours(self.alloc, id));
+        }
+        let key = self.table.check(key_of(self.alloc, &message))?;
+        let input = Input::Receive {
+            id,
+            message,
+            reply_to,
+        };
+        self.table
+            .handle(&Transactions, key, Timed { moment: now, input })
+    }
+
+    /// Does what the user asks of a transaction. The id is that of the request that is started or answered.
+    pub fn command(&mut self, id: Id, command: Command, now: u64) -> Result<Vec<Out>, ShardFault>
+        requires { now ≤ 2 ^ 62 }
+        ensures local { self.new.local ≡ self.old.local }
+        ensures broken { self.old.held ≡ None → result ≡ Err ShardFault.Broken }
+        ensures only_broken { result ≡ Err ShardFault.Broken → self.old.held ≡ None }
+        ensures err { OnErr result (self.new.held ≡ None) }
+        ensures step { IfOk result (λ outs. StepsKey key_cmp transaction_machine self.old.held self.new.held (command_key command) (order id command now) outs.items) }
+        ensures histories { IfOk result (λ outs. AddsInput key_cmp transaction_machine self.old.held self.new.held (command_key command) (order id command now) outs.items) }
+    {
+        let (key, input) = match command {
+            Command::Start {
+                key,
+                call_id,
+                message,
+                to,
+            } => (
+                key,
+                Input::Start {
+                    id,
+                    call_id,
+                    message,
+                    to,
+                },
+            ),
+            Command::Answer { key, message } => (key, Input::Answer { id, message }),
+        };
+        self.table
+            .handle(&Transactions, key, Timed { moment: now, input })
+    }
+
+    /// Lets a transaction know that one of its sends failed.
+    pub fn failed(&mut self, id: Id, key: &Key, now: u64) -> Result<Vec<Out>, ShardFault>
+        requires { now ≤ 2 ^ 62 }
+        ensures local { self.new.local ≡ self.old.local }
+        ensures broken { self.old.held ≡ None → result ≡ Err ShardFault.Broken }
+        ensures only_broken { result ≡ Err ShardFault.Broken → self.old.held ≡ None }
+        ensures err { OnErr result (self.new.held ≡ None) }
+        ensures step { IfOk result (λ outs. StepsKey key_cmp transaction_machine self.old.held self.new.held key.now (failure id now) outs.items) }
+        ensures histories { IfOk result (λ outs. AddsInput key_cmp transaction_machine self.old.held self.new.held key.now (failure id now) outs.items) }
+    {
+        let key = self.table.check(key.clone())?;
+        let input = Input::Failed { id };
+        self.table
+            .handle(&Transactions, key, Timed { moment: now, input })
+    }
+}
+
+fn not_ours(alloc: Global, id: Id) -> Result<Vec<Out>, AllocError>
+    ensures { IfOk result (λ outs. outs.items ≡ Out.Dropped id.place DropReason.NotOurs ∷ []) }
+{
+    let mut outputs = Vec::new(alloc);
+    outputs.push(Out::Dropped {
+        place: id.place,
+        reason: DropReason::NotOurs,
+    })?;
+    Ok(outputs)
+}

@@ -1,0 +1,125 @@
+//! The due moments of a transaction.
+
+ghost use Rattle.std.specs.Prelude.{◌≡◌, ◌≤◌, ◌^◌, ◌<◌, true, false, None};
+ghost use Rattle.sip_transactions.specs.Timers.{interval, rearmed, is_due, IsTimely};
+
+use crate::step::{Due, Pace};
+use std::marker::Model;
+
+/// T1, the first interval, in milliseconds (RFC 3261 section 17.1.1.1).
+const T1: u64 = 500;
+
+/// T2, the greatest interval where it is capped, in milliseconds.
+const T2: u64 = 4_000;
+
+/// 64 times T1: how long a transaction waits, in milliseconds.
+const LIFETIME: u64 = 32_000;
+
+/// At most one moment to send again, and at most one to end, in milliseconds.
+#[derive(Drop)]
+pub struct Timers {
+    repeat: Option<u64>,
+    // how often the repeat has fired
+    fired: u32,
+    ending: Option<u64>,
+}
+
+impl Model for Timers {
+    ghost use Rattle.std.specs.Prelude.{IsTrue};
+    ghost use Rattle.sip_transactions.specs.Dues.{Dues, is_paced};
+
+    ghost Value = { Dues };
+
+    ghost view = { λ t. record { repeat = t.repeat; fired = t.fired; ending = t.ending } };
+
+    ghost invariant = { λ t. IsTrue (is_paced t.repeat t.fired t.ending) };
+}
+
+impl Timers {
+    ghost use Rattle.std.specs.Prelude.{None};
+
+    /// Nothing is due.
+    pub fn new() -> Self
+        ensures { result ≡ record { repeat = None; fired = 0; ending = None } }
+    {
+        Timers {
+            repeat: None,
+            fired: 0,
+            ending: None,
+        }
+    }
+
+    /// Whether the moment to end has come.
+    pub fn is_ending_due(&self, now: u64) -> bool
+        ensures { result ≡ is_due now self.now.ending }
+    {
+        is_due(now, self.ending)
+    }
+
+    /// Whether the moment to send again has come.
+    pub fn is_repeat_due(&self, now: u64) -> bool
+        ensures { result ≡ is_due now self.now.repeat }
+    {
+        is_due(now, self.repeat)
+    }
+
+    /// The due moments after a row at a moment.
+    pub fn rearmed(self, due: Due, now: u64) -> Self
+        requires bound { now ≤ 2 ^ 62 }
+        requires timely { IsTimely due now self }
+        ensures { result ≡ rearmed due now self }
+    {
+        match due {
+            Due::Keep => self,
+            Due::Clear => Timers::new(),
+            Due::Ending(after) => Timers {
+                repeat: None,
+                fired: 0,
+                ending: Some(now + u64::from(after)),
+            },
+            Due::Both => Timers {
+                repeat: Some(now + T1),
+                fired: 0,
+                ending: Some(now + LIFETIME),
+            },
+            Due::Again(pace) => self.again(pace, now),
+        }
+    }
+
+    // The repeat fires.
+    fn again(self, pace: Pace, now: u64) -> Self
+        requires bound { now ≤ 2 ^ 62 }
+        requires due { is_due now self.repeat ≡ true }
+        requires before_end { is_due now self.ending ≡ false }
+        ensures { result ≡ rearmed (Due.Again pace) now self }
+    {
+        let fired = self.fired + 1;
+        Timers {
+            repeat: Some(now + interval(pace, fired)),
+            fired,
+            ending: self.ending,
+        }
+    }
+}
+
+// The interval after so many firings.
+fn interval(pace: Pace, fired: u32) -> u64
+    requires { fired ≤ 10 }
+    ensures value { result ≡ interval pace fired }
+    ensures bound { result ≤ 512000 }
+{
+    match pace {
+        Pace::Doubled => T1 << fired,
+        Pace::Capped => (T1 << fired).min(T2),
+        Pace::Even => T2,
+    }
+}
+
+fn is_due(now: u64, due: Option<u64>) -> bool
+    ensures { result ≡ is_due now due }
+{
+    match due {
+        None => false,
+        Some(due) => due <= now,
+    }
+}

@@ -1,0 +1,107 @@
+//! What an input is to a transaction.
+
+ghost use Rattle.std.specs.Prelude.{◌≡◌, codes, IfSome};
+ghost use Rattle.sip_transactions.specs.Repeats.{RepeatIsDue};
+ghost use Rattle.sip_transactions.specs.Input.{class_of, trigger_of, arrival_of, answer_of, tick_of, is_method};
+
+use crate::input::Input;
+use crate::life::Life;
+use sip_message::{Message, StartLine, StatusCode};
+
+/// The class of a response's status.
+#[derive(Clone, Copy)]
+pub enum Class {
+    /// 100.
+    Trying,
+    /// 101 to 199.
+    Provisional,
+    /// 200 to 299.
+    Success,
+    /// 300 to 699.
+    Failure,
+}
+
+/// What an input is to a transaction, by which its row is chosen.
+#[derive(Clone, Copy)]
+pub enum Trigger {
+    /// The user starts a client transaction.
+    Start,
+    /// The moment to send again has come.
+    RepeatDue,
+    /// The moment to end has come.
+    EndingDue,
+    /// A send met a fault of the transport.
+    Failed,
+    /// A response came.
+    Response(Class),
+    /// A request came, other than ACK.
+    Request,
+    /// An ACK came.
+    Ack,
+    /// The user answers with a response.
+    Answer(Class),
+}
+
+/// The class of a status code.
+pub fn class_of(status: StatusCode) -> Class
+    ensures { result ≡ class_of status }
+{
+    match status.code() {
+        100 => Class::Trying,
+        101..=199 => Class::Provisional,
+        200..=299 => Class::Success,
+        _ => Class::Failure,
+    }
+}
+
+/// What an input at a moment is to a transaction.
+pub fn trigger_of(held: &Option<Life>, now: u64, input: &Input) -> Option<Trigger>
+    ensures value { result ≡ trigger_of held.now now input.now }
+    ensures repeat { IfSome result (λ trigger. RepeatIsDue trigger now held.now) }
+{
+    match input {
+        Input::Tick => tick_of(now, held),
+        Input::Receive { message, .. } => Some(arrival_of(message)),
+        Input::Start { .. } => Some(Trigger::Start),
+        Input::Answer { message, .. } => answer_of(message),
+        Input::Failed { .. } => Some(Trigger::Failed),
+    }
+}
+
+fn arrival_of(message: &Message) -> Trigger
+    ensures { result ≡ arrival_of message.now.start message.now.cseq.method }
+{
+    match &message.start {
+        StartLine::Request { .. } if is_ack(message) => Trigger::Ack,
+        StartLine::Request { .. } => Trigger::Request,
+        StartLine::Response { status, .. } => Trigger::Response(class_of(*status)),
+    }
+}
+
+/// Whether the message's method is ACK.
+pub fn is_ack(message: &Message) -> bool
+    ensures { result ≡ is_method message.now.cseq.method (codes "ACK") }
+{
+    message.cseq.method.as_slice() == b"ACK".as_slice()
+}
+
+fn answer_of(message: &Message) -> Option<Trigger>
+    ensures { result ≡ answer_of message.now.start }
+{
+    match &message.start {
+        StartLine::Request { .. } => None,
+        StartLine::Response { status, .. } => Some(Trigger::Answer(class_of(*status))),
+    }
+}
+
+fn tick_of(now: u64, held: &Option<Life>) -> Option<Trigger>
+    ensures value { result ≡ tick_of now held.now }
+    ensures repeat { IfSome result (λ trigger. RepeatIsDue trigger now held.now) }
+{
+    match held {
+        None => None,
+        Some(life) if life.timers.is_ending_due(now) => Some(Trigger::EndingDue),
+        Some(life) if life.timers.is_repeat_due(now) => Some(Trigger::RepeatDue),
+        Some(_) => None,
+    }
+}
