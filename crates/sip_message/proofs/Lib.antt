@@ -2,3 +2,4 @@ pub mod Bytes
 pub mod Copies
 pub mod Tags
 pub mod Stamps
+pub mod Splitting

@@ -22,3 +22,6 @@ pub mod TopVia
 pub mod MessageKey
 pub mod Response
 pub mod Source
+pub mod Fields
+pub mod Reading
+pub mod Layout
