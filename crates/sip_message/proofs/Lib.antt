@@ -3,3 +3,4 @@ pub mod Copies
 pub mod Tags
 pub mod Stamps
 pub mod Splitting
+pub mod Headers
