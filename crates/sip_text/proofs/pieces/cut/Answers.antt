@@ -3,12 +3,12 @@ use Rattle.std.proofs.lemmas.List.{take_all, length-drop}
 use Rattle.sip_text.proofs.Cutting.{cut_where-none, cut_where-some}
 use Rattle.sip_text.proofs.pieces.cut.Goals as goal
 
-pub returns-in_err-place : goal.returns-in_err-place
-returns-in_err-place c =
+pub returns-in_err-place-clause-parts : goal.returns-in_err-place-clause-parts
+returns-in_err-place-clause-parts c =
     rw c.from_residual.ensures (sym (cut_where-none (λ b. b == c.args.at) c.args.text.now (c.in_err-place.ensures)))
 
-pub returns : goal.returns
-returns c =
+pub returns-clause-parts : goal.returns-clause-parts
+returns-clause-parts c =
     let found = c.in_ok-place.ensures in
     let text = c.args.text.now in
     let place = c.in_ok-place.place in
