@@ -17,7 +17,6 @@ use sip_text::{Series, Text};
 use std::alloc::{AllocError, Global};
 
 /// A request or a response. Lists are in the order of the message; the top Via is the first.
-#[derive(Drop)]
 pub struct Message {
     pub start: StartLine,
     pub vias: Vias,
@@ -92,6 +91,30 @@ fn content_type_value(alloc: Global) -> Result<HeaderValue, AllocError>
     ensures { IfOk result (λ value. value ≡ codes "application/sdp") }
 {
     Ok(HeaderValue::from_text(Text::copy_of(alloc, b"application/sdp")?))
+}
+
+// Written out, so that a message is dropped by one call wherever a value that holds one is.
+impl Drop for Message {
+    fn drop(self) {
+        let Message {
+            start: _,
+            vias: _,
+            max_forwards: _,
+            from: _,
+            to: _,
+            call_id: _,
+            cseq: _,
+            contacts: _,
+            record_routes: _,
+            routes: _,
+            require: _,
+            supported: _,
+            rseq: _,
+            rack: _,
+            others: _,
+            body: _,
+        } = self;
+    }
 }
 
 impl Clone for Message {
