@@ -2,3 +2,5 @@ pub mod Bytes
 pub mod Copies
 pub mod Tags
 pub mod Stamps
+pub mod Splitting
+pub mod Headers

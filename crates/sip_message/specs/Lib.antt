@@ -22,3 +22,10 @@ pub mod TopVia
 pub mod MessageKey
 pub mod Response
 pub mod Source
+pub mod Fields
+pub mod Reading
+pub mod Layout
+pub mod ReadStart
+pub mod Parts
+pub mod Numbers
+pub mod ReadMessage

@@ -7,7 +7,7 @@ use crate::party_parameters::PartyParameters;
 use crate::response::tag_parameter;
 use crate::token::Token;
 use crate::uri::Uri;
-use sip_text::{Series, Text};
+use sip_text::Series;
 use std::alloc::{AllocError, Global};
 
 /// The value of a From or a To: a display text, a URI and parameters, among them the tag.
@@ -22,12 +22,11 @@ impl Party {
     ghost use Rattle.sip_message.specs.Party.{tag_of, party_of};
 
     /// The party of this URI, without a display text, and with this tag where there is one.
-    #[tactic(auto, unfolding(crate::specs::PartyDisplay::is_party_display, crate::specs::Quoted::is_quoted))]
     pub fn new(alloc: Global, uri: Uri, tag: Option<Token>) -> Result<Party, AllocError>
         ensures { IfOk result (λ party. party ≡ party_of uri tag) }
     {
         Ok(Party {
-            display: PartyDisplay::from_text(Text::from_vec(Vec::new(alloc))),
+            display: PartyDisplay::nothing(alloc),
             uri,
             parameters: tag_alone(alloc, tag)?,
         })

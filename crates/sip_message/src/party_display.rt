@@ -1,5 +1,5 @@
 //! The display text of an address (RFC 3261, section 20.10).
-ghost use Rattle.std.specs.Prelude.{◌≡◌, IsTrue, nat_eq};
+ghost use Rattle.std.specs.Prelude.{◌≡◌, IsTrue, nat_eq, []};
 ghost use Rattle.std.specs.Option.{SomeIff};
 ghost use Rattle.std.specs.Cmp.{partial_equiv_from_equiv};
 ghost use Rattle.std.specs.Cmp.Lexicographic.{pointwise, nat_list_eq_equiv};
@@ -9,7 +9,7 @@ ghost use Rattle.std.specs.List.{list_all};
 use crate::header_value::has_no_blank_ends;
 use crate::quoted::is_quoted;
 use sip_text::Text;
-use std::alloc::AllocError;
+use std::alloc::{AllocError, Global};
 use std::marker::Model;
 
 /// The display text of a From or a To: empty, a quoted string, or a text without `<`, `>`, `"` and line
@@ -31,6 +31,16 @@ impl Model for PartyDisplay {
 }
 
 impl PartyDisplay {
+    /// The empty display text. Takes no memory.
+    #[tactic(auto, unfolding(crate::specs::PartyDisplay::is_party_display, crate::specs::Quoted::is_quoted))]
+    pub fn nothing(alloc: Global) -> PartyDisplay
+        ensures { result ≡ [] }
+    {
+        PartyDisplay {
+            text: Text::from_vec(Vec::new(alloc)),
+        }
+    }
+
     /// The display text that the text is, or None where it isn't one.
     pub fn new(text: Text) -> Option<PartyDisplay>
         ensures { SomeIff result (IsTrue (rule.is_party_display text)) text }

@@ -1,5 +1,5 @@
 //! The reason of a status line (RFC 3261, section 7.2).
-ghost use Rattle.std.specs.Prelude.{◌≡◌, IsTrue, nat_eq};
+ghost use Rattle.std.specs.Prelude.{◌≡◌, IsTrue, nat_eq, []};
 ghost use Rattle.std.specs.Option.{SomeIff};
 ghost use Rattle.std.specs.Cmp.{partial_equiv_from_equiv};
 ghost use Rattle.std.specs.Cmp.Lexicographic.{pointwise, nat_list_eq_equiv};
@@ -7,7 +7,7 @@ ghost use Rattle.sip_message.specs.Reason as rule;
 
 use crate::header_value::has_no_line_byte;
 use sip_text::Text;
-use std::alloc::AllocError;
+use std::alloc::{AllocError, Global};
 use std::marker::Model;
 
 /// A reason phrase: without line ends. It may be empty.
@@ -28,6 +28,15 @@ impl Model for Reason {
 }
 
 impl Reason {
+    /// The empty reason. Takes no memory.
+    pub fn nothing(alloc: Global) -> Reason
+        ensures { result ≡ [] }
+    {
+        Reason {
+            text: Text::from_vec(Vec::new(alloc)),
+        }
+    }
+
     /// The reason that the text is, or None where it isn't one.
     pub fn new(text: Text) -> Option<Reason>
         ensures { SomeIff result (IsTrue (rule.is_reason text)) text }

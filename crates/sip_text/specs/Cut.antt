@@ -1,12 +1,16 @@
 -- A text cut in two at the first of a given byte.
-use Rattle.std.specs.Prelude.{ℕ, List, [], ◌∷◌, Option, Some, None, ◌==◌, if◌then◌else◌}
+use Rattle.std.specs.Prelude.{ℕ, Bool, List, [], ◌∷◌, Option, Some, None, ◌==◌, if◌then◌else◌}
 use Rattle.std.specs.Option.{option_map}
 use Rattle.std.specs.Borrow.{Bor}
 
--- the parts before and after the first such byte, or nothing where there is none
+-- the parts before and after the first byte that passes the test, or nothing where none does
+abbrev pub cut_where : (ℕ → Bool) → List ℕ → Option (List ℕ × List ℕ)
+cut_where test [] = None
+cut_where test (b ∷ bs) = if test b then Some ([], bs) else option_map (λ p. (b ∷ p.0, p.1)) (cut_where test bs)
+
+-- the parts before and after the first such byte
 abbrev pub cut_at : ℕ → List ℕ → Option (List ℕ × List ℕ)
-cut_at at [] = None
-cut_at at (b ∷ bs) = if b == at then Some ([], bs) else option_map (λ p. (b ∷ p.0, p.1)) (cut_at at bs)
+cut_at at text = cut_where (λ b. b == at) text
 
 -- what two references point to
 abbrev pub both_now : Option (Bor (List ℕ) × Bor (List ℕ)) → Option (List ℕ × List ℕ)

@@ -1,5 +1,5 @@
 //! Lines.
-ghost use Rattle.std.specs.Prelude.{◌≡◌};
+ghost use Rattle.std.specs.Prelude.{◌≡◌, ◌<◌, IfSome, length};
 ghost use Rattle.std.specs.Str.Lines as std_lines;
 ghost use Rattle.sip_text.specs.Cut.{both_now};
 ghost use Rattle.sip_text.specs.Line.{line_at};
@@ -9,7 +9,8 @@ use crate::pieces::cut;
 /// The first line without its end, which is CR LF or LF, and the text after it. None where no line ends.
 #[tactic(auto, unfolding(crate::specs::Line::line_at))]
 pub fn next_line(text: &[u8]) -> Option<(&[u8], &[u8])>
-    ensures { both_now result ≡ line_at text.now }
+    ensures parts { both_now result ≡ line_at text.now }
+    ensures shorter { IfSome result (λ p. length p.1.now < length text.now) }
 {
     let (line, after) = cut(b'\n', text)?;
     Some((without_carriage_return(line), after))

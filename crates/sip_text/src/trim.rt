@@ -11,7 +11,8 @@ pub fn trimmed(text: &[u8]) -> &[u8]
     trimmed_end(trimmed_start(text))
 }
 
-fn trimmed_start(text: &[u8]) -> &[u8]
+/// The text without the spaces and tabs that it begins with.
+pub fn trimmed_start(text: &[u8]) -> &[u8]
     ensures { result.now ≡ trims.trimmed_start text.now }
 {
     let mut rest = text;
@@ -24,7 +25,8 @@ fn trimmed_start(text: &[u8]) -> &[u8]
     rest
 }
 
-fn trimmed_end(text: &[u8]) -> &[u8]
+/// The text without the spaces and tabs that it ends with.
+pub fn trimmed_end(text: &[u8]) -> &[u8]
     ensures { result.now ≡ trims.trimmed_end text.now }
 {
     let mut rest = text;

@@ -1,0 +1,25 @@
+-- What a shard of calls shows, and what its items are to one call.
+use Rattle.std.specs.Prelude.{ℕ, List}
+use Rattle.std.specs.Ordering.{nat_cmp}
+use Rattle.std.specs.Cmp.Lexicographic.{slice_cmp}
+use Rattle.std.specs.declared.cmp.Ordering.{Ordering}
+use Rattle.sip_message.specs.declared.id.Id.{Id}
+use Rattle.sip_model.specs.Table.{Held}
+use Rattle.sip_served.specs.declared.item.Item.{Item}
+use Rattle.sip_calls.specs.declared.call.Call.{Call}
+use Rattle.sip_calls.specs.declared.calls.Calls.{Calls}
+use Rattle.sip_calls.specs.declared.calls.CallInput.{CallInput}
+use Rattle.sip_calls.specs.declared.calls.Happening.TheVariants.{Item as AnItem}
+
+-- what all calls share, and the calls that are held by Call-ID; a broken shard holds `None`
+pub record HeldCalls : Type 0 where
+  pub calls : Calls
+  pub held : Held (List ℕ) Call
+
+-- Call-IDs are compared byte by byte
+abbrev pub call_cmp : List ℕ → List ℕ → Ordering
+call_cmp = slice_cmp nat_cmp
+
+-- an item, as an input of one call
+abbrev pub item_input : Id → Item → ℕ → CallInput
+item_input id item now = record { now = now; happening = AnItem id item }

@@ -1,0 +1,21 @@
+-- Names that the agent makes: its tags, and its branches behind their cookie (RFC 3261, sections 8.1.1.7 and 19.3).
+use Rattle.std.specs.Prelude.{ℕ, ◌+◌, ◌*◌, ◌-◌, ◌/◌, ◌%◌, zero, suc, List, [], ◌∷◌, ◌++◌, nat_lt, if◌then◌else◌}
+use Rattle.rand_chacha.specs.ChaCha.{word_at, key_of}
+use Rattle.sip_message.specs.declared.id.Id.{Id}
+
+-- a lower-case hexadecimal digit
+abbrev pub digit_of : ℕ → ℕ
+digit_of value = if nat_lt value 10 then 48 + value else 97 + (value - 10)
+
+-- the last so many hexadecimal digits of a number
+unfoldable pub hex : ℕ → ℕ → List ℕ
+hex zero number = []
+hex (suc count) number = hex count (number / 16) ++ digit_of (number % 16) ∷ []
+
+-- the word of ChaCha20 that a name ends in: the seed is the key, the round the stream, and each place has 16 words
+abbrev pub word_of_name : List ℕ → Id → ℕ → ℕ
+word_of_name seed id index = word_at 10 (key_of seed) id.round (16 * id.place + index)
+
+-- the round, the place, the index and the word
+abbrev pub name_of : List ℕ → Id → ℕ → List ℕ
+name_of seed id index = ((hex 16 id.round ++ hex 16 id.place) ++ hex 1 index) ++ hex 8 (word_of_name seed id index)

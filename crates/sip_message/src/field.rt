@@ -1,0 +1,19 @@
+//! Header lines, read.
+use crate::call_id::CallId;
+use crate::cseq_words::CSeqWords;
+use crate::header::Header;
+use crate::party::Party;
+use crate::via_words::ViaWords;
+use sip_text::Text;
+
+/// What one header line says. Words in the place of numbers aren't read yet.
+#[derive(Drop)]
+pub(crate) enum Field {
+    Via(ViaWords),
+    From(Party),
+    To(Party),
+    CallId(CallId),
+    CSeq(CSeqWords),
+    ContentLength(Text),
+    Other(Header),
+}

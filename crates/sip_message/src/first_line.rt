@@ -1,0 +1,12 @@
+//! The start line, read.
+use crate::reason::Reason;
+use crate::request_uri::RequestUri;
+use crate::status_code::StatusCode;
+use crate::token::Token;
+
+/// What the start line says: of a request with its method, which has to be that of the CSeq.
+#[derive(Drop)]
+pub(crate) enum FirstLine {
+    Request { method: Token, uri: RequestUri },
+    Response { status: StatusCode, reason: Reason },
+}

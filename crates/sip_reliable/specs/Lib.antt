@@ -1,0 +1,4 @@
+pub mod Inbound
+pub mod Happening
+pub mod Ledger
+pub mod Waiting

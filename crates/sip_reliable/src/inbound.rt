@@ -1,0 +1,108 @@
+ghost use Rattle.std.specs.Prelude.{◌≡◌, ℕ, List, [], ◌∷◌, ◌++◌, ◌≢◌, None, AllPairs};
+ghost use Rattle.sip_reliable.specs.Inbound.{in_order, latest, offered, taken, latest_after, IsConsecutive};
+
+use crate::Offer;
+use std::marker::Model;
+
+/// Which reliable provisional responses of one early dialog a caller takes, by their RSeq numbers (RFC 3262 section 4).
+///
+/// Contracts see it as the latest number taken.
+#[derive(Clone, Copy)]
+pub struct Inbound {
+    latest: Option<u32>,
+}
+
+impl Model for Inbound {
+    ghost use Rattle.std.specs.Prelude.{ℕ, Option};
+
+    ghost Value = { Option ℕ };
+
+    ghost view = { λ i. i.latest };
+
+    ghost inverse = { λ latest. record { latest = latest } };
+}
+
+impl Inbound {
+    /// Nothing came yet.
+    pub fn new() -> Inbound
+        ensures none { result ≡ None }
+        ensures came { result ≡ latest [] }
+    {
+        Inbound { latest: None }
+    }
+
+    /// Takes the number `rseq` where it is the first, or one more than the latest taken.
+    pub fn offer(&mut self, rseq: u32) -> Offer
+        ensures answer { result ≡ offered self.old rseq }
+        ensures after { self.new ≡ latest_after result self.old rseq }
+
+        // Of all numbers that came, this one too, those that were taken are the ones in order.
+        ensures stays { (came : List ℕ) → self.old ≡ latest came → self.new ≡ latest (came ++ rseq ∷ []) }
+        ensures in_order { (came : List ℕ) → self.old ≡ latest came
+            → in_order (came ++ rseq ∷ []) ≡ in_order came ++ taken result rseq }
+    {
+        self.step(rseq)
+    }
+
+    fn step(&mut self, rseq: u32) -> Offer
+        ensures answer { result ≡ offered self.old rseq }
+        ensures after { self.new ≡ latest_after result self.old rseq }
+    {
+        let offer = self.judge(rseq);
+        if let Offer::Taken = offer {
+            self.latest = Some(rseq);
+        }
+        offer
+    }
+
+    fn judge(&self, rseq: u32) -> Offer
+        ensures { result ≡ offered self.now rseq }
+    {
+        match self.latest {
+            None => Offer::Taken,
+            Some(latest) if rseq <= latest => Offer::Repeat,
+            Some(latest) if rseq - latest == 1 => Offer::Taken,
+            Some(_) => Offer::Gap,
+        }
+    }
+}
+
+/// A law: whatever numbers came, those that are taken are consecutive, so none is taken twice.
+pub fn taken_in_order()
+    ensures consecutive { (came : List ℕ) → IsConsecutive (in_order came) }
+    ensures once { (came : List ℕ) → AllPairs (λ x y. x ≢ y) (in_order came) }
+{}
+
+#[cfg(test)]
+mod tests {
+    use super::*;
+
+    #[test]
+    fn takes_the_first_and_then_each_next(rt: HostRuntime) {
+        let mut inbound = Inbound::new();
+        for (rseq, offer) in [
+            (7, Offer::Taken),
+            (7, Offer::Repeat),
+            (9, Offer::Gap),
+            (8, Offer::Taken),
+            (3, Offer::Repeat),
+            (9, Offer::Taken),
+        ] {
+            assert_eq!(rt; inbound.offer(rseq), offer, "at {rseq}");
+        }
+        taken_in_order();
+    }
+
+    #[test]
+    fn nothing_follows_the_last_number(rt: HostRuntime) {
+        let mut inbound = Inbound::new();
+        for (rseq, offer) in [
+            (4_294_967_295, Offer::Taken),
+            (4_294_967_295, Offer::Repeat),
+            (0, Offer::Repeat),
+            (1, Offer::Repeat),
+        ] {
+            assert_eq!(rt; inbound.offer(rseq), offer, "at {rseq}");
+        }
+    }
+}

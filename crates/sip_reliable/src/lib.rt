@@ -1,0 +1,17 @@
+//! The ledgers of reliable provisional responses (RFC 3262): what a caller takes, and what a callee sends again.
+#![tactic(auto)]
+
+mod inbound;
+mod no_match;
+mod offer;
+mod outbound;
+mod provisional;
+mod send_fault;
+mod tick;
+
+pub use inbound::{Inbound, taken_in_order};
+pub use no_match::NoMatch;
+pub use offer::Offer;
+pub use outbound::Outbound;
+pub use send_fault::SendFault;
+pub use tick::Tick;

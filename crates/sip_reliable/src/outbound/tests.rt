@@ -1,0 +1,69 @@
+use super::*;
+
+#[test]
+fn sends_again_until_it_is_given_up(rt: HostRuntime) {
+    let mut outbound = Outbound::new(1, true);
+    assert_eq!(rt; outbound.next_due(), None);
+    assert_eq!(rt; outbound.send(0, false), Ok(1));
+    assert_eq!(rt; outbound.next_due(), Some(500));
+    assert!(rt; !outbound.body_waits());
+    for (now, tick) in [
+        (499u32, Tick::Nothing),
+        (500, Tick::Again),
+        (1499, Tick::Nothing),
+        (1500, Tick::Again),
+        (3500, Tick::Again),
+        (7500, Tick::Again),
+        (15_500, Tick::Again),
+        (31_499, Tick::Nothing),
+        (31_500, Tick::Again),
+        (31_999, Tick::Nothing),
+        (32_000, Tick::GivenUp),
+        (32_000, Tick::Nothing),
+        (99_000, Tick::Nothing),
+    ] {
+        assert_eq!(rt; outbound.tick(u64::from(now)), tick, "at {now}");
+    }
+    assert_eq!(rt; outbound.next_due(), None);
+    assert_eq!(rt; outbound.acknowledge(1), Ok(()));
+    assert_eq!(rt; outbound.send(99_000, true), Ok(2));
+    assert!(rt; outbound.body_waits());
+    assert_eq!(rt; outbound.next_due(), Some(99_500));
+}
+
+#[test]
+fn is_given_up_at_a_late_tick(rt: HostRuntime) {
+    let mut outbound = Outbound::new(1, true);
+    assert_eq!(rt; outbound.send(0, false), Ok(1));
+    assert_eq!(rt; outbound.tick(499), Tick::Nothing);
+    assert_eq!(rt; outbound.tick(500), Tick::Again);
+    assert_eq!(rt; outbound.tick(1499), Tick::Nothing);
+    assert_eq!(rt; outbound.tick(32_000), Tick::GivenUp);
+}
+
+#[test]
+fn refuses_in_order(rt: HostRuntime) {
+    let mut outbound = Outbound::new(4_294_967_295, true);
+    assert_eq!(rt; outbound.send(0, false), Ok(4_294_967_295));
+    assert_eq!(rt; outbound.send(0, false), Err(SendFault::Unacknowledged));
+    assert_eq!(rt; outbound.acknowledge(1), Err(NoMatch));
+    assert_eq!(rt; outbound.acknowledge(4_294_967_295), Ok(()));
+    assert_eq!(rt; outbound.acknowledge(4_294_967_295), Err(NoMatch));
+    assert_eq!(rt; outbound.send(0, false), Err(SendFault::NumbersUsedUp));
+    outbound.close();
+    assert_eq!(rt; outbound.send(0, false), Err(SendFault::Closed));
+    let mut unsupported = Outbound::new(1, false);
+    assert_eq!(rt; unsupported.send(0, false), Err(SendFault::NotSupported));
+}
+
+#[test]
+fn is_acknowledged_after_the_close(rt: HostRuntime) {
+    let mut outbound = Outbound::new(1, true);
+    assert_eq!(rt; outbound.send(0, true), Ok(1));
+    outbound.close();
+    assert_eq!(rt; outbound.tick(500), Tick::Nothing);
+    assert_eq!(rt; outbound.next_due(), None);
+    assert!(rt; outbound.body_waits());
+    assert_eq!(rt; outbound.acknowledge(1), Ok(()));
+    assert!(rt; !outbound.body_waits());
+}

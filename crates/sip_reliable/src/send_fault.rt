@@ -1,0 +1,31 @@
+use std::error::Error;
+use std::fmt;
+
+/// Why a reliable provisional response can't be sent. The first that fits is answered.
+#[derive(Clone, Copy, Debug, PartialEq, Eq)]
+pub enum SendFault {
+    /// A final response was sent.
+    Closed,
+    /// The peer doesn't support 100rel.
+    NotSupported,
+    /// One that was sent still waits for its PRACK.
+    Unacknowledged,
+    /// The last number was 4,294,967,295.
+    NumbersUsedUp,
+}
+
+impl fmt::Display for SendFault {
+    fn fmt<W: fmt::Write>(&self, f: &mut fmt::Formatter<W>) -> fmt::Result {
+        match self {
+            SendFault::Closed => write!(f, "a final response was sent"),
+            SendFault::NotSupported => write!(f, "100rel is not supported"),
+            SendFault::Unacknowledged => write!(
+                f,
+                "a reliable provisional response is not acknowledged"
+            ),
+            SendFault::NumbersUsedUp => write!(f, "the RSeq numbers are used up"),
+        }
+    }
+}
+
+impl Error for SendFault {}

@@ -1,0 +1,24 @@
+//! What a round gives.
+
+use sip_message::{Addr, Key};
+use sip_served::Notice;
+use sip_text::Text;
+use sip_transactions::DropReason;
+
+/// One output of a round.
+#[derive(Drop)]
+pub enum Output {
+    /// A datagram to send; the key is that of its transaction, and absent where none stands behind it.
+    Send {
+        key: Option<Key>,
+        to: Addr,
+        bytes: Text,
+    },
+    /// The datagram of this place was dropped.
+    Dropped {
+        place: u32,
+        reason: DropReason,
+    },
+    /// The user is told this.
+    Notice(Notice),
+}

@@ -1,0 +1,16 @@
+//! A server request that is held.
+
+use sip_message::{Id, Key, Message, Token};
+
+/// A server request that came up.
+#[derive(Drop)]
+pub struct HeldRequest {
+    pub id: Id,
+    /// The key of its transaction.
+    pub key: Key,
+    pub request: Message,
+    /// The To tag that its responses get where the request has none.
+    pub tag: Token,
+    /// After the final response: the moment in ms at which it is removed.
+    pub removal: Option<u64>,
+}

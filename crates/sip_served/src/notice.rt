@@ -1,0 +1,79 @@
+//! What the user is told of a call.
+
+use crate::refusal::Refusal;
+use sip_message::{CallId, Id, StatusCode, Token};
+use sip_text::Text;
+
+/// What the user is told of a call. A tag is empty where the message has none.
+#[derive(Drop)]
+pub enum Notice {
+    /// A request came up and is held.
+    Request {
+        call_id: CallId,
+        id: Id,
+        method: Token,
+        /// The tag that its responses carry in To.
+        local_tag: Text,
+        remote_tag: Text,
+        body: Text,
+    },
+    /// A response to a client request came up.
+    Response {
+        call_id: CallId,
+        id: Id,
+        status: StatusCode,
+        local_tag: Text,
+        remote_tag: Text,
+        body: Text,
+    },
+    /// The ACK of the 2xx to an INVITE came up.
+    Ack {
+        call_id: CallId,
+        id: Id,
+        body: Text,
+    },
+    /// The PRACK of a reliable provisional response to an INVITE came up.
+    Prack {
+        call_id: CallId,
+        id: Id,
+        rseq: u32,
+        body: Text,
+    },
+    /// A transaction timed out.
+    Timeout {
+        call_id: CallId,
+        id: Id,
+    },
+    /// A transaction's message could not be sent.
+    Failed {
+        call_id: CallId,
+        id: Id,
+    },
+    /// The 2xx to an INVITE was never acknowledged.
+    NoAck {
+        call_id: CallId,
+        id: Id,
+    },
+    /// A reliable provisional response was never acknowledged.
+    NoPrack {
+        call_id: CallId,
+        id: Id,
+    },
+    /// The peer cancelled an INVITE.
+    Cancel {
+        call_id: CallId,
+        id: Id,
+    },
+    /// A dialog ended.
+    Ended {
+        call_id: CallId,
+        local_tag: Text,
+        remote_tag: Text,
+    },
+    /// The command of this place was refused.
+    Refused {
+        call_id: CallId,
+        place: u32,
+        refusal: Refusal,
+    },
+}

@@ -1,0 +1,191 @@
+//! What happens to the held server requests.
+
+ghost use Rattle.std.specs.Prelude.{◌≡◌, ◌<◌, ◌≤◌, ◌^◌, ◌∷◌, [], IfOk, IsTrue, Ok, Err, filter, length, vec_len};
+ghost use Rattle.sip_served.specs.Notices.{request_notice, local_tag_of};
+ghost use Rattle.sip_served.specs.Removal.{after_tick, is_kept_at};
+ghost use Rattle.sip_served.specs.Requests.{after_item, given_for_item};
+ghost use Rattle.sip_served.specs.Respond.{after_decision, after_respond, given_by_decision, given_by_respond};
+ghost use Rattle.sip_served.specs.Up.{after_up, given_by_up};
+
+use crate::command::{Respond, UserCommand};
+use crate::held_request::HeldRequest;
+use crate::item::{CallOut, Item};
+use crate::notice::Notice;
+use crate::refusal::Refusal;
+use crate::respond::{Answerable, answer, decide, note_answer};
+use sip_message::{CallId, Id, Message, Token};
+use sip_text::Text;
+use sip_transactions::{Kind, Up};
+use std::alloc::{AllocError, Global};
+
+/// What an item makes of the held requests, and what it gives.
+pub(crate) fn take_item(
+    alloc: Global,
+    held: Vec<HeldRequest>,
+    tag: Token,
+    id: Id,
+    item: Item,
+    now: u64,
+) -> Result<(Vec<HeldRequest>, Vec<CallOut>), AllocError>
+    requires { now ≤ 2 ^ 62 }
+    ensures after { IfOk result (λ taken. taken.0.items ≡ after_item held.items tag item now) }
+    ensures given { IfOk result (λ taken. taken.1.items ≡ given_for_item held.items tag id item) }
+{
+    match item {
+        Item::Up(up) => take_up(alloc, held, tag, up),
+        Item::User(UserCommand::Respond(respond)) => take_respond(alloc, held, id, respond, now),
+        Item::User(_) => Ok((held, Vec::new(alloc))),
+    }
+}
+
+// A request is held and told; that a transaction timed out or failed is told.
+fn take_up(
+    alloc: Global,
+    mut held: Vec<HeldRequest>,
+    tag: Token,
+    up: Up,
+) -> Result<(Vec<HeldRequest>, Vec<CallOut>), AllocError>
+    ensures after { IfOk result (λ taken. taken.0.items ≡ after_up held.items tag up) }
+    ensures given { IfOk result (λ taken. taken.1.items ≡ given_by_up tag up) }
+{
+    let Up {
+        key,
+        id,
+        call_id,
+        kind,
+    } = up;
+    match kind {
+        Kind::Request(request, _) => {
+            let notice = notice_of_request(alloc, id, call_id, &request, &tag)?;
+            held.push(HeldRequest {
+                id,
+                key,
+                request,
+                tag,
+                removal: None,
+            })?;
+            Ok((held, one(alloc, CallOut::Notice(notice))?))
+        }
+        Kind::Timeout => Ok((
+            held,
+            one(alloc, CallOut::Notice(Notice::Timeout { call_id, id }))?,
+        )),
+        Kind::Failed => Ok((
+            held,
+            one(alloc, CallOut::Notice(Notice::Failed { call_id, id }))?,
+        )),
+        Kind::Ack(_) | Kind::Response(_) => Ok((held, Vec::new(alloc))),
+    }
+}
+
+// How the user is told of a request.
+fn notice_of_request(
+    alloc: Global,
+    id: Id,
+    call_id: CallId,
+    request: &Message,
+    tag: &Token,
+) -> Result<Notice, AllocError>
+    ensures { IfOk result (λ notice. notice ≡ request_notice id call_id request.now tag.now) }
+{
+    Ok(Notice::Request {
+        call_id,
+        id,
+        method: request.cseq.method.clone()?,
+        local_tag: local_tag(alloc, request, tag)?,
+        remote_tag: Text::copy_of(alloc, request.from.tag())?,
+        body: request.body.clone()?,
+    })
+}
+
+// The tag that the answers to a request carry in To.
+fn local_tag(alloc: Global, request: &Message, tag: &Token) -> Result<Text, AllocError>
+    ensures { IfOk result (λ text. text ≡ local_tag_of request.now tag.now) }
+{
+    let own = request.to.tag();
+    if own.is_empty() {
+        return Text::copy_of(alloc, tag.as_slice());
+    }
+    Text::copy_of(alloc, own)
+}
+
+// The user answers a request.
+fn take_respond(
+    alloc: Global,
+    held: Vec<HeldRequest>,
+    id: Id,
+    respond: Respond,
+    now: u64,
+) -> Result<(Vec<HeldRequest>, Vec<CallOut>), AllocError>
+    requires { now ≤ 2 ^ 62 }
+    ensures after { IfOk result (λ taken. taken.0.items ≡ after_respond held.items respond now) }
+    ensures given { IfOk result (λ taken. taken.1.items ≡ given_by_respond held.items id respond) }
+{
+    match decide(held.as_slice(), &respond) {
+        Ok(answerable) => give(alloc, held, answerable, respond, now),
+        Err(refusal) => Ok((held, refused(alloc, id, respond, refusal)?)),
+    }
+}
+
+fn refused(
+    alloc: Global,
+    id: Id,
+    respond: Respond,
+    refusal: Refusal,
+) -> Result<Vec<CallOut>, AllocError>
+    ensures { IfOk result (λ outs. outs.items ≡ given_by_decision [] id respond (Err refusal)) }
+{
+    let notice = Notice::Refused {
+        call_id: respond.call_id,
+        place: id.place,
+        refusal,
+    };
+    one(alloc, CallOut::Notice(notice))
+}
+
+// Answers a request. After a final response it is held for a while longer.
+#[tactic(auto, using(std::proofs::lemmas::Option::slice_get_read))]
+fn give(
+    alloc: Global,
+    mut held: Vec<HeldRequest>,
+    answerable: Answerable,
+    respond: Respond,
+    now: u64,
+) -> Result<(Vec<HeldRequest>, Vec<CallOut>), AllocError>
+    requires within { answerable.index < length held.items }
+    requires moment { now ≤ 2 ^ 62 }
+    ensures after { IfOk result (λ taken. taken.0.items ≡ after_decision held.items now (Ok answerable)) }
+    ensures given { IfOk result (λ taken. taken.1.items ≡ given_by_decision held.items respond.id respond (Ok answerable)) }
+{
+    let Answerable { index, status } = answerable;
+    let out = answer(alloc, &held[index], status, respond)?;
+    note_answer(&mut held[index], status, now);
+    Ok((held, one(alloc, out)?))
+}
+
+fn one(alloc: Global, out: CallOut) -> Result<Vec<CallOut>, AllocError>
+    ensures { IfOk result (λ outs. outs.items ≡ out ∷ []) }
+{
+    let mut outs = Vec::new(alloc);
+    outs.push(out)?;
+    Ok(outs)
+}
+
+/// What is not due to be removed at a moment, in ms.
+pub(crate) fn without_due(
+    alloc: Global,
+    held: Vec<HeldRequest>,
+    now: u64,
+) -> Result<Vec<HeldRequest>, AllocError>
+    ensures { IfOk result (λ kept. kept.items ≡ after_tick held.items now) }
+{
+    held.into_iter()
+        .filter(|held| is_kept(held, now))
+        .collect(alloc)
+}
+
+fn is_kept(held: &HeldRequest, now: u64) -> bool
+    ensures { result ≡ is_kept_at now held.now }
+{
+    held.removal.is_none_or(|moment| now < moment)
+}

@@ -1,0 +1,10 @@
+-- The status of the program where its input is no event file.
+use Rattle.std.specs.Prelude.{ℕ}
+use Rattle.sip_round.specs.declared.events_file.EventsFault.{EventsFault}
+use Rattle.sip_round.specs.declared.events_file.EventsFault.TheVariants.{TooLong, BadVersion, BadLine, NoMemory}
+
+abbrev pub events_status : EventsFault → ℕ
+events_status TooLong = 1
+events_status BadVersion = 1
+events_status (BadLine line) = 1
+events_status NoMemory = 5

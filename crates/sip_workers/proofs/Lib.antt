@@ -1,0 +1,4 @@
+pub mod Permutations
+pub mod Balances
+pub mod Runs
+pub mod Ends

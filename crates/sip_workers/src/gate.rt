@@ -1,0 +1,4 @@
+/// Is told as a piece begins, on the thread that runs it.
+pub trait Gate: Sync {
+    fn begin(&self, shard: usize);
+}

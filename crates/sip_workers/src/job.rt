@@ -1,0 +1,11 @@
+/// Work that a thread can do, once.
+pub trait Job {
+    /// What it makes.
+    type Done;
+
+    // Whether the job may make the done.
+    ghost gives: { Self → Self.Done → Type 0 };
+
+    fn run(self) -> Self::Done
+        ensures { gives self result };
+}

@@ -1,0 +1,18 @@
+//! Pieces of work on several threads: an owner that takes from a deque, and thieves that steal from it.
+#![tactic(auto)]
+
+mod deque;
+mod gate;
+mod gathered;
+mod job;
+mod no_memory;
+mod piece;
+mod pieces;
+mod seat;
+
+pub use gate::Gate;
+// pub use gathered::{dones_in_order, gather};
+pub use job::Job;
+pub use no_memory::NoMemory;
+pub use piece::Piece;
+pub use pieces::run_pieces;

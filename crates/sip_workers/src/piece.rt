@@ -1,0 +1,6 @@
+/// The work of one shard.
+#[derive(Drop)]
+pub struct Piece<J> {
+    pub shard: usize,
+    pub job: J,
+}

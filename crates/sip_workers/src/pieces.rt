@@ -1,0 +1,169 @@
+ghost use Rattle.std.specs.Prelude.{◌≡◌, ◌<◌, ◌≤◌, ◌+◌, [], IfOk, vec_len, All};
+ghost use Rattle.std.specs.List.{AllByRecursion, AllZip};
+ghost use Rattle.crossbeam_deque.specs.Handles.{worker_deque, worker_view};
+ghost use Rattle.sip_workers.specs.Ran.{Ran, AllRan};
+ghost use Rattle.sip_workers.specs.Balance.{log};
+ghost use Rattle.sip_workers.specs.Seats.{IsReady, AreSeats, Serves, IsThiefsResult};
+
+use crate::deque::{Cut, Joined, Owner, Pops, Puts};
+use crate::seat::{Seat, Served, own, run_piece, thieve};
+use crate::{Gate, Job, NoMemory, Piece};
+use std::alloc::Global;
+use std::thread;
+use std::thread::Threads;
+
+/// Runs each piece once, on up to `workers` threads, and gives each done with its piece's shard number, in any order.
+///
+/// `gate` is told of each piece as it begins.
+///
+/// # Errors
+///
+/// `NoMemory`, and then some pieces may not have run.
+pub fn run_pieces<R: Threads + Sync, J: Job + Send + Drop, G: Gate>(
+    rt: &R,
+    alloc: Global,
+    pieces: Vec<Piece<J>>,
+    workers: usize,
+    gate: &G,
+) -> Result<Vec<(usize, J::Done)>, NoMemory>
+where
+    J::Done: Send + Drop,
+    requires some { 0 < workers }
+    requires most { workers ≤ 64 }
+    ensures { IfOk result (λ dones. AllRan J.gives pieces.items dones.items) }
+{
+    let most = pieces.len();
+    let owner = filled(alloc, pieces)?;
+    let seats = seated(alloc, owner, workers - 1)?;
+    let mut results = served(rt, alloc, seats, most, gate)?;
+    let Some(Ok(Served::Owner(owner, dones))) = results.pop() else {
+        return Err(NoMemory);
+    };
+    let (owner, dones) = joined(owner, dones, results)?;
+    drained(owner, dones, gate)
+}
+
+// A deque with room for all pieces, and all of them in it.
+fn filled<J: Drop>(alloc: Global, pieces: Vec<Piece<J>>) -> Result<Owner<J>, NoMemory>
+    ensures { IfOk result (λ owner. worker_view owner ≡ log 64 pieces.items []) }
+{
+    let mut owner = Owner::<J>::fifo_as(alloc, pieces.len())?;
+    for piece in pieces {
+        match owner.push_as::<Puts>(piece) {
+            Ok(()) => {}
+            Err(_) => return Err(NoMemory),
+        }
+    }
+    Ok(owner)
+}
+
+// The seats of the map: the thieves, each with a pass that is split off, and the owner last.
+fn seated<J: Drop>(
+    alloc: Global,
+    mut owner: Owner<J>,
+    thieves: usize,
+) -> Result<Vec<Seat<J>>, NoMemory>
+    requires few { thieves < 64 }
+    requires whole { (worker_view owner).parts ≡ 64 }
+    requires nothing { (worker_view owner).taken ≡ [] }
+    ensures { IfOk result (λ seats. AreSeats (worker_view owner).put thieves seats.items) }
+{
+    let mut seats = Vec::new(alloc);
+    for _ in 0..thieves {
+        let thief = owner.stealer()?;
+        let pass = owner.another::<Cut>();
+        seats.push(Seat::Thief(thief, pass))?;
+    }
+    seats.push(Seat::Owner(owner))?;
+    Ok(seats)
+}
+
+// Each seat on a thread of its own.
+fn served<R: Threads + Sync, J: Job + Send + Drop, G: Gate>(
+    rt: &R,
+    alloc: Global,
+    seats: Vec<Seat<J>>,
+    most: usize,
+    gate: &G,
+) -> Result<Vec<Result<Served<J, J::Done>, NoMemory>>, NoMemory>
+where
+    J::Done: Send + Drop,
+    requires { All IsReady seats.items }
+    ensures { IfOk result (λ results. AllZip (Serves J.gives) seats.items results.items) }
+{
+    let results = thread::map_vec(
+        rt,
+        seats,
+        &|seat: Seat<J>| -> Result<Served<J, J::Done>, NoMemory>
+            requires { IsReady seat }
+            ensures { Serves J.gives seat result }
+        { work(alloc, seat, most, gate) },
+    )?;
+    Ok(results)
+}
+
+fn work<J: Job + Drop, G: Gate>(
+    alloc: Global,
+    seat: Seat<J>,
+    most: usize,
+    gate: &G,
+) -> Result<Served<J, J::Done>, NoMemory>
+where
+    J::Done: Drop,
+    requires { IsReady seat }
+    ensures { Serves J.gives seat result }
+{
+    match seat {
+        Seat::Owner(owner) => {
+            let (owner, dones) = own(alloc, owner, most, gate)?;
+            Ok(Served::Owner(owner, dones))
+        }
+        Seat::Thief(thief, pass) => {
+            let (pass, dones) = thieve(alloc, &thief, pass, most, gate)?;
+            Ok(Served::Thief(pass, dones))
+        }
+    }
+}
+
+// The owner gets every pass back, and the dones of the thieves go behind its own.
+fn joined<J: Job + Drop>(
+    mut owner: Owner<J>,
+    mut dones: Vec<(usize, J::Done)>,
+    mut thieves: Vec<Result<Served<J, J::Done>, NoMemory>>,
+) -> Result<(Owner<J>, Vec<(usize, J::Done)>), NoMemory>
+where
+    J::Done: Drop,
+    requires parts { (worker_view owner).parts + vec_len thieves ≡ 64 }
+    requires thieves { AllByRecursion (IsThiefsResult J.gives owner) thieves.items }
+    requires ran { Ran J.gives (worker_view owner).taken dones.items }
+    ensures whole { IfOk result (λ r. (worker_view r.0).parts ≡ 64) }
+    ensures put { IfOk result (λ r. (worker_view r.0).put ≡ (worker_view owner).put) }
+    ensures ran { IfOk result (λ r. Ran J.gives (worker_view r.0).taken r.1.items) }
+{
+    while let Some(result) = thieves.pop() {
+        let Served::Thief(pass, mut theirs) = result? else {
+            return Err(NoMemory);
+        };
+        owner.absorb::<Joined>(pass);
+        dones.append(&mut theirs)?;
+    }
+    Ok((owner, dones))
+}
+
+// What no seat took, the owner takes now: after it nothing is left.
+fn drained<J: Job + Drop, G: Gate>(
+    mut owner: Owner<J>,
+    mut dones: Vec<(usize, J::Done)>,
+    gate: &G,
+) -> Result<Vec<(usize, J::Done)>, NoMemory>
+where
+    J::Done: Drop,
+    requires whole { (worker_view owner).parts ≡ 64 }
+    requires ran { Ran J.gives (worker_view owner).taken dones.items }
+    ensures { IfOk result (λ all. AllRan J.gives (worker_view owner).put all.items) }
+{
+    while let Some(piece) = owner.pop_as::<Pops>() {
+        dones.push(run_piece(piece, gate))?;
+    }
+    Ok(dones)
+}
