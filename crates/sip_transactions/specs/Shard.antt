@@ -5,7 +5,7 @@ use Rattle.sip_message.specs.declared.id.Id.{Id}
 use Rattle.sip_message.specs.declared.key.Key.{Key}
 use Rattle.sip_message.specs.declared.message.Message.{Message}
 use Rattle.sip_message.specs.Key.{key_cmp}
-use Rattle.sip_message.specs.KeyOf.{is_sent_by_of}
+use Rattle.sip_message.specs.TopVia.{is_sent_by_of}
 use Rattle.sip_message.specs.Message.{is_request_message}
 use Rattle.sip_transactions.specs.declared.input.Command.{Command}
 use Rattle.sip_transactions.specs.declared.input.Command.TheVariants as command

@@ -273,7 +273,7 @@ pub struct Transactions;
 
 impl StateMachine for Transactions {
     ghost use Rattle.std.specs.Prelude.{◌≤◌, ◌^◌};
-    ghost use Rattle.sip_message.specs.Key.{exact_keys};
+    ghost use Rattle.sip_transactions.specs.Keys.{exact_keys};
     ghost use Rattle.sip_transactions.specs.declared.input.Input.TheVariants.{Tick};
     ghost use Rattle.sip_transactions.specs.Machine.{transaction_machine, ticks_are_quiet};
 

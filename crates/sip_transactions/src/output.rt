@@ -1,6 +1,6 @@
 //! What a transaction says.
 
-use sip_message::{Addr, CallId, Id, Key, Message};
+use sip_message::{Addr, CallId, Id, Key, Message, ReadFault};
 use sip_text::Text;
 
 /// What is handed up to the call.
@@ -34,6 +34,8 @@ pub enum DropReason {
     NotOurs,
     /// A response to no transaction.
     NoTransaction,
+    /// The datagram spells no message.
+    Unreadable(ReadFault),
 }
 
 /// What a transaction says.

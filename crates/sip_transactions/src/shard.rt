@@ -4,7 +4,7 @@ ghost use Rattle.std.specs.Prelude.{◌≡◌, ◌≤◌, ◌^◌, [], ◌∷◌
 ghost use Rattle.sip_model.specs.Table.{state_at, entries_of, Covers, StepsKey, StepsAll};
 ghost use Rattle.sip_model.specs.History.{AddsInput, AddsInputs};
 ghost use Rattle.sip_message.specs.Key.{key_cmp};
-ghost use Rattle.sip_message.specs.KeyOf.{key_of_message};
+ghost use Rattle.sip_message.specs.MessageKey.{key_of_message};
 ghost use Rattle.sip_transactions.specs.Machine.{transaction_machine, tick_at};
 
 use crate::input::{Command, Input, Timed};
