@@ -1,9 +1,9 @@
 -- The seats as they begin, and as their results come back.
-use Rattle.std.proofs.Common.{◌≡◌, ℕ, zero, suc, ◌+◌, ◌-◌, ◌<◌, ◌≤◌, get_or, All, vec_len, Vec, Err, arith, length-append, List, [], ◌∷◌, ◌++◌, length, Result, Ok, sym, subst, ap, ◌∙◌, refl}
+use Rattle.std.proofs.Common.{◌≡◌, ℕ, zero, suc, ◌+◌, ◌-◌, ◌<◌, get_or, All, Vec, Err, arith, List, [], ◌∷◌, ◌++◌, length, Result, Ok, sym, subst, ap, ◌∙◌, refl}
 use Rattle.std.specs.List.{AllByRecursion, AllZip}
 use Rattle.std.proofs.lemmas.List.{get_or_default}
 use Rattle.std.specs.declared.alloc.Global.{Global}
-use Rattle.crossbeam_deque.specs.Handles.{view, IsPassOf, worker_deque, worker_view}
+use Rattle.crossbeam_deque.specs.Handles.{worker_deque, worker_view}
 use Rattle.sip_workers.specs.declared.piece.Piece.{Piece}
 use Rattle.sip_workers.specs.declared.no_memory.NoMemory.{NoMemory}
 use Rattle.sip_workers.specs.declared.deque.Log.{Log}
@@ -13,7 +13,7 @@ use Rattle.sip_workers.specs.declared.seat.Served.{Served}
 use Rattle.sip_workers.specs.declared.seat.Served.TheVariants as ended
 use Rattle.sip_workers.specs.Balance.{log}
 use Rattle.sip_workers.specs.Ran.{Ran}
-use Rattle.sip_workers.specs.Seats.{OwnerOf, IsReady, IsThiefOf, IsOwnerOf, AreSeats, IsThiefsResult, IsOwnersResult, Serves}
+use Rattle.sip_workers.specs.Seats.{OwnerOf, IsReady, IsThiefOf, IsOwnerOf, AreSeats, IsThiefsResult, Serves}
 
 pub log_is : {J : Type 0} (v : Log J) (parts : ℕ) (put taken : List (Piece J)) → v.parts ≡ parts → v.put ≡ put → v.taken ≡ taken → v ≡ log parts put taken
 log_is v parts put taken p q r =

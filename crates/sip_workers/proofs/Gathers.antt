@@ -9,7 +9,7 @@ use Rattle.std.proofs.lemmas.List.Elements.{All-nil, All-cons, All-head, All-tai
 use Rattle.std.proofs.lemmas.List.Sorted.{IsPermutation-map, All-permutation, length_permutation}
 use Rattle.std.proofs.lemmas.Map.Keys.{IsDistinct-IsPermutation, IsDistinct-from_apart, IsStrictlyIncreasing-from_distinct}
 use Rattle.sip_workers.specs.declared.piece.Piece.{Piece}
-use Rattle.sip_workers.specs.Ran.{IsDoneOf, Ran, AllRan, IsGathered, IsNumbered}
+use Rattle.sip_workers.specs.Ran.{Ran, AllRan, IsGathered, IsNumbered}
 
 map_long : {X Y : Type 0} (f : X → Y) (xs : List X) → length (map f xs) ≡ length xs
 map_long f [] = refl
@@ -138,3 +138,10 @@ numbered_more {J} pieces piece numbered next = λ k below.
       | inl within ↦ get_or_append_left (map shard pieces) (piece.shard ∷ []) 0 k (omega arith) ∙ numbered k within
       | inr past ↦ get_or_push (map shard pieces) piece.shard 0 k (omega arith) ∙ omega (arith, next)
     ]
+
+-- the same in a loop
+pub numbered_grown : {J : Type 0} (pieces more : List (Piece J)) (piece : Piece J) (k next : ℕ) → more ≡ pieces ++ piece ∷ [] → (length pieces ≡ k) × IsNumbered pieces → (piece.shard ≡ k) × (next ≡ k + 1) → (length more ≡ next) × IsNumbered more
+numbered_grown {J} pieces more piece k next pushed so_far at = (
+  ap (λ (ps : List (Piece J)). length ps) pushed ∙ omega (arith, length-append pieces (piece ∷ []), so_far.0, at.1),
+  subst (λ (ps : List (Piece J)). IsNumbered ps) (sym pushed) (numbered_more pieces piece so_far.1 (at.0 ∙ sym so_far.0)),
+)

@@ -1,5 +1,5 @@
 -- Pieces and their dones, pair by pair.
-use Rattle.std.proofs.Common.{◌≡◌, ℕ, ◌+◌, List, [], ◌∷◌, ◌++◌, sym, subst, ap, ◌∙◌}
+use Rattle.std.proofs.Common.{◌≡◌, ℕ, ◌+◌, List, [], ◌∷◌, ◌++◌, sym, subst, ap}
 use Rattle.std.specs.List.{AllZip}
 use Rattle.sip_workers.specs.declared.piece.Piece.{Piece}
 use Rattle.sip_workers.specs.declared.deque.Log.{Log}

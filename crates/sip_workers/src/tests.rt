@@ -5,6 +5,7 @@ use crate::{Gate, Job, NoMemory, Piece, dones_in_order, gather, run_pieces};
 use std::alloc::Global;
 use std::sync::atomic::{AtomicU64, Ordering};
 use std::test::Fail;
+use std::thread;
 
 // How often a job looks before it gives up waiting for the others.
 const MOST_TURNS: u32 = 10_000_000;
@@ -33,9 +34,12 @@ impl<'a> Job for Waits<'a> {
 
     fn run(self) -> bool {
         self.running.fetch_add(1, Ordering::SeqCst);
-        for _ in 0..MOST_TURNS {
+        for turn in 0..MOST_TURNS {
             if self.running.load(Ordering::SeqCst) >= self.until {
                 return true;
+            }
+            if turn % 64 == 0 {
+                thread::yield_now();
             }
         }
         false
@@ -154,10 +158,9 @@ fn gathers_the_same_each_time(rt: HostRuntime) -> Result<(), Fail> {
         let dones = run_pieces(&rt, rt.alloc(), squares(rt.alloc(), 64)?, 8, &gate)?;
         let gathered = gather(rt.alloc(), dones)?;
         assert_eq!(rt; gathered.len(), 64);
-        let mut expected = 0;
-        for (k, square) in gathered.iter().enumerate() {
-            assert_eq!(rt; *square, expected, "at {k}");
-            expected += 2 * k as u64 + 1;
+        for k in 0..64u32 {
+            let square = u64::from(k).wrapping_mul(u64::from(k));
+            assert_eq!(rt; gathered.get(k as usize).copied(), Some(square), "at {k}");
         }
     }
     Ok(())
