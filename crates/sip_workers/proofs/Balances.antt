@@ -1,10 +1,10 @@
 -- Each step keeps the rule of the deque.
-use Rattle.std.proofs.Common.{◌≡◌, ◌≢◌, ℕ, zero, suc, ◌+◌, ◌-◌, ◌<◌, ◌≤◌, List, [], ◌∷◌, ◌++◌, length, set, sym, refl, ap, ◌∙◌, subst, ⊎_elim, append-nil, append_assoc, arith, length-append}
+use Rattle.std.proofs.Common.{◌≡◌, ℕ, zero, suc, ◌+◌, ◌-◌, ◌<◌, ◌≤◌, List, [], ◌∷◌, ◌++◌, length, set, sym, refl, ap, ◌∙◌, subst, ⊎_elim, append-nil, append_assoc, arith, length-append}
 use mathlib.Core.Option.{some, some-ne-none}
 use lib.ListN.{get_elem?}
 use Rattle.std.specs.List.{flat_map, AllByRecursion}
 use Rattle.std.specs.List.Sorted.{IsPermutation}
-use Rattle.std.proofs.lemmas.List.Sorted.{IsPermutation-refl, IsPermutation-sym, IsPermutation-append_left, IsPermutation-append_right, length_permutation}
+use Rattle.std.proofs.lemmas.List.Sorted.{IsPermutation-refl, IsPermutation-sym, IsPermutation-append_right, length_permutation}
 use Rattle.crossbeam_deque.specs.Tasks.{Pushes, Takes, Pops, Finds, Forks, Merges}
 use Rattle.crossbeam_deque.proofs.Lists.{at_set}
 use Rattle.sip_workers.specs.declared.piece.Piece.{Piece}
@@ -35,16 +35,16 @@ module _ {J : Type 0} where
   lists_at f (x ∷ xs) zero v e = let same : x ≡ v = cc in same_order _ _ (ap (λ (y : Log J). f y ++ flat_map f xs) same)
   lists_at f (x ∷ xs) (suc port) v e =
       joined _ (f x ++ (f v ++ flat_map f (others xs port))) _
-        (IsPermutation-append_right (f x) (flat_map f xs) (f v ++ flat_map f (others xs port)) (lists_at f xs port v e))
-        (exchange (f x) (f v) (flat_map f (others xs port)))
+      (IsPermutation-append_right (f x) (flat_map f xs) (f v ++ flat_map f (others xs port)) (lists_at f xs port v e))
+      (exchange (f x) (f v) (flat_map f (others xs port)))
 
   lists_set : (f : Log J → List (Piece J)) (views : List (Log J)) (port : ℕ) (v w : Log J) → get_elem? views port ≡ some v → IsPermutation (flat_map f (set views port w)) (f w ++ flat_map f (others views port))
   lists_set f [] port v w e = absurd (some-ne-none v (sym e))
   lists_set f (x ∷ xs) zero v w e = IsPermutation-refl (f w ++ flat_map f xs)
   lists_set f (x ∷ xs) (suc port) v w e =
       joined _ (f x ++ (f w ++ flat_map f (others xs port))) _
-        (IsPermutation-append_right (f x) (flat_map f (set xs port w)) (f w ++ flat_map f (others xs port)) (lists_set f xs port v w e))
-        (exchange (f x) (f w) (flat_map f (others xs port)))
+      (IsPermutation-append_right (f x) (flat_map f (set xs port w)) (f w ++ flat_map f (others xs port)) (lists_set f xs port v w e))
+      (exchange (f x) (f w) (flat_map f (others xs port)))
 
   all_at : (P : Log J → Type 0) (views : List (Log J)) (port : ℕ) (v : Log J) → get_elem? views port ≡ some v → AllByRecursion P views → P v × AllByRecursion P (others views port)
   all_at P [] port v e all = absurd (some-ne-none v (sym e))
@@ -65,16 +65,16 @@ module _ {J : Type 0} where
   beside items views port v e b = (
     sym (parts_at views port v e) ∙ b.parts,
     joined _ (all_put views) _ (IsPermutation-sym _ _ (lists_at (λ u. u.put) views port v e))
-      (joined _ (items ++ all_taken views) _ b.balance (IsPermutation-append_right items (all_taken views) (v.taken ++ all_taken (others views port)) (lists_at (λ u. u.taken) views port v e))),
+        (joined _ (items ++ all_taken views) _ b.balance (IsPermutation-append_right items (all_taken views) (v.taken ++ all_taken (others views port)) (lists_at (λ u. u.taken) views port v e))),
   )
 
   balanced : (items new : List (Piece J)) (views : List (Log J)) (port : ℕ) (v w : Log J) → get_elem? views port ≡ some v → Balanced items views → IsIdle w → Beside new w (others views port) → Balanced new (set views port w)
   balanced items new views port v w e b idle s = record {
     parts = parts_set views port v w e ∙ s.0;
     balance =
-      joined _ (w.put ++ all_put (others views port)) _ (lists_set (λ u. u.put) views port v w e)
+        joined _ (w.put ++ all_put (others views port)) _ (lists_set (λ u. u.put) views port v w e)
         (joined _ (new ++ (w.taken ++ all_taken (others views port))) _ s.1
-          (IsPermutation-append_right new (w.taken ++ all_taken (others views port)) (all_taken (set views port w)) (IsPermutation-sym _ _ (lists_set (λ u. u.taken) views port v w e))));
+        (IsPermutation-append_right new (w.taken ++ all_taken (others views port)) (all_taken (set views port w)) (IsPermutation-sym _ _ (lists_set (λ u. u.taken) views port v w e))));
     idle = all_set IsIdle views port w idle b.idle;
   }
 
@@ -92,7 +92,7 @@ module _ {J : Type 0} where
       let s = beside items views port v e b in
       let none = nothing_beside (others views port) (omega (arith, s.0)) (all_at IsIdle views port v e b.idle).1 in
       joined _ (v.put ++ all_put (others views port)) _ (same_order _ _ (sym (append-nil v.put) ∙ ap (λ (xs : List (Piece J)). v.put ++ xs) (sym none.0)))
-        (joined _ _ _ s.1 (same_order _ _ (ap (λ (xs : List (Piece J)). items ++ (v.taken ++ xs)) none.1 ∙ ap (λ (xs : List (Piece J)). items ++ xs) (append-nil v.taken))))
+      (joined _ _ _ s.1 (same_order _ _ (ap (λ (xs : List (Piece J)). items ++ (v.taken ++ xs)) none.1 ∙ ap (λ (xs : List (Piece J)). items ++ xs) (append-nil v.taken))))
 
   -- ---- the steps
 
@@ -105,7 +105,7 @@ module _ {J : Type 0} where
       let w = log v.parts (v.put ++ xs) v.taken in (
         w,
         balanced items (items ++ xs) views port v w e b (λ none. absurd (omega arith))
-          (s.0, put_more v.put xs (all_put (others views port)) items v.taken (all_taken (others views port)) s.1),
+            (s.0, put_more v.put xs (all_put (others views port)) items v.taken (all_taken (others views port)) s.1),
         refl,
       )
 
@@ -119,7 +119,7 @@ module _ {J : Type 0} where
       let w = log v.parts v.put (v.taken ++ xs) in (
         w,
         balanced (xs ++ items) items views port v w e b (λ none. absurd (omega arith))
-          (s.0, take_front (v.put ++ all_put (others views port)) xs items v.taken (all_taken (others views port)) s.1),
+            (s.0, take_front (v.put ++ all_put (others views port)) xs items v.taken (all_taken (others views port)) s.1),
         refl,
       )
 
@@ -129,7 +129,7 @@ module _ {J : Type 0} where
       let w = log v.parts v.put (v.taken ++ xs) in (
         w,
         balanced (xs ++ items) items views port v w e b (λ none. absurd (omega arith))
-          (s.0, take_front (v.put ++ all_put (others views port)) xs items v.taken (all_taken (others views port)) s.1),
+            (s.0, take_front (v.put ++ all_put (others views port)) xs items v.taken (all_taken (others views port)) s.1),
         (refl, λ every. counted v xs items (whole (xs ++ items) views port v every e b)),
       )
 
@@ -140,10 +140,13 @@ module _ {J : Type 0} where
       let w = log v.parts v.put (v.taken ++ xs) in (
         w,
         balanced (items ++ xs) items views port v w e b (λ none. absurd (omega arith))
-          (s.0, take_back (v.put ++ all_put (others views port)) xs items v.taken (all_taken (others views port)) s.1),
-        (refl, λ every.
-          let p = whole (items ++ xs) views port v every e b in
-          omega (arith, length_permutation _ _ p, length-append v.taken xs, length-append (items ++ xs) v.taken, length-append items xs)),
+            (s.0, take_back (v.put ++ all_put (others views port)) xs items v.taken (all_taken (others views port)) s.1),
+        (
+          refl,
+          λ every.
+              let p = whole (items ++ xs) views port v every e b in
+              omega (arith, length_permutation _ _ p, length-append v.taken xs, length-append (items ++ xs) v.taken, length-append items xs),
+        ),
       )
 
   pub drained : (port : ℕ) (v : Log J) → Finds Balanced port v (v.parts ≡ 64 → IsPermutation v.put v.taken)
@@ -170,10 +173,10 @@ module _ {J : Type 0} where
       record {
         parts = omega (arith, parts_push (set views port left) right, parts_set views port v left e, s.0);
         balance =
-          joined _ _ _ (same_order _ _ (lists_push (λ u. u.put) (set views port left) right refl))
+            joined _ _ _ (same_order _ _ (lists_push (λ u. u.put) (set views port left) right refl))
             (joined _ _ _ (lists_set (λ u. u.put) views port v left e)
-              (joined _ _ _ s.1 (IsPermutation-append_right items (v.taken ++ all_taken (others views port)) (all_taken (set views port left ++ right ∷ []))
-                (joined _ _ _ (IsPermutation-sym _ _ (lists_set (λ u. u.taken) views port v left e)) (same_order _ _ (sym (lists_push (λ u. u.taken) (set views port left) right refl)))))));
+            (joined _ _ _ s.1 (IsPermutation-append_right items (v.taken ++ all_taken (others views port)) (all_taken (set views port left ++ right ∷ []))
+            (joined _ _ _ (IsPermutation-sym _ _ (lists_set (λ u. u.taken) views port v left e)) (same_order _ _ (sym (lists_push (λ u. u.taken) (set views port left) right refl)))))));
         idle = all_push IsIdle (set views port left) right (λ none. absurd (omega (arith, none))) (all_set IsIdle views port left (λ none. absurd (omega arith)) b.idle);
       }
 
@@ -196,16 +199,16 @@ module _ {J : Type 0} where
       let same : x ≡ v = cc in
       let rest = flat_map f (others xs other) in
       joined _ (f both ++ (f spent ++ rest)) _ (IsPermutation-append_right (f both) _ _ (lists_set f xs other w spent e'))
-        (joined _ (f v ++ (f w ++ rest)) _ (same_order _ _ (ap (λ (ys : List (Piece J)). ys ++ (f spent ++ rest)) sum ∙ ap (λ (ys : List (Piece J)). (f v ++ f w) ++ (ys ++ rest)) none ∙ append_assoc (f v) (f w) rest))
-          (joined _ (f v ++ flat_map f xs) _ (IsPermutation-append_right (f v) _ _ (IsPermutation-sym _ _ (lists_at f xs other w e'))) (same_order _ _ (ap (λ (y : Log J). f y ++ flat_map f xs) (sym same)))))
+      (joined _ (f v ++ (f w ++ rest)) _ (same_order _ _ (ap (λ (ys : List (Piece J)). ys ++ (f spent ++ rest)) sum ∙ ap (λ (ys : List (Piece J)). (f v ++ f w) ++ (ys ++ rest)) none ∙ append_assoc (f v) (f w) rest))
+      (joined _ (f v ++ flat_map f xs) _ (IsPermutation-append_right (f v) _ _ (IsPermutation-sym _ _ (lists_at f xs other w e'))) (same_order _ _ (ap (λ (y : Log J). f y ++ flat_map f xs) (sym same)))))
   merged_lists f (x ∷ xs) (suc port) zero v w both spent e apart e' sum none =
       let same : x ≡ w = cc in
       let rest = flat_map f (others xs port) in
       joined _ (flat_map f (set xs port both)) _ (same_order _ _ (ap (λ (ys : List (Piece J)). ys ++ flat_map f (set xs port both)) none))
-        (joined _ (f both ++ rest) _ (lists_set f xs port v both e)
-          (joined _ (f v ++ (f w ++ rest)) _ (same_order _ _ (ap (λ (ys : List (Piece J)). ys ++ rest) sum ∙ append_assoc (f v) (f w) rest))
-            (joined _ (f w ++ (f v ++ rest)) _ (exchange (f v) (f w) rest)
-              (joined _ (f w ++ flat_map f xs) _ (IsPermutation-append_right (f w) _ _ (IsPermutation-sym _ _ (lists_at f xs port v e))) (same_order _ _ (ap (λ (y : Log J). f y ++ flat_map f xs) (sym same)))))))
+      (joined _ (f both ++ rest) _ (lists_set f xs port v both e)
+      (joined _ (f v ++ (f w ++ rest)) _ (same_order _ _ (ap (λ (ys : List (Piece J)). ys ++ rest) sum ∙ append_assoc (f v) (f w) rest))
+      (joined _ (f w ++ (f v ++ rest)) _ (exchange (f v) (f w) rest)
+      (joined _ (f w ++ flat_map f xs) _ (IsPermutation-append_right (f w) _ _ (IsPermutation-sym _ _ (lists_at f xs port v e))) (same_order _ _ (ap (λ (y : Log J). f y ++ flat_map f xs) (sym same)))))))
   merged_lists f (x ∷ xs) (suc port) (suc other) v w both spent e apart e' sum none =
       IsPermutation-append_right (f x) _ _ (merged_lists f xs port other v w both spent e (λ (same : other ≡ port). apart (ap suc same)) e' sum none)
 
@@ -223,9 +226,9 @@ module _ {J : Type 0} where
       record {
         parts = merged_parts views port other v w both spent e apart e' refl refl ∙ b.parts;
         balance =
-          joined _ (all_put views) _ (merged_lists (λ u. u.put) views port other v w both spent e apart e' refl refl)
+            joined _ (all_put views) _ (merged_lists (λ u. u.put) views port other v w both spent e apart e' refl refl)
             (joined _ (items ++ all_taken views) _ b.balance (IsPermutation-append_right items _ _ (IsPermutation-sym _ _ (merged_lists (λ u. u.taken) views port other v w both spent e apart e' refl refl))));
         idle =
-          all_set IsIdle (set views port both) other spent (λ _. (refl, refl))
+            all_set IsIdle (set views port both) other spent (λ _. (refl, refl))
             (all_set IsIdle views port both (both_idle v w (all_at IsIdle views port v e b.idle).0 (all_at IsIdle views other w was b.idle).0) b.idle);
       }

@@ -1,9 +1,9 @@
 -- The seats as they begin, and as their results come back.
-use Rattle.std.proofs.Common.{◌≡◌, ℕ, zero, suc, ◌+◌, ◌-◌, ◌<◌, ◌≤◌, get_or, All, vec_len, Vec, Err, arith, length-append, List, [], ◌∷◌, ◌++◌, length, Result, Ok, sym, subst, ap, ◌∙◌, refl}
+use Rattle.std.proofs.Common.{◌≡◌, ℕ, zero, suc, ◌+◌, ◌-◌, ◌<◌, get_or, All, Vec, Err, arith, List, [], ◌∷◌, ◌++◌, length, Result, Ok, sym, subst, ap, ◌∙◌, refl}
 use Rattle.std.specs.List.{AllByRecursion, AllZip}
 use Rattle.std.proofs.lemmas.List.{get_or_default}
 use Rattle.std.specs.declared.alloc.Global.{Global}
-use Rattle.crossbeam_deque.specs.Handles.{view, IsPassOf, worker_deque, worker_view}
+use Rattle.crossbeam_deque.specs.Handles.{worker_deque, worker_view}
 use Rattle.sip_workers.specs.declared.piece.Piece.{Piece}
 use Rattle.sip_workers.specs.declared.no_memory.NoMemory.{NoMemory}
 use Rattle.sip_workers.specs.declared.deque.Log.{Log}
@@ -13,7 +13,7 @@ use Rattle.sip_workers.specs.declared.seat.Served.{Served}
 use Rattle.sip_workers.specs.declared.seat.Served.TheVariants as ended
 use Rattle.sip_workers.specs.Balance.{log}
 use Rattle.sip_workers.specs.Ran.{Ran}
-use Rattle.sip_workers.specs.Seats.{OwnerOf, IsReady, IsThiefOf, IsOwnerOf, AreSeats, IsThiefsResult, IsOwnersResult, Serves}
+use Rattle.sip_workers.specs.Seats.{OwnerOf, IsReady, IsThiefOf, IsOwnerOf, AreSeats, IsThiefsResult, Serves}
 
 pub log_is : {J : Type 0} (v : Log J) (parts : ℕ) (put taken : List (Piece J)) → v.parts ≡ parts → v.put ≡ put → v.taken ≡ taken → v ≡ log parts put taken
 log_is v parts put taken p q r =
@@ -40,9 +40,10 @@ zip_at R [] [] same each = tt
 zip_at R [] (y ∷ ys) same each = absurd (omega arith)
 zip_at R (x ∷ xs) [] same each = absurd (omega arith)
 zip_at {A} {B} R (x ∷ xs) (y ∷ ys) same each =
-    let first = each 0 y (omega arith) in
-    (subst (λ (a : A). R a y) (sym (first.1 x)) first.2,
-      zip_at R xs ys (omega arith) (λ i d within. each (suc i) d (omega arith)))
+    let first = each 0 y (omega arith) in (
+      subst (λ (a : A). R a y) (sym (first.1 x)) first.2,
+      zip_at R xs ys (omega arith) (λ i d within. each (suc i) d (omega arith)),
+    )
 
 zip_last : {A B : Type 0} (R : A → B → Type 0) (xs : List A) (x : A) (ys : List B) (y : B) → AllZip R (xs ++ x ∷ []) (ys ++ y ∷ []) → AllZip R xs ys × R x y
 zip_last R [] x [] y both = (tt, both.0)
@@ -84,9 +85,9 @@ thieves_ready deque (s ∷ ss) all = (thief_ready deque s all.0, thieves_ready d
 pub seats_ready : {J : Type 0} (put : List (Piece J)) (count : ℕ) (seats : List (Seat J)) → AreSeats put count seats → All IsReady seats
 seats_ready {J} put count seats s = λ k d within.
     holds_at IsReady seats
-      (subst (λ (xs : List (Seat J)). AllByRecursion IsReady xs) (sym s.are)
-        (both_hold IsReady s.thieves s.last (thieves_ready s.deque s.thieves s.all_thieves) (owner_ready s.deque (64 - count) put s.last (let few = s.few in omega arith) s.owner)))
-      k (get_or seats k d) within (get_or_default seats k d (get_or seats k d) within)
+    (subst (λ (xs : List (Seat J)). AllByRecursion IsReady xs) (sym s.are)
+    (both_hold IsReady s.thieves s.last (thieves_ready s.deque s.thieves s.all_thieves) (owner_ready s.deque (64 - count) put s.last (let few = s.few in omega arith) s.owner)))
+    k (get_or seats k d) within (get_or_default seats k d (get_or seats k d) within)
 
 -- ---- the results after the map
 
@@ -118,8 +119,8 @@ module _ {J D : Type 0} (gives : J → D → Type 0) where
       → results ≡ rest ++ Ok (ended.Owner owner dones) ∷ [] → ComesBack put owner dones rest
   comes_back put count seats results rest owner dones s served is =
       let all : AllZip (Serves gives) (s.thieves ++ s.last ∷ []) (rest ++ Ok (ended.Owner owner dones) ∷ []) =
-          subst (λ (xs : List (Seat J)). AllZip (Serves gives) xs (rest ++ Ok (ended.Owner owner dones) ∷ [])) s.are
-            (subst (λ (ys : List (Result (Served J D) NoMemory)). AllZip (Serves gives) seats ys) is served) in
+      subst (λ (xs : List (Seat J)). AllZip (Serves gives) xs (rest ++ Ok (ended.Owner owner dones) ∷ [])) s.are
+      (subst (λ (ys : List (Result (Served J D) NoMemory)). AllZip (Serves gives) seats ys) is served) in
       let parts = zip_last (Serves gives) s.thieves s.last rest (Ok (ended.Owner owner dones)) all in
       let mine = parts.1.owner s.deque (64 - count) put s.owner in
       let few = s.few in let counted = s.counted in let p = mine.1 in

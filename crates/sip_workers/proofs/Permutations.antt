@@ -1,7 +1,7 @@
 -- Lists with the same elements in another order.
-use Rattle.std.proofs.Common.{◌≡◌, List, [], ◌∷◌, ◌++◌, sym, subst, append_assoc, append-nil}
+use Rattle.std.proofs.Common.{◌≡◌, List, ◌++◌, sym, subst, append_assoc}
 use Rattle.std.specs.List.Sorted.{IsPermutation}
-use Rattle.std.proofs.lemmas.List.Sorted.{IsPermutation-refl, IsPermutation-sym, IsPermutation-trans, IsPermutation-append, IsPermutation-append_left, IsPermutation-append_right, IsPermutation-append_comm}
+use Rattle.std.proofs.lemmas.List.Sorted.{IsPermutation-refl, IsPermutation-trans, IsPermutation-append_left, IsPermutation-append_right, IsPermutation-append_comm}
 
 module _ {X : Type 0} where
   pub same_order : (a b : List X) → a ≡ b → IsPermutation a b
@@ -20,18 +20,18 @@ module _ {X : Type 0} where
   pub put_more : (put xs puts items taken takens : List X) → IsPermutation (put ++ puts) (items ++ (taken ++ takens)) → IsPermutation ((put ++ xs) ++ puts) ((items ++ xs) ++ (taken ++ takens))
   put_more put xs puts items taken takens p =
       joined _ (xs ++ (put ++ puts)) _
-        (joined _ (put ++ (xs ++ puts)) _ (same_order _ _ (append_assoc put xs puts)) (exchange put xs puts))
-        (joined _ (xs ++ (items ++ (taken ++ takens))) _ (IsPermutation-append_right xs (put ++ puts) (items ++ (taken ++ takens)) p)
-          (joined _ (items ++ (xs ++ (taken ++ takens))) _ (exchange xs items (taken ++ takens)) (same_order _ _ (sym (append_assoc items xs (taken ++ takens))))))
+      (joined _ (put ++ (xs ++ puts)) _ (same_order _ _ (append_assoc put xs puts)) (exchange put xs puts))
+      (joined _ (xs ++ (items ++ (taken ++ takens))) _ (IsPermutation-append_right xs (put ++ puts) (items ++ (taken ++ takens)) p)
+      (joined _ (items ++ (xs ++ (taken ++ takens))) _ (exchange xs items (taken ++ takens)) (same_order _ _ (sym (append_assoc items xs (taken ++ takens))))))
 
   -- what leaves at the front goes to the end of what one took
   pub take_front : (all xs items taken takens : List X) → IsPermutation all ((xs ++ items) ++ (taken ++ takens)) → IsPermutation all (items ++ ((taken ++ xs) ++ takens))
   take_front all xs items taken takens p =
       joined _ _ _ p
-        (joined _ (xs ++ (items ++ (taken ++ takens))) _ (same_order _ _ (append_assoc xs items (taken ++ takens)))
-          (joined _ (items ++ (xs ++ (taken ++ takens))) _ (exchange xs items (taken ++ takens))
-            (IsPermutation-append_right items (xs ++ (taken ++ takens)) ((taken ++ xs) ++ takens)
-              (joined _ (taken ++ (xs ++ takens)) _ (exchange xs taken takens) (same_order _ _ (sym (append_assoc taken xs takens)))))))
+      (joined _ (xs ++ (items ++ (taken ++ takens))) _ (same_order _ _ (append_assoc xs items (taken ++ takens)))
+      (joined _ (items ++ (xs ++ (taken ++ takens))) _ (exchange xs items (taken ++ takens))
+      (IsPermutation-append_right items (xs ++ (taken ++ takens)) ((taken ++ xs) ++ takens)
+      (joined _ (taken ++ (xs ++ takens)) _ (exchange xs taken takens) (same_order _ _ (sym (append_assoc taken xs takens)))))))
 
   -- the same at the back
   pub take_back : (all xs items taken takens : List X) → IsPermutation all ((items ++ xs) ++ (taken ++ takens)) → IsPermutation all (items ++ ((taken ++ xs) ++ takens))

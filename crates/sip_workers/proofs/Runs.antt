@@ -1,5 +1,5 @@
 -- Pieces and their dones, pair by pair.
-use Rattle.std.proofs.Common.{◌≡◌, ℕ, ◌+◌, List, [], ◌∷◌, ◌++◌, sym, subst, ap, ◌∙◌}
+use Rattle.std.proofs.Common.{◌≡◌, ℕ, ◌+◌, List, [], ◌∷◌, ◌++◌, sym, subst, ap}
 use Rattle.std.specs.List.{AllZip}
 use Rattle.sip_workers.specs.declared.piece.Piece.{Piece}
 use Rattle.sip_workers.specs.declared.deque.Log.{Log}
@@ -18,13 +18,13 @@ module _ {J D : Type 0} (gives : J → D → Type 0) where
       → IsDoneOf gives piece done → Ran gives v.taken dones → Ran gives w.taken more
   ran_more v w piece done dones more took pushed given ran =
       subst (λ (xs : List (Piece J)). Ran gives xs more) (sym (ap (λ (u : Log J). u.taken) took))
-        (subst (λ (ds : List (ℕ × D)). Ran gives (v.taken ++ piece ∷ []) ds) (sym pushed)
-          (zip_append (IsDoneOf gives) v.taken dones (piece ∷ []) (done ∷ []) ran (given, tt)))
+      (subst (λ (ds : List (ℕ × D)). Ran gives (v.taken ++ piece ∷ []) ds) (sym pushed)
+      (zip_append (IsDoneOf gives) v.taken dones (piece ∷ []) (done ∷ []) ran (given, tt)))
 
   -- the dones of a pass that is joined stand after the others
   pub ran_joined : (v w u : Log J) (dones theirs more : List (ℕ × D)) → u ≡ log (v.parts + w.parts) (v.put ++ w.put) (v.taken ++ w.taken) → more ≡ dones ++ theirs
       → Ran gives v.taken dones → Ran gives w.taken theirs → Ran gives u.taken more
   ran_joined v w u dones theirs more both pushed mine ran =
       subst (λ (xs : List (Piece J)). Ran gives xs more) (sym (ap (λ (x : Log J). x.taken) both))
-        (subst (λ (ds : List (ℕ × D)). Ran gives (v.taken ++ w.taken) ds) (sym pushed)
-          (zip_append (IsDoneOf gives) v.taken dones w.taken theirs mine ran))
+      (subst (λ (ds : List (ℕ × D)). Ran gives (v.taken ++ w.taken) ds) (sym pushed)
+      (zip_append (IsDoneOf gives) v.taken dones w.taken theirs mine ran))

@@ -11,8 +11,11 @@ mod pieces;
 mod seat;
 
 pub use gate::Gate;
-// pub use gathered::{dones_in_order, gather};
+pub use gathered::{dones_in_order, gather};
 pub use job::Job;
 pub use no_memory::NoMemory;
 pub use piece::Piece;
 pub use pieces::run_pieces;
+
+#[cfg(test)]
+mod tests;

@@ -1,5 +1,5 @@
-ghost use Rattle.std.specs.Prelude.{◌≡◌, ◌<◌, ◌≤◌, ◌+◌, [], IfOk, vec_len, All};
-ghost use Rattle.std.specs.List.{AllByRecursion, AllZip};
+ghost use Rattle.std.specs.Prelude.{◌≡◌, ◌<◌, ◌≤◌, ◌+◌, [], IfOk, vec_len, All, map, nat_eq};
+ghost use Rattle.std.specs.List.{AllByRecursion, AllZip, IsDistinct};
 ghost use Rattle.crossbeam_deque.specs.Handles.{worker_deque, worker_view};
 ghost use Rattle.sip_workers.specs.Ran.{Ran, AllRan};
 ghost use Rattle.sip_workers.specs.Balance.{log};
@@ -30,7 +30,9 @@ where
     J::Done: Send + Drop,
     requires some { 0 < workers }
     requires most { workers ≤ 64 }
-    ensures { IfOk result (λ dones. AllRan J.gives pieces.items dones.items) }
+    ensures each_once { IfOk result (λ dones. AllRan J.gives pieces.items dones.items) }
+    ensures differ { IsDistinct nat_eq (map (λ p. p.shard) pieces.items)
+        → IfOk result (λ dones. IsDistinct nat_eq (map (λ d. d.0) dones.items)) }
 {
     let most = pieces.len();
     let owner = filled(alloc, pieces)?;

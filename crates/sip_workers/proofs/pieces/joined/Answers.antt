@@ -1,4 +1,4 @@
-use Rattle.std.proofs.Common.{◌≡◌, ◌++◌, [], ◌∷◌, arith, ap, ◌∙◌, append-nil}
+use Rattle.std.proofs.Common.{◌++◌, arith, ap, ◌∙◌, append-nil}
 use Rattle.crossbeam_deque.specs.Handles.{view, worker_view}
 use Rattle.sip_workers.proofs.Balances.{merges}
 use Rattle.sip_workers.proofs.Runs.{ran_joined}

@@ -1,4 +1,4 @@
-use Rattle.std.proofs.Common.{arith, ap, ◌∙◌}
+use Rattle.std.proofs.Common.{ap, ◌∙◌}
 use Rattle.crossbeam_deque.specs.Handles.{view}
 use Rattle.sip_workers.proofs.Runs.{ran_more}
 use Rattle.sip_workers.proofs.seat.thieve.Goals as goal
