@@ -3,9 +3,11 @@ use sip_text::Text;
 use std::alloc::Global;
 use std::test::*;
 
-const OPTIONS: &[u8] = b"OPTIONS sip:192.0.2.1 SIP/2.0\r\nVia: SIP/2.0/UDP 192.0.2.9;branch=z9hG4bKa1\r\nFrom: <sip:a@192.0.2.9>;tag=f1\r\nTo: <sip:192.0.2.1>\r\nCall-ID: c1\r\nCSeq: 7 OPTIONS\r\n\r\n";
+const OPTIONS: &[u8] =
+    b"OPTIONS sip:192.0.2.1 SIP/2.0\r\nVia: SIP/2.0/UDP 192.0.2.9;branch=z9hG4bKa1\r\nFrom: <sip:a@192.0.2.9>;tag=f1\r\nTo: <sip:192.0.2.1>\r\nCall-ID: c1\r\nCSeq: 7 OPTIONS\r\n\r\n";
 
-const ANSWER: &[u8] = b"SIP/2.0 200 OK\r\nVia: SIP/2.0/UDP 192.0.2.9;branch=z9hG4bKa1\r\nFrom: <sip:a@192.0.2.9>;tag=f1\r\nTo: <sip:192.0.2.1>;tag=t1\r\nCall-ID: c1\r\nCSeq: 7 OPTIONS\r\nContent-Length: 0\r\n\r\n";
+const ANSWER: &[u8] =
+    b"SIP/2.0 200 OK\r\nVia: SIP/2.0/UDP 192.0.2.9;branch=z9hG4bKa1\r\nFrom: <sip:a@192.0.2.9>;tag=f1\r\nTo: <sip:192.0.2.1>;tag=t1\r\nCall-ID: c1\r\nCSeq: 7 OPTIONS\r\nContent-Length: 0\r\n\r\n";
 
 const PEER: Addr = Addr {
     ip: [192, 0, 2, 9],
@@ -69,8 +71,7 @@ fn received_stands_last(rt: HostRuntime) -> Result<(), Fail> {
     let address = stamp_source(rt.alloc(), &mut message, source)?;
     assert_eq!(rt; address.port, 5060);
     let text = write(rt.alloc(), &message)?;
-    let line =
-        b"Via: SIP/2.0/UDP 192.0.2.9;branch=z9hG4bKa1;received=10.0.0.1\r\nFrom".as_slice();
+    let line = b"Via: SIP/2.0/UDP 192.0.2.9;branch=z9hG4bKa1;received=10.0.0.1\r\nFrom".as_slice();
     let start = b"OPTIONS sip:192.0.2.1 SIP/2.0\r\n".len();
     let found = text
         .as_slice()
@@ -93,27 +94,67 @@ fn faults(rt: HostRuntime) -> Result<(), Fail> {
     for (start, header, end, expected) in [
         ("OPTIONS sip:h SIP/2.0", "", "\r\n", None),
         ("SIP/2.0 200", "", "\r\n", None),
-        ("OPTIONS sip:h SIP/2.0", "Subject: x", "", Some(ReadFault::NoEmptyLine)),
-        ("OPTIONS sip:h SIP/3.0", "Subject: x\r\n", "\r\n", Some(ReadFault::BadStartLine)),
+        (
+            "OPTIONS sip:h SIP/2.0",
+            "Subject: x",
+            "",
+            Some(ReadFault::NoEmptyLine),
+        ),
+        (
+            "OPTIONS sip:h SIP/3.0",
+            "Subject: x\r\n",
+            "\r\n",
+            Some(ReadFault::BadStartLine),
+        ),
         ("SIP/2.0 99 X", "", "\r\n", Some(ReadFault::BadStartLine)),
-        ("OPTIONS sip:h SIP/2.0", "no colon\r\n", "\r\n", Some(ReadFault::BadHeader)),
-        ("OPTIONS sip:h SIP/2.0", "Via: SIP/2.0/UDP h\r\n", "\r\n", Some(ReadFault::BadHeader)),
+        (
+            "OPTIONS sip:h SIP/2.0",
+            "no colon\r\n",
+            "\r\n",
+            Some(ReadFault::BadHeader),
+        ),
+        (
+            "OPTIONS sip:h SIP/2.0",
+            "Via: SIP/2.0/UDP h\r\n",
+            "\r\n",
+            Some(ReadFault::BadHeader),
+        ),
         (
             "OPTIONS sip:h SIP/2.0",
             "call-id: d\r\n",
             "\r\n",
             Some(ReadFault::Repeated(HeaderName::CallId)),
         ),
-        ("OPTIONS sip:h SIP/2.0", "Content-Length: x\r\n", "\r\n", Some(ReadFault::BadNumber)),
+        (
+            "OPTIONS sip:h SIP/2.0",
+            "Content-Length: x\r\n",
+            "\r\n",
+            Some(ReadFault::BadNumber),
+        ),
         (
             "OPTIONS sip:h SIP/2.0",
             "Content-Length: 4294967296\r\n",
             "\r\n",
             Some(ReadFault::BadNumber),
         ),
-        ("INVITE sip:h SIP/2.0", "", "\r\n", Some(ReadFault::MethodMismatch)),
-        ("OPTIONS sip:h SIP/2.0", "Content-Length: 3\r\n", "\r\nab", Some(ReadFault::Truncated)),
-        ("OPTIONS sip:h SIP/2.0", "Content-Length: 2\r\n", "\r\nab", None),
+        (
+            "INVITE sip:h SIP/2.0",
+            "",
+            "\r\n",
+            Some(ReadFault::MethodMismatch),
+        ),
+        (
+            "OPTIONS sip:h SIP/2.0",
+            "Content-Length: 3\r\n",
+            "\r\nab",
+            Some(ReadFault::Truncated),
+        ),
+        (
+            "OPTIONS sip:h SIP/2.0",
+            "Content-Length: 2\r\n",
+            "\r\nab",
+            None,
+        ),
     ] {
         let mut text = start.as_bytes().to_vec(alloc)?;
         text.extend_from_slice(via)?;
@@ -123,7 +164,10 @@ fn faults(rt: HostRuntime) -> Result<(), Fail> {
         assert_eq!(rt; fault(alloc, text.as_slice()), expected, "{start} {header}");
     }
     let missing = b"OPTIONS sip:h SIP/2.0\r\nTo: <sip:b@h>\r\nTo: <sip:b@h>\r\n\r\n".as_slice();
-    assert_eq!(rt; fault(alloc, missing), Some(ReadFault::Missing(HeaderName::Via)));
+    assert_eq!(rt;
+        fault(alloc, missing),
+        Some(ReadFault::Missing(HeaderName::Via))
+    );
     Ok(())
 }
 
