@@ -85,6 +85,3 @@ pub use uri::Uri;
 pub use via::Via;
 pub use vias::Vias;
 pub use writer::write;
-
-#[cfg(test)]
-mod tests;
