@@ -10,15 +10,15 @@ use Rattle.std.proofs.lemmas.Slice.Eq.{bytes_eq-Decides}
 use Rattle.std.proofs.lemmas.Str.Parse.{IsDigitsTest, numerals_by_value}
 use Rattle.std.proofs.lemmas.Fmt.{digits_decimal, decimal_nonempty}
 use Rattle.sip_text.specs.Token.{is_run}
-use Rattle.sip_message.specs.declared.parameter.Parameter.{Parameter}
+use Rattle.sip_parts.specs.declared.parameter.Parameter.{Parameter}
 use Rattle.sip_message.specs.declared.via.Via.{Via}
-use Rattle.sip_message.specs.ParameterValue.{is_value_byte, is_value_word, is_parameter_value}
-use Rattle.sip_message.specs.Quoted.{is_quoted}
+use Rattle.sip_parts.specs.ParameterValue.{is_value_byte, is_value_word, is_parameter_value}
+use Rattle.sip_parts.specs.Quoted.{is_quoted}
 use Rattle.sip_message.specs.Ip.{ip_text}
-use Rattle.sip_message.specs.Parameters.{parameter_named, value_named, value_or_nothing}
+use Rattle.sip_parts.specs.Parameters.{parameter_named, value_named, value_or_nothing}
 use Rattle.sip_message.specs.Via.{branch_of, has_cookie, are_vias}
 use Rattle.sip_message.specs.Source.{with_value, stamped_via, stamped_vias}
-use Rattle.sip_message.proofs.Bytes.{or_right, both_true, none_of, all_weaker}
+use Rattle.sip_parts.proofs.Bytes.{or_right, both_true, none_of, all_weaker}
 
 digits_test : IsDigitsTest (λ ds. list_all is_ascii_digit ds ≡ true)
 digits_test = search rules

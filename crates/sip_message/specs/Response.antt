@@ -1,10 +1,10 @@
 -- The response that is made from a request (RFC 3261, section 8.2.6.2).
 use Rattle.std.specs.Prelude.{ℕ, Bool, List, [], ◌∷◌, ◌++◌, Option, Some, None, codes, ◌==◌, ◌||◌, is_some, if◌then◌else◌}
-use Rattle.sip_message.specs.declared.parameter.Parameter.{Parameter}
+use Rattle.sip_parts.specs.declared.parameter.Parameter.{Parameter}
 use Rattle.sip_message.specs.declared.party.Party.{Party}
 use Rattle.sip_message.specs.declared.start_line.StartLine.TheVariants.{Response}
 use Rattle.sip_message.specs.declared.message.Message.{Message}
-use Rattle.sip_message.specs.Parameters.{parameter_named}
+use Rattle.sip_parts.specs.Parameters.{parameter_named}
 
 abbrev pub tag_parameter : List ℕ → Parameter
 tag_parameter tag = record { name = codes "tag"; value = Some tag }

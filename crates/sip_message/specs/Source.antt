@@ -3,7 +3,7 @@
 use Rattle.std.specs.Prelude.{ℕ, Bool, List, [], ◌∷◌, Option, Some, codes, if◌then◌else◌}
 use Rattle.std.specs.Str.{bytes_eq, str_eq_ignore_ascii_case}
 use Rattle.sip_message.specs.declared.addr.Addr.{Addr}
-use Rattle.sip_message.specs.declared.parameter.Parameter.{Parameter}
+use Rattle.sip_parts.specs.declared.parameter.Parameter.{Parameter}
 use Rattle.sip_message.specs.declared.via.Via.{Via}
 use Rattle.sip_message.specs.declared.message.Message.{Message}
 use Rattle.sip_message.specs.Ip.{ip_text}

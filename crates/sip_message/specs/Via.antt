@@ -2,7 +2,7 @@
 use Rattle.std.specs.Prelude.{ℕ, Bool, false, List, [], ◌∷◌, codes, take}
 use Rattle.std.specs.Str.{str_eq_ignore_ascii_case}
 use Rattle.sip_message.specs.declared.via.Via.{Via}
-use Rattle.sip_message.specs.Parameters.{value_named}
+use Rattle.sip_parts.specs.Parameters.{value_named}
 
 -- the branch, empty where there is none
 abbrev pub branch_of : Via → List ℕ

@@ -1,7 +1,7 @@
 //! The CSeq (RFC 3261, section 20.16).
 ghost use Rattle.std.specs.Prelude.{◌≡◌};
 
-use crate::token::Token;
+use sip_parts::Token;
 use std::alloc::AllocError;
 
 /// A number in the order of a dialog's requests, and a method.

@@ -1,5 +1,5 @@
 //! Why a text isn't a message.
-use crate::header_name::HeaderName;
+use sip_parts::HeaderName;
 use std::alloc::{AllocError, AllocFailed};
 use std::fmt;
 

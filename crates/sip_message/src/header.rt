@@ -1,8 +1,7 @@
 //! Headers that stay as they stand (RFC 3261, section 7.3.1).
 ghost use Rattle.std.specs.Prelude.{◌≡◌};
 
-use crate::header_value::HeaderValue;
-use crate::other_name::OtherName;
+use sip_parts::{HeaderValue, OtherName};
 use std::alloc::AllocError;
 
 /// A header that isn't read into a field of its own.

@@ -8,7 +8,7 @@ ghost use Rattle.std.specs.Str.{str_to_ascii_lowercase};
 ghost use Rattle.sip_message.specs.Key as keys;
 
 use crate::sent_by::SentBy;
-use crate::token::Token;
+use sip_parts::Token;
 use sip_text::Text;
 use std::alloc::{AllocError, Global};
 use std::cmp::Ordering;

@@ -7,8 +7,8 @@ use crate::addr::{Addr, ip_text};
 use crate::key::Key;
 use crate::message::Message;
 use crate::start_line::StartLine;
-use crate::token::Token;
 use crate::via::Via;
+use sip_parts::Token;
 use sip_text::Text;
 use std::alloc::{AllocError, Global};
 

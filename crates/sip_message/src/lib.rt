@@ -1,87 +1,44 @@
-//! SIP messages: their types, their reading and writing, and the keys of their transactions.
+//! SIP messages: their types, their writing, responses, the stamp of their source, and the keys of their transactions.
 #![tactic(auto)]
 
 mod addr;
-mod call_id;
 mod cseq;
-mod cseq_words;
-mod display_text;
 mod fault;
-mod field;
-mod field_reader;
-mod fields;
-mod first_line;
 mod header;
-mod header_name;
-mod header_value;
-mod host;
 mod id;
 mod key;
 mod keys;
-mod layout;
 mod message;
 mod name_addr;
-mod numbers;
-mod other_name;
-mod parameter;
-mod parameter_reader;
-mod parameter_value;
-mod parameters;
-mod parts;
 mod party;
-mod party_display;
-mod party_parameters;
-mod quoted;
 mod rack;
-mod reader;
-mod reason;
-mod request_uri;
 mod response;
 mod sent_by;
 mod source;
 mod start_line;
-mod start_reader;
-mod status_code;
-mod token;
-mod uri;
 mod via;
-mod via_reader;
-mod via_words;
 mod vias;
-mod word;
 mod writer;
 
 pub use addr::{Addr, ip_text};
-pub use call_id::CallId;
 pub use cseq::CSeq;
-pub use display_text::DisplayText;
 pub use fault::ReadFault;
 pub use header::Header;
-pub use header_name::HeaderName;
-pub use header_value::HeaderValue;
-pub use host::Host;
 pub use id::Id;
 pub use key::Key;
 pub use keys::{is_sent_by, key_of};
 pub use message::Message;
 pub use name_addr::NameAddr;
-pub use other_name::OtherName;
-pub use parameter::Parameter;
-pub use parameter_value::ParameterValue;
 pub use party::Party;
-pub use party_display::PartyDisplay;
-pub use party_parameters::PartyParameters;
 pub use rack::RAck;
-pub use reader::{MAX_BYTES, read};
-pub use reason::Reason;
-pub use request_uri::RequestUri;
 pub use response::response_to;
 pub use sent_by::SentBy;
+pub use sip_parts::{
+    CallId, DisplayText, HeaderName, HeaderValue, Host, OtherName, Parameter, ParameterValue,
+    PartyDisplay, PartyParameters, Reason, RequestUri, StatusCode, Token, Uri,
+};
 pub use source::stamp_source;
 pub use start_line::StartLine;
-pub use status_code::StatusCode;
-pub use token::Token;
-pub use uri::Uri;
 pub use via::Via;
 pub use vias::Vias;
 pub use writer::write;

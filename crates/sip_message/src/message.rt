@@ -2,17 +2,14 @@
 ghost use Rattle.std.specs.Prelude.{◌≡◌, IfOk, codes};
 ghost use Rattle.sip_message.specs.Message as message;
 
-use crate::call_id::CallId;
 use crate::cseq::CSeq;
 use crate::header::Header;
-use crate::header_value::HeaderValue;
 use crate::name_addr::NameAddr;
-use crate::other_name::OtherName;
 use crate::party::Party;
 use crate::rack::RAck;
 use crate::start_line::StartLine;
-use crate::token::Token;
 use crate::vias::Vias;
+use sip_parts::{CallId, HeaderValue, OtherName, Token};
 use sip_text::{Series, Text};
 use std::alloc::{AllocError, Global};
 
@@ -79,14 +76,14 @@ fn content_type(alloc: Global) -> Result<Header, AllocError>
     })
 }
 
-#[tactic(auto, unfolding(crate::specs::OtherName::is_other_name, crate::specs::HeaderName::is_long_name, crate::specs::HeaderName::is_compact_name, sip_text::specs::Token::is_token, sip_text::specs::Character::is_token_byte))]
+#[tactic(auto, unfolding(sip_parts::specs::OtherName::is_other_name, sip_parts::specs::HeaderName::is_long_name, sip_parts::specs::HeaderName::is_compact_name, sip_text::specs::Token::is_token, sip_text::specs::Character::is_token_byte))]
 fn content_type_name(alloc: Global) -> Result<OtherName, AllocError>
     ensures { IfOk result (λ name. name ≡ codes "Content-Type") }
 {
     Ok(OtherName::from_text(Text::copy_of(alloc, b"Content-Type")?))
 }
 
-#[tactic(auto, unfolding(crate::specs::HeaderValue::is_header_value))]
+#[tactic(auto, unfolding(sip_parts::specs::HeaderValue::is_header_value))]
 fn content_type_value(alloc: Global) -> Result<HeaderValue, AllocError>
     ensures { IfOk result (λ value. value ≡ codes "application/sdp") }
 {

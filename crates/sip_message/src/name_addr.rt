@@ -1,9 +1,7 @@
 //! Addresses in lists: Contact, Record-Route and Route (RFC 3261, section 20.10).
 ghost use Rattle.std.specs.Prelude.{◌≡◌};
 
-use crate::display_text::DisplayText;
-use crate::parameter::Parameter;
-use crate::uri::Uri;
+use sip_parts::{DisplayText, Parameter, Uri};
 use sip_text::Series;
 use std::alloc::AllocError;
 

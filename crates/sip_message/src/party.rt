@@ -2,11 +2,8 @@
 ghost use Rattle.std.specs.Prelude.{◌≡◌, IfOk};
 ghost use Rattle.sip_message.specs.Party as party;
 
-use crate::party_display::PartyDisplay;
-use crate::party_parameters::PartyParameters;
 use crate::response::tag_parameter;
-use crate::token::Token;
-use crate::uri::Uri;
+use sip_parts::{PartyDisplay, PartyParameters, Token, Uri};
 use sip_text::Series;
 use std::alloc::{AllocError, Global};
 
@@ -40,7 +37,7 @@ impl Party {
     }
 }
 
-#[tactic(auto, unfolding(crate::specs::Tag::has_good_tag))]
+#[tactic(auto, unfolding(sip_parts::specs::Tag::has_good_tag))]
 fn tag_alone(alloc: Global, tag: Option<Token>) -> Result<PartyParameters, AllocError>
     ensures { IfOk result (λ parameters. parameters ≡ party.tag_alone tag) }
 {

@@ -1,7 +1,7 @@
 //! The RAck (RFC 3262, section 7.2).
 ghost use Rattle.std.specs.Prelude.{◌≡◌};
 
-use crate::token::Token;
+use sip_parts::Token;
 use std::alloc::AllocError;
 
 /// The RSeq that a PRACK acknowledges, and the CSeq of the request that it answered.

@@ -1,19 +1,15 @@
 //! Responses made from requests (RFC 3261, section 8.2.6).
 ghost use Rattle.std.specs.Prelude.{◌≡◌, ◌++◌, ◌∷◌, [], None, IfOk, OnOk, IsTrue, codes};
 ghost use Rattle.sip_text.specs.Token as token_rule;
-ghost use Rattle.sip_message.specs.Parameters.{parameter_named};
+ghost use Rattle.sip_parts.specs.Parameters.{parameter_named};
 ghost use Rattle.sip_message.specs.Response as response;
 
 use crate::message::Message;
-use crate::parameter::Parameter;
-use crate::parameter_value::ParameterValue;
-use crate::parameters::parameter_named;
 use crate::party::Party;
-use crate::party_parameters::PartyParameters;
-use crate::reason::Reason;
 use crate::start_line::StartLine;
-use crate::status_code::StatusCode;
-use crate::token::Token;
+use sip_parts::{
+    Parameter, ParameterValue, PartyParameters, Reason, StatusCode, Token, parameter_named,
+};
 use sip_text::{Series, Text};
 use std::alloc::{AllocError, Global};
 

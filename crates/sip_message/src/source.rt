@@ -6,11 +6,9 @@ ghost use Rattle.sip_message.specs.Ip.{ip_text};
 use crate::addr::{Addr, ip_text};
 use crate::keys::port_of;
 use crate::message::Message;
-use crate::parameter::Parameter;
-use crate::parameter_value::ParameterValue;
-use crate::token::Token;
 use crate::via::Via;
 use crate::vias::Vias;
+use sip_parts::{Parameter, ParameterValue, Token};
 use sip_text::{Series, Text, token_eq};
 use std::alloc::{AllocError, Global};
 

@@ -1,9 +1,7 @@
 //! The start line (RFC 3261, sections 7.1 and 7.2).
 ghost use Rattle.std.specs.Prelude.{◌≡◌};
 
-use crate::reason::Reason;
-use crate::request_uri::RequestUri;
-use crate::status_code::StatusCode;
+use sip_parts::{Reason, RequestUri, StatusCode};
 use std::alloc::AllocError;
 
 /// A request line, whose method is that of the CSeq, or a status line.

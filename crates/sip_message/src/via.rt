@@ -1,10 +1,7 @@
 //! Via values (RFC 3261, section 20.42).
 ghost use Rattle.std.specs.Prelude.{◌≡◌};
 
-use crate::host::Host;
-use crate::parameter::Parameter;
-use crate::parameters::value_named;
-use crate::token::Token;
+use sip_parts::{Host, Parameter, Token, value_named};
 use sip_text::Series;
 use std::alloc::AllocError;
 

@@ -7,12 +7,11 @@ use crate::cseq::CSeq;
 use crate::header::Header;
 use crate::message::Message;
 use crate::name_addr::NameAddr;
-use crate::parameter::Parameter;
 use crate::party::Party;
 use crate::rack::RAck;
 use crate::start_line::StartLine;
-use crate::token::Token;
 use crate::via::Via;
+use sip_parts::{Parameter, Token};
 use sip_text::decimal;
 use std::alloc::{AllocError, Global};
 

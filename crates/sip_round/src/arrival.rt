@@ -3,7 +3,8 @@
 ghost use Rattle.std.specs.Prelude.{◌≡◌, IfOk, length, vec_len};
 
 use crate::round::Event;
-use sip_message::{Addr, Key, Message, ReadFault, read, stamp_source};
+use sip_message::{Addr, Key, Message, ReadFault, stamp_source};
+use sip_reader::read;
 use sip_served::UserCommand;
 use std::alloc::{AllocError, Global};
 

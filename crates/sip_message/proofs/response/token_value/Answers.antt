@@ -1,5 +1,5 @@
 use Rattle.std.proofs.Common.{◌≡◌, ◌∙◌}
-use Rattle.sip_message.proofs.Bytes.{token_is_value}
+use Rattle.sip_parts.proofs.Bytes.{token_is_value}
 use Rattle.sip_message.proofs.response.token_value.Goals as goal
 
 pub from_text-requires : goal.from_text-requires

@@ -1,0 +1,13 @@
+pub mod Word
+pub mod Uri
+pub mod Host
+pub mod Quoted
+pub mod ParameterValue
+pub mod DisplayText
+pub mod PartyDisplay
+pub mod HeaderValue
+pub mod Reason
+pub mod HeaderName
+pub mod OtherName
+pub mod Parameters
+pub mod Tag

@@ -1,0 +1,124 @@
+//! The value of a parameter (RFC 3261, section 7.3.1).
+ghost use Rattle.std.specs.Prelude.{◌≡◌, IsTrue, nat_eq};
+ghost use Rattle.std.specs.Option.{SomeIff};
+ghost use Rattle.std.specs.Cmp.{partial_equiv_from_equiv};
+ghost use Rattle.std.specs.Cmp.Lexicographic.{pointwise, nat_list_eq_equiv};
+ghost use Rattle.sip_parts.specs.ParameterValue as rule;
+ghost use Rattle.std.specs.List.{list_all};
+
+use crate::quoted::is_quoted;
+use sip_text::Text;
+use std::alloc::AllocError;
+use std::marker::Model;
+
+/// A quoted string with its quotes, or one or more bytes without spaces, tabs, line ends, `;`, `,`, `<`, `>` and `"`.
+#[derive(Drop)]
+pub struct ParameterValue {
+    text: Text,
+}
+
+impl Model for ParameterValue {
+    ghost use Rattle.std.specs.Prelude.{ℕ, List, IsTrue};
+    ghost use Rattle.sip_parts.specs.ParameterValue as rule;
+
+    ghost Value = { List ℕ };
+
+    ghost view = { λ a. a.text };
+
+    ghost invariant = { λ a. IsTrue (rule.is_parameter_value a.text) };
+}
+
+impl ParameterValue {
+    /// The parameter's value that the text is, or None where it isn't one.
+    pub fn new(text: Text) -> Option<ParameterValue>
+        ensures { SomeIff result (IsTrue (rule.is_parameter_value text)) text }
+    {
+        if is_parameter_value(text.as_slice()) {
+            Some(ParameterValue { text })
+        } else {
+            None
+        }
+    }
+
+    /// The parameter's value that the text is.
+    pub fn from_text(text: Text) -> ParameterValue
+        requires { IsTrue (rule.is_parameter_value text) }
+        ensures { result ≡ text }
+    {
+        ParameterValue { text }
+    }
+
+    pub fn as_slice(&self) -> &[u8]
+        ensures value { result.now ≡ self.now }
+        ensures rule { IsTrue (rule.is_parameter_value self.now) }
+    {
+        self.text.as_slice()
+    }
+
+    /// Its text, given back without taking memory.
+    pub fn into_text(self) -> Text
+        ensures value { result ≡ self }
+        ensures rule { IsTrue (rule.is_parameter_value self) }
+    {
+        self.text
+    }
+}
+
+impl Clone for ParameterValue {
+    ghost is_clone = { λ original copy. copy ≡ original };
+
+    fn clone(&self) -> Result<ParameterValue, AllocError> {
+        Ok(ParameterValue {
+            text: self.text.clone()?,
+        })
+    }
+}
+
+impl PartialEq for ParameterValue {
+    ghost eq = { pointwise nat_eq };
+
+    ghost laws = { partial_equiv_from_equiv nat_list_eq_equiv };
+
+    fn eq(&self, other: &ParameterValue) -> bool {
+        self.text == other.text
+    }
+}
+
+impl Eq for ParameterValue {
+    ghost laws = { nat_list_eq_equiv };
+}
+
+/// Whether the text is a parameter's value.
+#[tactic(auto, unfolding(crate::specs::ParameterValue::is_parameter_value))]
+pub(crate) fn is_parameter_value(text: &[u8]) -> bool
+    ensures { result ≡ rule.is_parameter_value text.now }
+{
+    is_quoted(text) || is_value_word(text)
+}
+
+/// Whether the text is a value without quotes.
+#[tactic(auto, unfolding(crate::specs::ParameterValue::is_value_word))]
+pub fn is_value_word(text: &[u8]) -> bool
+    ensures { result ≡ rule.is_value_word text.now }
+{
+    match text {
+        [] => false,
+        [_, ..] => each_is_value_byte(text),
+    }
+}
+
+fn each_is_value_byte(text: &[u8]) -> bool
+    ensures { result ≡ list_all rule.is_value_byte text.now }
+{
+    text.iter().all(|byte| is_value_byte(*byte))
+}
+
+#[tactic(auto, unfolding(crate::specs::ParameterValue::is_value_byte))]
+pub(crate) fn is_value_byte(byte: u8) -> bool
+    ensures { result ≡ rule.is_value_byte byte }
+{
+    !matches!(
+        byte,
+        b' ' | b'\t' | b'\r' | b'\n' | b';' | b',' | b'<' | b'>' | b'"'
+    )
+}

@@ -1,0 +1,96 @@
+//! The parameters of a From or a To (RFC 3261, section 19.3).
+ghost use Rattle.std.specs.Prelude.{◌≡◌, IsTrue};
+ghost use Rattle.std.specs.Option.{SomeIff};
+ghost use Rattle.sip_parts.specs.Tag as tags;
+
+use crate::parameter::Parameter;
+use crate::parameters::{parameter_named, value_named};
+use sip_text::{Series, is_token};
+use std::alloc::AllocError;
+use std::marker::Model;
+
+/// Parameters whose `tag`, where there is one, is a token. A contract sees them as their list.
+#[derive(Drop)]
+pub struct PartyParameters {
+    parameters: Series<Parameter>,
+}
+
+impl Model for PartyParameters {
+    ghost use Rattle.std.specs.Prelude.{List, IsTrue};
+    ghost use Rattle.sip_parts.specs.declared.parameter.Parameter.{Parameter};
+    ghost use Rattle.sip_parts.specs.Tag.{has_good_tag};
+
+    ghost Value = { List Parameter };
+
+    ghost view = { λ a. a.parameters };
+
+    ghost invariant = { λ a. IsTrue (has_good_tag a.parameters) };
+}
+
+impl PartyParameters {
+    /// These parameters, or None where the first parameter `tag` isn't a token.
+    pub fn new(parameters: Series<Parameter>) -> Option<PartyParameters>
+        ensures { SomeIff result (IsTrue (tags.has_good_tag parameters)) parameters }
+    {
+        if has_good_tag(parameters.as_slice()) {
+            Some(PartyParameters { parameters })
+        } else {
+            None
+        }
+    }
+
+    /// These parameters.
+    pub fn from_series(parameters: Series<Parameter>) -> PartyParameters
+        requires { IsTrue (tags.has_good_tag parameters) }
+        ensures { result ≡ parameters }
+    {
+        PartyParameters { parameters }
+    }
+
+    pub fn as_slice(&self) -> &[Parameter]
+        ensures value { result.now ≡ self.now }
+        ensures rule { IsTrue (tags.has_good_tag self.now) }
+    {
+        self.parameters.as_slice()
+    }
+
+    /// The parameters as a plain list. Takes no memory.
+    pub fn into_series(self) -> Series<Parameter>
+        ensures { result ≡ self }
+    {
+        self.parameters
+    }
+
+    /// The tag: empty where there is none.
+    pub fn tag(&self) -> &[u8]
+        ensures { result.now ≡ tags.tag_in self.now }
+    {
+        value_named(self.parameters.as_slice(), b"tag")
+    }
+}
+
+impl Clone for PartyParameters {
+    ghost is_clone = { λ original copy. copy ≡ original };
+
+    fn clone(&self) -> Result<PartyParameters, AllocError> {
+        Ok(PartyParameters {
+            parameters: self.parameters.clone()?,
+        })
+    }
+}
+
+#[tactic(auto, unfolding(crate::specs::Tag::has_good_tag))]
+fn has_good_tag(parameters: &[Parameter]) -> bool
+    ensures { result ≡ tags.has_good_tag parameters.now }
+{
+    match parameter_named(parameters, b"tag") {
+        None => true,
+        Some(Parameter { value: None, .. }) => false,
+        Some(
+            Parameter {
+                value: Some(value),
+                ..
+            },
+        ) => is_token(value.as_slice()),
+    }
+}

@@ -1,0 +1,48 @@
+-- Reading a start line (RFC 3261, sections 7.1 and 7.2).
+use Rattle.std.specs.Prelude.{ℕ, Bool, List, [], ◌∷◌, Option, Some, None, Result, Ok, Err, ◌==◌, ◌&&◌, ◌||◌, nat_lt, take, drop, codes, if◌then◌else◌}
+use Rattle.std.specs.Str.{str_eq_ignore_ascii_case}
+use Rattle.sip_text.specs.Cut.{cut_at}
+use Rattle.sip_text.specs.Token.{is_token}
+use Rattle.sip_text.specs.Number.{number_of}
+use Rattle.sip_text.specs.declared.fault.TextFault.{TextFault}
+use Rattle.sip_parts.specs.Word.{is_word}
+use Rattle.sip_parts.specs.Reason.{is_reason}
+use Rattle.sip_reader.specs.Reading.{◌>>=◌}
+use Rattle.sip_reader.specs.declared.first_line.FirstLine.{FirstLine}
+use Rattle.sip_reader.specs.declared.first_line.FirstLine.TheVariants as first
+
+abbrev pub is_version : List ℕ → Bool
+is_version text = str_eq_ignore_ascii_case text (codes "SIP/2.0")
+
+-- a URI, a space and the version
+unfoldable pub request_at : List ℕ → List ℕ → Option FirstLine
+request_at method rest = do
+  p ← cut_at 32 rest
+  if is_version p.1 && (is_token method && is_word p.0) then Some (first.Request method p.0) else None
+
+abbrev pub code_from : ℕ → Option ℕ
+code_from number = if nat_lt number 100 || nat_lt 699 number then None else Some number
+
+abbrev pub code_in : Result ℕ TextFault → Option ℕ
+code_in (Ok number) = code_from number
+code_in (Err fault) = None
+
+unfoldable pub code_at : List ℕ → Option ℕ
+code_at text = code_in (number_of text)
+
+-- nothing, or a space and a reason
+unfoldable pub reason_at : List ℕ → Option (List ℕ)
+reason_at [] = Some []
+reason_at (b ∷ bs) = if b == 32 && is_reason bs then Some bs else None
+
+-- three digits, and a reason
+unfoldable pub status_at : List ℕ → Option FirstLine
+status_at text = do
+  status ← code_at (take 3 text)
+  reason ← reason_at (drop 3 text)
+  Some (first.Response status reason)
+
+unfoldable pub start_at : List ℕ → Option FirstLine
+start_at line = do
+  p ← cut_at 32 line
+  if is_version p.0 then status_at p.1 else request_at p.0 p.1

@@ -1,0 +1,73 @@
+//! The header lines of a message, by header.
+ghost use Rattle.std.specs.Prelude.{◌≡◌, OnOk};
+ghost use Rattle.sip_reader.specs.Fields as gathered;
+
+use crate::cseq_words::CSeqWords;
+use crate::field::Field;
+use crate::via_words::ViaWords;
+use sip_message::{Header, Party};
+use sip_parts::{CallId, HeaderName};
+use sip_text::{Series, Text};
+use std::alloc::{AllocError, Global};
+
+/// The values of each header, in the order of their lines.
+#[derive(Drop)]
+pub(crate) struct Fields {
+    pub(crate) vias: Series<ViaWords>,
+    pub(crate) froms: Series<Party>,
+    pub(crate) tos: Series<Party>,
+    pub(crate) call_ids: Series<CallId>,
+    pub(crate) cseqs: Series<CSeqWords>,
+    pub(crate) lengths: Series<Text>,
+    pub(crate) others: Series<Header>,
+}
+
+impl Fields {
+    pub(crate) fn new(alloc: Global) -> Fields
+        ensures { result ≡ gathered.no_fields }
+    {
+        Fields {
+            vias: Series::new(alloc),
+            froms: Series::new(alloc),
+            tos: Series::new(alloc),
+            call_ids: Series::new(alloc),
+            cseqs: Series::new(alloc),
+            lengths: Series::new(alloc),
+            others: Series::new(alloc),
+        }
+    }
+
+    /// Adds what one more line says.
+    pub(crate) fn add(&mut self, field: Field) -> Result<(), AllocError>
+        ensures { OnOk result (self.new ≡ gathered.with_field self.old field) }
+    {
+        match field {
+            Field::Via(via) => self.vias.push(via),
+            Field::From(from) => self.froms.push(from),
+            Field::To(to) => self.tos.push(to),
+            Field::CallId(call_id) => self.call_ids.push(call_id),
+            Field::CSeq(cseq) => self.cseqs.push(cseq),
+            Field::ContentLength(length) => self.lengths.push(length),
+            Field::Other(header) => self.others.push(header),
+        }
+    }
+
+    /// The first header that stands at most once and is there twice.
+    pub(crate) fn repeated(&self) -> Option<HeaderName>
+        ensures { result ≡ gathered.repeated self.now }
+    {
+        if self.froms.len() > 1 {
+            Some(HeaderName::From)
+        } else if self.tos.len() > 1 {
+            Some(HeaderName::To)
+        } else if self.call_ids.len() > 1 {
+            Some(HeaderName::CallId)
+        } else if self.cseqs.len() > 1 {
+            Some(HeaderName::CSeq)
+        } else if self.lengths.len() > 1 {
+            Some(HeaderName::ContentLength)
+        } else {
+            None
+        }
+    }
+}
