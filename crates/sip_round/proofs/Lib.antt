@@ -1,1 +1,9 @@
 pub mod Lines
+pub mod Inputs
+pub mod Feeding
+pub mod Arriving
+pub mod Places
+pub mod Loops
+pub mod ItemLoops
+pub mod Deals
+pub mod Runs

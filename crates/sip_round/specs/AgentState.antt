@@ -14,12 +14,15 @@ pub record AgentState : Type 0 where
   pub transactions : Lives
   pub calls : HeldCalls
 
--- the first refusal that fits; moments and round numbers are at most 2^62
-abbrev pub refusal_of : AgentState → Round → Option RoundFault
-refusal_of agent round =
-    if agent.broken then Some Broken
-    else if nat_lt round.moment agent.last_moment then Some MomentBackwards
+-- why a round is no round after that moment and of that number: the first fault that fits; moments and numbers of rounds are at most 2^62
+abbrev pub round_fault : ℕ → ℕ → Round → Option RoundFault
+round_fault last number round =
+    if nat_lt round.moment last then Some MomentBackwards
     else if nat_lt (2 ^ 62) round.moment then Some MomentTooLarge
     else if nat_lt 65536 (length round.events) then Some TooManyEvents
-    else if nat_lt (2 ^ 62) agent.next_round then Some RoundsUsedUp
+    else if nat_lt (2 ^ 62) number then Some RoundsUsedUp
     else None
+
+-- the first refusal that fits
+abbrev pub refusal_of : AgentState → Round → Option RoundFault
+refusal_of agent round = if agent.broken then Some Broken else round_fault agent.last_moment agent.next_round round

@@ -1,1 +1,7 @@
 pub mod AgentState
+pub mod Inputs
+pub mod Past
+pub mod Arrivals
+pub mod Phases
+pub mod Feeding
+pub mod Answers

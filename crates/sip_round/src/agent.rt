@@ -1,11 +1,11 @@
 //! An agent: its transactions and its calls, led through rounds.
 
-ghost use Rattle.std.specs.Prelude.{◌≡◌, ◌+◌, ◌≤◌, ◌^◌, IfSome, OnErr, OnOk, Some, None, Err, [], false, true, length};
+ghost use Rattle.std.specs.Prelude.{◌≡◌, ◌+◌, ◌++◌, ◌∷◌, ◌≤◌, ◌^◌, IfOk, IfSome, OnErr, OnOk, Some, None, Err, List, [], false, true, length};
 
 use crate::arrival::arrivals_of;
 use crate::config::Config;
 use crate::output::Output;
-use crate::phases::{feed_arrivals, feed_commands, feed_items};
+use crate::phases::{first_phase, second_phase, third_phase};
 use crate::round::Round;
 use crate::round_fault::RoundFault;
 use sip_calls::CallShard;
@@ -49,6 +49,9 @@ impl Model for Agent {
 
 impl Agent {
     ghost use Rattle.sip_round.specs.AgentState.{refusal_of};
+    ghost use Rattle.sip_round.specs.Answers.{Deals, StandsFor, answers};
+    ghost use Rattle.sip_round.specs.declared.config.Config.{Config};
+    ghost use Rattle.sip_round.specs.declared.round.Round.{Round};
 
     /// An agent before its first round. Takes no memory.
     pub fn new(alloc: Global, config: Config) -> Agent
@@ -90,6 +93,10 @@ impl Agent {
         ensures sound { refusal_of self.old round.now ≡ None → OnOk result (self.new.broken ≡ false) }
         ensures memory { refusal_of self.old round.now ≡ None → OnErr result (result ≡ Err (RoundFault.NoMemory true)) }
         ensures broken { refusal_of self.old round.now ≡ None → OnErr result (self.new.broken ≡ true) }
+
+        // Whatever rounds the agent stood for, it stands for these and this one, and answers as this one is answered after them.
+        ensures answers { IfOk result (λ outputs. (config : Config) (rounds : List Round) → StandsFor self.old config rounds
+            → StandsFor self.new config (rounds ++ round.now ∷ []) × (answers config (rounds ++ round.now ∷ []) ≡ answers config rounds ++ outputs.items ∷ [])) }
     {
         if let Some(fault) = self.refusal(round) {
             return Err(fault);
@@ -134,12 +141,13 @@ impl Agent {
         ensures number { self.new.next_round ≡ self.old.next_round }
         ensures moment { self.new.last_moment ≡ self.old.last_moment }
         ensures broken { self.new.broken ≡ self.old.broken }
+        ensures answers { IfOk result (λ outputs. Deals self.old self.new round.now outputs.items) }
     {
         let now = round.moment;
-        let arrivals = arrivals_of(self.alloc, round.events.as_slice())?;
-        let mut outputs = Vec::new(self.alloc);
         let number = self.next_round;
-        let items = feed_arrivals(
+        let arrivals = arrivals_of(self.alloc, number, round.events.as_slice())?;
+        let mut outputs = Vec::new(self.alloc);
+        let items = first_phase(
             self.alloc,
             &mut self.transactions,
             number,
@@ -147,8 +155,8 @@ impl Agent {
             arrivals,
             &mut outputs,
         )?;
-        let commands = feed_items(self.alloc, &mut self.calls, now, items, &mut outputs)?;
-        feed_commands(
+        let commands = second_phase(self.alloc, &mut self.calls, now, items, &mut outputs)?;
+        third_phase(
             self.alloc,
             &mut self.transactions,
             now,

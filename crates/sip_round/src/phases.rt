@@ -1,6 +1,9 @@
 //! The phases of a round.
 
-ghost use Rattle.std.specs.Prelude.{◌≤◌, ◌^◌, vec_len};
+ghost use Rattle.std.specs.Prelude.{◌≡◌, ◌++◌, ◌≤◌, ◌^◌, ◌∷◌, [], IfOk, OnOk};
+ghost use Rattle.std.specs.List.{flat_map};
+ghost use Rattle.sip_round.specs.Feeding.{Feeds, HoldsLives, HoldsCalls};
+ghost use Rattle.sip_round.specs.Phases as phase;
 
 use crate::arrival::Arrival;
 use crate::output::Output;
@@ -12,29 +15,90 @@ use sip_transactions::{Command, DropReason, Out, Shard};
 use std::alloc::{AllocError, Global};
 
 /// The first phase: every transaction takes a tick, and then each arrival goes where it belongs, by place. Sends and drops become
-/// outputs, and what came up and the user's commands are the items of the calls.
-pub(crate) fn feed_arrivals(
+/// outputs; what came up and the user's commands are the items of the calls.
+pub(crate) fn first_phase(
     alloc: Global,
     transactions: &mut Shard,
     round: u64,
     now: u64,
-    arrivals: Vec<Arrival>,
+    arrivals: Vec<(Id, Arrival)>,
     outputs: &mut Vec<Output>,
 ) -> Result<Vec<(Id, Item)>, ShardFault>
-    requires moment { now ≤ 2 ^ 62 }
-    requires places { vec_len arrivals ≤ 65536 }
+    requires { now ≤ 2 ^ 62 }
+    ensures local { transactions.new.local ≡ transactions.old.local }
+    ensures feeds { IfOk result (λ items. Feeds (HoldsLives transactions.old) (HoldsLives transactions.new)
+        (λ inputs. phase.with_arrivals transactions.old.local now (phase.ticked_transactions now inputs) arrivals.items)
+        (λ inputs. flat_map phase.sent_of (phase.added_by_ticks now inputs) ++ phase.sent_by_arrivals transactions.old.local now (phase.ticked_transactions now inputs) arrivals.items)
+        (λ inputs. flat_map (phase.raised_of (phase.tick_id round)) (phase.added_by_ticks now inputs) ++ phase.items_by_arrivals transactions.old.local now (phase.ticked_transactions now inputs) arrivals.items)
+        outputs.old.items outputs.new.items [] items.items) }
 {
     let mut items = Vec::new(alloc);
-    let outs = transactions.tick(now)?;
-    part(outs, Id { round, place: 0 }, outputs, &mut items)?;
-    for (index, arrival) in arrivals.into_iter().enumerate() {
-        let id = Id {
-            round,
-            place: index as u32 + 1,
-        };
-        feed_arrival(transactions, id, now, arrival, outputs, &mut items)?;
-    }
+    feed_ticks(transactions, round, now, outputs, &mut items)?;
+    feed_arrivals(transactions, now, arrivals, outputs, &mut items)?;
     Ok(items)
+}
+
+/// The second phase: every call takes a tick, and then each item goes to its call. Notices and direct sends become outputs, and
+/// what is left are the commands of the third phase.
+pub(crate) fn second_phase(
+    alloc: Global,
+    calls: &mut CallShard,
+    now: u64,
+    items: Vec<(Id, Item)>,
+    outputs: &mut Vec<Output>,
+) -> Result<Vec<(Id, Command)>, ShardFault>
+    requires { now ≤ 2 ^ 62 }
+    ensures shared { calls.new.calls ≡ calls.old.calls }
+    ensures feeds { IfOk result (λ commands. Feeds (HoldsCalls calls.old.calls calls.old) (HoldsCalls calls.old.calls calls.new)
+        (λ inputs. phase.with_call_items calls.old.calls now (phase.ticked_calls calls.old.calls now inputs) items.items)
+        (λ inputs. flat_map phase.shown_of (phase.added_by_call_ticks calls.old.calls now inputs ++ phase.added_by_call_items calls.old.calls now (phase.ticked_calls calls.old.calls now inputs) items.items))
+        (λ inputs. flat_map phase.command_of (phase.added_by_call_ticks calls.old.calls now inputs ++ phase.added_by_call_items calls.old.calls now (phase.ticked_calls calls.old.calls now inputs) items.items))
+        outputs.old.items outputs.new.items [] commands.items) }
+{
+    let mut commands = Vec::new(alloc);
+    feed_call_ticks(calls, now, outputs, &mut commands)?;
+    feed_items(calls, now, items, outputs, &mut commands)?;
+    Ok(commands)
+}
+
+fn feed_ticks(
+    transactions: &mut Shard,
+    round: u64,
+    now: u64,
+    outputs: &mut Vec<Output>,
+    items: &mut Vec<(Id, Item)>,
+) -> Result<(), ShardFault>
+    requires { now ≤ 2 ^ 62 }
+    ensures local { transactions.new.local ≡ transactions.old.local }
+    ensures feeds { OnOk result (Feeds (HoldsLives transactions.old) (HoldsLives transactions.new)
+        (phase.ticked_transactions now)
+        (λ inputs. flat_map phase.sent_of (phase.added_by_ticks now inputs))
+        (λ inputs. flat_map (phase.raised_of (phase.tick_id round)) (phase.added_by_ticks now inputs))
+        outputs.old.items outputs.new.items items.old.items items.new.items) }
+{
+    let outs = transactions.tick(now)?;
+    part(outs, Id { round, place: 0 }, outputs, items)
+}
+
+fn feed_arrivals(
+    transactions: &mut Shard,
+    now: u64,
+    arrivals: Vec<(Id, Arrival)>,
+    outputs: &mut Vec<Output>,
+    items: &mut Vec<(Id, Item)>,
+) -> Result<(), ShardFault>
+    requires { now ≤ 2 ^ 62 }
+    ensures local { transactions.new.local ≡ transactions.old.local }
+    ensures feeds { OnOk result (Feeds (HoldsLives transactions.old) (HoldsLives transactions.new)
+        (λ inputs. phase.with_arrivals transactions.old.local now inputs arrivals.items)
+        (λ inputs. phase.sent_by_arrivals transactions.old.local now inputs arrivals.items)
+        (λ inputs. phase.items_by_arrivals transactions.old.local now inputs arrivals.items)
+        outputs.old.items outputs.new.items items.old.items items.new.items) }
+{
+    for (id, arrival) in arrivals {
+        feed_arrival(transactions, id, now, arrival, outputs, items)?;
+    }
+    Ok(())
 }
 
 fn feed_arrival(
@@ -46,41 +110,73 @@ fn feed_arrival(
     items: &mut Vec<(Id, Item)>,
 ) -> Result<(), ShardFault>
     requires { now ≤ 2 ^ 62 }
+    ensures local { transactions.new.local ≡ transactions.old.local }
+    ensures feeds { OnOk result (Feeds (HoldsLives transactions.old) (HoldsLives transactions.new)
+        (λ inputs. phase.with_arrival transactions.old.local now inputs id arrival)
+        (λ inputs. flat_map phase.sent_of (phase.added_by_arrival transactions.old.local now inputs id arrival))
+        (λ inputs. phase.items_of_arrival id arrival (phase.added_by_arrival transactions.old.local now inputs id arrival))
+        outputs.old.items outputs.new.items items.old.items items.new.items) }
 {
-    let outs = match arrival {
-        Arrival::Message(message, reply_to) => transactions.receive(id, message, reply_to, now)?,
-        Arrival::Failed(key) => transactions.failed(id, &key, now)?,
+    match arrival {
+        Arrival::Message(message, reply_to) => {
+            let outs = transactions.receive(id, message, reply_to, now)?;
+            part(outs, id, outputs, items)
+        }
+        Arrival::Failed(key) => {
+            let outs = transactions.failed(id, &key, now)?;
+            part(outs, id, outputs, items)
+        }
         Arrival::Unreadable(fault) => {
             let reason = DropReason::Unreadable(fault);
             let place = id.place;
-            return push(outputs, Output::Dropped { place, reason });
+            push(outputs, Output::Dropped { place, reason })
         }
-        Arrival::Command(command) => return push(items, (id, Item::User(command))),
-    };
-    part(outs, id, outputs, items)
+        Arrival::Command(command) => push(items, (id, Item::User(command))),
+    }
 }
 
-/// The second phase: every call takes a tick, and then each item goes to its call. Notices and direct sends become outputs, and
-/// what is left are the commands of the third phase.
-pub(crate) fn feed_items(
-    alloc: Global,
+fn feed_call_ticks(
+    calls: &mut CallShard,
+    now: u64,
+    outputs: &mut Vec<Output>,
+    commands: &mut Vec<(Id, Command)>,
+) -> Result<(), ShardFault>
+    requires { now ≤ 2 ^ 62 }
+    ensures shared { calls.new.calls ≡ calls.old.calls }
+    ensures feeds { OnOk result (Feeds (HoldsCalls calls.old.calls calls.old) (HoldsCalls calls.old.calls calls.new)
+        (phase.ticked_calls calls.old.calls now)
+        (λ inputs. flat_map phase.shown_of (phase.added_by_call_ticks calls.old.calls now inputs))
+        (λ inputs. flat_map phase.command_of (phase.added_by_call_ticks calls.old.calls now inputs))
+        outputs.old.items outputs.new.items commands.old.items commands.new.items) }
+{
+    let outs = calls.tick(now)?;
+    part_calls(outs, outputs, commands)
+}
+
+fn feed_items(
     calls: &mut CallShard,
     now: u64,
     items: Vec<(Id, Item)>,
     outputs: &mut Vec<Output>,
-) -> Result<Vec<(Id, Command)>, ShardFault>
+    commands: &mut Vec<(Id, Command)>,
+) -> Result<(), ShardFault>
     requires { now ≤ 2 ^ 62 }
+    ensures shared { calls.new.calls ≡ calls.old.calls }
+    ensures feeds { OnOk result (Feeds (HoldsCalls calls.old.calls calls.old) (HoldsCalls calls.old.calls calls.new)
+        (λ inputs. phase.with_call_items calls.old.calls now inputs items.items)
+        (λ inputs. flat_map phase.shown_of (phase.added_by_call_items calls.old.calls now inputs items.items))
+        (λ inputs. flat_map phase.command_of (phase.added_by_call_items calls.old.calls now inputs items.items))
+        outputs.old.items outputs.new.items commands.old.items commands.new.items) }
 {
-    let mut commands = Vec::new(alloc);
-    part_calls(calls.tick(now)?, outputs, &mut commands)?;
     for (id, item) in items {
-        part_calls(calls.item(id, item, now)?, outputs, &mut commands)?;
+        let outs = calls.item(id, item, now)?;
+        part_calls(outs, outputs, commands)?;
     }
-    Ok(commands)
+    Ok(())
 }
 
 /// The third phase: each command goes to its transaction, in the order in which they were made. A command hands nothing up.
-pub(crate) fn feed_commands(
+pub(crate) fn third_phase(
     alloc: Global,
     transactions: &mut Shard,
     now: u64,
@@ -88,15 +184,17 @@ pub(crate) fn feed_commands(
     outputs: &mut Vec<Output>,
 ) -> Result<(), ShardFault>
     requires { now ≤ 2 ^ 62 }
+    ensures local { transactions.new.local ≡ transactions.old.local }
+    ensures feeds { OnOk result (Feeds {Y = Item} (HoldsLives transactions.old) (HoldsLives transactions.new)
+        (λ inputs. phase.with_commands now inputs commands.items)
+        (λ inputs. flat_map phase.sent_of (phase.added_by_commands now inputs commands.items))
+        (λ inputs. [])
+        outputs.old.items outputs.new.items [] []) }
 {
     let mut items = Vec::new(alloc);
     for (id, command) in commands {
-        part(
-            transactions.command(id, command, now)?,
-            id,
-            outputs,
-            &mut items,
-        )?;
+        let outs = transactions.command(id, command, now)?;
+        part(outs, id, outputs, &mut items)?;
     }
     Ok(())
 }
@@ -107,7 +205,10 @@ fn part(
     id: Id,
     outputs: &mut Vec<Output>,
     items: &mut Vec<(Id, Item)>,
-) -> Result<(), ShardFault> {
+) -> Result<(), ShardFault>
+    ensures outputs { OnOk result (outputs.new.items ≡ outputs.old.items ++ flat_map phase.sent_of outs.items) }
+    ensures items { OnOk result (items.new.items ≡ items.old.items ++ flat_map (phase.raised_of id) outs.items) }
+{
     for out in outs {
         match out {
             Out::Up(up) => push(items, (id, Item::Up(up)))?,
@@ -126,7 +227,10 @@ fn part_calls(
     outs: Vec<CallOut>,
     outputs: &mut Vec<Output>,
     commands: &mut Vec<(Id, Command)>,
-) -> Result<(), ShardFault> {
+) -> Result<(), ShardFault>
+    ensures outputs { OnOk result (outputs.new.items ≡ outputs.old.items ++ flat_map phase.shown_of outs.items) }
+    ensures commands { OnOk result (commands.new.items ≡ commands.old.items ++ flat_map phase.command_of outs.items) }
+{
     for out in outs {
         match out {
             CallOut::Notice(notice) => push(outputs, Output::Notice(notice))?,
@@ -140,7 +244,9 @@ fn part_calls(
     Ok(())
 }
 
-fn push<T: Drop>(list: &mut Vec<T>, item: T) -> Result<(), ShardFault> {
+fn push<T: Drop>(list: &mut Vec<T>, item: T) -> Result<(), ShardFault>
+    ensures ok { OnOk result (list.new.items ≡ list.old.items ++ item ∷ []) }
+{
     list.push(item).map_err(AllocError::from)?;
     Ok(())
 }

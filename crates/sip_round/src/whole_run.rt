@@ -1,5 +1,9 @@
 //! A run: all rounds of one agent.
 
+ghost use Rattle.std.specs.Prelude.{◌≡◌, IfOk, IfErr, None, Some, map, true};
+ghost use Rattle.sip_round.specs.Answers as answers;
+ghost use Rattle.sip_round.specs.declared.round_fault.RoundFault.TheVariants as round_fault;
+
 use crate::agent::Agent;
 use crate::config::Config;
 use crate::output::Output;
@@ -16,14 +20,17 @@ pub fn run(
     alloc: Global,
     config: Config,
     rounds: &[Round],
-) -> Result<Vec<Vec<Output>>, (usize, RoundFault)> {
+) -> Result<Vec<Vec<Output>>, (usize, RoundFault)>
+    ensures answers { IfOk result (λ made. map (λ outputs. outputs.items) made.items ≡ answers.answers config rounds.now) }
+    ensures unrefused { IfOk result (λ made. answers.refused config rounds.now ≡ None) }
+    ensures refused { IfErr result (λ fault. (fault.1 ≡ round_fault.NoMemory true) ⊎ (answers.refused config rounds.now ≡ Some fault)) }
+{
     let mut agent = Agent::new(alloc, config);
-    let mut answers = Vec::new(alloc);
+    let mut made = Vec::new(alloc);
     for (index, round) in rounds.iter().enumerate() {
         let outputs = agent.run_round(round).map_err(|fault| (index, fault))?;
-        answers
-            .push(outputs)
+        made.push(outputs)
             .map_err(|_| (index, RoundFault::NoMemory { broken: true }))?;
     }
-    Ok(answers)
+    Ok(made)
 }
