@@ -51,16 +51,16 @@ module _ (old new : Lives) (now : ℕ) (id : Id) (xs newer_xs : List Output) (ys
       let after : Inputs key_cmp Timed → Bool → Inputs key_cmp Timed = λ i b. if b then i else with_input key_cmp transaction_machine i key input in
       let told : Inputs key_cmp Timed → Bool → List Out = λ i b. if b then out.Dropped id.place reason.NotOurs ∷ [] else added_by key_cmp transaction_machine i key input in
       by_bool (is_stray old.local message)
-          (λ yes. let parts = stray yes in record {
-            stands = λ i h. subst (λ b. HoldsLives new (after i b)) (sym yes) (subst (λ l. HoldsLives l i) (sym parts.1) h);
-            added = λ i h. ex ∙ ap (λ os. xs ++ flat_map sent_of os) (parts.0 ∙ ap (told i) (sym yes));
-            raised = λ i h. ey ∙ ap (λ os. ys ++ flat_map (raised_of id) os) (parts.0 ∙ ap (told i) (sym yes));
-          })
-          (λ no_stray. let adds = ours no_stray in record {
-            stands = λ i h. subst (λ b. HoldsLives new (after i b)) (sym no_stray) (holds_one_more keys_total transaction_machine old.held new.held i key input outs adds h);
-            added = λ i h. ex ∙ ap (λ os. xs ++ flat_map sent_of os) (says_one_more keys_total transaction_machine old.held new.held i key input outs adds h ∙ ap (told i) (sym no_stray));
-            raised = λ i h. ey ∙ ap (λ os. ys ++ flat_map (raised_of id) os) (says_one_more keys_total transaction_machine old.held new.held i key input outs adds h ∙ ap (told i) (sym no_stray));
-          })
+      (λ yes. let parts = stray yes in record {
+        stands = λ i h. subst (λ b. HoldsLives new (after i b)) (sym yes) (subst (λ l. HoldsLives l i) (sym parts.1) h);
+        added = λ i h. ex ∙ ap (λ os. xs ++ flat_map sent_of os) (parts.0 ∙ ap (told i) (sym yes));
+        raised = λ i h. ey ∙ ap (λ os. ys ++ flat_map (raised_of id) os) (parts.0 ∙ ap (told i) (sym yes));
+      })
+      (λ no_stray. let adds = ours no_stray in record {
+        stands = λ i h. subst (λ b. HoldsLives new (after i b)) (sym no_stray) (holds_one_more keys_total transaction_machine old.held new.held i key input outs adds h);
+        added = λ i h. ex ∙ ap (λ os. xs ++ flat_map sent_of os) (says_one_more keys_total transaction_machine old.held new.held i key input outs adds h ∙ ap (told i) (sym no_stray));
+        raised = λ i h. ey ∙ ap (λ os. ys ++ flat_map (raised_of id) os) (says_one_more keys_total transaction_machine old.held new.held i key input outs adds h ∙ ap (told i) (sym no_stray));
+      })
 
   pub feeds_failed : (key : Key) (outs : List Out)
       → AddsInput key_cmp transaction_machine old.held new.held key (failure id now) outs

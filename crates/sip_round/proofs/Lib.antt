@@ -7,3 +7,4 @@ pub mod Loops
 pub mod ItemLoops
 pub mod Deals
 pub mod Runs
+pub mod SoFar

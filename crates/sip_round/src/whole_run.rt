@@ -1,6 +1,6 @@
 //! A run: all rounds of one agent.
 
-ghost use Rattle.std.specs.Prelude.{◌≡◌, IfOk, IfErr, None, Some, map, true};
+ghost use Rattle.std.specs.Prelude.{◌≡◌, ◌⊎◌, IfOk, IfErr, None, Some, map, true};
 ghost use Rattle.sip_round.specs.Answers as answers;
 ghost use Rattle.sip_round.specs.declared.round_fault.RoundFault.TheVariants as round_fault;
 
@@ -28,9 +28,13 @@ pub fn run(
     let mut agent = Agent::new(alloc, config);
     let mut made = Vec::new(alloc);
     for (index, round) in rounds.iter().enumerate() {
-        let outputs = agent.run_round(round).map_err(|fault| (index, fault))?;
-        made.push(outputs)
-            .map_err(|_| (index, RoundFault::NoMemory { broken: true }))?;
+        let outputs = match agent.run_round(round) {
+            Ok(outputs) => outputs,
+            Err(fault) => return Err((index, fault)),
+        };
+        let Ok(()) = made.push(outputs) else {
+            return Err((index, RoundFault::NoMemory { broken: true }));
+        };
     }
     Ok(made)
 }

@@ -18,6 +18,7 @@ loop-id-preserved c =
     subst (λ es. FedItems call_cmp (call_machine calls) (call_input c.args.now) shown_of command_of c.args.calls.now.held c.loop-id.calls.held c.args.items.items es c.args.outputs.now.items c.loop-id.outputs.items c.args.commands.now.items c.loop-id.commands.items)
     c.in-Some.ensures.steps.0 c.loop-id.invariant.1 in
     let adds : AddsInput call_cmp (call_machine calls) c.loop-id.calls.held c.item.new.self.held (call_of_item c.in-Some.item) (item_input c.in-Some.id c.in-Some.item c.args.now) c.in_ok-outs.outs.items =
-    subst (λ k. AddsInput call_cmp (call_machine k) c.loop-id.calls.held c.item.new.self.held (call_of_item c.in-Some.item) (item_input c.in-Some.id c.in-Some.item c.args.now) c.in_ok-outs.outs.items) shared c.in_ok-outs.ensures.histories in
-    (c.in_ok-outs.ensures.shared ∙ shared,
-    fed_item call_cmp (call_machine calls) (call_input c.args.now) shown_of command_of nat_list_cmp_total _ _ _ _ _ (c.in-Some.id, c.in-Some.item) c.in_ok-outs.outs.items _ _ _ _ _ _ left adds c.in_ok-part_calls.ensures.outputs c.in_ok-part_calls.ensures.commands)
+    subst (λ k. AddsInput call_cmp (call_machine k) c.loop-id.calls.held c.item.new.self.held (call_of_item c.in-Some.item) (item_input c.in-Some.id c.in-Some.item c.args.now) c.in_ok-outs.outs.items) shared c.in_ok-outs.ensures.histories in (
+      c.in_ok-outs.ensures.shared ∙ shared,
+      fed_item call_cmp (call_machine calls) (call_input c.args.now) shown_of command_of nat_list_cmp_total _ _ _ _ _ (c.in-Some.id, c.in-Some.item) c.in_ok-outs.outs.items _ _ _ _ _ _ left adds c.in_ok-part_calls.ensures.outputs c.in_ok-part_calls.ensures.commands,
+    )
