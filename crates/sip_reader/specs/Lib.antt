@@ -1,3 +1,6 @@
+pub mod StartLine
+pub mod HeaderLine
+pub mod Values
 pub mod Fields
 pub mod Reading
 pub mod Layout

@@ -8,11 +8,9 @@ use Rattle.sip_text.specs.declared.fault.TextFault.{TextFault}
 use Rattle.sip_parts.specs.Word.{is_word}
 use Rattle.sip_parts.specs.Reason.{is_reason}
 use Rattle.sip_reader.specs.Reading.{◌>>=◌}
+use Rattle.sip_reader.specs.StartLine.{is_version}
 use Rattle.sip_reader.specs.declared.first_line.FirstLine.{FirstLine}
 use Rattle.sip_reader.specs.declared.first_line.FirstLine.TheVariants as first
-
-abbrev pub is_version : List ℕ → Bool
-is_version text = str_eq_ignore_ascii_case text (codes "SIP/2.0")
 
 -- a URI, a space and the version
 unfoldable pub request_at : List ℕ → List ℕ → Option FirstLine

@@ -60,8 +60,22 @@ fn read_header(
     let Some(fields) = fields_of(alloc, lines)? else {
         return Err(ReadFault::BadHeader);
     };
-    let parts = parts_of(fields)?;
-    message_of(alloc, start, parts, body)
+    read_fields(alloc, start, fields, body)
+}
+
+#[tactic(auto, unfolding(crate::specs::ReadMessage::message_of_fields))]
+fn read_fields(
+    alloc: Global,
+    start: FirstLine,
+    fields: Fields,
+    body: &[u8],
+) -> Result<Message, ReadFault>
+    ensures { reading.Gives result (reading.message_of_fields start fields body.now) }
+{
+    if let Some(fault) = fields.fault() {
+        return Err(fault);
+    }
+    message_of(alloc, start, parts_of(fields), body)
 }
 
 /// What the header lines say. None where one isn't a header line, or there is a second Via.
