@@ -33,7 +33,7 @@ pub header_from-cut : (begun text : List ℕ) → header_from begun text ≡ hea
 header_from-cut begun [] = refl
 header_from-cut begun (b ∷ bs) = by_end begun b bs (b == 10) (header_from-cut (begun ++ b ∷ []) bs)
 
-abbrev after_line : Option (List ℕ × List ℕ) → Header
+abbrev pub after_line : Option (List ℕ × List ℕ) → Header
 after_line None = None
 after_line (Some p) = header_with p.0 p.1 (header_at p.1)
 

@@ -6,6 +6,7 @@ mod field;
 mod field_reader;
 mod fields;
 mod first_line;
+mod laws;
 mod layout;
 mod numbers;
 mod parameter_reader;
@@ -15,4 +16,5 @@ mod start_reader;
 mod via_reader;
 mod via_words;
 
+pub use laws::one_message;
 pub use reader::{MAX_BYTES, read};

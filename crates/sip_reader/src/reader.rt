@@ -1,6 +1,8 @@
 //! Messages, read from their texts.
 ghost use Rattle.std.specs.Prelude.{◌≡◌, ◌++◌, ◌∷◌, [], IfOk, OnOk, map};
+ghost use Rattle.sip_message.specs.declared.message.Message.{Message};
 ghost use Rattle.sip_reader.specs.ReadMessage as reading;
+ghost use Rattle.sip_reader.specs.Spells.{Spells, Answers};
 
 use crate::field_reader::field_of;
 use crate::fields::Fields;
@@ -24,7 +26,16 @@ pub const MAX_BYTES: usize = 65_535;
 ///
 /// The first of the faults of `ReadFault` whose condition holds; NoMemory may stand in its place.
 pub fn read(alloc: Global, text: &[u8]) -> Result<Message, ReadFault>
-    ensures exact { reading.Gives result (reading.message_at text.now) }
+    // What is read is spelled by the text.
+    ensures found { IfOk result (λ message. Spells message text.now) }
+    // What the text spells is read, unless memory is refused.
+    ensures only { (message : Message) → Spells message text.now → Answers result message }
+{
+    read_text(alloc, text)
+}
+
+fn read_text(alloc: Global, text: &[u8]) -> Result<Message, ReadFault>
+    ensures { reading.Gives result (reading.message_at text.now) }
 {
     if text.len() > MAX_BYTES {
         return Err(ReadFault::TooLong);
