@@ -1,10 +1,9 @@
 -- The headers of a message that stand in it once.
-use Rattle.std.proofs.Common.{◌≡◌, ℕ, ◌<◌, ◌≤◌, Bool, true, false, cond, eqb, ltb, List, [], ◌∷◌, ◌++◌, map, length, Option, Some, None, refl, sym, ap, subst, ◌∙◌, arith}
+use Rattle.std.proofs.Common.{◌≡◌, ℕ, Bool, true, false, cond, ltb, List, [], ◌∷◌, length, Option, Some, None, refl, ap, subst, arith}
 use Rattle.std.specs.List.{slice_get}
 use Rattle.std.specs.Option.{option_to_list}
 use Rattle.std.proofs.lemmas.Bool.{ltb-false}
 use Rattle.std.proofs.lemmas.Option.{same_Some}
-use Rattle.sip_message.specs.declared.header.Header.{Header}
 use Rattle.sip_message.specs.declared.party.Party.{Party}
 use Rattle.sip_parts.specs.declared.header_name.HeaderName.{HeaderName}
 use Rattle.sip_parts.specs.declared.header_name.HeaderName.TheVariants as name
@@ -38,10 +37,10 @@ at_most_one (y ∷ (z ∷ zs)) short = absurd (omega (arith, ltb-false 1 (length
 
 -- ---- no fault
 
-abbrev if_some : Bool → HeaderName → Option HeaderName → Option HeaderName
+abbrev pub if_some : Bool → HeaderName → Option HeaderName → Option HeaderName
 if_some r header other = cond r (Some header) other
 
-unless_some : (r : Bool) (header : HeaderName) (other : Option HeaderName) → if_some r header other ≡ None → (r ≡ false) × (other ≡ None)
+pub unless_some : (r : Bool) (header : HeaderName) (other : Option HeaderName) → if_some r header other ≡ None → (r ≡ false) × (other ≡ None)
 unless_some true header other e = absurd cc
 unless_some false header other e = (refl, e)
 

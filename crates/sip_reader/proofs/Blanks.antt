@@ -1,7 +1,7 @@
 -- White space at the ends of a text.
-use Rattle.std.proofs.Common.{◌≡◌, ℕ, Bool, true, false, cond, not, ◌&&◌, List, [], ◌∷◌, ◌++◌, refl, sym, ap, ◌∙◌}
+use Rattle.std.proofs.Common.{◌≡◌, ℕ, Bool, true, false, cond, not, ◌&&◌, List, [], ◌∷◌, ◌++◌, refl, ap}
 use Rattle.std.specs.List.{list_all}
-use Rattle.std.proofs.lemmas.Bool.{and_parts, and_from, and_left, not-true, true≢false}
+use Rattle.std.proofs.lemmas.Bool.{and_parts, and_from, and_left, not-true}
 use Rattle.sip_text.specs.Character.{is_blank}
 use Rattle.sip_text.specs.Token.{is_run}
 use Rattle.sip_text.specs.Trimmed.{trimmed_start, trimmed_end}

@@ -1,12 +1,11 @@
 -- Which bytes don't stand in a token, a word, a URI, a host and so on.
-use Rattle.std.proofs.Common.{◌≡◌, ℕ, ◌≤◌, ◌<◌, ◌+◌, Bool, true, false, cond, not, ◌||◌, eqb, ltb, List, [], ◌∷◌, ◌++◌, map, length, refl, sym, ap, subst, ◌∙◌, arith}
+use Rattle.std.proofs.Common.{◌≡◌, ℕ, ◌≤◌, ◌<◌, ◌+◌, Bool, true, false, cond, not, eqb, ltb, List, [], ◌∷◌, refl, sym, ap, ◌∙◌, arith}
 use Rattle.std.specs.Char.{to_ascii_lowercase}
 use Rattle.std.specs.List.{list_all}
 use Rattle.std.specs.Str.{str_to_ascii_lowercase, str_eq_ignore_ascii_case}
-use Rattle.std.proofs.lemmas.Bool.{eqb-true, or_cases, ne_eqb, ltb-true, ltb-false, not_from_true, true≢false}
-use Rattle.std.proofs.lemmas.List.{length-map}
+use Rattle.std.proofs.lemmas.Bool.{eqb-true, ne_eqb, ltb-false, true≢false}
 use Rattle.std.proofs.lemmas.Slice.Eq.{bytes_eq-Decides}
-use Rattle.sip_text.specs.Character.{is_among, is_blank, is_token_byte}
+use Rattle.sip_text.specs.Character.{is_blank, is_token_byte}
 use Rattle.sip_text.specs.Token.{is_run, is_token}
 use Rattle.sip_parts.specs.Host.{is_host_byte, is_bracket_byte}
 use Rattle.sip_parts.specs.ParameterValue.{is_value_byte, is_value_word}

@@ -1,8 +1,7 @@
 -- Header lines are read as they are spelled.
-use Rattle.std.proofs.Common.{◌≡◌, ℕ, Bool, true, false, cond, eqb, not, ◌&&◌, List, [], ◌∷◌, ◌++◌, map, codes, Option, Some, None, refl, sym, ap, subst, ◌∙◌, append_assoc}
-use Rattle.std.specs.List.{list_all}
+use Rattle.std.proofs.Common.{◌≡◌, ℕ, Bool, true, false, cond, ◌&&◌, List, ◌∷◌, ◌++◌, codes, Option, Some, None, refl, sym, ap, subst, ◌∙◌, append_assoc}
 use Rattle.std.specs.Option.{option_map}
-use Rattle.std.specs.Str.{str_to_ascii_lowercase, bytes_eq}
+use Rattle.std.specs.Str.{str_to_ascii_lowercase}
 use Rattle.std.proofs.lemmas.Bool.{and_parts, and_from, and_right, true≢false}
 use Rattle.std.proofs.lemmas.List.Folds.{list_all-append}
 use Rattle.sip_text.specs.Character.{is_blank}
@@ -12,15 +11,13 @@ use Rattle.sip_text.specs.Trimmed.{trimmed, trimmed_end}
 use Rattle.sip_parts.specs.HeaderName.{is_same_name, is_long_name, is_compact_name}
 use Rattle.sip_parts.specs.HeaderValue.{is_header_value, has_no_line_byte}
 use Rattle.sip_parts.specs.OtherName.{is_other_name}
-use Rattle.sip_parts.specs.declared.header_name.HeaderName.{HeaderName}
-use Rattle.sip_parts.specs.declared.header_name.HeaderName.TheVariants as header
 use Rattle.sip_message.specs.declared.header.Header.{Header}
 use Rattle.sip_reader.specs.declared.field.Field.{Field}
 use Rattle.sip_reader.specs.declared.field.Field.TheVariants as field
 use Rattle.sip_reader.specs.HeaderLine.{IsHeaderLine, is_named, long_name}
 use Rattle.sip_reader.specs.HeaderSet.{Says, IsOther, SpellsField}
 use Rattle.sip_reader.specs.Lines.{has_no}
-use Rattle.sip_reader.specs.Reading.{◌>>=◌, via_at, party_at, word_at, cseq_at, other_at, named_at, field_at}
+use Rattle.sip_reader.specs.Reading.{via_at, party_at, word_at, cseq_at, other_at, named_at, field_at}
 use Rattle.sip_reader.proofs.Blanks.{end_gap, end_is}
 use Rattle.sip_reader.proofs.Characters.{token_not_blank, token_without, no_colon, same_lower}
 use Rattle.sip_reader.proofs.Cuts.{at_takes, at_again, none_of}

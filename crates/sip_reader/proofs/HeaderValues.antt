@@ -1,9 +1,8 @@
 -- The values of From, To, Call-ID, CSeq and Content-Length are read as they are spelled.
-use Rattle.std.proofs.Common.{◌≡◌, ℕ, Bool, true, false, cond, eqb, not, ◌&&◌, List, [], ◌∷◌, ◌++◌, Option, Some, None, refl, sym, ap, subst, ◌∙◌, append_assoc}
+use Rattle.std.proofs.Common.{◌≡◌, ℕ, Bool, true, false, cond, eqb, ◌&&◌, List, [], ◌∷◌, ◌++◌, Option, Some, None, refl, sym, ap, subst, ◌∙◌}
 use Rattle.std.specs.List.{list_all}
 use Rattle.std.proofs.lemmas.Bool.{eqb-true, and_parts, and_from}
 use Rattle.std.proofs.lemmas.List.{append-nil}
-use Rattle.std.proofs.lemmas.Option.{same_Some}
 use Rattle.sip_text.specs.Character.{is_blank, is_token_byte}
 use Rattle.sip_text.specs.Cut.{cut_where, cut_at}
 use Rattle.sip_text.specs.Token.{is_run, is_token}
@@ -15,12 +14,12 @@ use Rattle.sip_parts.specs.declared.parameter.Parameter.{Parameter}
 use Rattle.sip_message.specs.declared.party.Party.{Party}
 use Rattle.sip_reader.specs.declared.cseq_words.CSeqWords.{CSeqWords}
 use Rattle.sip_reader.specs.Reading.{◌>>=◌, parameters_after, party_with, party_in, party_at, word_at, cseq_at}
-use Rattle.sip_reader.specs.Values.{IsPartyValue, IsWordValue, IsCSeqValue, SpellsParameters}
+use Rattle.sip_reader.specs.Values.{IsPartyValue, IsWordValue, IsCSeqValue}
 use Rattle.sip_reader.proofs.Blanks.{start_gap, gap_before}
 use Rattle.sip_reader.proofs.Characters.{uri_without_bracket, word_not_blank, token_full, token_run}
 use Rattle.sip_reader.proofs.Cuts.{at_takes, at_again, cut_takes, cut_again}
 use Rattle.sip_reader.proofs.ParameterLists.{parameters_read}
-use Rattle.sip_reader.proofs.Pieces.{Reads, bind_some, guard_some, guard_true}
+use Rattle.sip_reader.proofs.Pieces.{Reads, bind_some, guard_some}
 
 -- ---- From and To
 

@@ -1,5 +1,5 @@
 -- Where the host of a sent-by ends.
-use Rattle.std.proofs.Common.{◌≡◌, ℕ, ◌+◌, ◌-◌, Bool, true, false, cond, eqb, not, ◌&&◌, List, [], ◌∷◌, ◌++◌, length, Option, Some, None, refl, sym, ap, subst, ◌∙◌, append_assoc, arith}
+use Rattle.std.proofs.Common.{◌≡◌, ℕ, ◌+◌, Bool, true, false, cond, eqb, not, List, [], ◌∷◌, ◌++◌, length, Option, Some, None, refl, ap, ◌∙◌, append_assoc, arith}
 use Rattle.std.specs.List.{list_all}
 use Rattle.std.proofs.lemmas.Bool.{eqb-true, and_parts, and_from}
 use Rattle.std.proofs.lemmas.List.{append-nil, length-append}
@@ -10,7 +10,7 @@ use Rattle.sip_text.specs.Trimmed.{trimmed_start}
 use Rattle.sip_parts.specs.Host.{is_host, is_host_byte, is_bracket_byte, is_closed, ends_in_bracket}
 use Rattle.sip_reader.specs.Lines.{has_no}
 use Rattle.sip_reader.specs.Reading.{host_length, host_end}
-use Rattle.sip_reader.specs.Values.{IsPortPart, is_port_word}
+use Rattle.sip_reader.specs.Values.{IsPortPart}
 use Rattle.sip_reader.proofs.Blanks.{starts_full}
 use Rattle.sip_reader.proofs.Characters.{host_without_colon, host_without_semicolon, bracket_without_semicolon, port_without_semicolon, host_full}
 use Rattle.sip_reader.proofs.Cuts.{at_takes, at_again, cut_whole}

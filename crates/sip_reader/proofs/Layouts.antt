@@ -1,5 +1,5 @@
 -- The lines of a message are read as they lie in its text.
-use Rattle.std.proofs.Common.{◌≡◌, ◌⊎◌, inl, inr, ℕ, zero, suc, ◌+◌, ◌-◌, ◌<◌, ◌≤◌, Bool, true, false, cond, eqb, not, ◌&&◌, List, [], ◌∷◌, ◌++◌, length, take, get_or, replicate, Option, Some, None, refl, sym, ap, subst, ◌∙◌, arith}
+use Rattle.std.proofs.Common.{◌≡◌, ◌⊎◌, inl, inr, ℕ, zero, suc, ◌-◌, ◌<◌, ◌≤◌, Bool, true, false, cond, eqb, ◌&&◌, List, [], ◌∷◌, ◌++◌, length, take, get_or, replicate, Option, Some, None, refl, sym, ap, subst, ◌∙◌, arith}
 use Rattle.std.specs.List.{AllByRecursion}
 use Rattle.std.specs.Option.{option_map}
 use Rattle.std.specs.Str.Lines.{strip_carriage_return}
@@ -13,7 +13,7 @@ use Rattle.sip_reader.specs.Lines.{IsLine, IsLines, IsFull, Lays}
 use Rattle.sip_reader.specs.Reading.{◌>>=◌}
 use Rattle.sip_reader.proofs.Cuts.{at_takes, at_again}
 use Rattle.sip_reader.proofs.Headers.{after_line, header_at-line}
-use Rattle.sip_reader.proofs.Pieces.{Reads, bind_some, map_some, by_bool}
+use Rattle.sip_reader.proofs.Pieces.{Reads, bind_some, map_some}
 
 -- ---- one line
 

@@ -16,6 +16,11 @@ pub mod Alone
 pub mod Outcomes
 pub mod Making
 pub mod Spelled
+pub mod Conditions
+pub mod NumberFaults
+pub mod PartFaults
+pub mod HeaderFaults
+pub mod LineFaults
 pub mod Answering
 pub mod Splitting
 pub mod Headers

@@ -1,10 +1,9 @@
 -- A message is made of its parts: its numbers, its Via, its start line and its body.
-use Rattle.std.proofs.Common.{◌≡◌, ◌⊎◌, inl, inr, ℕ, ◌^◌, ◌<◌, ◌≤◌, Bool, true, false, cond, eqb, ltb, List, [], ◌∷◌, ◌++◌, map, length, take, drop, Option, Some, None, Result, Ok, Err, refl, sym, ap, subst, ◌∙◌, bytes_eq, arith}
+use Rattle.std.proofs.Common.{◌≡◌, ℕ, ◌^◌, ◌<◌, Bool, true, false, cond, ltb, List, [], ◌∷◌, ◌++◌, length, take, drop, Option, Some, None, Result, Ok, refl, sym, ap, subst, ◌∙◌, bytes_eq, arith}
 use Rattle.std.proofs.lemmas.Bool.{ltb-false, le-ltb, ltb-true, true≢false}
 use Rattle.std.proofs.lemmas.List.{length-append, length-take-le, take_at, take-append-drop}
 use Rattle.std.proofs.lemmas.Option.{same_Some}
 use Rattle.std.proofs.lemmas.Slice.Eq.{bytes_eq-Decides}
-use Rattle.sip_message.specs.declared.cseq.CSeq.{CSeq}
 use Rattle.sip_message.specs.declared.fault.ReadFault.{ReadFault}
 use Rattle.sip_message.specs.declared.fault.ReadFault.TheVariants as fault
 use Rattle.sip_message.specs.declared.message.Message.{Message}
@@ -24,7 +23,7 @@ use Rattle.sip_reader.specs.NumberWords.{IsNumber, IsOptionalNumber}
 use Rattle.sip_reader.specs.Reading as option
 use Rattle.sip_reader.specs.ReadMessage.{◌>>=◌, or_fault, vias_of, start_line_of, body_of, made, message_of_parts}
 use Rattle.sip_reader.specs.Spells.{HasBasicHeadersAlone}
-use Rattle.sip_reader.proofs.Outcomes.{step_ok, step_err, step_again, same_Ok}
+use Rattle.sip_reader.proofs.Outcomes.{step_ok, step_again, same_Ok}
 use Rattle.sip_reader.proofs.Pieces.{bind_some, guard_some, by_bool}
 use Rattle.sip_reader.proofs.WordNumbers.{number_reads, optional_reads, port_reads}
 
@@ -58,7 +57,7 @@ IsStart (first.Response status reason) cseq_method (start.Response number text) 
 IsStart (first.Request method uri) cseq_method (start.Response number text) = ⊥
 IsStart (first.Response status reason) cseq_method (start.Request other) = ⊥
 
-start_takes : (line : FirstLine) (method : List ℕ) (says : StartLine) → start_line_of line method ≡ Some says → IsStart line method says
+pub start_takes : (line : FirstLine) (method : List ℕ) (says : StartLine) → start_line_of line method ≡ Some says → IsStart line method says
 unfolding start_line_of
 start_takes (first.Request own uri) method says e =
     let g = guard_some (bytes_eq own method) (start.Request uri) says e in
@@ -115,7 +114,7 @@ body_short rest (Some n) e =
 abbrev pub via_of : ViaWords → Option ℕ → Via
 via_of words port = record { transport = words.transport; host = words.host; port = port; parameters = words.parameters }
 
-vias_take : (words : ViaWords) (port : Option ℕ) (vias : List Via) → vias_of words port ≡ Some vias → (vias ≡ via_of words port ∷ []) × (are_vias vias ≡ true)
+pub vias_take : (words : ViaWords) (port : Option ℕ) (vias : List Via) → vias_of words port ≡ Some vias → (vias ≡ via_of words port ∷ []) × (are_vias vias ≡ true)
 unfolding vias_of
 vias_take words port vias e =
     let g = guard_some (are_vias (via_of words port ∷ [])) (via_of words port ∷ []) vias e in
@@ -141,7 +140,7 @@ pub record Makes (line : FirstLine) (parts : Parts) (rest : List ℕ) (m : Messa
   pub others_are : m.others ≡ parts.others
   pub further : HasBasicHeadersAlone m
 
-abbrev finished : Parts → Numbers → List Via → StartLine → List ℕ → Message
+abbrev pub finished : Parts → Numbers → List Via → StartLine → List ℕ → Message
 finished parts numbers vias says body = made says vias (parts.from, parts.to, parts.call_id, record { number = numbers.cseq; method = parts.cseq.method }) parts.others body
 
 abbrev pub then_body : Parts → List ℕ → Numbers → List Via → StartLine → Result Message ReadFault

@@ -1,6 +1,6 @@
 -- Parameters are read as they are spelled.
 use Rattle.std.proofs.Common.{◌≡◌, ℕ, Bool, true, false, cond, eqb, ◌&&◌, List, [], ◌∷◌, ◌++◌, Option, Some, None, refl, sym, ap, subst, ◌∙◌}
-use Rattle.std.specs.List.{list_all, slice_split, onto_first, flat_map}
+use Rattle.std.specs.List.{slice_split, onto_first, flat_map}
 use Rattle.std.proofs.lemmas.Bool.{eqb-true, and_parts, and_from}
 use Rattle.std.proofs.lemmas.List.{append-nil}
 use Rattle.std.proofs.lemmas.List.Folds.{list_all-append}
@@ -14,7 +14,7 @@ use Rattle.sip_reader.specs.Reading.{◌>>=◌, each, name_and_value, parameter_
 use Rattle.sip_reader.specs.Values.{IsParameterText, SpellsParameter, SpellsParameters}
 use Rattle.sip_reader.proofs.Characters.{token_without, no_equals, no_semicolon, value_without_semicolon}
 use Rattle.sip_reader.proofs.Cuts.{at_takes, at_again, cut_whole}
-use Rattle.sip_reader.proofs.Pieces.{Reads, bind_some, guard_some, guard_true, by_bool}
+use Rattle.sip_reader.proofs.Pieces.{Reads, bind_some, guard_some}
 use Rattle.sip_reader.proofs.Splitting.{split_some, split_none}
 
 -- ---- one parameter

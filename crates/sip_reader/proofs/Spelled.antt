@@ -1,5 +1,5 @@
 -- What reading gives is what the text spells.
-use Rattle.std.proofs.Common.{◌≡◌, ◌⊎◌, inl, inr, ℕ, ◌^◌, ◌<◌, ◌≤◌, Bool, true, false, cond, ltb, List, [], ◌∷◌, ◌++◌, map, length, Option, Some, None, Result, Ok, Err, refl, sym, ap, subst, ◌∙◌}
+use Rattle.std.proofs.Common.{◌≡◌, inl, inr, ℕ, ◌^◌, ◌≤◌, Bool, true, false, cond, ltb, List, [], ◌∷◌, map, length, Option, Some, None, Result, Ok, Err, refl, sym, ap, subst, ◌∙◌}
 use Rattle.std.specs.Option.{option_map, option_to_list}
 use Rattle.std.proofs.lemmas.Bool.{ltb-false, le-ltb}
 use Rattle.std.proofs.lemmas.Option.{same_Some}
@@ -15,10 +15,9 @@ use Rattle.sip_reader.specs.declared.field.Field.TheVariants as field
 use Rattle.sip_reader.specs.declared.fields.Fields.{Fields}
 use Rattle.sip_reader.specs.declared.first_line.FirstLine.{FirstLine}
 use Rattle.sip_reader.specs.declared.first_line.FirstLine.TheVariants as first
-use Rattle.sip_reader.specs.declared.numbers.Numbers.{Numbers}
 use Rattle.sip_reader.specs.declared.parts.Parts.{Parts}
 use Rattle.sip_reader.specs.Fields.{no_fields, fault_in}
-use Rattle.sip_reader.specs.HeaderSet.{SpellsField, HasHeader, values}
+use Rattle.sip_reader.specs.HeaderSet.{SpellsField, values}
 use Rattle.sip_reader.specs.Layout.{without_line_ends, header_at}
 use Rattle.sip_reader.specs.NumberWords.{IsNumber, IsOptionalNumber}
 use Rattle.sip_reader.specs.Parts.{parts_of}
@@ -26,13 +25,13 @@ use Rattle.sip_reader.specs.Reading as option
 use Rattle.sip_reader.specs.Reading.{each, field_at}
 use Rattle.sip_reader.specs.ReadMessage.{◌>>=◌, or_fault, fields_from, one_via, fields_at, message_of_all, message_of_parts, message_of_fields, message_of_lines, message_in, message_at}
 use Rattle.sip_reader.specs.ReadStart.{start_at}
-use Rattle.sip_reader.specs.Spells.{Spells, SpellsBody, SpellsCSeq}
+use Rattle.sip_reader.specs.Spells.{Spells, SpellsBody}
 use Rattle.sip_reader.specs.StartLine.{SpellsStart, IsRequestLine}
 use Rattle.sip_reader.proofs.Alone.{IsAlone, parts_alone, none_repeated, no_fault, alone_no_fault, alone_parts}
 use Rattle.sip_reader.proofs.Gathering.{gathered, from_each, Gathers, gathers, map_same, same_via, same_from, same_to, same_call_id, same_cseq, same_length, same_other}
 use Rattle.sip_reader.proofs.HeaderLines.{field_reads}
 use Rattle.sip_reader.proofs.Layouts.{Layout, layout_at, layout_reads}
-use Rattle.sip_reader.proofs.Making.{AreNumbers, IsStart, IsBody, Makes, makes_take, makes_again}
+use Rattle.sip_reader.proofs.Making.{IsStart, IsBody, Makes, makes_take, makes_again}
 use Rattle.sip_reader.proofs.Outcomes.{step_ok, step_again, unless_ok}
 use Rattle.sip_reader.proofs.Pieces.{bind_some, map_some, each_takes, each_again}
 use Rattle.sip_reader.proofs.StartLines.{SpellsFirst, start_reads}
@@ -140,11 +139,11 @@ spelled_takes text m e =
 
 -- ---- what is spelled is read
 
-abbrev first_of : StartLine → List ℕ → FirstLine
+abbrev pub first_of : StartLine → List ℕ → FirstLine
 first_of (start.Request uri) method = first.Request method uri
 first_of (start.Response status reason) method = first.Response status reason
 
-first_spelled : (says : StartLine) (method text : List ℕ) → SpellsStart says method text → SpellsFirst (first_of says method) text
+pub first_spelled : (says : StartLine) (method text : List ℕ) → SpellsStart says method text → SpellsFirst (first_of says method) text
 first_spelled (start.Request uri) method text spelled = spelled
 first_spelled (start.Response status reason) method text spelled = spelled
 

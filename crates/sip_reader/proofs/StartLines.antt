@@ -1,10 +1,10 @@
 -- Start lines are read as they are spelled.
-use Rattle.std.proofs.Common.{◌≡◌, ◌⊎◌, inl, inr, ℕ, zero, suc, ◌+◌, ◌*◌, ◌^◌, ◌<◌, ◌≤◌, min, Bool, true, false, cond, eqb, ltb, not, ◌&&◌, ◌||◌, List, [], ◌∷◌, ◌++◌, length, take, drop, codes, Option, Some, None, Result, Ok, Err, refl, sym, ap, subst, ◌∙◌, arith}
+use Rattle.std.proofs.Common.{◌≡◌, inl, inr, ℕ, ◌^◌, ◌<◌, ◌≤◌, Bool, true, false, cond, eqb, ltb, ◌&&◌, ◌||◌, List, [], ◌∷◌, ◌++◌, length, take, drop, codes, Some, None, Result, Ok, Err, refl, sym, ap, subst, ◌∙◌, arith}
 use Rattle.std.specs.Char.{is_ascii_digit}
 use Rattle.std.specs.List.{list_all}
-use Rattle.std.specs.Str.{str_eq_ignore_ascii_case, str_to_ascii_lowercase, all_ascii_digits}
+use Rattle.std.specs.Str.{all_ascii_digits}
 use Rattle.std.specs.Str.Parse.{digits_value}
-use Rattle.std.proofs.lemmas.Bool.{eqb-true, and_parts, and_from, or_parts, or_from, ltb-false, le-ltb, ltb-true, lt-ltb, true≢false, cases_lt}
+use Rattle.std.proofs.lemmas.Bool.{eqb-true, and_parts, and_from, or_parts, ltb-false, le-ltb, lt-ltb, true≢false, cases_lt}
 use Rattle.std.proofs.lemmas.List.{length-take, take_at, drop_at, take-append-drop}
 use Rattle.std.proofs.lemmas.Option.{same_Some}
 use Rattle.std.proofs.lemmas.Str.Parse.{digits_value_short, numerals_by_value, tells_all_ascii_digits}
@@ -19,7 +19,7 @@ use Rattle.sip_reader.specs.declared.first_line.FirstLine.TheVariants as first
 use Rattle.sip_reader.specs.Lines.{has_no}
 use Rattle.sip_reader.specs.NumberWords.{is_number}
 use Rattle.sip_reader.specs.Reading.{◌>>=◌}
-use Rattle.sip_reader.specs.ReadStart.{request_at, code_from, code_in, code_at, reason_at, status_at, start_at}
+use Rattle.sip_reader.specs.ReadStart.{request_at, code_in, code_at, reason_at, status_at, start_at}
 use Rattle.sip_reader.specs.StartLine.{is_version, IsRequestLine, IsStatusCode, IsReasonPart, IsStatusLine}
 use Rattle.sip_reader.proofs.Characters.{same_lower, lower_without, token_without, no_space, no_slash, word_without_space}
 use Rattle.sip_reader.proofs.Cuts.{at_takes, at_again, run_all}

@@ -1,7 +1,7 @@
 -- Via values are read as they are spelled.
 use Rattle.std.proofs.Common.{◌≡◌, ℕ, Bool, true, false, cond, eqb, not, ◌&&◌, List, [], ◌∷◌, ◌++◌, length, take, drop, codes, Option, Some, None, refl, sym, ap, subst, ◌∙◌, append_assoc}
 use Rattle.std.specs.List.{list_all}
-use Rattle.std.specs.Str.{str_eq_ignore_ascii_case, str_to_ascii_lowercase}
+use Rattle.std.specs.Str.{str_eq_ignore_ascii_case}
 use Rattle.std.specs.Char.{to_ascii_lowercase}
 use Rattle.std.proofs.lemmas.Bool.{eqb-true, and_parts, and_from}
 use Rattle.std.proofs.lemmas.List.{append-nil, length-map, take-append-drop, take_at, drop_at}
@@ -22,7 +22,7 @@ use Rattle.sip_reader.proofs.Characters.{token_not_blank, same_lower, lower_not_
 use Rattle.sip_reader.proofs.Cuts.{at_takes, at_again, cut_takes, cut_again, cut_whole}
 use Rattle.sip_reader.proofs.Hosts.{host_without, host_starts, host_ends, port_without}
 use Rattle.sip_reader.proofs.ParameterLists.{parameters_read}
-use Rattle.sip_reader.proofs.Pieces.{Reads, bind_some, guard_some, guard_true, then_some}
+use Rattle.sip_reader.proofs.Pieces.{Reads, bind_some, guard_some}
 
 -- ---- the port
 

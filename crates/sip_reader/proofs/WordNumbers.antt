@@ -1,5 +1,5 @@
 -- Words that stand for numbers are read as they are spelled.
-use Rattle.std.proofs.Common.{◌≡◌, ℕ, ◌^◌, ◌<◌, ◌≤◌, Bool, true, false, cond, ltb, ◌&&◌, List, Option, Some, None, Result, Ok, Err, refl, sym, ap, subst, ◌∙◌, arith}
+use Rattle.std.proofs.Common.{◌≡◌, ℕ, ◌^◌, ◌<◌, Bool, true, false, cond, ltb, ◌&&◌, List, Option, Some, None, Result, Ok, Err, refl, ap, subst, arith}
 use Rattle.std.specs.Str.Parse.{digits_value}
 use Rattle.std.proofs.lemmas.Bool.{and_parts, and_from, ltb-false, ltb-true, le-ltb, lt-ltb}
 use Rattle.std.proofs.lemmas.Option.{same_Some}
@@ -7,9 +7,8 @@ use Rattle.sip_text.specs.Number.{is_digits, number_of}
 use Rattle.sip_text.specs.declared.fault.TextFault.{TextFault}
 use Rattle.sip_text.specs.declared.fault.TextFault.TheVariants.{NotAToken, NumberTooLarge}
 use Rattle.sip_reader.specs.Numbers.{if_ok, number_in, optional_number, optional_port}
-use Rattle.sip_reader.specs.NumberWords.{is_number, IsNumber, IsOptionalNumber}
-use Rattle.sip_reader.specs.Reading.{◌>>=◌}
-use Rattle.sip_reader.proofs.Pieces.{Reads, bind_some, guard_some}
+use Rattle.sip_reader.specs.NumberWords.{IsNumber, IsOptionalNumber}
+use Rattle.sip_reader.proofs.Pieces.{Reads, bind_some}
 
 abbrev told : Bool → Bool → ℕ → Result ℕ TextFault
 told digits small number = cond digits (cond small (Ok number) (Err NumberTooLarge)) (Err NotAToken)

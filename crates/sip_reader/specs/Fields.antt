@@ -1,5 +1,5 @@
 -- What the header lines of a message say, by header.
-use Rattle.std.specs.Prelude.{◌≡◌, ◌<◌, ◌==◌, ℕ, List, [], ◌∷◌, ◌++◌, length, Option, Some, None, nat_lt, if◌then◌else◌}
+use Rattle.std.specs.Prelude.{◌<◌, ◌==◌, [], ◌∷◌, ◌++◌, length, Option, Some, None, nat_lt, if◌then◌else◌}
 use Rattle.sip_reader.specs.declared.field.Field.{Field}
 use Rattle.sip_reader.specs.declared.field.Field.TheVariants as field
 use Rattle.sip_reader.specs.declared.fields.Fields.{Fields}

@@ -1,6 +1,6 @@
 -- Words that stand for numbers (RFC 3261, sections 20.14, 20.16, 20.42 and 25.1).
-use Rattle.std.specs.Prelude.{◌≡◌, ◌^◌, ◌&&◌, ℕ, Bool, true, IsTrue, List, [], ◌∷◌, Option, Some, None, nat_lt}
-use Rattle.std.specs.List.{flat_map, list_all}
+use Rattle.std.specs.Prelude.{◌≡◌, ◌^◌, ◌&&◌, ℕ, Bool, true, IsTrue, List, Option, Some, None, nat_lt}
+use Rattle.std.specs.List.{list_all}
 use Rattle.std.specs.Option.{option_to_list}
 use Rattle.std.specs.Str.Parse.{digits_value}
 use Rattle.sip_text.specs.Number.{is_digits}

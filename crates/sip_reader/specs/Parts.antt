@@ -1,5 +1,5 @@
 -- The headers that a message has once: the first value of each.
-use Rattle.std.specs.Prelude.{ℕ, List, [], ◌∷◌, Option, Some, None}
+use Rattle.std.specs.Prelude.{Option, Some}
 use Rattle.std.specs.List.{slice_get}
 use Rattle.sip_reader.specs.declared.fields.Fields.{Fields}
 use Rattle.sip_reader.specs.declared.parts.Parts.{Parts}

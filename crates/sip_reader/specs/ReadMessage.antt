@@ -15,7 +15,6 @@ use Rattle.sip_message.specs.declared.fault.ReadFault.{ReadFault}
 use Rattle.sip_message.specs.declared.fault.ReadFault.TheVariants as fault
 use Rattle.sip_reader.specs.declared.fields.Fields.{Fields}
 use Rattle.sip_reader.specs.declared.parts.Parts.{Parts}
-use Rattle.sip_reader.specs.declared.numbers.Numbers.{Numbers}
 use Rattle.sip_message.specs.declared.message.Message.{Message}
 use Rattle.sip_message.specs.Via.{are_vias}
 use Rattle.sip_reader.specs.Fields.{with_field, fault_in}

@@ -1,6 +1,5 @@
 -- Reading a start line (RFC 3261, sections 7.1 and 7.2).
-use Rattle.std.specs.Prelude.{ℕ, Bool, List, [], ◌∷◌, Option, Some, None, Result, Ok, Err, ◌==◌, ◌&&◌, ◌||◌, nat_lt, take, drop, codes, if◌then◌else◌}
-use Rattle.std.specs.Str.{str_eq_ignore_ascii_case}
+use Rattle.std.specs.Prelude.{ℕ, List, [], ◌∷◌, Option, Some, None, Result, Ok, Err, ◌==◌, ◌&&◌, ◌||◌, nat_lt, take, drop, if◌then◌else◌}
 use Rattle.sip_text.specs.Cut.{cut_at}
 use Rattle.sip_text.specs.Token.{is_token}
 use Rattle.sip_text.specs.Number.{number_of}

@@ -1,16 +1,15 @@
 -- Reading from left to right, a function for each piece. What is a message is said in the relations of Spells.
-use Rattle.std.specs.Prelude.{ℕ, ◌-◌, ◌&&◌, ◌==◌, Bool, true, false, not, List, [], ◌∷◌, ◌++◌, length, take, drop, Option, Some, None, codes, option_and_then, if◌then◌else◌}
+use Rattle.std.specs.Prelude.{ℕ, ◌-◌, ◌&&◌, ◌==◌, List, [], ◌∷◌, length, take, drop, Option, Some, None, codes, option_and_then, if◌then◌else◌}
 use Rattle.std.specs.List.{slice_split}
 use Rattle.std.specs.Prelude.{slice_index}
 use Rattle.std.specs.Option.{option_map}
-use Rattle.std.specs.Str.{str_eq_ignore_ascii_case, bytes_eq}
-use Rattle.sip_text.specs.Character.{is_blank, is_among}
-use Rattle.sip_text.specs.Token.{is_run, is_token}
+use Rattle.std.specs.Str.{str_eq_ignore_ascii_case}
+use Rattle.sip_text.specs.Character.{is_blank}
+use Rattle.sip_text.specs.Token.{is_token}
 use Rattle.sip_text.specs.Cut.{cut_where, cut_at}
 use Rattle.sip_text.specs.Trimmed.{trimmed, trimmed_start, trimmed_end}
 use Rattle.sip_parts.specs.declared.parameter.Parameter.{Parameter}
 use Rattle.sip_message.specs.declared.party.Party.{Party}
-use Rattle.sip_message.specs.declared.header.Header.{Header}
 use Rattle.sip_reader.specs.declared.via_words.ViaWords.{ViaWords}
 use Rattle.sip_reader.specs.declared.cseq_words.CSeqWords.{CSeqWords}
 use Rattle.sip_reader.specs.declared.field.Field.{Field}

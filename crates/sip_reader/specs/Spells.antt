@@ -1,6 +1,6 @@
 -- Which texts spell a message (RFC 3261, sections 7 and 20), in the first profile: the headers Via, From, To, Call-ID, CSeq
 -- and Content-Length are read, and every other one is kept as it stands.
-use Rattle.std.specs.Prelude.{◌≡◌, ◌≤◌, ◌⊎◌, ◌^◌, ℕ, IsTrue, List, [], ◌∷◌, ◌++◌, length, map, Option, Some, None, Result, Ok, Err}
+use Rattle.std.specs.Prelude.{◌≡◌, ◌≤◌, ◌⊎◌, ◌^◌, ℕ, IsTrue, List, [], ◌∷◌, ◌++◌, length, map, Option, None, Result, Ok, Err}
 use Rattle.std.specs.List.{filter}
 use Rattle.sip_parts.specs.declared.header_name.HeaderName.TheVariants as header
 use Rattle.sip_message.specs.declared.cseq.CSeq.{CSeq}

@@ -1,6 +1,7 @@
 //! Messages, read from their texts.
-ghost use Rattle.std.specs.Prelude.{◌≡◌, ◌++◌, ◌∷◌, [], IfOk, OnOk, map};
+ghost use Rattle.std.specs.Prelude.{◌≡◌, ◌++◌, ◌∷◌, [], IfOk, IfErr, OnOk, map};
 ghost use Rattle.sip_message.specs.declared.message.Message.{Message};
+ghost use Rattle.sip_reader.specs.Faults.{TellsFault};
 ghost use Rattle.sip_reader.specs.ReadMessage as reading;
 ghost use Rattle.sip_reader.specs.Spells.{Spells, Answers};
 
@@ -30,6 +31,8 @@ pub fn read(alloc: Global, text: &[u8]) -> Result<Message, ReadFault>
     ensures found { IfOk result (λ message. Spells message text.now) }
     // What the text spells is read, unless memory is refused.
     ensures only { (message : Message) → Spells message text.now → Answers result message }
+    // A fault is the first whose condition holds.
+    ensures fault { IfErr result (λ fault. TellsFault fault text.now) }
 {
     read_text(alloc, text)
 }

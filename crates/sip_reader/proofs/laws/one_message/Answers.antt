@@ -1,6 +1,6 @@
-use Rattle.std.proofs.Common.{◌≡◌, sym, ◌∙◌}
+use Rattle.std.proofs.Common.{sym, ◌∙◌}
 use Rattle.sip_reader.proofs.Outcomes.{same_Ok}
-use Rattle.sip_reader.proofs.Spelled.{spelled_again, spelled_takes}
+use Rattle.sip_reader.proofs.Spelled.{spelled_again}
 use Rattle.sip_reader.proofs.laws.one_message.Goals as goal
 
 pub returns : goal.returns
