@@ -13,6 +13,8 @@ mod parameter_reader;
 mod parts;
 mod reader;
 mod start_reader;
+#[cfg(test)]
+mod tests;
 mod via_reader;
 mod via_words;
 
