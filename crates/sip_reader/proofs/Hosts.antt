@@ -14,6 +14,7 @@ use Rattle.sip_reader.specs.Values.{IsPortPart}
 use Rattle.sip_reader.proofs.Blanks.{starts_full}
 use Rattle.sip_reader.proofs.Characters.{host_without_colon, host_without_semicolon, bracket_without_semicolon, port_without_semicolon, host_full}
 use Rattle.sip_reader.proofs.Cuts.{at_takes, at_again, cut_whole}
+use Rattle.sip_reader.proofs.WrittenBytes.{is_solid, solid, solid_both, bracket_bytes_solid, host_bytes_solid}
 
 -- what stands between the brackets
 record IsBracketed (text : List ℕ) : Type 0 where
@@ -93,3 +94,17 @@ host_ends (b ∷ bs) port text host part = end_at b bs port text (eqb b 91) (ref
 pub port_without : (port : Option (List ℕ)) (text : List ℕ) → IsPortPart port text → has_no 59 text ≡ true
 port_without None text part = ap (has_no 59) part
 port_without (Some word) text part = ap (has_no 59) part.0 ∙ port_without_semicolon word part.1
+
+-- ---- no white space and no line end
+
+all_solid : (b : ℕ) (bs : List ℕ) (r : Bool) → Begins b bs r → solid (b ∷ bs) ≡ true
+all_solid b bs true h =
+    let k = bracketed_from bs (cut_at 93 bs) refl h.1 in
+    let rest : solid bs ≡ true = ap solid k.parts ∙ solid_both k.inside (93 ∷ []) (bracket_bytes_solid k.inside k.all) refl in
+    and_from _ _ (ap is_solid (eqb-true b 91 h.0)) rest
+all_solid b bs false h = host_bytes_solid (b ∷ bs) h.1
+
+pub host_solid : (host : List ℕ) → is_host host ≡ true → solid host ≡ true
+unfolding is_host
+host_solid [] host = refl
+host_solid (b ∷ bs) host = all_solid b bs (eqb b 91) (refl, host)

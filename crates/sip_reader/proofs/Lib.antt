@@ -22,5 +22,9 @@ pub mod PartFaults
 pub mod HeaderFaults
 pub mod LineFaults
 pub mod Answering
+pub mod WrittenBytes
+pub mod WrittenValues
+pub mod WrittenLines
+pub mod RoundTrip
 pub mod Splitting
 pub mod Headers

@@ -47,7 +47,7 @@ below_hundred : (text : List ℕ) → is_digits text ≡ true → length text �
 below_hundred text digits short =
     digits_value_short (numerals_by_value (λ ds. all_ascii_digits ds ≡ true) tells_all_ascii_digits) text 2 (sym (all_digits text) ∙ run_all is_ascii_digit text digits) short
 
-is_three : (text : List ℕ) → is_digits text ≡ true → length text ≤ 3 → 100 ≤ digits_value 10 text → length text ≡ 3
+pub is_three : (text : List ℕ) → is_digits text ≡ true → length text ≤ 3 → 100 ≤ digits_value 10 text → length text ≡ 3
 is_three text digits short least =
     elim (cases_lt (length text) 3) [
       | inl lt ↦ absurd (omega (arith, below_hundred text digits (omega arith)))

@@ -5,6 +5,7 @@ pub mod Values
 pub mod HeaderSet
 pub mod NumberWords
 pub mod Spells
+pub mod Rules
 pub mod Faults
 pub mod Fields
 pub mod Reading
