@@ -1,5 +1,5 @@
 -- Reading the lines of a header one after the other, as a loop does.
-use Rattle.std.proofs.Common.{◌≡◌, ℕ, ◌==◌, Bool, true, false, cond, eqb, List, [], ◌∷◌, ◌++◌, length, Option, Some, None, refl, sym, ap, ◌∙◌, append_assoc, arith}
+use Rattle.std.proofs.Common.{◌≡◌, ℕ, ◌==◌, Bool, true, false, cond, List, [], ◌∷◌, ◌++◌, length, Option, Some, None, refl, sym, ap, ◌∙◌, append_assoc, arith}
 use Rattle.std.specs.Option.{option_map}
 use Rattle.std.specs.Str.Lines.{strip_carriage_return}
 use Rattle.std.proofs.lemmas.Bool.{eqb-true}
@@ -33,7 +33,7 @@ pub header_from-cut : (begun text : List ℕ) → header_from begun text ≡ hea
 header_from-cut begun [] = refl
 header_from-cut begun (b ∷ bs) = by_end begun b bs (b == 10) (header_from-cut (begun ++ b ∷ []) bs)
 
-abbrev after_line : Option (List ℕ × List ℕ) → Header
+abbrev pub after_line : Option (List ℕ × List ℕ) → Header
 after_line None = None
 after_line (Some p) = header_with p.0 p.1 (header_at p.1)
 

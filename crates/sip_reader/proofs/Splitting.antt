@@ -1,9 +1,8 @@
 -- Reading pieces one after the other, as a loop does.
-use Rattle.std.proofs.Common.{◌≡◌, ℕ, ◌==◌, Bool, true, false, cond, eqb, List, [], ◌∷◌, ◌++◌, Option, Some, None, refl, sym, ap, ◌∙◌, append_assoc}
+use Rattle.std.proofs.Common.{◌≡◌, ℕ, Bool, true, false, cond, List, [], ◌∷◌, ◌++◌, Option, Some, None, refl, sym, ap, ◌∙◌, append_assoc}
 use Rattle.std.specs.List.{slice_split, onto_first}
 use Rattle.std.specs.Option.{option_map}
-use Rattle.std.proofs.lemmas.List.{append-nil}
-use Rattle.sip_text.specs.Cut.{cut_where, cut_at}
+use Rattle.sip_text.specs.Cut.{cut_where}
 use Rattle.sip_reader.specs.Reading.{◌>>=◌, each}
 
 -- what was read before, and what is still read

@@ -1,3 +1,12 @@
+pub mod Lines
+pub mod StartLine
+pub mod HeaderLine
+pub mod Values
+pub mod HeaderSet
+pub mod NumberWords
+pub mod Spells
+pub mod Rules
+pub mod Faults
 pub mod Fields
 pub mod Reading
 pub mod Layout

@@ -1,5 +1,5 @@
 -- The numbers of a message (RFC 3261, sections 20.14, 20.16 and 20.42).
-use Rattle.std.specs.Prelude.{ℕ, ◌^◌, List, Option, Some, None, Result, Ok, Err, nat_lt, if◌then◌else◌}
+use Rattle.std.specs.Prelude.{ℕ, List, Option, Some, None, Result, Ok, Err, nat_lt, if◌then◌else◌}
 use Rattle.sip_text.specs.Number.{number_of}
 use Rattle.sip_text.specs.declared.fault.TextFault.{TextFault}
 use Rattle.sip_reader.specs.Reading.{◌>>=◌}

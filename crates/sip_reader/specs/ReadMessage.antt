@@ -15,17 +15,21 @@ use Rattle.sip_message.specs.declared.fault.ReadFault.{ReadFault}
 use Rattle.sip_message.specs.declared.fault.ReadFault.TheVariants as fault
 use Rattle.sip_reader.specs.declared.fields.Fields.{Fields}
 use Rattle.sip_reader.specs.declared.parts.Parts.{Parts}
-use Rattle.sip_reader.specs.declared.numbers.Numbers.{Numbers}
 use Rattle.sip_message.specs.declared.message.Message.{Message}
 use Rattle.sip_message.specs.Via.{are_vias}
-use Rattle.sip_reader.specs.Fields.{with_field}
+use Rattle.sip_reader.specs.Fields.{with_field, fault_in}
 pub use Rattle.sip_reader.specs.Fields.{no_fields}
 use Rattle.sip_reader.specs.Layout.{without_line_ends, header_at}
 use Rattle.sip_reader.specs.ReadStart.{start_at}
 use Rattle.sip_reader.specs.Reading as option
 use Rattle.sip_reader.specs.Reading.{field_at}
-use Rattle.sip_reader.specs.Parts.{◌>>=◌, parts_of}
+use Rattle.sip_reader.specs.Parts.{parts_of}
 use Rattle.sip_reader.specs.Numbers.{numbers_of}
+
+infixl 10 ◌>>=◌
+abbrev pub ◌>>=◌ : {A B : Type 0} → Result A ReadFault → (A → Result B ReadFault) → Result B ReadFault
+(Ok x) >>= f = f x
+(Err e) >>= f = Err e
 
 -- Reading tells this fault; want of memory may stand in place of anything.
 abbrev pub Fails : {Y : Type 0} → ReadFault → Result Y ReadFault → Type 0
@@ -97,12 +101,22 @@ message_of_parts line parts text = do
   body ← or_fault fault.Truncated (body_of text numbers.length)
   Ok (made start vias (parts.from, parts.to, parts.call_id, record { number = numbers.cseq; method = parts.cseq.method }) parts.others body)
 
+abbrev pub unless_fault : {A : Type 0} → Option ReadFault → Result A ReadFault → Result A ReadFault
+unless_fault (Some e) read = Err e
+unless_fault None read = read
+
+abbrev pub message_of_all : FirstLine → Option Parts → List ℕ → Result Message ReadFault
+message_of_all start None text = Err fault.BadHeader
+message_of_all start (Some parts) text = message_of_parts start parts text
+
+unfoldable pub message_of_fields : FirstLine → Fields → List ℕ → Result Message ReadFault
+message_of_fields start fields text = unless_fault (fault_in fields) (message_of_all start (parts_of fields) text)
+
 unfoldable pub message_of_lines : List ℕ → List (List ℕ) → List ℕ → Result Message ReadFault
 message_of_lines start_line lines text = do
   start ← or_fault fault.BadStartLine (start_at start_line)
   fields ← or_fault fault.BadHeader (fields_at lines)
-  parts ← parts_of fields
-  message_of_parts start parts text
+  message_of_fields start fields text
 
 -- a text that doesn't begin with a line end
 unfoldable pub message_in : List ℕ → Result Message ReadFault

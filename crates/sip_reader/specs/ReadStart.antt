@@ -1,6 +1,5 @@
 -- Reading a start line (RFC 3261, sections 7.1 and 7.2).
-use Rattle.std.specs.Prelude.{ℕ, Bool, List, [], ◌∷◌, Option, Some, None, Result, Ok, Err, ◌==◌, ◌&&◌, ◌||◌, nat_lt, take, drop, codes, if◌then◌else◌}
-use Rattle.std.specs.Str.{str_eq_ignore_ascii_case}
+use Rattle.std.specs.Prelude.{ℕ, List, [], ◌∷◌, Option, Some, None, Result, Ok, Err, ◌==◌, ◌&&◌, ◌||◌, nat_lt, take, drop, if◌then◌else◌}
 use Rattle.sip_text.specs.Cut.{cut_at}
 use Rattle.sip_text.specs.Token.{is_token}
 use Rattle.sip_text.specs.Number.{number_of}
@@ -8,11 +7,9 @@ use Rattle.sip_text.specs.declared.fault.TextFault.{TextFault}
 use Rattle.sip_parts.specs.Word.{is_word}
 use Rattle.sip_parts.specs.Reason.{is_reason}
 use Rattle.sip_reader.specs.Reading.{◌>>=◌}
+use Rattle.sip_reader.specs.StartLine.{is_version}
 use Rattle.sip_reader.specs.declared.first_line.FirstLine.{FirstLine}
 use Rattle.sip_reader.specs.declared.first_line.FirstLine.TheVariants as first
-
-abbrev pub is_version : List ℕ → Bool
-is_version text = str_eq_ignore_ascii_case text (codes "SIP/2.0")
 
 -- a URI, a space and the version
 unfoldable pub request_at : List ℕ → List ℕ → Option FirstLine

@@ -1,16 +1,15 @@
 -- Reading from left to right, a function for each piece. What is a message is said in the relations of Spells.
-use Rattle.std.specs.Prelude.{ℕ, ◌-◌, ◌&&◌, ◌==◌, Bool, true, false, not, List, [], ◌∷◌, ◌++◌, length, take, drop, Option, Some, None, codes, option_and_then, if◌then◌else◌}
+use Rattle.std.specs.Prelude.{ℕ, ◌-◌, ◌&&◌, ◌==◌, List, [], ◌∷◌, length, take, drop, Option, Some, None, codes, option_and_then, if◌then◌else◌}
 use Rattle.std.specs.List.{slice_split}
 use Rattle.std.specs.Prelude.{slice_index}
 use Rattle.std.specs.Option.{option_map}
-use Rattle.std.specs.Str.{str_eq_ignore_ascii_case, bytes_eq}
-use Rattle.sip_text.specs.Character.{is_blank, is_among}
-use Rattle.sip_text.specs.Token.{is_run, is_token}
+use Rattle.std.specs.Str.{str_eq_ignore_ascii_case}
+use Rattle.sip_text.specs.Character.{is_blank}
+use Rattle.sip_text.specs.Token.{is_token}
 use Rattle.sip_text.specs.Cut.{cut_where, cut_at}
 use Rattle.sip_text.specs.Trimmed.{trimmed, trimmed_start, trimmed_end}
 use Rattle.sip_parts.specs.declared.parameter.Parameter.{Parameter}
 use Rattle.sip_message.specs.declared.party.Party.{Party}
-use Rattle.sip_message.specs.declared.header.Header.{Header}
 use Rattle.sip_reader.specs.declared.via_words.ViaWords.{ViaWords}
 use Rattle.sip_reader.specs.declared.cseq_words.CSeqWords.{CSeqWords}
 use Rattle.sip_reader.specs.declared.field.Field.{Field}
@@ -23,6 +22,8 @@ use Rattle.sip_parts.specs.Uri.{is_uri}
 use Rattle.sip_parts.specs.Host.{is_host}
 use Rattle.sip_parts.specs.ParameterValue.{is_value_word}
 use Rattle.sip_parts.specs.Tag.{has_good_tag}
+use Rattle.sip_reader.specs.HeaderLine.{long_name}
+use Rattle.sip_reader.specs.Values.{is_port_word}
 
 infixl 10 ◌>>=◌
 abbrev pub ◌>>=◌ : {A B : Type 0} → Option A → (A → Option B) → Option B
@@ -61,13 +62,6 @@ parameters_after (b ∷ bs) = if b == 59 then parameters_at bs else None
 unfoldable pub transport_at : List ℕ → Option (List ℕ)
 transport_at text =
     if str_eq_ignore_ascii_case (take 8 text) (codes "SIP/2.0/") && is_token (drop 8 text) then Some (drop 8 text) else None
-
--- a byte of a word in the port's place
-unfoldable pub is_port_byte : ℕ → Bool
-is_port_byte b = not (is_among (codes " \t,\"") b)
-
-unfoldable pub is_port_word : List ℕ → Bool
-is_port_word text = is_run is_port_byte text
 
 -- nothing, or a colon and a word
 unfoldable pub port_after : List ℕ → Option (Option (List ℕ))
@@ -135,14 +129,6 @@ unfoldable pub other_at : List ℕ → List ℕ → Option Field
 other_at name value =
     if is_other_name name && is_header_value value then Some (field.Other (record { name = name; value = value })) else None
 
--- three compact names stand for the long ones of headers that stay as they stand
-unfoldable pub long_name : List ℕ → List ℕ
-long_name name =
-    if is_same_name name (codes "c") then codes "Content-Type"
-    else (if is_same_name name (codes "s") then codes "Subject"
-    else (if is_same_name name (codes "e") then codes "Content-Encoding"
-    else name))
-
 unfoldable pub named_at : List ℕ → List ℕ → Option Field
 named_at name value =
     if is_same_name name (codes "Via") then option_map field.Via (via_at value)
@@ -157,4 +143,4 @@ named_at name value =
 unfoldable pub field_at : List ℕ → Option Field
 field_at line = do
   p ← cut_at 58 line
-  if has_no_line_byte p.1 then named_at (trimmed_end p.0) (trimmed p.1) else None
+  if is_token (trimmed_end p.0) && has_no_line_byte p.1 then named_at (trimmed_end p.0) (trimmed p.1) else None

@@ -2,6 +2,7 @@
 ghost use Rattle.std.specs.Prelude.{◌≡◌, IfOk, codes};
 ghost use Rattle.std.specs.Option.{option_map};
 ghost use Rattle.sip_reader.specs.Reading as reading;
+ghost use Rattle.sip_reader.specs.HeaderLine.{long_name};
 ghost use Rattle.sip_reader.specs.declared.field.Field.TheVariants as field;
 
 use crate::cseq_words::CSeqWords;
@@ -13,7 +14,7 @@ use sip_parts::{
     CallId, HeaderValue, OtherName, PartyDisplay, PartyParameters, Token, Uri, has_no_line_byte,
     is_word,
 };
-use sip_text::{Text, cut, cut_blank, token_eq, trimmed, trimmed_end, trimmed_start};
+use sip_text::{Text, cut, cut_blank, is_token, token_eq, trimmed, trimmed_end, trimmed_start};
 use std::alloc::{AllocError, Global};
 
 /// What a header line says, or None where it isn't one.
@@ -24,10 +25,11 @@ pub(crate) fn field_of(alloc: Global, line: &[u8]) -> Result<Option<Field>, Allo
     let Some((name, value)) = cut(b':', line) else {
         return Ok(None);
     };
-    if !has_no_line_byte(value) {
+    let name = trimmed_end(name);
+    if !(is_token(name) && has_no_line_byte(value)) {
         return Ok(None);
     }
-    named_of(alloc, trimmed_end(name), trimmed(value))
+    named_of(alloc, name, trimmed(value))
 }
 
 #[tactic(auto, unfolding(crate::specs::Reading::named_at))]
@@ -52,9 +54,9 @@ fn named_of(alloc: Global, name: &[u8], value: &[u8]) -> Result<Option<Field>, A
 }
 
 /// The long name where the name is one of three compact names.
-#[tactic(auto, unfolding(crate::specs::Reading::long_name))]
+#[tactic(auto, unfolding(crate::specs::HeaderLine::long_name))]
 fn long_name(name: &[u8]) -> &[u8]
-    ensures { result.now ≡ reading.long_name name.now }
+    ensures { result.now ≡ long_name name.now }
 {
     if token_eq(name, b"c") {
         b"Content-Type"

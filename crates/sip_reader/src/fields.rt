@@ -1,11 +1,11 @@
 //! The header lines of a message, by header.
-ghost use Rattle.std.specs.Prelude.{◌≡◌, OnOk};
+ghost use Rattle.std.specs.Prelude.{◌≡◌, OnOk, IfNone};
 ghost use Rattle.sip_reader.specs.Fields as gathered;
 
 use crate::cseq_words::CSeqWords;
 use crate::field::Field;
 use crate::via_words::ViaWords;
-use sip_message::{Header, Party};
+use sip_message::{Header, Party, ReadFault};
 use sip_parts::{CallId, HeaderName};
 use sip_text::{Series, Text};
 use std::alloc::{AllocError, Global};
@@ -52,8 +52,45 @@ impl Fields {
         }
     }
 
+    /// Missing for the first header that isn't there, then Repeated for the first that is there twice.
+    #[tactic(auto, unfolding(crate::specs::Fields::fault_in))]
+    pub(crate) fn fault(&self) -> Option<ReadFault>
+        ensures first { result ≡ gathered.fault_in self.now }
+        ensures complete { IfNone result (gathered.IsComplete self.now) }
+    {
+        match self.missing() {
+            Some(header) => Some(ReadFault::Missing(header)),
+            None => match self.repeated() {
+                Some(header) => Some(ReadFault::Repeated(header)),
+                None => None,
+            },
+        }
+    }
+
+    /// The first header that each message has and that isn't there.
+    #[tactic(auto, unfolding(crate::specs::Fields::missing))]
+    fn missing(&self) -> Option<HeaderName>
+        ensures first { result ≡ gathered.missing self.now }
+        ensures complete { IfNone result (gathered.IsComplete self.now) }
+    {
+        if self.vias.is_empty() {
+            Some(HeaderName::Via)
+        } else if self.froms.is_empty() {
+            Some(HeaderName::From)
+        } else if self.tos.is_empty() {
+            Some(HeaderName::To)
+        } else if self.call_ids.is_empty() {
+            Some(HeaderName::CallId)
+        } else if self.cseqs.is_empty() {
+            Some(HeaderName::CSeq)
+        } else {
+            None
+        }
+    }
+
     /// The first header that stands at most once and is there twice.
-    pub(crate) fn repeated(&self) -> Option<HeaderName>
+    #[tactic(auto, unfolding(crate::specs::Fields::repeated))]
+    fn repeated(&self) -> Option<HeaderName>
         ensures { result ≡ gathered.repeated self.now }
     {
         if self.froms.len() > 1 {

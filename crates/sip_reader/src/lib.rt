@@ -6,13 +6,17 @@ mod field;
 mod field_reader;
 mod fields;
 mod first_line;
+mod laws;
 mod layout;
 mod numbers;
 mod parameter_reader;
 mod parts;
 mod reader;
 mod start_reader;
+#[cfg(test)]
+mod tests;
 mod via_reader;
 mod via_words;
 
+pub use laws::{one_message, written_is_spelled};
 pub use reader::{MAX_BYTES, read};

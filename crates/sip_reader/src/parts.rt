@@ -1,13 +1,14 @@
 //! The headers that a message has once, chosen from its header lines.
-ghost use Rattle.std.specs.Prelude.{◌≡◌};
+ghost use Rattle.std.specs.Prelude.{◌≡◌, ◌<◌, Some, length};
 ghost use Rattle.std.specs.List.{slice_get};
+ghost use Rattle.sip_reader.specs.Fields as gathered;
 ghost use Rattle.sip_reader.specs.Parts as parts;
 
 use crate::cseq_words::CSeqWords;
 use crate::fields::Fields;
 use crate::via_words::ViaWords;
-use sip_message::{Header, Party, ReadFault};
-use sip_parts::{CallId, HeaderName};
+use sip_message::{Header, Party};
+use sip_parts::CallId;
 use sip_text::{Series, Text};
 
 /// The headers of a message. Words in the place of numbers aren't read yet.
@@ -22,39 +23,29 @@ pub(crate) struct Parts {
     pub(crate) others: Series<Header>,
 }
 
-/// The headers of these fields: Missing for the first that isn't there, then Repeated for the first that is there twice.
+/// The headers of these fields, none of which is missing: the first value of each.
 #[tactic(auto, unfolding(crate::specs::Parts::parts_of))]
-pub(crate) fn parts_of(fields: Fields) -> Result<Parts, ReadFault>
-    ensures { result ≡ parts.parts_of fields }
+pub(crate) fn parts_of(fields: Fields) -> Parts
+    requires { gathered.IsComplete fields }
+    ensures { parts.parts_of fields ≡ Some result }
 {
-    let repeated = fields.repeated();
-    let via = needed(fields.vias, HeaderName::Via)?;
-    let from = needed(fields.froms, HeaderName::From)?;
-    let to = needed(fields.tos, HeaderName::To)?;
-    let call_id = needed(fields.call_ids, HeaderName::CallId)?;
-    let cseq = needed(fields.cseqs, HeaderName::CSeq)?;
-    let length = first(fields.lengths);
-    match repeated {
-        Some(header) => Err(ReadFault::Repeated(header)),
-        None => Ok(Parts {
-            via,
-            from,
-            to,
-            call_id,
-            cseq,
-            length,
-            others: fields.others,
-        }),
+    Parts {
+        via: needed(fields.vias),
+        from: needed(fields.froms),
+        to: needed(fields.tos),
+        call_id: needed(fields.call_ids),
+        cseq: needed(fields.cseqs),
+        length: first(fields.lengths),
+        others: fields.others,
     }
 }
 
-fn needed<T: Drop>(values: Series<T>, header: HeaderName) -> Result<T, ReadFault>
-    ensures { result ≡ parts.needed header values }
+/// The first value of a list that has one.
+fn needed<T: Drop>(values: Series<T>) -> T
+    requires { 0 < length values }
+    ensures { slice_get values 0 ≡ Some result }
 {
-    match first(values) {
-        Some(value) => Ok(value),
-        None => Err(ReadFault::Missing(header)),
-    }
+    values.into_vec().remove(0)
 }
 
 /// The first value of a list.

@@ -1,6 +1,9 @@
 //! Messages, read from their texts.
-ghost use Rattle.std.specs.Prelude.{◌≡◌, ◌++◌, ◌∷◌, [], IfOk, OnOk, map};
+ghost use Rattle.std.specs.Prelude.{◌≡◌, ◌++◌, ◌∷◌, [], IfOk, IfErr, OnOk, map};
+ghost use Rattle.sip_message.specs.declared.message.Message.{Message};
+ghost use Rattle.sip_reader.specs.Faults.{TellsFault};
 ghost use Rattle.sip_reader.specs.ReadMessage as reading;
+ghost use Rattle.sip_reader.specs.Spells.{Spells, Answers};
 
 use crate::field_reader::field_of;
 use crate::fields::Fields;
@@ -24,7 +27,18 @@ pub const MAX_BYTES: usize = 65_535;
 ///
 /// The first of the faults of `ReadFault` whose condition holds; NoMemory may stand in its place.
 pub fn read(alloc: Global, text: &[u8]) -> Result<Message, ReadFault>
-    ensures exact { reading.Gives result (reading.message_at text.now) }
+    // What is read is spelled by the text.
+    ensures found { IfOk result (λ message. Spells message text.now) }
+    // What the text spells is read, unless memory is refused.
+    ensures only { (message : Message) → Spells message text.now → Answers result message }
+    // A fault is the first whose condition holds.
+    ensures fault { IfErr result (λ fault. TellsFault fault text.now) }
+{
+    read_text(alloc, text)
+}
+
+fn read_text(alloc: Global, text: &[u8]) -> Result<Message, ReadFault>
+    ensures { reading.Gives result (reading.message_at text.now) }
 {
     if text.len() > MAX_BYTES {
         return Err(ReadFault::TooLong);
@@ -60,8 +74,22 @@ fn read_header(
     let Some(fields) = fields_of(alloc, lines)? else {
         return Err(ReadFault::BadHeader);
     };
-    let parts = parts_of(fields)?;
-    message_of(alloc, start, parts, body)
+    read_fields(alloc, start, fields, body)
+}
+
+#[tactic(auto, unfolding(crate::specs::ReadMessage::message_of_fields))]
+fn read_fields(
+    alloc: Global,
+    start: FirstLine,
+    fields: Fields,
+    body: &[u8],
+) -> Result<Message, ReadFault>
+    ensures { reading.Gives result (reading.message_of_fields start fields body.now) }
+{
+    if let Some(fault) = fields.fault() {
+        return Err(fault);
+    }
+    message_of(alloc, start, parts_of(fields), body)
 }
 
 /// What the header lines say. None where one isn't a header line, or there is a second Via.

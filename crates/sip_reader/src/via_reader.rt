@@ -3,6 +3,7 @@ ghost use Rattle.std.specs.Prelude.{◌≡◌, ◌≤◌, IfOk, length};
 ghost use Rattle.sip_text.specs.Cut.{cut_at};
 ghost use Rattle.std.specs.List.{list_all};
 ghost use Rattle.sip_reader.specs.Reading as reading;
+ghost use Rattle.sip_reader.specs.Values as values;
 
 use crate::parameter_reader::parameters_after;
 use crate::via_words::ViaWords;
@@ -110,9 +111,9 @@ fn port_after(alloc: Global, text: &[u8]) -> Result<Option<Option<Text>>, AllocE
     }
 }
 
-#[tactic(auto, unfolding(crate::specs::Reading::is_port_word))]
+#[tactic(auto, unfolding(crate::specs::Values::is_port_word))]
 fn is_port_word(text: &[u8]) -> bool
-    ensures { result ≡ reading.is_port_word text.now }
+    ensures { result ≡ values.is_port_word text.now }
 {
     match text {
         [] => false,
@@ -121,14 +122,14 @@ fn is_port_word(text: &[u8]) -> bool
 }
 
 fn each_is_port_byte(text: &[u8]) -> bool
-    ensures { result ≡ list_all reading.is_port_byte text.now }
+    ensures { result ≡ list_all values.is_port_byte text.now }
 {
     text.iter().all(|byte| is_port_byte(*byte))
 }
 
-#[tactic(auto, unfolding(crate::specs::Reading::is_port_byte))]
+#[tactic(auto, unfolding(crate::specs::Values::is_port_byte))]
 fn is_port_byte(byte: u8) -> bool
-    ensures { result ≡ reading.is_port_byte byte }
+    ensures { result ≡ values.is_port_byte byte }
 {
-    !matches!(byte, b' ' | b'\t' | b',' | b'"')
+    !matches!(byte, b' ' | b'\t' | b';' | b',' | b'"')
 }

@@ -1,4 +1,4 @@
-use Rattle.std.proofs.Common.{◌≡◌, ◌==◌, sym, ◌∙◌, Some, None}
+use Rattle.std.proofs.Common.{◌==◌, sym, ◌∙◌}
 use Rattle.sip_reader.specs.Reading.{parameter_at, parameters_at}
 use Rattle.sip_reader.proofs.Splitting.{piece_fails, piece_read, last_fails, last_read}
 use Rattle.sip_reader.proofs.parameter_reader.parameters_of.Goals as goal

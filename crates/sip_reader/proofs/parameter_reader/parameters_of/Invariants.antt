@@ -1,4 +1,4 @@
-use Rattle.std.proofs.Common.{◌≡◌, ◌++◌, ◌==◌, length}
+use Rattle.std.proofs.Common.{◌≡◌, ◌==◌, length}
 use Rattle.std.specs.List.{slice_split}
 use Rattle.sip_reader.specs.Reading.{each, parameter_at}
 use Rattle.sip_reader.proofs.Splitting.{onto}

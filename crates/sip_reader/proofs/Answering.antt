@@ -1,0 +1,47 @@
+-- What reading gives, as an answer about the text.
+use Rattle.std.proofs.Common.{ℕ, List, Result, Ok, Err, sym, subst}
+use Rattle.std.specs.Prelude.{IfOk, IfErr}
+use Rattle.sip_message.specs.declared.fault.ReadFault.{ReadFault}
+use Rattle.sip_message.specs.declared.fault.ReadFault.TheVariants as fault
+use Rattle.sip_message.specs.declared.message.Message.{Message}
+use Rattle.sip_reader.specs.Faults.{TellsFault}
+use Rattle.sip_reader.specs.ReadMessage.{Gives, Fails, message_at}
+use Rattle.sip_reader.specs.Spells.{Spells, Answers}
+use Rattle.sip_reader.proofs.LineFaults.{first_told}
+use Rattle.sip_reader.proofs.Outcomes.{same_Ok}
+use Rattle.sip_reader.proofs.Spelled.{spelled_takes, spelled_again}
+
+pub is_found : (text : List ℕ) (r : Result Message ReadFault) → Gives r (message_at text) → IfOk r (λ m. Spells m text)
+is_found text (Ok m) given = spelled_takes text m given
+is_found text (Err e) given = tt
+
+-- a fault in the place of a message is want of memory
+not_failed : (e : ReadFault) (m : Message) → Fails e (Ok m) → Answers (Err e) m
+not_failed fault.NoMemory m given = tt
+not_failed e m given = absurd cc
+
+answered : (r : Result Message ReadFault) (m : Message) → Gives r (Ok m) → Answers r m
+answered (Ok read) m given = sym (same_Ok m read given)
+answered (Err e) m given = not_failed e m given
+
+pub is_only : (text : List ℕ) (r : Result Message ReadFault) → Gives r (message_at text) → (m : Message) → Spells m text → Answers r m
+is_only text r given m spelled =
+    answered r m (subst (λ (read : Result Message ReadFault). Gives r read) (spelled_again text m spelled) given)
+
+-- a fault that was told, want of memory aside, is the first
+failed : (text : List ℕ) (e : ReadFault) → Fails e (message_at text) → TellsFault e text
+failed text fault.NoMemory given = tt
+failed text fault.TooLong given = first_told text fault.TooLong given
+failed text fault.NoEmptyLine given = first_told text fault.NoEmptyLine given
+failed text fault.BadStartLine given = first_told text fault.BadStartLine given
+failed text fault.BadHeader given = first_told text fault.BadHeader given
+failed text (fault.Missing header) given = first_told text (fault.Missing header) given
+failed text (fault.Repeated header) given = first_told text (fault.Repeated header) given
+failed text fault.BadNumber given = first_told text fault.BadNumber given
+failed text fault.OldBranch given = first_told text fault.OldBranch given
+failed text fault.MethodMismatch given = first_told text fault.MethodMismatch given
+failed text fault.Truncated given = first_told text fault.Truncated given
+
+pub is_fault : (text : List ℕ) (r : Result Message ReadFault) → Gives r (message_at text) → IfErr r (λ e. TellsFault e text)
+is_fault text (Ok m) given = tt
+is_fault text (Err e) given = failed text e given

@@ -1,0 +1,7 @@
+use Rattle.std.proofs.Common.{sym, ◌∙◌}
+use Rattle.sip_reader.proofs.Outcomes.{same_Ok}
+use Rattle.sip_reader.proofs.Spelled.{spelled_again}
+use Rattle.sip_reader.proofs.laws.one_message.Goals as goal
+
+pub returns : goal.returns
+returns c = λ text m n one other. same_Ok m n (sym (spelled_again text m one) ∙ spelled_again text n other)

@@ -1,0 +1,5 @@
+use Rattle.sip_reader.proofs.RoundTrip.{written_spelled}
+use Rattle.sip_reader.proofs.laws.written_is_spelled.Goals as goal
+
+pub returns : goal.returns
+returns c = written_spelled
