@@ -3,12 +3,10 @@
 ghost use Rattle.std.specs.Prelude.{◌≡◌, ◌+◌, ◌≤◌, ◌^◌, IfSome, OnErr, OnOk, Some, None, Err, [], false, true, length};
 
 use crate::arrival::arrivals_of;
-use crate::config::Config;
-use crate::output::Output;
 use crate::phases::{feed_arrivals, feed_commands, feed_items};
-use crate::round::Round;
 use crate::round_fault::RoundFault;
 use sip_calls::CallShard;
+use sip_files::{Config, Output, Round};
 use sip_model::ShardFault;
 use sip_transactions::Shard;
 use std::alloc::Global;

@@ -2,7 +2,7 @@
 
 ghost use Rattle.std.specs.Prelude.{◌≡◌, IfOk, length, vec_len};
 
-use crate::round::Event;
+use sip_files::Event;
 use sip_message::{Addr, Key, Message, ReadFault, stamp_source};
 use sip_reader::read;
 use sip_served::UserCommand;

@@ -3,8 +3,8 @@
 ghost use Rattle.std.specs.Prelude.{◌≤◌, ◌^◌, vec_len};
 
 use crate::arrival::Arrival;
-use crate::output::Output;
 use sip_calls::CallShard;
+use sip_files::Output;
 use sip_message::Id;
 use sip_model::ShardFault;
 use sip_served::{CallOut, Item};

@@ -1,10 +1,8 @@
 //! A run: all rounds of one agent.
 
 use crate::agent::Agent;
-use crate::config::Config;
-use crate::output::Output;
-use crate::round::Round;
 use crate::round_fault::RoundFault;
+use sip_files::{Config, Output, Round};
 use std::alloc::{AllocError, Global};
 
 /// The outputs of each round, from an agent that begins with this configuration.

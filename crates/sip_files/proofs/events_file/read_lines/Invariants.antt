@@ -1,5 +1,5 @@
 use Rattle.std.proofs.Common.{ℕ, ◌+◌, ◌≤◌, length}
-use Rattle.sip_round.proofs.events_file.read_lines.Given as goal
+use Rattle.sip_files.proofs.events_file.read_lines.Given as goal
 
 -- each line takes at least one byte, so the number of lines is bounded by that of bytes
 abbrev pub invariant-loop-left : goal.invariant-loop-left
