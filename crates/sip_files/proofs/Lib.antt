@@ -1,1 +1,6 @@
 pub mod Lines
+pub mod Options
+pub mod Hex
+pub mod Escapes
+pub mod Pairs
+pub mod WordLaws

@@ -4,6 +4,7 @@
 mod config;
 mod event_line;
 mod events_file;
+pub mod laws;
 mod numbers;
 mod output;
 mod outputs_file;

@@ -1,0 +1,5 @@
+pub mod Word
+pub mod Form
+pub mod Field
+pub mod Outputs
+pub mod Reading

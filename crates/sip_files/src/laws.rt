@@ -1,0 +1,14 @@
+//! Laws of the files' spellings. Each is proved by its contract alone, and calling one does nothing.
+
+ghost use Rattle.std.specs.Prelude.{◌≡◌, ℕ, List, IsTrue};
+ghost use Rattle.sip_files.specs.Word.{are_bytes, spelled_rest, spelled_word};
+
+/// The words of two different texts differ.
+pub fn one_text_of_a_word()
+    ensures { (text other : List ℕ) → IsTrue (are_bytes text) → IsTrue (are_bytes other) → spelled_word text ≡ spelled_word other → text ≡ other }
+{}
+
+/// The rests of two different texts differ.
+pub fn one_text_of_a_rest()
+    ensures { (text other : List ℕ) → IsTrue (are_bytes text) → IsTrue (are_bytes other) → spelled_rest text ≡ spelled_rest other → text ≡ other }
+{}
