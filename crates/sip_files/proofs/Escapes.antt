@@ -27,15 +27,15 @@ plain_or_space_sound = record { backslash = refl; small = λ b h. grind (arith, 
 
 -- ---- a spelling by its case
 
-spelled_itself : (t : ℕ → Bool) (b : ℕ) → t b ≡ true → spelled_byte t b ≡ b ∷ []
+pub spelled_itself : (t : ℕ → Bool) (b : ℕ) → t b ≡ true → spelled_byte t b ≡ b ∷ []
 unfolding spelled_byte
 spelled_itself t b h = ap (λ r. cond r (b ∷ []) (escape_with b (letter_of b))) h
 
-spelled_letter : (t : ℕ → Bool) (b l : ℕ) → t b ≡ false → letter_of b ≡ Some l → spelled_byte t b ≡ 92 ∷ l ∷ []
+pub spelled_letter : (t : ℕ → Bool) (b l : ℕ) → t b ≡ false → letter_of b ≡ Some l → spelled_byte t b ≡ 92 ∷ l ∷ []
 unfolding spelled_byte
 spelled_letter t b l h g = ap (λ r. cond r (b ∷ []) (escape_with b (letter_of b))) h ∙ ap (escape_with b) g
 
-spelled_hex : (t : ℕ → Bool) (b : ℕ) → t b ≡ false → letter_of b ≡ None → spelled_byte t b ≡ 92 ∷ 120 ∷ hex_pair b
+pub spelled_hex : (t : ℕ → Bool) (b : ℕ) → t b ≡ false → letter_of b ≡ None → spelled_byte t b ≡ 92 ∷ 120 ∷ hex_pair b
 unfolding spelled_byte
 spelled_hex t b h g = ap (λ r. cond r (b ∷ []) (escape_with b (letter_of b))) h ∙ ap (escape_with b) g
 

@@ -4,3 +4,7 @@ pub mod Hex
 pub mod Escapes
 pub mod Pairs
 pub mod WordLaws
+pub mod Cuts
+pub mod Shown
+pub mod NumberLaws
+pub mod LineLaws

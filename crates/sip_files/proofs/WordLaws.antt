@@ -53,21 +53,21 @@ rest_again text fits = bytes_again is_plain_or_space text plain_or_space_sound f
 
 -- ---- words
 
-abbrev hyphen : List ℕ
+abbrev pub hyphen : List ℕ
 hyphen = codes "-"
 
-abbrev escaped_hyphen : List ℕ
+abbrev pub escaped_hyphen : List ℕ
 escaped_hyphen = codes "\\x2d"
 
 -- how the word of a text is made
-abbrev word_by : Bool → Bool → List ℕ → List ℕ
+abbrev pub word_by : Bool → Bool → List ℕ → List ℕ
 word_by empty is_hyphen text = cond empty hyphen (cond is_hyphen escaped_hyphen (spelled_bytes is_plain text))
 
 -- how a word is read
 abbrev read_by : Bool → Bool → Bool → List ℕ → Option (List ℕ)
 read_by empty is_hyphen is_escaped field = cond empty None (cond is_hyphen (Some []) (cond is_escaped (Some hyphen) (bytes_at is_plain field)))
 
-word_is : (text : List ℕ) (empty is_hyphen : Bool) → eqb (length text) 0 ≡ empty → bytes_eq text hyphen ≡ is_hyphen → spelled_word text ≡ word_by empty is_hyphen text
+pub word_is : (text : List ℕ) (empty is_hyphen : Bool) → eqb (length text) 0 ≡ empty → bytes_eq text hyphen ≡ is_hyphen → spelled_word text ≡ word_by empty is_hyphen text
 unfolding spelled_word
 word_is text empty is_hyphen e h = ap (λ r. word_by r (bytes_eq text hyphen) text) e ∙ ap (λ r. word_by empty r text) h
 
