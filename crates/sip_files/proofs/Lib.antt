@@ -1,4 +1,3 @@
-pub mod Lines
 pub mod Options
 pub mod Hex
 pub mod Escapes
@@ -8,3 +7,5 @@ pub mod Cuts
 pub mod Shown
 pub mod NumberLaws
 pub mod LineLaws
+pub mod Drafts
+pub mod Files

@@ -5,3 +5,6 @@ pub mod Outputs
 pub mod Events
 pub mod Reading
 pub mod ReadLine
+pub mod EventFile
+pub mod Drafting
+pub mod Lines

@@ -2,7 +2,9 @@
 #![tactic(auto)]
 
 mod config;
+mod draft;
 mod event_line;
+mod events_fault;
 mod events_file;
 pub mod laws;
 mod numbers;
@@ -12,7 +14,8 @@ mod round;
 mod words;
 
 pub use config::Config;
-pub use events_file::{EventsFault, MAX_EVENTS, read_events};
+pub use events_fault::EventsFault;
+pub use events_file::{MAX_EVENTS, read_events};
 pub use output::Output;
 pub use outputs_file::write_outputs;
 pub use round::{Event, Round};
