@@ -22,8 +22,8 @@ use Rattle.sip_transactions.specs.Machine.{transaction_machine}
 use Rattle.sip_transactions.specs.Shard.{Lives, is_stray, receipt, failure}
 use Rattle.sip_round.specs.declared.arrival.Arrival.{Arrival}
 use Rattle.sip_round.specs.declared.arrival.Arrival.TheVariants as arrival
-use Rattle.sip_round.specs.declared.output.Output.{Output}
-use Rattle.sip_round.specs.declared.output.Output.TheVariants as output
+use Rattle.sip_files.specs.declared.output.Output.{Output}
+use Rattle.sip_files.specs.declared.output.Output.TheVariants as output
 use Rattle.sip_round.specs.Feeding.{Feeds, HoldsLives}
 use Rattle.sip_round.specs.Inputs.{Inputs, with_input, added_by}
 use Rattle.sip_round.specs.Phases.{sent_of, raised_of, with_arrival, added_by_arrival, items_of_arrival}

@@ -9,9 +9,9 @@ use Rattle.sip_served.specs.declared.item.CallOut.{CallOut}
 use Rattle.sip_served.specs.declared.item.Item.{Item}
 use Rattle.sip_calls.specs.declared.calls.CallInput.{CallInput}
 use Rattle.sip_calls.specs.CallShard.{call_cmp}
-use Rattle.sip_round.specs.declared.config.Config.{Config}
-use Rattle.sip_round.specs.declared.output.Output.{Output}
-use Rattle.sip_round.specs.declared.round.Round.{Round}
+use Rattle.sip_files.specs.declared.config.Config.{Config}
+use Rattle.sip_files.specs.declared.output.Output.{Output}
+use Rattle.sip_files.specs.declared.round.Round.{Round}
 use Rattle.sip_calls.specs.CallShard.{HeldCalls}
 use Rattle.sip_calls.specs.declared.calls.Calls.{Calls}
 use Rattle.sip_message.specs.declared.addr.Addr.{Addr}

@@ -1,4 +1,3 @@
-pub mod Lines
 pub mod Inputs
 pub mod Feeding
 pub mod Arriving

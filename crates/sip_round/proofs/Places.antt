@@ -3,7 +3,7 @@ use Rattle.std.proofs.Common.{◌≡◌, ℕ, suc, ◌+◌, ◌<◌, List, [], �
 use Rattle.std.proofs.Math.Seq.{drop-cons}
 use Rattle.sip_message.specs.declared.id.Id.{Id}
 use Rattle.sip_round.specs.declared.arrival.Arrival.{Arrival}
-use Rattle.sip_round.specs.declared.round.Event.{Event}
+use Rattle.sip_files.specs.declared.round.Event.{Event}
 use Rattle.sip_round.specs.Arrivals.{arrival_of, arrivals_from}
 
 one_more : (n : ℕ) → suc n ≡ n + 1

@@ -5,9 +5,9 @@ use Rattle.std.proofs.Math.Seq.{take-suc, drop-cons}
 use Rattle.std.specs.Prelude.{Option, None, Some, IfSome, Result, Ok, Err, OnErr, ◌⊎◌}
 use Rattle.sip_calls.specs.Call.{call_machine}
 use Rattle.sip_transactions.specs.Machine.{transaction_machine}
-use Rattle.sip_round.specs.declared.config.Config.{Config}
-use Rattle.sip_round.specs.declared.output.Output.{Output}
-use Rattle.sip_round.specs.declared.round.Round.{Round}
+use Rattle.sip_files.specs.declared.config.Config.{Config}
+use Rattle.sip_files.specs.declared.output.Output.{Output}
+use Rattle.sip_files.specs.declared.round.Round.{Round}
 use Rattle.sip_round.specs.declared.round_fault.RoundFault.{RoundFault}
 use Rattle.sip_round.specs.declared.round_fault.RoundFault.TheVariants.{Broken, NoMemory}
 use Rattle.sip_round.specs.AgentState.{AgentState, round_fault, refusal_of}

@@ -4,7 +4,7 @@ use Rattle.sip_calls.specs.CallShard.{HeldCalls}
 use Rattle.sip_transactions.specs.Shard.{Lives}
 use Rattle.sip_round.specs.declared.round_fault.RoundFault.{RoundFault}
 use Rattle.sip_round.specs.declared.round_fault.RoundFault.TheVariants.{Broken, MomentBackwards, MomentTooLarge, TooManyEvents, RoundsUsedUp}
-use Rattle.sip_round.specs.declared.round.Round.{Round}
+use Rattle.sip_files.specs.declared.round.Round.{Round}
 
 -- the number of the next round, the moment of the last one, and what is held
 pub record AgentState : Type 0 where

@@ -11,9 +11,9 @@ use Rattle.sip_calls.specs.declared.calls.Calls.{Calls}
 use Rattle.sip_calls.specs.declared.calls.CallInput.{CallInput}
 use Rattle.sip_calls.specs.CallShard.{call_cmp}
 use Rattle.sip_round.specs.declared.arrival.Arrival.{Arrival}
-use Rattle.sip_round.specs.declared.config.Config.{Config}
-use Rattle.sip_round.specs.declared.output.Output.{Output}
-use Rattle.sip_round.specs.declared.round.Round.{Round}
+use Rattle.sip_files.specs.declared.config.Config.{Config}
+use Rattle.sip_files.specs.declared.output.Output.{Output}
+use Rattle.sip_files.specs.declared.round.Round.{Round}
 use Rattle.sip_round.specs.declared.round_fault.RoundFault.{RoundFault}
 use Rattle.sip_round.specs.declared.round_fault.RoundFault.TheVariants.{MomentBackwards, MomentTooLarge, TooManyEvents, RoundsUsedUp}
 use Rattle.sip_round.specs.AgentState.{AgentState, round_fault}

@@ -7,8 +7,8 @@ use Rattle.sip_message.specs.declared.fault.ReadFault.{ReadFault}
 use Rattle.sip_message.specs.Message.{is_request_message}
 use Rattle.sip_message.specs.Source.{stamped, answer_address}
 use Rattle.sip_reader.specs.ReadMessage.{message_at}
-use Rattle.sip_round.specs.declared.round.Event.{Event}
-use Rattle.sip_round.specs.declared.round.Event.TheVariants as event
+use Rattle.sip_files.specs.declared.round.Event.{Event}
+use Rattle.sip_files.specs.declared.round.Event.TheVariants as event
 use Rattle.sip_round.specs.declared.arrival.Arrival.{Arrival}
 use Rattle.sip_round.specs.declared.arrival.Arrival.TheVariants as arrival
 

@@ -3,12 +3,10 @@
 ghost use Rattle.std.specs.Prelude.{◌≡◌, ◌+◌, ◌++◌, ◌∷◌, ◌≤◌, ◌^◌, IfOk, IfSome, OnErr, OnOk, Some, None, Err, List, [], false, true, length};
 
 use crate::arrival::arrivals_of;
-use crate::config::Config;
-use crate::output::Output;
 use crate::phases::{first_phase, second_phase, third_phase};
-use crate::round::Round;
 use crate::round_fault::RoundFault;
 use sip_calls::CallShard;
+use sip_files::{Config, Output, Round};
 use sip_model::ShardFault;
 use sip_transactions::Shard;
 use std::alloc::Global;
@@ -50,8 +48,8 @@ impl Model for Agent {
 impl Agent {
     ghost use Rattle.sip_round.specs.AgentState.{refusal_of};
     ghost use Rattle.sip_round.specs.Answers.{Deals, StandsFor, answers};
-    ghost use Rattle.sip_round.specs.declared.config.Config.{Config};
-    ghost use Rattle.sip_round.specs.declared.round.Round.{Round};
+    ghost use Rattle.sip_files.specs.declared.config.Config.{Config};
+    ghost use Rattle.sip_files.specs.declared.round.Round.{Round};
 
     /// An agent before its first round. Takes no memory.
     pub fn new(alloc: Global, config: Config) -> Agent

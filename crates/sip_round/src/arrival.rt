@@ -4,7 +4,7 @@ ghost use Rattle.std.specs.Prelude.{◌≡◌, ◌≤◌, IfOk, length};
 ghost use Rattle.sip_reader.specs.ReadMessage.{message_at};
 ghost use Rattle.sip_round.specs.Arrivals as arrivals;
 
-use crate::round::Event;
+use sip_files::Event;
 use sip_message::{Addr, Id, Key, Message, ReadFault, stamp_source};
 use sip_reader::read;
 use sip_served::UserCommand;

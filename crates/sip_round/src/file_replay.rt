@@ -1,11 +1,8 @@
 //! Replays: an event file in, its output file out.
 
-use crate::events_file::{EventsFault, MAX_EVENTS, read_events};
-use crate::output::Output;
-use crate::outputs_file::write_outputs;
-use crate::round::Round;
 use crate::round_fault::RoundFault;
 use crate::whole_run::run;
+use sip_files::{EventsFault, MAX_EVENTS, Output, Round, read_events, write_outputs};
 use std::alloc::{AllocError, Global};
 use std::error::Error;
 use std::fmt;

@@ -6,8 +6,8 @@ ghost use Rattle.sip_round.specs.Feeding.{Feeds, HoldsLives, HoldsCalls};
 ghost use Rattle.sip_round.specs.Phases as phase;
 
 use crate::arrival::Arrival;
-use crate::output::Output;
 use sip_calls::CallShard;
+use sip_files::Output;
 use sip_message::Id;
 use sip_model::ShardFault;
 use sip_served::{CallOut, Item};

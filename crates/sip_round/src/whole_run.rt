@@ -5,10 +5,8 @@ ghost use Rattle.sip_round.specs.Answers as answers;
 ghost use Rattle.sip_round.specs.declared.round_fault.RoundFault.TheVariants as round_fault;
 
 use crate::agent::Agent;
-use crate::config::Config;
-use crate::output::Output;
-use crate::round::Round;
 use crate::round_fault::RoundFault;
+use sip_files::{Config, Output, Round};
 use std::alloc::{AllocError, Global};
 
 /// The outputs of each round, from an agent that begins with this configuration.

@@ -1,0 +1,11 @@
+pub mod Options
+pub mod Hex
+pub mod Escapes
+pub mod Pairs
+pub mod WordLaws
+pub mod Cuts
+pub mod Shown
+pub mod NumberLaws
+pub mod LineLaws
+pub mod Drafts
+pub mod Files

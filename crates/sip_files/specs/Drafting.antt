@@ -1,0 +1,72 @@
+-- Reading the lines of an event file one after the other, each where it may stand.
+use Rattle.std.specs.Prelude.{ℕ, Bool, true, false, List, [], ◌∷◌, ◌++◌, Option, Some, None, replicate}
+use Rattle.std.specs.Option.{option_map}
+use Rattle.sip_message.specs.declared.addr.Addr.{Addr}
+use Rattle.sip_files.specs.declared.round.Event.{Event}
+use Rattle.sip_files.specs.declared.round.Round.{Round}
+use Rattle.sip_files.specs.declared.event_line.EventLine.{EventLine}
+use Rattle.sip_files.specs.declared.event_line.EventLine.TheVariants as line
+use Rattle.sip_files.specs.declared.draft.Stage.{Stage}
+use Rattle.sip_files.specs.declared.draft.Stage.TheVariants as stage
+use Rattle.sip_files.specs.declared.draft.Draft.{Draft}
+use Rattle.sip_files.specs.Reading.{◌>>=◌}
+
+abbrev pub nothing_read : Draft
+nothing_read = record {
+  config = record { local = record { ip = replicate 4 0; port = 0 }; seed = replicate 32 0; first = 0 };
+  stage = stage.Local;
+  rounds = [];
+}
+
+abbrev pub is_begun : Stage → Bool
+is_begun stage.Local = false
+is_begun stage.Seed = true
+is_begun stage.First = true
+is_begun stage.Rounds = true
+
+abbrev pub local_taken : Stage → Draft → Addr → Option Draft
+local_taken stage.Local draft local = Some (record draft { config = record draft.config { local = local }; stage = stage.Seed })
+local_taken stage.Seed draft local = None
+local_taken stage.First draft local = None
+local_taken stage.Rounds draft local = None
+
+abbrev pub seed_taken : Stage → Draft → List ℕ → Option Draft
+seed_taken stage.Local draft seed = None
+seed_taken stage.Seed draft seed = Some (record draft { config = record draft.config { seed = seed }; stage = stage.First })
+seed_taken stage.First draft seed = None
+seed_taken stage.Rounds draft seed = None
+
+abbrev pub first_taken : Stage → Draft → ℕ → Option Draft
+first_taken stage.Local draft number = None
+first_taken stage.Seed draft number = Some (record draft { config = record draft.config { first = number }; stage = stage.Rounds })
+first_taken stage.First draft number = Some (record draft { config = record draft.config { first = number }; stage = stage.Rounds })
+first_taken stage.Rounds draft number = None
+
+abbrev pub begun_round : Draft → ℕ → Draft
+begun_round draft moment = record draft { stage = stage.Rounds; rounds = draft.rounds ++ (record { moment = moment; events = [] }) ∷ [] }
+
+abbrev pub round_taken : Stage → Draft → ℕ → Option Draft
+round_taken stage.Local draft moment = None
+round_taken stage.Seed draft moment = Some (begun_round draft moment)
+round_taken stage.First draft moment = Some (begun_round draft moment)
+round_taken stage.Rounds draft moment = Some (begun_round draft moment)
+
+-- the last round gets the event
+abbrev pub with_event : List Round → Event → Option (List Round)
+with_event [] event = None
+with_event (round ∷ []) event = Some ((record round { events = round.events ++ event ∷ [] }) ∷ [])
+with_event (round ∷ next ∷ rounds) event = option_map (λ rounds. round ∷ rounds) (with_event (next ∷ rounds) event)
+
+abbrev pub event_taken : Draft → Event → Option Draft
+event_taken draft event = option_map (λ rounds. record draft { rounds = rounds }) (with_event draft.rounds event)
+
+abbrev pub taken : Draft → EventLine → Option Draft
+taken draft (line.Local local) = local_taken draft.stage draft local
+taken draft (line.Seed seed) = seed_taken draft.stage draft seed
+taken draft (line.First number) = first_taken draft.stage draft number
+taken draft (line.Round moment) = round_taken draft.stage draft moment
+taken draft (line.Event event) = event_taken draft event
+
+unfoldable pub drafted : Draft → List EventLine → Option Draft
+drafted draft [] = Some draft
+drafted draft (next ∷ lines) = taken draft next >>= λ more. drafted more lines

@@ -1,0 +1,95 @@
+-- The event file, version 1: the text of a configuration and rounds, and when a text is none.
+use Rattle.std.specs.Prelude.{◌≡◌, ℕ, ◌+◌, ◌≤◌, ◌<◌, ◌^◌, List, [], ◌∷◌, ◌++◌, length, map, Option, Some, None, Result, IsTrue, MatchResult, codes, unwrap_or, replicate, not, ◌==◌, ◌⊎◌}
+use Rattle.std.specs.List.{flat_map, list_all, AllByRecursion}
+use Rattle.sip_message.specs.declared.addr.Addr.{Addr}
+use Rattle.sip_files.specs.declared.config.Config.{Config}
+use Rattle.sip_files.specs.declared.round.Round.{Round}
+use Rattle.sip_files.specs.declared.event_line.EventLine.{EventLine}
+use Rattle.sip_files.specs.declared.event_line.EventLine.TheVariants as line
+use Rattle.sip_files.specs.declared.events_fault.EventsFault.{EventsFault}
+use Rattle.sip_files.specs.declared.events_fault.EventsFault.TheVariants.{TooLong, BadVersion, BadLine, NoMemory}
+use Rattle.sip_files.specs.Events.{line_text, IsLine}
+
+-- ---- the lines of a file
+
+-- what the lines before the rounds say; the seed and the first number may be left out
+pub record Head : Type 0 where
+  pub local : Addr
+  pub seed : Option (List ℕ)
+  pub first : Option ℕ
+
+-- a seed that is left out is all zeros, and a first number that is left out is 0
+abbrev pub config_of : Head → Config
+config_of head = record { local = head.local; seed = unwrap_or head.seed (replicate 32 0); first = unwrap_or head.first 0 }
+
+abbrev pub seed_lines : Option (List ℕ) → List EventLine
+seed_lines None = []
+seed_lines (Some seed) = line.Seed seed ∷ []
+
+abbrev pub first_lines : Option ℕ → List EventLine
+first_lines None = []
+first_lines (Some number) = line.First number ∷ []
+
+abbrev pub head_lines : Head → List EventLine
+head_lines head = line.Local head.local ∷ (seed_lines head.seed ++ first_lines head.first)
+
+abbrev pub round_lines : Round → List EventLine
+round_lines round = line.Round round.moment ∷ map line.Event round.events
+
+-- the lines after that of the version
+abbrev pub file_lines : Head → List Round → List EventLine
+file_lines head rounds = head_lines head ++ flat_map round_lines rounds
+
+-- ---- the text
+
+-- each line with its end
+abbrev pub with_ends : List (List ℕ) → List ℕ
+with_ends lines = flat_map (λ text. text ++ 10 ∷ []) lines
+
+abbrev pub version_line : List ℕ
+version_line = codes "sip-events 1"
+
+abbrev pub file_text : List EventLine → List ℕ
+file_text lines = with_ends (version_line ∷ map line_text lines)
+
+-- the text is that of the configuration and the rounds, for some choice of the optional lines
+pub record SpellsEvents (config : Config) (rounds : List Round) (text : List ℕ) : Type 0 where
+  pub head : Head
+  pub configured : config_of head ≡ config
+  pub fits : AllByRecursion IsLine (file_lines head rounds)
+  pub spelled : text ≡ file_text (file_lines head rounds)
+
+-- ---- the faults
+
+-- the text is how some event file begins
+abbrev pub IsBegun : List ℕ → Type 0
+IsBegun text = (rest : List ℕ) × (config : Config) × (rounds : List Round) × SpellsEvents config rounds (text ++ rest)
+
+abbrev pub IsOneLine : List ℕ → Type 0
+IsOneLine text = IsTrue (list_all (λ b. not (b == 10)) text)
+
+-- The lines before that of this number are how some event file begins. With the line of this number they are not; or there is no
+-- such line, since the text ends there or the line has no end.
+pub record IsBadLine (number : ℕ) (text : List ℕ) : Type 0 where
+  pub before : List (List ℕ)
+  pub left : List ℕ
+  pub parts : text ≡ with_ends before ++ left
+  pub one_each : AllByRecursion IsOneLine before
+  pub counted : number ≡ length before + 1
+  pub begun : IsBegun (with_ends before)
+  pub stuck : (next after : List ℕ) → left ≡ next ++ 10 ∷ after → IsOneLine next → ¬ (IsBegun (with_ends (before ++ next ∷ [])))
+
+-- the first line is that of the version
+abbrev pub HasVersion : List ℕ → Type 0
+HasVersion text = (text ≡ version_line) ⊎ ((after : List ℕ) × (text ≡ version_line ++ 10 ∷ after))
+
+-- which fault it is: the first that fits; for want of memory nothing is said
+abbrev pub TellsFault : EventsFault → List ℕ → Type 0
+TellsFault TooLong text = 2 ^ 26 < length text
+TellsFault BadVersion text = (length text ≤ 2 ^ 26) × ¬ (HasVersion text)
+TellsFault (BadLine number) text = (length text ≤ 2 ^ 26) × HasVersion text × IsBadLine number text
+TellsFault NoMemory text = Unit {0}
+
+-- the answer is this one, unless memory ran out
+abbrev pub Answers : Config → List Round → Result (Config × List Round) EventsFault → Type 0
+Answers config rounds result = MatchResult result (λ read. (read.0 ≡ config) × (read.1 ≡ rounds)) (λ fault. fault ≡ NoMemory)

@@ -1,0 +1,10 @@
+pub mod Word
+pub mod Form
+pub mod Field
+pub mod Outputs
+pub mod Events
+pub mod Reading
+pub mod ReadLine
+pub mod EventFile
+pub mod Drafting
+pub mod Lines

@@ -1,0 +1,95 @@
+-- The output file, version 1: the one text of the outputs of rounds.
+use Rattle.std.specs.Prelude.{ℕ, List, ◌++◌, codes, decimal, map}
+use Rattle.std.specs.Global.{Vec}
+use Rattle.std.specs.List.{flat_map}
+use Rattle.sip_parts.specs.declared.header_name.HeaderName.{HeaderName}
+use Rattle.sip_parts.specs.declared.header_name.HeaderName.TheVariants.{Via, From, To, CallId, CSeq, MaxForwards, ContentLength, RSeq, RAck}
+use Rattle.sip_message.specs.declared.id.Id.{Id}
+use Rattle.sip_message.specs.declared.fault.ReadFault.{ReadFault}
+use Rattle.sip_message.specs.declared.fault.ReadFault.TheVariants.{TooLong, NoEmptyLine, BadStartLine, BadHeader, Missing, Repeated, BadNumber, OldBranch, MethodMismatch, Truncated, NoMemory}
+use Rattle.sip_transactions.specs.declared.output.DropReason.{DropReason}
+use Rattle.sip_transactions.specs.declared.output.DropReason.TheVariants.{NotOurs, NoTransaction, Unreadable}
+use Rattle.sip_served.specs.declared.notice.Notice.{Notice}
+use Rattle.sip_served.specs.declared.notice.Notice.TheVariants as notice
+use Rattle.sip_served.specs.Refusal.{number_of}
+use Rattle.sip_files.specs.declared.output.Output.{Output}
+use Rattle.sip_files.specs.declared.output.Output.TheVariants as output
+use Rattle.sip_files.specs.Field.{plain_field, number_field, id_field, address_field, word_field, rest_field}
+
+abbrev pub header_name : HeaderName → List ℕ
+header_name Via = codes "Via"
+header_name From = codes "From"
+header_name To = codes "To"
+header_name CallId = codes "Call-ID"
+header_name CSeq = codes "CSeq"
+header_name MaxForwards = codes "Max-Forwards"
+header_name ContentLength = codes "Content-Length"
+header_name RSeq = codes "RSeq"
+header_name RAck = codes "RAck"
+
+-- the fault's name, and after two of them the header's
+abbrev pub fault_text : ReadFault → List ℕ
+fault_text TooLong = plain_field (codes "TooLong")
+fault_text NoEmptyLine = plain_field (codes "NoEmptyLine")
+fault_text BadStartLine = plain_field (codes "BadStartLine")
+fault_text BadHeader = plain_field (codes "BadHeader")
+fault_text (Missing header) = plain_field (codes "Missing") ++ plain_field (header_name header)
+fault_text (Repeated header) = plain_field (codes "Repeated") ++ plain_field (header_name header)
+fault_text BadNumber = plain_field (codes "BadNumber")
+fault_text OldBranch = plain_field (codes "OldBranch")
+fault_text MethodMismatch = plain_field (codes "MethodMismatch")
+fault_text Truncated = plain_field (codes "Truncated")
+fault_text NoMemory = plain_field (codes "NoMemory")
+
+abbrev pub reason_text : DropReason → List ℕ
+reason_text NotOurs = plain_field (codes "NotOurs")
+reason_text NoTransaction = plain_field (codes "NoTransaction")
+reason_text (Unreadable fault) = fault_text fault
+
+-- `notice`, the call as a word, and the name of the notice's form
+unfoldable pub form_text : List ℕ → List ℕ → List ℕ
+form_text call_id form = codes "notice" ++ word_field call_id ++ plain_field form
+
+-- the same and an id
+unfoldable pub head_text : List ℕ → List ℕ → Id → List ℕ
+head_text call_id form id = form_text call_id form ++ id_field id
+
+-- the tags and the body are words
+abbrev pub notice_text : Notice → List ℕ
+notice_text (notice.Request call_id id method local_tag remote_tag body) =
+    head_text call_id (codes "request") id ++ plain_field method ++ word_field local_tag ++ word_field remote_tag ++ word_field body
+notice_text (notice.Response call_id id status local_tag remote_tag body) =
+    head_text call_id (codes "response") id ++ number_field status ++ word_field local_tag ++ word_field remote_tag ++ word_field body
+notice_text (notice.Ack call_id id body) = head_text call_id (codes "ack") id ++ word_field body
+notice_text (notice.Prack call_id id rseq body) = head_text call_id (codes "prack") id ++ number_field rseq ++ word_field body
+notice_text (notice.Timeout call_id id) = head_text call_id (codes "timeout") id
+notice_text (notice.Failed call_id id) = head_text call_id (codes "failed") id
+notice_text (notice.NoAck call_id id) = head_text call_id (codes "noack") id
+notice_text (notice.NoPrack call_id id) = head_text call_id (codes "noprack") id
+notice_text (notice.Cancel call_id id) = head_text call_id (codes "cancel") id
+notice_text (notice.Ended call_id local_tag remote_tag) =
+    form_text call_id (codes "ended") ++ word_field local_tag ++ word_field remote_tag
+notice_text (notice.Refused call_id place refusal) =
+    form_text call_id (codes "refused") ++ number_field place ++ number_field (number_of refusal)
+
+abbrev pub output_text : Output → List ℕ
+output_text (output.Send key to bytes) = codes "send" ++ address_field to ++ rest_field bytes
+output_text (output.Dropped place reason) = codes "drop" ++ number_field place ++ reason_text reason
+output_text (output.Notice notice) = notice_text notice
+
+unfoldable pub output_line : Output → List ℕ
+output_line output = output_text output ++ codes "\n"
+
+-- the round's moment, and its outputs in order
+unfoldable pub round_text : ℕ → List Output → List ℕ
+round_text moment outputs = codes "round" ++ number_field moment ++ codes "\n" ++ flat_map output_line outputs
+
+abbrev pub rounds_text : List (ℕ × List Output) → List ℕ
+rounds_text rounds = flat_map (λ round. round_text round.0 round.1) rounds
+
+unfoldable pub outputs_text : List (ℕ × List Output) → List ℕ
+outputs_text rounds = codes "sip-outputs 1\n" ++ rounds_text rounds
+
+-- each round's moment beside the list of its outputs
+abbrev pub told : List (ℕ × Vec Output) → List (ℕ × List Output)
+told rounds = map (λ round. (round.0, round.1.items)) rounds

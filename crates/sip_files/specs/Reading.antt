@@ -1,0 +1,137 @@
+-- Reading the fields of a line from left to right, a function for each. What is read is said by the spellings.
+use Rattle.std.specs.Prelude.{ℕ, zero, suc, Bool, true, false, not, ◌&&◌, ◌||◌, ◌==◌, ◌+◌, ◌-◌, ◌*◌, nat_le, List, [], ◌∷◌, length, Option, Some, None, is_some, codes, option_and_then, if◌then◌else◌}
+use Rattle.std.specs.List.{list_all}
+use Rattle.std.specs.Option.{option_map}
+use Rattle.std.specs.Borrow.{Bor}
+use Rattle.std.specs.Str.{bytes_eq}
+use Rattle.std.specs.Char.{is_ascii_digit}
+use Rattle.std.specs.Str.Parse.{digits_value}
+use Rattle.sip_text.specs.Cut.{cut_at}
+use Rattle.sip_message.specs.declared.addr.Addr.{Addr}
+use Rattle.sip_message.specs.declared.id.Id.{Id}
+use Rattle.sip_files.specs.Word.{is_plain, is_plain_or_space, letter_of}
+
+infixl 10 ◌>>=◌
+abbrev pub ◌>>=◌ : {A B : Type 0} → Option A → (A → Option B) → Option B
+o >>= f = option_and_then f o
+
+-- what a reader gave, without its reference
+abbrev pub read_now : {A : Type 0} → Option (A × Bor (List ℕ)) → Option (A × List ℕ)
+read_now read = option_map (λ p. (p.0, p.1.now)) read
+
+-- ---- words and rests
+
+-- the byte that the letter of an escape stands for
+abbrev pub byte_of_letter : ℕ → Option ℕ
+byte_of_letter letter =
+    if letter == 115 then Some 32
+    else (if letter == 114 then Some 13
+    else (if letter == 110 then Some 10
+    else (if letter == 116 then Some 9
+    else (if letter == 92 then Some 92
+    else None))))
+
+abbrev pub hex_value : ℕ → Option ℕ
+hex_value digit =
+    if nat_le 48 digit && nat_le digit 57 then Some (digit - 48)
+    else (if nat_le 97 digit && nat_le digit 102 then Some (digit - 87)
+    else None)
+
+unfoldable pub hex_byte : ℕ → ℕ → Option ℕ
+hex_byte high low = hex_value high >>= λ h. hex_value low >>= λ l. Some (h * 16 + l)
+
+-- two digits, where their byte has no shorter spelling
+unfoldable pub hex_at : (ℕ → Bool) → List ℕ → Option (ℕ × List ℕ)
+hex_at is_itself [] = None
+hex_at is_itself (high ∷ []) = None
+hex_at is_itself (high ∷ low ∷ rest) =
+    hex_byte high low >>= λ b. if is_itself b || is_some (letter_of b) then None else Some (b, rest)
+
+-- a letter, where its byte doesn't stand for itself
+unfoldable pub letter_at : (ℕ → Bool) → ℕ → List ℕ → Option (ℕ × List ℕ)
+letter_at is_itself letter rest = byte_of_letter letter >>= λ b. if is_itself b then None else Some (b, rest)
+
+-- what follows a backslash
+unfoldable pub escape_at : (ℕ → Bool) → List ℕ → Option (ℕ × List ℕ)
+escape_at is_itself [] = None
+escape_at is_itself (letter ∷ rest) = if letter == 120 then hex_at is_itself rest else letter_at is_itself letter rest
+
+-- the first byte that is spelled, and what follows it
+unfoldable pub byte_at : (ℕ → Bool) → List ℕ → Option (ℕ × List ℕ)
+byte_at is_itself [] = None
+byte_at is_itself (b ∷ rest) =
+    if b == 92 then escape_at is_itself rest
+    else (if is_itself b then Some (b, rest) else None)
+
+-- all bytes, of which there are no more than this number
+abbrev pub bytes_from : (ℕ → Bool) → ℕ → List ℕ → Option (List ℕ)
+bytes_from is_itself zero [] = Some []
+bytes_from is_itself zero (b ∷ bs) = None
+bytes_from is_itself (suc n) [] = Some []
+bytes_from is_itself (suc n) (b ∷ bs) = byte_at is_itself (b ∷ bs) >>= λ p. bytes_from is_itself n p.1 >>= λ more. Some (p.0 ∷ more)
+
+unfoldable pub bytes_at : (ℕ → Bool) → List ℕ → Option (List ℕ)
+bytes_at is_itself text = bytes_from is_itself (length text) text
+
+unfoldable pub word_at : List ℕ → Option (List ℕ)
+word_at field =
+    if length field == 0 then None
+    else (if bytes_eq field (codes "-") then Some []
+    else (if bytes_eq field (codes "\\x2d") then Some (codes "-")
+    else bytes_at is_plain field))
+
+unfoldable pub rest_at : List ℕ → Option (List ℕ)
+rest_at field = bytes_at is_plain_or_space field
+
+-- ---- numbers, ids and addresses
+
+-- digits, of which the first is no zero where there are several
+abbrev pub is_numeral : List ℕ → Bool
+is_numeral [] = false
+is_numeral (b ∷ []) = is_ascii_digit b
+is_numeral (b ∷ c ∷ bs) = not (b == 48) && list_all is_ascii_digit (b ∷ c ∷ bs)
+
+unfoldable pub number_at : ℕ → List ℕ → Option ℕ
+number_at most field =
+    if is_numeral field && nat_le (digits_value 10 field) most then Some (digits_value 10 field) else None
+
+-- a field before the first such byte, and what follows that
+abbrev pub field_at : {A : Type 0} → ℕ → (List ℕ → Option A) → List ℕ → Option (A × List ℕ)
+field_at at read text = cut_at at text >>= λ p. read p.0 >>= λ x. Some (x, p.1)
+
+unfoldable pub id_at : List ℕ → Option Id
+id_at field = do
+  round ← field_at 46 (number_at 18446744073709551615) field
+  place ← number_at 4294967295 round.1
+  Some (record { round = round.0; place = place })
+
+unfoldable pub ip_at : List ℕ → Option (List ℕ)
+ip_at field = do
+  a ← field_at 46 (number_at 255) field
+  b ← field_at 46 (number_at 255) a.1
+  c ← field_at 46 (number_at 255) b.1
+  d ← number_at 255 c.1
+  Some (a.0 ∷ b.0 ∷ c.0 ∷ d ∷ [])
+
+unfoldable pub address_at : List ℕ → Option Addr
+address_at field = do
+  ip ← field_at 58 ip_at field
+  port ← number_at 65535 ip.1
+  Some (record { ip = ip.0; port = port })
+
+-- ---- the seed
+
+-- the byte of two digits, and what follows them
+unfoldable pub pair_at : List ℕ → Option (ℕ × List ℕ)
+pair_at [] = None
+pair_at (high ∷ []) = None
+pair_at (high ∷ low ∷ rest) = hex_byte high low >>= λ b. Some (b, rest)
+
+-- so many bytes, and no more
+unfoldable pub pairs_at : ℕ → List ℕ → Option (List ℕ)
+pairs_at zero [] = Some []
+pairs_at zero (b ∷ bs) = None
+pairs_at (suc n) text = pair_at text >>= λ p. pairs_at n p.1 >>= λ more. Some (p.0 ∷ more)
+
+unfoldable pub seed_at : List ℕ → Option (List ℕ)
+seed_at field = pairs_at 32 field

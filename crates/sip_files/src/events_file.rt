@@ -1,0 +1,87 @@
+//! Event files, version 1: the configuration and the rounds of a run.
+//!
+//! Lines end in LF. After `sip-events 1` comes `local ADDR`, then optionally `seed` and optionally `first N`, in this order, and
+//! then the rounds: `round MOMENT`, each followed by the lines of its events.
+
+ghost use Rattle.std.specs.Prelude.{◌≡◌, ℕ, List, ◌≤◌, ◌^◌, IfErr, IfOk, MatchResult, length};
+ghost use Rattle.sip_files.specs.declared.config.Config as config;
+ghost use Rattle.sip_files.specs.declared.round.Round as round;
+ghost use Rattle.sip_files.specs.EventFile as spelling;
+ghost use Rattle.sip_files.specs.Lines as lines;
+
+use crate::config::Config;
+use crate::draft::{Draft, with_line};
+use crate::event_line::read_line;
+use crate::events_fault::EventsFault;
+use crate::round::Round;
+use sip_text::{Series, cut};
+use std::alloc::Global;
+
+/// The greatest length of an event file, in bytes.
+pub const MAX_EVENTS: usize = 1 << 26;
+
+const VERSION: &[u8] = b"sip-events 1";
+
+/// The configuration and the rounds that an event file spells.
+///
+/// # Errors
+///
+/// The first fault that fits; `NoMemory` may stand in place of any answer.
+pub fn read_events(alloc: Global, text: &[u8]) -> Result<(Config, Series<Round>), EventsFault>
+    ensures found { IfOk result (λ read. spelling.SpellsEvents read.0 read.1 text.now) }
+    ensures size { IfOk result (λ read. length text.now ≤ 2 ^ 26) }
+    ensures only { (config : config.Config) (rounds : List round.Round) → spelling.SpellsEvents config rounds text.now → length text.now ≤ 2 ^ 26 → spelling.Answers config rounds result }
+    ensures fault { IfErr result (λ fault. spelling.TellsFault fault text.now) }
+{
+    if text.len() > MAX_EVENTS {
+        return Err(EventsFault::TooLong);
+    }
+    let draft = read_lines(alloc, after_version(text)?)?;
+    if !draft.stage.is_begun() {
+        return Err(EventsFault::BadLine(2));
+    }
+    Ok((draft.config, draft.rounds))
+}
+
+// What follows the line of the version.
+fn after_version(text: &[u8]) -> Result<&[u8], EventsFault>
+    ensures { MatchResult result (λ after. lines.FollowsVersion text.now after.now) (λ fault. lines.TellsVersion fault text.now) }
+{
+    let Some((line, after)) = cut(b'\n', text) else {
+        return Err(if text == VERSION {
+            EventsFault::BadLine(1)
+        } else {
+            EventsFault::BadVersion
+        });
+    };
+    if line == VERSION {
+        Ok(after)
+    } else {
+        Err(EventsFault::BadVersion)
+    }
+}
+
+// What the lines after the first one say.
+fn read_lines(alloc: Global, text: &[u8]) -> Result<Draft, EventsFault>
+    requires { length text.now ≤ 2 ^ 26 }
+    ensures { MatchResult result (λ draft. lines.Drafts draft text.now) (λ fault. lines.TellsLine fault text.now) }
+{
+    let mut draft = Draft::new(alloc);
+    let mut left = text;
+    let mut number = 2u64;
+    while !left.is_empty() {
+        let Some((line, after)) = cut(b'\n', left) else {
+            return Err(EventsFault::BadLine(number));
+        };
+        let Some(line) = read_line(alloc, line)? else {
+            return Err(EventsFault::BadLine(number));
+        };
+        let Some(next) = with_line(draft, line)? else {
+            return Err(EventsFault::BadLine(number));
+        };
+        draft = next;
+        left = after;
+        number += 1;
+    }
+    Ok(draft)
+}

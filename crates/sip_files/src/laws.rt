@@ -1,0 +1,29 @@
+//! Laws of the files' spellings. Each is proved by its contract alone, and calling one does nothing.
+
+ghost use Rattle.std.specs.Prelude.{◌≡◌, ℕ, List, IsTrue};
+ghost use Rattle.sip_files.specs.declared.event_line.EventLine.{EventLine};
+ghost use Rattle.sip_files.specs.Word.{are_bytes, spelled_rest, spelled_word};
+ghost use Rattle.sip_files.specs.declared.config.Config.{Config};
+ghost use Rattle.sip_files.specs.declared.round.Round.{Round};
+ghost use Rattle.sip_files.specs.EventFile.{SpellsEvents};
+ghost use Rattle.sip_files.specs.Events.{IsLine, line_text};
+
+/// The words of two different texts differ.
+pub fn one_text_of_a_word()
+    ensures { (text other : List ℕ) → IsTrue (are_bytes text) → IsTrue (are_bytes other) → spelled_word text ≡ spelled_word other → text ≡ other }
+{}
+
+/// The rests of two different texts differ.
+pub fn one_text_of_a_rest()
+    ensures { (text other : List ℕ) → IsTrue (are_bytes text) → IsTrue (are_bytes other) → spelled_rest text ≡ spelled_rest other → text ≡ other }
+{}
+
+/// A line of an event file says one thing.
+pub fn one_meaning_of_a_line()
+    ensures { (line other : EventLine) → IsLine line → IsLine other → line_text line ≡ line_text other → line ≡ other }
+{}
+
+/// A text is an event file of one configuration and one list of rounds.
+pub fn one_meaning_of_an_event_file()
+    ensures { (text : List ℕ) (config other : Config) (rounds others : List Round) → SpellsEvents config rounds text → SpellsEvents other others text → (config ≡ other) × (rounds ≡ others) }
+{}

@@ -1,0 +1,292 @@
+//! Output files, version 1: for each round its moment and its outputs.
+
+ghost use Rattle.std.specs.Prelude.{◌≡◌, ◌++◌, IfOk, OnOk, codes, decimal};
+ghost use Rattle.std.specs.List.{flat_map};
+ghost use Rattle.sip_files.specs.Field as field;
+ghost use Rattle.sip_files.specs.Outputs as written;
+
+use crate::output::Output;
+use crate::words::{push_rest, push_word};
+use sip_message::{Addr, CallId, HeaderName, Id, ReadFault, ip_text};
+use sip_served::Notice;
+use sip_text::decimal;
+use sip_transactions::DropReason;
+use std::alloc::{AllocError, Global};
+
+/// The output file of the outputs of rounds, each with the round's moment.
+#[tactic(auto, unfolding(crate::specs::Outputs::outputs_text))]
+pub fn write_outputs(alloc: Global, rounds: &[(u64, Vec<Output>)]) -> Result<Vec<u8>, AllocError>
+    ensures { IfOk result (λ file. file.items ≡ written.outputs_text (written.told rounds.now)) }
+{
+    let mut file = Vec::new(alloc);
+    file.extend_from_slice(b"sip-outputs 1\n")?;
+    push_rounds(&mut file, rounds)?;
+    Ok(file)
+}
+
+fn push_rounds(file: &mut Vec<u8>, rounds: &[(u64, Vec<Output>)]) -> Result<(), AllocError>
+    ensures { OnOk result (file.new.items ≡ file.old.items ++ written.rounds_text (written.told rounds.now)) }
+{
+    for (moment, outputs) in rounds {
+        push_round(file, *moment, outputs.as_slice())?;
+    }
+    Ok(())
+}
+
+#[tactic(auto, unfolding(crate::specs::Outputs::round_text))]
+fn push_round(file: &mut Vec<u8>, moment: u64, outputs: &[Output]) -> Result<(), AllocError>
+    ensures { OnOk result (file.new.items ≡ file.old.items ++ written.round_text moment outputs.now) }
+{
+    file.extend_from_slice(b"round")?;
+    push_number(file, moment)?;
+    file.push(b'\n')?;
+    push_lines(file, outputs)
+}
+
+fn push_lines(file: &mut Vec<u8>, outputs: &[Output]) -> Result<(), AllocError>
+    ensures { OnOk result (file.new.items ≡ file.old.items ++ flat_map written.output_line outputs.now) }
+{
+    for output in outputs {
+        push_line(file, output)?;
+    }
+    Ok(())
+}
+
+#[tactic(auto, unfolding(crate::specs::Outputs::output_line))]
+fn push_line(file: &mut Vec<u8>, output: &Output) -> Result<(), AllocError>
+    ensures { OnOk result (file.new.items ≡ file.old.items ++ written.output_line output.now) }
+{
+    push_output(file, output)?;
+    file.push(b'\n')?;
+    Ok(())
+}
+
+fn push_output(file: &mut Vec<u8>, output: &Output) -> Result<(), AllocError>
+    ensures { OnOk result (file.new.items ≡ file.old.items ++ written.output_text output.now) }
+{
+    match output {
+        Output::Dropped { place, reason } => push_drop(file, *place, *reason),
+        Output::Send { to, bytes, .. } => push_send(file, *to, bytes.as_slice()),
+        Output::Notice(notice) => push_notice(file, notice),
+    }
+}
+
+fn push_drop(file: &mut Vec<u8>, place: u32, reason: DropReason) -> Result<(), AllocError>
+    ensures { OnOk result (file.new.items ≡ file.old.items ++ (codes "drop" ++ field.number_field place ++ written.reason_text reason)) }
+{
+    file.extend_from_slice(b"drop")?;
+    push_number(file, u64::from(place))?;
+    push_reason(file, reason)
+}
+
+fn push_reason(file: &mut Vec<u8>, reason: DropReason) -> Result<(), AllocError>
+    ensures { OnOk result (file.new.items ≡ file.old.items ++ written.reason_text reason) }
+{
+    match reason {
+        DropReason::Unreadable(fault) => push_fault(file, fault),
+        DropReason::NotOurs => push_plain(file, b"NotOurs"),
+        DropReason::NoTransaction => push_plain(file, b"NoTransaction"),
+    }
+}
+
+// The fault's name, and after two of them the header's.
+fn push_fault(file: &mut Vec<u8>, fault: ReadFault) -> Result<(), AllocError>
+    ensures { OnOk result (file.new.items ≡ file.old.items ++ written.fault_text fault) }
+{
+    match fault {
+        ReadFault::TooLong => push_plain(file, b"TooLong"),
+        ReadFault::NoEmptyLine => push_plain(file, b"NoEmptyLine"),
+        ReadFault::BadStartLine => push_plain(file, b"BadStartLine"),
+        ReadFault::BadHeader => push_plain(file, b"BadHeader"),
+        ReadFault::Missing(header) => push_header_fault(file, b"Missing", header),
+        ReadFault::Repeated(header) => push_header_fault(file, b"Repeated", header),
+        ReadFault::BadNumber => push_plain(file, b"BadNumber"),
+        ReadFault::OldBranch => push_plain(file, b"OldBranch"),
+        ReadFault::MethodMismatch => push_plain(file, b"MethodMismatch"),
+        ReadFault::Truncated => push_plain(file, b"Truncated"),
+        ReadFault::NoMemory => push_plain(file, b"NoMemory"),
+    }
+}
+
+fn push_header_fault(file: &mut Vec<u8>, fault: &[u8], header: HeaderName) -> Result<(), AllocError>
+    ensures { OnOk result (file.new.items ≡ file.old.items ++ (field.plain_field fault.now ++ field.plain_field (written.header_name header))) }
+{
+    push_plain(file, fault)?;
+    push_plain(file, header_name(header))
+}
+
+fn header_name(header: HeaderName) -> &'static [u8]
+    ensures { result.now ≡ written.header_name header }
+{
+    match header {
+        HeaderName::Via => b"Via",
+        HeaderName::From => b"From",
+        HeaderName::To => b"To",
+        HeaderName::CallId => b"Call-ID",
+        HeaderName::CSeq => b"CSeq",
+        HeaderName::MaxForwards => b"Max-Forwards",
+        HeaderName::ContentLength => b"Content-Length",
+        HeaderName::RSeq => b"RSeq",
+        HeaderName::RAck => b"RAck",
+    }
+}
+
+fn push_send(file: &mut Vec<u8>, to: Addr, bytes: &[u8]) -> Result<(), AllocError>
+    ensures { OnOk result (file.new.items ≡ file.old.items ++ (codes "send" ++ field.address_field to ++ field.rest_field bytes.now)) }
+{
+    file.extend_from_slice(b"send")?;
+    push_address(file, to)?;
+    push_rest_field(file, bytes)
+}
+
+fn push_notice(file: &mut Vec<u8>, notice: &Notice) -> Result<(), AllocError>
+    ensures { OnOk result (file.new.items ≡ file.old.items ++ written.notice_text notice.now) }
+{
+    match notice {
+        Notice::Request {
+            call_id,
+            id,
+            method,
+            local_tag,
+            remote_tag,
+            body,
+        } => {
+            push_head(file, call_id, b"request", *id)?;
+            push_plain(file, method.as_slice())?;
+            push_text(file, local_tag.as_slice())?;
+            push_text(file, remote_tag.as_slice())?;
+            push_text(file, body.as_slice())
+        }
+        Notice::Response {
+            call_id,
+            id,
+            status,
+            local_tag,
+            remote_tag,
+            body,
+        } => {
+            push_head(file, call_id, b"response", *id)?;
+            push_number(file, u64::from(status.code()))?;
+            push_text(file, local_tag.as_slice())?;
+            push_text(file, remote_tag.as_slice())?;
+            push_text(file, body.as_slice())
+        }
+        Notice::Ack { call_id, id, body } => {
+            push_head(file, call_id, b"ack", *id)?;
+            push_text(file, body.as_slice())
+        }
+        Notice::Prack {
+            call_id,
+            id,
+            rseq,
+            body,
+        } => {
+            push_head(file, call_id, b"prack", *id)?;
+            push_number(file, u64::from(*rseq))?;
+            push_text(file, body.as_slice())
+        }
+        Notice::Timeout { call_id, id } => push_head(file, call_id, b"timeout", *id),
+        Notice::Failed { call_id, id } => push_head(file, call_id, b"failed", *id),
+        Notice::NoAck { call_id, id } => push_head(file, call_id, b"noack", *id),
+        Notice::NoPrack { call_id, id } => push_head(file, call_id, b"noprack", *id),
+        Notice::Cancel { call_id, id } => push_head(file, call_id, b"cancel", *id),
+        Notice::Ended {
+            call_id,
+            local_tag,
+            remote_tag,
+        } => {
+            push_form(file, call_id, b"ended")?;
+            push_text(file, local_tag.as_slice())?;
+            push_text(file, remote_tag.as_slice())
+        }
+        Notice::Refused {
+            call_id,
+            place,
+            refusal,
+        } => {
+            push_form(file, call_id, b"refused")?;
+            push_number(file, u64::from(*place))?;
+            push_number(file, u64::from(refusal.number()))
+        }
+    }
+}
+
+// The call as a word, and the name of the notice's form.
+#[tactic(auto, unfolding(crate::specs::Outputs::form_text))]
+fn push_form(file: &mut Vec<u8>, call_id: &CallId, form: &[u8]) -> Result<(), AllocError>
+    ensures { OnOk result (file.new.items ≡ file.old.items ++ written.form_text call_id.now form.now) }
+{
+    file.extend_from_slice(b"notice")?;
+    push_text(file, call_id.as_slice())?;
+    push_plain(file, form)
+}
+
+// The same and an id.
+#[tactic(auto, unfolding(crate::specs::Outputs::head_text))]
+fn push_head(file: &mut Vec<u8>, call_id: &CallId, form: &[u8], id: Id) -> Result<(), AllocError>
+    ensures { OnOk result (file.new.items ≡ file.old.items ++ written.head_text call_id.now form.now id) }
+{
+    push_form(file, call_id, form)?;
+    push_id(file, id)
+}
+
+// A field that stands for itself.
+#[tactic(auto, unfolding(crate::specs::Field::plain_field))]
+fn push_plain(file: &mut Vec<u8>, text: &[u8]) -> Result<(), AllocError>
+    ensures { OnOk result (file.new.items ≡ file.old.items ++ field.plain_field text.now) }
+{
+    file.push(b' ')?;
+    file.extend_from_slice(text)
+}
+
+// A field that is a number.
+#[tactic(auto, unfolding(crate::specs::Field::number_field))]
+fn push_number(file: &mut Vec<u8>, number: u64) -> Result<(), AllocError>
+    ensures { OnOk result (file.new.items ≡ file.old.items ++ field.number_field number) }
+{
+    file.push(b' ')?;
+    push_digits(file, number)
+}
+
+#[tactic(auto, unfolding(crate::specs::Field::id_field, crate::specs::Field::id_text))]
+fn push_id(file: &mut Vec<u8>, id: Id) -> Result<(), AllocError>
+    ensures { OnOk result (file.new.items ≡ file.old.items ++ field.id_field id) }
+{
+    file.push(b' ')?;
+    push_digits(file, id.round)?;
+    file.push(b'.')?;
+    push_digits(file, u64::from(id.place))
+}
+
+// A field that is a word.
+#[tactic(auto, unfolding(crate::specs::Field::word_field))]
+fn push_text(file: &mut Vec<u8>, text: &[u8]) -> Result<(), AllocError>
+    ensures { OnOk result (file.new.items ≡ file.old.items ++ field.word_field text.now) }
+{
+    file.push(b' ')?;
+    push_word(file, text)
+}
+
+#[tactic(auto, unfolding(crate::specs::Field::rest_field))]
+fn push_rest_field(file: &mut Vec<u8>, text: &[u8]) -> Result<(), AllocError>
+    ensures { OnOk result (file.new.items ≡ file.old.items ++ field.rest_field text.now) }
+{
+    file.push(b' ')?;
+    push_rest(file, text)
+}
+
+fn push_digits(file: &mut Vec<u8>, number: u64) -> Result<(), AllocError>
+    ensures { OnOk result (file.new.items ≡ file.old.items ++ decimal number) }
+{
+    file.extend_from_slice(&decimal(number))
+}
+
+#[tactic(auto, unfolding(crate::specs::Field::address_field))]
+fn push_address(file: &mut Vec<u8>, address: Addr) -> Result<(), AllocError>
+    ensures { OnOk result (file.new.items ≡ file.old.items ++ field.address_field address) }
+{
+    file.push(b' ')?;
+    file.extend_from_slice(&ip_text(address.ip))?;
+    file.push(b':')?;
+    push_digits(file, u64::from(address.port))
+}

@@ -1,5 +1,0 @@
-use Rattle.sip_round.proofs.Lines.{line-shorter}
-use Rattle.sip_round.proofs.events_file.first_line.Goals as goal
-
-pub returns : goal.returns
-returns c = line-shorter _ c.args.text.now c.cut.result c.cut.ensures.parts

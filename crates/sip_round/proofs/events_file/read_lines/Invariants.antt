@@ -1,9 +1,0 @@
-use Rattle.std.proofs.Common.{ℕ, ◌+◌, ◌≤◌, length}
-use Rattle.sip_round.proofs.events_file.read_lines.Given as goal
-
--- each line takes at least one byte, so the number of lines is bounded by that of bytes
-abbrev pub invariant-loop-left : goal.invariant-loop-left
-invariant-loop-left l = l.number + length l.left ≤ 2 + length l.text
-
-abbrev pub decreases-loop-left : goal.decreases-loop-left
-decreases-loop-left l = length l.left
