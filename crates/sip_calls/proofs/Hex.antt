@@ -46,7 +46,7 @@ hex-token (suc count) number =
     let small : number % 16 < 16 = omega arith in
     rw (list_all-append, hex-token count (number / 16), digit-token (number % 16) small) refl
 
-length-hex : (count number : ℕ) → length (hex count number) ≡ count
+pub length-hex : (count number : ℕ) → length (hex count number) ≡ count
 unfolding hex
 length-hex zero number = refl
 length-hex (suc count) number = omega (arith, length-append (hex count (number / 16)) (digit_of (number % 16) ∷ []), length-hex count (number / 16))

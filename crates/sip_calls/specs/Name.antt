@@ -1,5 +1,5 @@
 -- Names that the agent makes: its tags, and its branches behind their cookie (RFC 3261, sections 8.1.1.7 and 19.3).
-use Rattle.std.specs.Prelude.{ℕ, ◌+◌, ◌*◌, ◌-◌, ◌/◌, ◌%◌, zero, suc, List, [], ◌∷◌, ◌++◌, nat_lt, if◌then◌else◌}
+use Rattle.std.specs.Prelude.{◌≡◌, ◌<◌, ◌^◌, ℕ, ◌+◌, ◌*◌, ◌-◌, ◌/◌, ◌%◌, zero, suc, List, [], ◌∷◌, ◌++◌, nat_lt, if◌then◌else◌}
 use Rattle.rand_chacha.specs.ChaCha.{word_at, key_of}
 use Rattle.sip_message.specs.declared.id.Id.{Id}
 
@@ -19,3 +19,9 @@ word_of_name seed id index = word_at 10 (key_of seed) id.round (16 * id.place + 
 -- the round, the place, the index and the word
 abbrev pub name_of : List ℕ → Id → ℕ → List ℕ
 name_of seed id index = ((hex 16 id.round ++ hex 16 id.place) ++ hex 1 index) ++ hex 8 (word_of_name seed id index)
+
+-- names of different rounds, places or indexes differ, whatever the seeds
+abbrev pub NamesDiffer : Type 0
+NamesDiffer = (seed other_seed : List ℕ) (id other : Id) (index other_index : ℕ)
+    → id.round < 2 ^ 64 → other.round < 2 ^ 64 → id.place < 2 ^ 64 → other.place < 2 ^ 64 → index < 16 → other_index < 16
+    → name_of seed id index ≡ name_of other_seed other other_index → (id ≡ other) × (index ≡ other_index)

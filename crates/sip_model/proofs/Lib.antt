@@ -1,4 +1,5 @@
 pub mod Held
 pub mod History
+pub mod Inputs
 pub mod Ordered
 pub mod Tick

@@ -1,3 +1,4 @@
 pub mod History
+pub mod Inputs
 pub mod Machine
 pub mod Table

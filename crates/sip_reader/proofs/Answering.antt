@@ -1,5 +1,5 @@
 -- What reading gives, as an answer about the text.
-use Rattle.std.proofs.Common.{ℕ, List, Result, Ok, Err, sym, subst}
+use Rattle.std.proofs.Common.{ℕ, List, Result, Ok, Err, refl, sym, subst}
 use Rattle.std.specs.Prelude.{IfOk, IfErr}
 use Rattle.sip_message.specs.declared.fault.ReadFault.{ReadFault}
 use Rattle.sip_message.specs.declared.fault.ReadFault.TheVariants as fault
@@ -45,3 +45,17 @@ failed text fault.Truncated given = first_told text fault.Truncated given
 pub is_fault : (text : List ℕ) (r : Result Message ReadFault) → Gives r (message_at text) → IfErr r (λ e. TellsFault e text)
 is_fault text (Ok m) given = tt
 is_fault text (Err e) given = failed text e given
+
+pub gives_itself : (r : Result Message ReadFault) → Gives r r
+gives_itself (Ok m) = refl
+gives_itself (Err fault.NoMemory) = tt
+gives_itself (Err fault.TooLong) = refl
+gives_itself (Err fault.NoEmptyLine) = refl
+gives_itself (Err fault.BadStartLine) = refl
+gives_itself (Err fault.BadHeader) = refl
+gives_itself (Err (fault.Missing header)) = refl
+gives_itself (Err (fault.Repeated header)) = refl
+gives_itself (Err fault.BadNumber) = refl
+gives_itself (Err fault.OldBranch) = refl
+gives_itself (Err fault.MethodMismatch) = refl
+gives_itself (Err fault.Truncated) = refl

@@ -1,13 +1,22 @@
 //! Laws over the definitions of reading.
-ghost use Rattle.std.specs.Prelude.{◌≡◌, ◌≤◌, ℕ, List, length};
+ghost use Rattle.std.specs.Prelude.{◌≡◌, ◌≤◌, ℕ, IfErr, IfOk, List, Ok, length};
 ghost use Rattle.sip_message.specs.declared.message.Message.{Message};
 ghost use Rattle.sip_message.specs.Written.{written};
+ghost use Rattle.sip_reader.specs.Faults.{TellsFault};
+ghost use Rattle.sip_reader.specs.ReadMessage.{message_at};
 ghost use Rattle.sip_reader.specs.Rules.{IsBasicMessage, IsPlainMessage};
 ghost use Rattle.sip_reader.specs.Spells.{Spells};
 
 /// A text spells at most one message.
 pub fn one_message()
     ensures { (text : List ℕ) (m n : Message) → Spells m text → Spells n text → m ≡ n }
+{}
+
+/// Reading from left to right gives the message that the text spells, and otherwise the first fault whose condition holds.
+pub fn what_is_read()
+    ensures found { (text : List ℕ) → IfOk (message_at text) (λ m. Spells m text) }
+    ensures only { (text : List ℕ) (m : Message) → Spells m text → message_at text ≡ Ok m }
+    ensures fault { (text : List ℕ) → IfErr (message_at text) (λ fault. TellsFault fault text) }
 {}
 
 /// What is written for a message is read again as the same message, where it isn't too long.

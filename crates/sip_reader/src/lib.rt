@@ -18,5 +18,5 @@ mod tests;
 mod via_reader;
 mod via_words;
 
-pub use laws::{one_message, written_is_spelled};
+pub use laws::{one_message, what_is_read, written_is_spelled};
 pub use reader::{MAX_BYTES, read};

@@ -25,10 +25,10 @@ use Rattle.sip_round.specs.declared.arrival.Arrival.TheVariants as arrival
 use Rattle.sip_files.specs.declared.output.Output.{Output}
 use Rattle.sip_files.specs.declared.output.Output.TheVariants as output
 use Rattle.sip_round.specs.Feeding.{Feeds, HoldsLives}
-use Rattle.sip_round.specs.Inputs.{Inputs, with_input, added_by}
+use Rattle.sip_model.specs.Inputs.{Inputs, with_input, added_by}
 use Rattle.sip_round.specs.Phases.{sent_of, raised_of, with_arrival, added_by_arrival, items_of_arrival}
 use Rattle.sip_round.proofs.Feeding.{feeds_input}
-use Rattle.sip_round.proofs.Inputs.{holds_one_more, says_one_more}
+use Rattle.sip_model.proofs.Inputs.{holds_one_more, says_one_more}
 
 -- what an arrival does, by the address of the agent, the moment and the id of its event
 abbrev pub FeedsArrival : Lives → Lives → ℕ → Id → Arrival → List Output → List Output → List (Id × Item) → List (Id × Item) → Type 0

@@ -20,7 +20,7 @@ use Rattle.sip_round.specs.declared.arrival.Arrival.{Arrival}
 use Rattle.sip_round.specs.AgentState.{AgentState}
 use Rattle.sip_round.specs.Answers.{Knows, calls_of, arrivals, after_first, sent_first, items_of_round, after_second, given_second, commands_of_round, past_after, answer}
 use Rattle.sip_round.specs.Feeding.{Feeds, HoldsLives, HoldsCalls}
-use Rattle.sip_round.specs.Inputs.{Inputs}
+use Rattle.sip_model.specs.Inputs.{Inputs}
 use Rattle.sip_round.specs.Past.{Past}
 use Rattle.sip_round.specs.Phases.{sent_of, raised_of, shown_of, command_of, with_arrivals, sent_by_arrivals, items_by_arrivals, ticked_transactions, added_by_ticks, tick_id, with_call_items, added_by_call_items, ticked_calls, added_by_call_ticks, with_commands, added_by_commands}
 

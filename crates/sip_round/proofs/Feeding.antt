@@ -11,8 +11,8 @@ use Rattle.sip_model.specs.History.{AddsInput, AddsInputs}
 use Rattle.sip_calls.specs.declared.calls.Calls.{Calls}
 use Rattle.sip_calls.specs.Call.{call_machine, tick_input}
 use Rattle.sip_round.specs.Feeding.{Feeds}
-use Rattle.sip_round.specs.Inputs.{Inputs, HoldsAfter, with_input, added_by, with_tick, added_by_tick}
-use Rattle.sip_round.proofs.Inputs.{holds_one_more, says_one_more, holds_tick, says_tick}
+use Rattle.sip_model.specs.Inputs.{Inputs, HoldsAfter, with_input, added_by, with_tick, added_by_tick}
+use Rattle.sip_model.proofs.Inputs.{holds_one_more, says_one_more, holds_tick, says_tick}
 
 -- what holds where a call answered Ok
 pub on_both : {T E P Q R : Type 0} → (P → Q → R) → (r : Result T E) → OnOk r P → OnOk r Q → OnOk r R

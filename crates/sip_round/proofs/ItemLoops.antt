@@ -12,9 +12,9 @@ use Rattle.sip_model.specs.History.{AddsInput}
 use Rattle.sip_transactions.specs.declared.output.Out.{Out}
 use Rattle.sip_served.specs.declared.item.Item.{Item}
 use Rattle.sip_round.specs.Feeding.{Feeds}
-use Rattle.sip_round.specs.Inputs.{Inputs, HoldsAfter, with_input, added_by, with_items, added_by_items}
+use Rattle.sip_model.specs.Inputs.{Inputs, HoldsAfter, with_input, added_by, with_items, added_by_items}
 use Rattle.sip_round.proofs.Feeding.{feeds_nothing, feeds_then, feeds_input}
-use Rattle.sip_round.proofs.Inputs.{with_items-push, added_by_items-push}
+use Rattle.sip_model.proofs.Inputs.{with_items-push, added_by_items-push}
 
 -- what a command hands up goes nowhere
 abbrev pub no_more : Out → List Item

@@ -1,4 +1,3 @@
-pub mod Inputs
 pub mod Feeding
 pub mod Arriving
 pub mod Places

@@ -13,8 +13,8 @@ use Rattle.sip_round.specs.declared.round_fault.RoundFault.TheVariants.{Broken, 
 use Rattle.sip_round.specs.AgentState.{AgentState, round_fault, refusal_of}
 use Rattle.sip_round.specs.Answers.{answers, last_moment, last_moment_from, past_of, refused, refused_or, refused_from, calls_of, StandsFor}
 use Rattle.sip_round.specs.Feeding.{HoldsLives, HoldsCalls}
-use Rattle.sip_round.specs.Inputs.{no_inputs}
-use Rattle.sip_round.proofs.Inputs.{holds_nothing}
+use Rattle.sip_model.specs.Inputs.{no_inputs}
+use Rattle.sip_model.proofs.Inputs.{holds_nothing}
 use Rattle.sip_round.proofs.Runs.{at_first, refused_from-push}
 
 -- the agent stands for the first rounds, whose answers were made, and none of which was refused

@@ -19,7 +19,7 @@ use Rattle.sip_round.specs.declared.round_fault.RoundFault.TheVariants.{MomentBa
 use Rattle.sip_round.specs.AgentState.{AgentState, round_fault}
 use Rattle.sip_round.specs.Arrivals.{arrivals_from}
 use Rattle.sip_round.specs.Feeding.{HoldsLives, HoldsCalls}
-use Rattle.sip_round.specs.Inputs.{Inputs}
+use Rattle.sip_model.specs.Inputs.{Inputs}
 use Rattle.sip_round.specs.Past.{Past, no_past}
 use Rattle.sip_round.specs.Phases.{sent_of, raised_of, shown_of, command_of, with_arrivals, sent_by_arrivals, items_by_arrivals, ticked_transactions, added_by_ticks, tick_id, with_call_items, added_by_call_items, ticked_calls, added_by_call_ticks, with_commands, added_by_commands}
 

@@ -8,7 +8,7 @@ use Rattle.sip_message.specs.Key.{key_cmp}
 use Rattle.sip_transactions.specs.Machine.{transaction_machine}
 use Rattle.sip_transactions.specs.Shard.{Lives}
 use Rattle.sip_transactions.specs.declared.input.Timed.{Timed}
-use Rattle.sip_round.specs.Inputs.{Inputs, HoldsAfter}
+use Rattle.sip_model.specs.Inputs.{Inputs, HoldsAfter}
 
 -- for all inputs after which the layer stood so, it stands as after more of them; what they add is appended to two lists
 pub record Feeds {I X Y : Type 0} (before after : I → Type 0) (more : I → I) (adds : I → List X) (raises : I → List Y) (xs newer_xs : List X) (ys newer_ys : List Y) : Type 0 where

@@ -1,5 +1,4 @@
 pub mod AgentState
-pub mod Inputs
 pub mod Past
 pub mod Arrivals
 pub mod Phases

@@ -4,7 +4,7 @@ use Rattle.sip_calls.specs.CallShard.{call_cmp}
 use Rattle.sip_calls.specs.declared.calls.CallInput.{CallInput}
 use Rattle.sip_message.specs.Key.{key_cmp}
 use Rattle.sip_transactions.specs.declared.input.Timed.{Timed}
-use Rattle.sip_round.specs.Inputs.{Inputs, no_inputs}
+use Rattle.sip_model.specs.Inputs.{Inputs, no_inputs}
 
 -- each transaction's own inputs, and each call's
 pub record Past : Type 0 where

@@ -26,7 +26,7 @@ use Rattle.sip_round.specs.declared.arrival.Arrival.{Arrival}
 use Rattle.sip_round.specs.declared.arrival.Arrival.TheVariants as arrival
 use Rattle.sip_files.specs.declared.output.Output.{Output}
 use Rattle.sip_files.specs.declared.output.Output.TheVariants as output
-use Rattle.sip_round.specs.Inputs.{Inputs, with_input, added_by, with_tick, added_by_tick, with_items, added_by_items}
+use Rattle.sip_model.specs.Inputs.{Inputs, with_input, added_by, with_tick, added_by_tick, with_items, added_by_items}
 
 -- ---- what leaves the agent, and what goes on inside it
 

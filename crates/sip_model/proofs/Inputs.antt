@@ -17,7 +17,7 @@ use Rattle.sip_model.specs.Table.{Held, Covers}
 use Rattle.sip_model.specs.History.{states_after, all_longer, longer, StandsFor, AddsInput, AddsInputs}
 use Rattle.sip_model.proofs.Ordered.{by_bool, by_ordering, is_at_back}
 use Rattle.sip_model.proofs.History.{state_after-push}
-use Rattle.sip_round.specs.Inputs.{Inputs, no_inputs, with_input, added_by, with_tick, added_by_tick, with_items, added_by_items, HoldsAfter}
+use Rattle.sip_model.specs.Inputs.{Inputs, no_inputs, with_input, added_by, with_tick, added_by_tick, with_items, added_by_items, HoldsAfter}
 
 -- ---- the items of a set are in order
 
