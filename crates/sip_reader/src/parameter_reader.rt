@@ -82,7 +82,7 @@ fn name_with_value(
 }
 
 /// The value, where it is one without quotes.
-#[tactic(auto, unfolding(sip_parts::specs::ParameterValue::is_parameter_value), using(crate::proofs::Bytes::or_right))]
+#[tactic(auto, unfolding(sip_parts::specs::ParameterValue::is_parameter_value), using(sip_parts::proofs::Bytes::or_right))]
 fn word_value(alloc: Global, value: &[u8]) -> Result<Option<ParameterValue>, AllocError>
     ensures { IfOk result (λ made. SomeIff made (IsTrue (is_value_word value.now)) value.now) }
 {
