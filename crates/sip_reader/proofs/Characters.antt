@@ -16,7 +16,7 @@ use Rattle.sip_reader.specs.Values.{is_port_byte, is_port_word}
 use Rattle.sip_reader.proofs.Cuts.{all_imply, run_all, none_of}
 use Rattle.sip_reader.proofs.Pieces.{by_bool}
 
-full_at : (test : ℕ → Bool) (b at : ℕ) → test at ≡ false → test b ≡ true → eqb b at ≡ false
+pub full_at : (test : ℕ → Bool) (b at : ℕ) → test at ≡ false → test b ≡ true → eqb b at ≡ false
 full_at test b at fails passes =
     by_bool (eqb b at) (λ r. r ≡ false) (λ e. absurd (true≢false (sym passes ∙ ap test (eqb-true b at e) ∙ fails))) (λ e. refl)
 

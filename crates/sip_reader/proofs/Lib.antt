@@ -1,4 +1,3 @@
-pub mod Bytes
 pub mod Pieces
 pub mod Cuts
 pub mod Blanks

@@ -1,5 +1,5 @@
 -- The faults of a text's lines, and the first fault of a text.
-use Rattle.std.proofs.Common.{◌≡◌, ◌⊎◌, inl, inr, ℕ, zero, suc, ◌<◌, Bool, true, false, cond, ltb, List, [], ◌∷◌, length, get_or, Option, Some, None, Result, Err, refl, sym, ap, subst, ◌∙◌, arith}
+use Rattle.std.proofs.Common.{◌≡◌, inl, inr, ℕ, zero, suc, ◌<◌, Bool, true, false, cond, ltb, List, [], ◌∷◌, length, get_or, Option, Some, None, Err, refl, sym, ap, subst, ◌∙◌, arith}
 use Rattle.std.specs.List.{AllZip, IsAmong}
 use Rattle.std.specs.Option.{option_map}
 use Rattle.std.proofs.lemmas.Bool.{ltb-true, ltb-false}
@@ -29,7 +29,7 @@ use Rattle.sip_reader.proofs.Gathering.{gathered, from_each, Gathers, gathers}
 use Rattle.sip_reader.proofs.HeaderFaults.{from_missing, fields_tell}
 use Rattle.sip_reader.proofs.HeaderLines.{field_reads}
 use Rattle.sip_reader.proofs.Layouts.{Layout, layout_at, LaysOut, layout_reads}
-use Rattle.sip_reader.proofs.Outcomes.{step_err, same_Err}
+use Rattle.sip_reader.proofs.Outcomes.{step_err, same_Err, Failed}
 use Rattle.sip_reader.proofs.Pieces.{not_read, each_takes}
 use Rattle.sip_reader.proofs.Spelled.{then_fields, then_start_line, in_layout, fields_take, first_of, first_spelled}
 use Rattle.sip_reader.proofs.StartLines.{SpellsFirst, start_reads}
@@ -119,9 +119,6 @@ from_header f = fault.BadHeader ∷ from_missing f
 
 abbrev from_start : Fields → List ReadFault
 from_start f = fault.BadStartLine ∷ from_header f
-
-abbrev Failed : {A B : Type 0} → ReadFault → Option A → (A → Result B ReadFault) → ReadFault → Type 0
-Failed {A} other o f e = ((o ≡ None) × (other ≡ e)) ⊎ ((x : A) × (o ≡ Some x) × (f x ≡ Err e))
 
 header_stage : (text : List ℕ) (layout : Layout) (line : FirstLine) (e : ReadFault) → layout_at text ≡ Some layout → start_at layout.start ≡ Some line → Failed fault.BadHeader (fields_at layout.lines) (λ f. message_of_fields line f layout.rest) e → IsFirst (from_header no_fields) e text
 header_stage text layout line e laid line_is (inl h) =

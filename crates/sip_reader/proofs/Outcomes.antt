@@ -9,11 +9,15 @@ same_Ok x y e = cc
 pub same_Err : (A : Type 0) (d e : ReadFault) → ◌≡◌ {A = Result A ReadFault} (Err d) (Err e) → d ≡ e
 same_Err A d e p = cc
 
+-- the step gave no value, or what follows it gave the fault
+abbrev pub Failed : {A B : Type 0} → ReadFault → Option A → (A → Result B ReadFault) → ReadFault → Type 0
+Failed {A} other o f e = ((o ≡ None) × (other ≡ e)) ⊎ ((x : A) × (o ≡ Some x) × (f x ≡ Err e))
+
 pub step_ok : {A B : Type 0} (e : ReadFault) (o : Option A) (f : A → Result B ReadFault) (y : B) → (or_fault e o >>= f) ≡ Ok y → (x : A) × (o ≡ Some x) × (f x ≡ Ok y)
 step_ok e None f y p = absurd cc
 step_ok e (Some x) f y p = (x, refl, p)
 
-pub step_err : {A B : Type 0} (e : ReadFault) (o : Option A) (f : A → Result B ReadFault) (d : ReadFault) → (or_fault e o >>= f) ≡ Err d → ((o ≡ None) × (e ≡ d)) ⊎ ((x : A) × (o ≡ Some x) × (f x ≡ Err d))
+pub step_err : {A B : Type 0} (e : ReadFault) (o : Option A) (f : A → Result B ReadFault) (d : ReadFault) → (or_fault e o >>= f) ≡ Err d → Failed e o f d
 step_err {A} {B} e None f d p = inl (refl, same_Err B e d p)
 step_err e (Some x) f d p = inr (x, refl, p)
 

@@ -1,5 +1,5 @@
 -- The faults of a message whose headers are there, each of them once.
-use Rattle.std.proofs.Common.{◌≡◌, ◌⊎◌, inl, inr, ℕ, ◌^◌, ◌<◌, Bool, true, false, cond, List, [], ◌∷◌, map, length, codes, Option, Some, None, Result, Ok, Err, refl, sym, ap, subst, ◌∙◌}
+use Rattle.std.proofs.Common.{◌≡◌, inl, inr, ℕ, ◌^◌, ◌<◌, Bool, true, false, cond, List, [], ◌∷◌, map, length, codes, Option, Some, None, Result, Ok, Err, refl, sym, ap, subst, ◌∙◌}
 use Rattle.std.specs.Option.{option_to_list}
 use Rattle.std.proofs.lemmas.Bool.{true≢false}
 use Rattle.sip_parts.specs.Parameters.{value_named}
@@ -33,7 +33,7 @@ use Rattle.sip_reader.proofs.Gathering.{Gathers}
 use Rattle.sip_reader.proofs.Layouts.{Layout}
 use Rattle.sip_reader.proofs.Making.{AreNumbers, numbers_take, IsStart, start_takes, other_method, body_short, via_of, vias_take, finished, then_body, then_start, then_vias}
 use Rattle.sip_reader.proofs.NumberFaults.{numbers_good, numbers_bad}
-use Rattle.sip_reader.proofs.Outcomes.{step_err}
+use Rattle.sip_reader.proofs.Outcomes.{step_err, Failed}
 use Rattle.sip_reader.proofs.Pieces.{only_one, by_bool}
 use Rattle.sip_reader.proofs.StartLines.{SpellsFirst, start_reads}
 
@@ -148,9 +148,6 @@ from_branch = fault.OldBranch ∷ from_method
 
 abbrev pub from_number : List ReadFault
 from_number = fault.BadNumber ∷ from_branch
-
-abbrev Failed : {A B : Type 0} → ReadFault → Option A → (A → Result B ReadFault) → ReadFault → Type 0
-Failed {A} other o f e = ((o ≡ None) × (other ≡ e)) ⊎ ((x : A) × (o ≡ Some x) × (f x ≡ Err e))
 
 body_stage : (text : List ℕ) (layout : Layout) (line : FirstLine) (fs : List Field) (f : Fields) (parts : Parts) (numbers : Numbers) (vias : List Via) (says : StartLine) (e : ReadFault) → IsRead text layout line fs f parts → AreNumbers parts numbers → Failed fault.Truncated (body_of layout.rest numbers.length) (λ body. Ok (finished parts numbers vias says body)) e → IsFirst from_truncated e text
 body_stage text layout line fs f parts numbers vias says e r are (inl h) =

@@ -16,7 +16,7 @@ use Rattle.sip_message.specs.declared.via.Via.{Via}
 use Rattle.sip_reader.specs.HeaderLine.{is_named}
 use Rattle.sip_reader.specs.HeaderSet.{SpellsField, is_of, is_other}
 use Rattle.sip_reader.specs.Lines.{IsLines, IsFull}
-use Rattle.sip_reader.specs.Rules.{IsStartLine, IsBasicMessage, IsPlainMessage, IsVia, IsPlain}
+use Rattle.sip_reader.specs.Rules.{IsStartLine, IsMessage, IsPlainMessage, IsVia, IsPlain}
 use Rattle.sip_reader.specs.Spells.{Spells, HasBasicHeadersAlone}
 use Rattle.sip_reader.specs.StartLine.{SpellsStart, IsStatusCode}
 use Rattle.sip_reader.specs.declared.field.Field.{Field}
@@ -146,7 +146,7 @@ names = (refl, refl, refl, refl, refl, refl)
 
 -- what is known of the one Via
 record IsReady (m : Message) (via : Via) : Type 0 where
-  basic : IsBasicMessage m
+  basic : IsMessage m
   plain : IsPlainMessage m
   via_is : IsVia via
   via_plain_is : AllByRecursion IsPlain via.parameters
@@ -262,7 +262,7 @@ spelled m via one r short =
 one_is : (vias : List Via) (via : Via) → vias ≡ via ∷ [] → AllByRecursion IsVia vias → IsVia via
 one_is vias via one are = (subst (λ vs. AllByRecursion IsVia vs) one are).0
 
-pub written_spelled : (m : Message) → IsBasicMessage m → IsPlainMessage m → length (written m) ≤ 65535 → Spells m (written m)
+pub written_spelled : (m : Message) → IsMessage m → IsPlainMessage m → length (written m) ≤ 65535 → Spells m (written m)
 written_spelled m b p short =
     let parts = in_lines m p.via p.one_via p.further in
     let small : length m.body < 2 ^ 32 = omega (arith, ap length parts, length-append (flat_map with_end (all_lines m p.via)) m.body, short) in

@@ -1,7 +1,6 @@
 -- Start lines are read as they are spelled.
 use Rattle.std.proofs.Common.{◌≡◌, inl, inr, ℕ, ◌^◌, ◌<◌, ◌≤◌, Bool, true, false, cond, eqb, ltb, ◌&&◌, ◌||◌, List, [], ◌∷◌, ◌++◌, length, take, drop, codes, Some, None, Result, Ok, Err, refl, sym, ap, subst, ◌∙◌, arith}
 use Rattle.std.specs.Char.{is_ascii_digit}
-use Rattle.std.specs.List.{list_all}
 use Rattle.std.specs.Str.{all_ascii_digits}
 use Rattle.std.specs.Str.Parse.{digits_value}
 use Rattle.std.proofs.lemmas.Bool.{eqb-true, and_parts, and_from, or_parts, ltb-false, le-ltb, lt-ltb, true≢false, cases_lt}
@@ -23,6 +22,7 @@ use Rattle.sip_reader.specs.ReadStart.{request_at, code_in, code_at, reason_at, 
 use Rattle.sip_reader.specs.StartLine.{is_version, IsRequestLine, IsStatusCode, IsReasonPart, IsStatusLine}
 use Rattle.sip_reader.proofs.Characters.{same_lower, lower_without, token_without, no_space, no_slash, word_without_space}
 use Rattle.sip_reader.proofs.Cuts.{at_takes, at_again, run_all}
+use Rattle.sip_reader.proofs.WrittenBytes.{all_digits}
 use Rattle.sip_reader.proofs.WordNumbers.{number_is, number_again}
 use Rattle.sip_reader.proofs.Pieces.{Reads, bind_some, guard_some, by_bool}
 
@@ -39,13 +39,9 @@ from_number number status false is e =
     let both = or_parts (ltb number 100) (ltb 699 number) is in
     (same_Some number status e, ltb-false number 100 both.0, ltb-false 699 number both.1)
 
-all_digits : (text : List ℕ) → list_all is_ascii_digit text ≡ all_ascii_digits text
-all_digits [] = refl
-all_digits (b ∷ bs) = ap (λ r. is_ascii_digit b && r) (all_digits bs)
-
 below_hundred : (text : List ℕ) → is_digits text ≡ true → length text ≤ 2 → digits_value 10 text < 100
 below_hundred text digits short =
-    digits_value_short (numerals_by_value (λ ds. all_ascii_digits ds ≡ true) tells_all_ascii_digits) text 2 (sym (all_digits text) ∙ run_all is_ascii_digit text digits) short
+    digits_value_short (numerals_by_value (λ ds. all_ascii_digits ds ≡ true) tells_all_ascii_digits) text 2 (all_digits text ∙ run_all is_ascii_digit text digits) short
 
 pub is_three : (text : List ℕ) → is_digits text ≡ true → length text ≤ 3 → 100 ≤ digits_value 10 text → length text ≡ 3
 is_three text digits short least =

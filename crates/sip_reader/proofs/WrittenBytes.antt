@@ -23,7 +23,7 @@ use Rattle.sip_reader.specs.Lines.{has_no}
 use Rattle.sip_reader.specs.NumberWords.{IsNumber}
 use Rattle.sip_reader.specs.Values.{is_port_byte, is_port_word}
 use Rattle.sip_reader.proofs.Blanks.{end_is, starts_full}
-use Rattle.sip_reader.proofs.Characters.{token_bytes}
+use Rattle.sip_reader.proofs.Characters.{token_bytes, full_at}
 use Rattle.sip_reader.proofs.Cuts.{all_imply, run_all}
 use Rattle.sip_reader.proofs.Pieces.{by_bool}
 
@@ -34,10 +34,6 @@ is_solid b = not (is_blank b) && not (is_line_byte b)
 
 abbrev pub solid : List ℕ → Bool
 solid text = list_all is_solid text
-
-full_at : (test : ℕ → Bool) (b at : ℕ) → test at ≡ false → test b ≡ true → eqb b at ≡ false
-full_at test b at fails passes =
-    by_bool (eqb b at) (λ r. r ≡ false) (λ e. absurd (true≢false (sym passes ∙ ap test (eqb-true b at e) ∙ fails))) (λ e. refl)
 
 solid_byte : (test : ℕ → Bool) → test 32 ≡ false → test 9 ≡ false → test 13 ≡ false → test 10 ≡ false → (b : ℕ) → test b ≡ true → is_solid b ≡ true
 solid_byte test space tab cr lf b passes =
@@ -124,7 +120,7 @@ header_value_plain value is = (and_parts (has_no_blank_ends value) (has_no_line_
 
 -- ---- decimal numbers
 
-all_digits : (text : List ℕ) → all_ascii_digits text ≡ list_all is_ascii_digit text
+pub all_digits : (text : List ℕ) → all_ascii_digits text ≡ list_all is_ascii_digit text
 all_digits [] = refl
 all_digits (b ∷ bs) = ap (λ r. is_ascii_digit b && r) (all_digits bs)
 

@@ -47,8 +47,8 @@ pub record IsOtherHeader (kept : Header) : Type 0 where
   pub name : IsTrue (is_other_name kept.name)
   pub value : IsTrue (is_header_value kept.value)
 
--- what is true of every message whose further headers are absent
-pub record IsBasicMessage (m : Message) : Type 0 where
+-- What every message keeps in the parts that are read already.
+pub record IsMessage (m : Message) : Type 0 where
   pub start : IsStartLine m.start
   pub top : IsTrue (are_vias m.vias)
   pub vias : AllByRecursion IsVia m.vias

@@ -4,7 +4,7 @@ ghost use Rattle.sip_message.specs.declared.message.Message.{Message};
 ghost use Rattle.sip_message.specs.Written.{written};
 ghost use Rattle.sip_reader.specs.Faults.{TellsFault};
 ghost use Rattle.sip_reader.specs.ReadMessage.{message_at};
-ghost use Rattle.sip_reader.specs.Rules.{IsBasicMessage, IsPlainMessage};
+ghost use Rattle.sip_reader.specs.Rules.{IsMessage, IsPlainMessage};
 ghost use Rattle.sip_reader.specs.Spells.{Spells};
 
 /// A text spells at most one message.
@@ -21,5 +21,5 @@ pub fn what_is_read()
 
 /// What is written for a message is read again as the same message, where it isn't too long.
 pub fn written_is_spelled()
-    ensures { (m : Message) → IsBasicMessage m → IsPlainMessage m → length (written m) ≤ 65535 → Spells m (written m) }
+    ensures { (m : Message) → IsMessage m → IsPlainMessage m → length (written m) ≤ 65535 → Spells m (written m) }
 {}

@@ -12,6 +12,7 @@ mod numbers;
 mod parameter_reader;
 mod parts;
 mod reader;
+mod rules;
 mod start_reader;
 #[cfg(test)]
 mod tests;
@@ -20,3 +21,4 @@ mod via_words;
 
 pub use laws::{one_message, what_is_read, written_is_spelled};
 pub use reader::{MAX_BYTES, read};
+pub use rules::keeps_rules;

@@ -1,0 +1,103 @@
+//! The rules that every message keeps, since its parts do.
+ghost use Rattle.std.specs.Prelude.{◌<◌, ◌^◌, IfSome};
+ghost use Rattle.std.specs.List.{AllByRecursion};
+ghost use Rattle.sip_reader.specs.Rules as rules;
+
+use sip_message::{Header, Message, Party, StartLine, Via};
+use sip_parts::Parameter;
+
+/// A message keeps the rules of its parts.
+pub fn keeps_rules(message: &Message)
+    ensures { rules.IsMessage message.now }
+{
+    start_line_keeps(&message.start);
+    vias_keep(message.vias.as_slice());
+    party_keeps(&message.from);
+    party_keeps(&message.to);
+    let _call_id = message.call_id.as_slice();
+    let _number = message.cseq.number;
+    let _method = message.cseq.method.as_slice();
+    others_keep(message.others.as_slice());
+}
+
+fn start_line_keeps(start: &StartLine)
+    ensures { rules.IsStartLine start.now }
+{
+    match start {
+        StartLine::Request { uri } => {
+            let _uri = uri.as_slice();
+        }
+        StartLine::Response { status, reason } => {
+            let _code = status.code();
+            let _reason = reason.as_slice();
+        }
+    }
+}
+
+fn vias_keep(vias: &[Via])
+    ensures { AllByRecursion rules.IsVia vias.now }
+{
+    for via in vias {
+        via_keeps(via);
+    }
+}
+
+fn via_keeps(via: &Via)
+    ensures { rules.IsVia via.now }
+{
+    let _transport = via.transport.as_slice();
+    let _host = via.host.as_slice();
+    port_keeps(via.port);
+    parameters_keep(via.parameters.as_slice());
+}
+
+fn port_keeps(port: Option<u16>)
+    ensures { IfSome port (λ number. number < 2 ^ 16) }
+{
+    match port {
+        None => {}
+        Some(number) => {
+            let _number = number;
+        }
+    }
+}
+
+fn party_keeps(party: &Party)
+    ensures { rules.IsParty party.now }
+{
+    let _display = party.display.as_slice();
+    let _uri = party.uri.as_slice();
+    parameters_keep(party.parameters.as_slice());
+}
+
+fn parameters_keep(parameters: &[Parameter])
+    ensures { AllByRecursion rules.IsParameter parameters.now }
+{
+    for parameter in parameters {
+        parameter_keeps(parameter);
+    }
+}
+
+fn parameter_keeps(parameter: &Parameter)
+    ensures { rules.IsParameter parameter.now }
+{
+    let _name = parameter.name.as_slice();
+    if let Some(value) = &parameter.value {
+        let _value = value.as_slice();
+    }
+}
+
+fn others_keep(others: &[Header])
+    ensures { AllByRecursion rules.IsOtherHeader others.now }
+{
+    for other in others {
+        other_keeps(other);
+    }
+}
+
+fn other_keeps(other: &Header)
+    ensures { rules.IsOtherHeader other.now }
+{
+    let _name = other.name.as_slice();
+    let _value = other.value.as_slice();
+}
