@@ -40,16 +40,6 @@ cut_again at (b ∷ bs) rest none =
     let parts = and_parts (not (eqb b at)) (has_no at bs) none in
     ap (λ r. cut_by at b (bs ++ at ∷ rest) r (cut_at at (bs ++ at ∷ rest))) (not-true (eqb b at) parts.0) ∙ ap (λ o. option_map (λ p. (b ∷ p.0, p.1)) o) (cut_again at bs rest parts.1)
 
--- no such byte stands in a text that can't be cut
-cut_none_by : (at b : ℕ) (bs : List ℕ) (r : Bool) (o : Option (List ℕ × List ℕ)) → eqb b at ≡ r → (o ≡ None → has_no at bs ≡ true) → cut_by at b bs r o ≡ None → has_no at (b ∷ bs) ≡ true
-cut_none_by at b bs true o is before e = absurd cc
-cut_none_by at b bs false None is before e = and_from (not (eqb b at)) (has_no at bs) (not_from_false (eqb b at) is) (before refl)
-cut_none_by at b bs false (Some p) is before e = absurd cc
-
-pub cut_none : (at : ℕ) (text : List ℕ) → cut_at at text ≡ None → has_no at text ≡ true
-cut_none at [] e = refl
-cut_none at (b ∷ bs) e = cut_none_by at b bs (eqb b at) (cut_at at bs) refl (λ h. cut_none at bs h) e
-
 -- ---- fields
 
 -- A reader of fields: what it reads is spelled so and fits, and what fits is read from its spelling.

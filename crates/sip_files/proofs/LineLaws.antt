@@ -137,9 +137,6 @@ respond_text call_id id status reliability body reason =
 status_reads : Reads (λ n. n ≤ 999) decimal (number_at 999)
 status_reads = number_reads 999 (omega arith)
 
-abbrev Words : Type 0
-Words = List ℕ × List ℕ
-
 respond_took : (fields : List ℕ) (event : Event) → respond_at fields ≡ Some event → IsEventLine event × (codes "respond" ++ 32 ∷ fields ≡ event_text event)
 unfolding respond_at
 respond_took fields event e =

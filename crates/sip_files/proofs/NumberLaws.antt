@@ -112,9 +112,6 @@ four a b c d = decimal a ++ 46 ∷ (decimal b ++ 46 ∷ (decimal c ++ 46 ∷ dec
 octets : Reads (λ n. n ≤ 255) decimal (number_at 255)
 octets = number_reads 255 (omega arith)
 
-IsIp : List ℕ → Type 0
-IsIp ip = (length ip ≡ 4) × (are_bytes ip ≡ true)
-
 octet_byte : (n : ℕ) (bs : List ℕ) → n ≤ 255 → are_bytes bs ≡ true → are_bytes (n ∷ bs) ≡ true
 octet_byte n bs le others = and_from _ _ (le-leb (suc n) 256 (omega (arith, le))) others
 

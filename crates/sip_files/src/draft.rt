@@ -12,7 +12,7 @@ use std::alloc::{AllocError, Global};
 
 /// Which line of the head may come next; after the last of them only rounds and events do.
 #[derive(Clone, Copy)]
-pub enum Stage {
+pub(crate) enum Stage {
     /// The first line, which has to be there.
     Local,
     Seed,
@@ -34,7 +34,7 @@ impl Stage {
 
 /// What the lines read so far say. The configuration counts once its first line was taken.
 #[derive(Drop)]
-pub struct Draft {
+pub(crate) struct Draft {
     pub config: Config,
     pub stage: Stage,
     pub rounds: Series<Round>,

@@ -1,0 +1,330 @@
+//! Worked examples of both files, and the texts that are none.
+
+use crate::words::{push_rest, push_word, read_rest, read_word};
+use crate::{Event, EventsFault, Output, read_events, write_outputs};
+use sip_message::{Addr, CallId, HeaderName, Id, ReadFault, StatusCode, Token};
+use sip_served::{Notice, Refusal, UserCommand};
+use sip_text::Text;
+use sip_transactions::DropReason;
+use std::alloc::Global;
+use std::test::Fail;
+
+const ID: Id = Id { round: 3, place: 2 };
+
+const ADDRESS: Addr = Addr {
+    ip: [192, 0, 2, 1],
+    port: 5060,
+};
+
+fn text(alloc: Global, bytes: &[u8]) -> Result<Text, Fail> {
+    Ok(Text::copy_of(alloc, bytes)?)
+}
+
+fn call(alloc: Global) -> Result<CallId, Fail> {
+    let call_id = CallId::new(Text::copy_of(alloc, b"c1")?).ok_or("a Call-ID")?;
+    Ok(call_id)
+}
+
+// The text of one output, without the lines before it.
+fn told(alloc: Global, output: Output) -> Result<Vec<u8>, Fail> {
+    let mut outputs = Vec::new(alloc);
+    outputs.push(output)?;
+    let mut rounds = Vec::new(alloc);
+    rounds.push((7, outputs))?;
+    let file = write_outputs(alloc, rounds.as_slice())?;
+    let line = file
+        .as_slice()
+        .strip_prefix(b"sip-outputs 1\nround 7\n".as_slice())
+        .ok_or("the lines before the output")?;
+    Ok(Vec::from_slice(alloc, line)?)
+}
+
+#[test]
+fn drops_and_sends(rt: HostRuntime) -> Result<(), Fail> {
+    let alloc = rt.alloc();
+    let drops = [
+        (DropReason::NotOurs, b"drop 4 NotOurs\n".as_slice()),
+        (
+            DropReason::NoTransaction,
+            b"drop 4 NoTransaction\n".as_slice(),
+        ),
+        (
+            DropReason::Unreadable(ReadFault::NoEmptyLine),
+            b"drop 4 NoEmptyLine\n".as_slice(),
+        ),
+        (
+            DropReason::Unreadable(ReadFault::Repeated(HeaderName::ContentLength)),
+            b"drop 4 Repeated Content-Length\n".as_slice(),
+        ),
+        (
+            DropReason::Unreadable(ReadFault::Missing(HeaderName::Via)),
+            b"drop 4 Missing Via\n".as_slice(),
+        ),
+    ];
+    for (reason, line) in drops {
+        let output = Output::Dropped { place: 4, reason };
+        assert_eq!(rt; told(alloc, output)?.as_slice(), line);
+    }
+    let send = Output::Send {
+        key: None,
+        to: ADDRESS,
+        bytes: text(alloc, b"a b\r\n")?,
+    };
+    assert_eq!(rt;
+        told(alloc, send)?.as_slice(),
+        b"send 192.0.2.1:5060 a b\\r\\n\n".as_slice()
+    );
+    Ok(())
+}
+
+fn is_told(alloc: Global, notice: Notice, line: &[u8]) -> Result<bool, Fail> {
+    let told = told(alloc, Output::Notice(notice))?;
+    Ok(told.as_slice() == line)
+}
+
+#[test]
+fn requests_are_told(rt: HostRuntime) -> Result<(), Fail> {
+    let alloc = rt.alloc();
+    let request = Notice::Request {
+        call_id: call(alloc)?,
+        id: ID,
+        method: Token::new(text(alloc, b"INFO")?).ok_or("a method")?,
+        local_tag: text(alloc, b"l")?,
+        remote_tag: text(alloc, b"-")?,
+        body: text(alloc, b"")?,
+    };
+    assert!(rt; is_told(alloc, request, b"notice c1 request 3.2 INFO l \\x2d -\n")?);
+    Ok(())
+}
+
+#[test]
+fn responses_are_told(rt: HostRuntime) -> Result<(), Fail> {
+    let alloc = rt.alloc();
+    let response = Notice::Response {
+        call_id: call(alloc)?,
+        id: ID,
+        status: StatusCode::new(486).ok_or("a status")?,
+        local_tag: text(alloc, b"l")?,
+        remote_tag: text(alloc, b"")?,
+        body: text(alloc, b"b")?,
+    };
+    assert!(rt; is_told(alloc, response, b"notice c1 response 3.2 486 l - b\n")?);
+    Ok(())
+}
+
+#[test]
+fn acks_and_pracks_are_told(rt: HostRuntime) -> Result<(), Fail> {
+    let alloc = rt.alloc();
+    let ack = Notice::Ack {
+        call_id: call(alloc)?,
+        id: ID,
+        body: text(alloc, b"b")?,
+    };
+    assert!(rt; is_told(alloc, ack, b"notice c1 ack 3.2 b\n")?);
+    let prack = Notice::Prack {
+        call_id: call(alloc)?,
+        id: ID,
+        rseq: 1,
+        body: text(alloc, b"")?,
+    };
+    assert!(rt; is_told(alloc, prack, b"notice c1 prack 3.2 1 -\n")?);
+    Ok(())
+}
+
+#[test]
+fn ends_are_told(rt: HostRuntime) -> Result<(), Fail> {
+    let alloc = rt.alloc();
+    let ended = Notice::Ended {
+        call_id: call(alloc)?,
+        local_tag: text(alloc, b"l")?,
+        remote_tag: text(alloc, b"r")?,
+    };
+    assert!(rt; is_told(alloc, ended, b"notice c1 ended l r\n")?);
+    Ok(())
+}
+
+#[test]
+fn what_has_an_id_alone_is_told(rt: HostRuntime) -> Result<(), Fail> {
+    let alloc = rt.alloc();
+    let id = ID;
+    let call_id = call(alloc)?;
+    assert!(rt;
+        is_told(
+            alloc,
+            Notice::Timeout { call_id, id },
+            b"notice c1 timeout 3.2\n"
+        )?
+    );
+    let call_id = call(alloc)?;
+    assert!(rt;
+        is_told(
+            alloc,
+            Notice::Failed { call_id, id },
+            b"notice c1 failed 3.2\n"
+        )?
+    );
+    let call_id = call(alloc)?;
+    assert!(rt;
+        is_told(
+            alloc,
+            Notice::NoAck { call_id, id },
+            b"notice c1 noack 3.2\n"
+        )?
+    );
+    let call_id = call(alloc)?;
+    assert!(rt;
+        is_told(
+            alloc,
+            Notice::NoPrack { call_id, id },
+            b"notice c1 noprack 3.2\n"
+        )?
+    );
+    let call_id = call(alloc)?;
+    assert!(rt;
+        is_told(
+            alloc,
+            Notice::Cancel { call_id, id },
+            b"notice c1 cancel 3.2\n"
+        )?
+    );
+    Ok(())
+}
+
+#[test]
+fn refusals_are_told(rt: HostRuntime) -> Result<(), Fail> {
+    let alloc = rt.alloc();
+    let refused = Notice::Refused {
+        call_id: call(alloc)?,
+        place: 5,
+        refusal: Refusal::BadMethod,
+    };
+    assert!(rt; is_told(alloc, refused, b"notice c1 refused 5 14\n")?);
+    Ok(())
+}
+
+#[test]
+fn an_event_file_is_read(rt: HostRuntime) -> Result<(), Fail> {
+    let file =
+        b"sip-events 1\nlocal 192.0.2.1:5060\nfirst 9\nround 0\ndatagram 192.0.2.9:5070 a b\\r\\n\nrespond c1 0.1 200 plain - OK\nround 5\n";
+    let (config, rounds) = read_events(rt.alloc(), file)?;
+    assert!(rt; config.local == ADDRESS);
+    assert!(rt; config.seed == [0; 32]);
+    assert_eq!(rt; config.first, 9);
+    let [first, second] = rounds.as_slice() else {
+        return Err("two rounds".into());
+    };
+    assert_eq!(rt; first.moment, 0);
+    assert_eq!(rt; second.moment, 5);
+    assert!(rt; second.events.is_empty());
+    let [
+        Event::Datagram { from, bytes },
+        Event::Command(UserCommand::Respond(respond)),
+    ] = first.events.as_slice()
+    else {
+        return Err("a datagram and an answer".into());
+    };
+    assert_eq!(rt; from.port, 5070);
+    assert_eq!(rt; bytes.as_slice(), b"a b\r\n".as_slice());
+    assert_eq!(rt; respond.status, 200);
+    assert_eq!(rt; respond.reason.as_slice(), b"OK".as_slice());
+    Ok(())
+}
+
+#[test]
+fn texts_that_are_no_event_files(rt: HostRuntime) {
+    let cases = [
+        (b"".as_slice(), EventsFault::BadVersion),
+        (
+            b"sip-events 2\nlocal 192.0.2.1:5060\n".as_slice(),
+            EventsFault::BadVersion,
+        ),
+        (b"sip-events 1".as_slice(), EventsFault::BadLine(1)),
+        (b"sip-events 1\n".as_slice(), EventsFault::BadLine(2)),
+        (
+            b"sip-events 1\nround 0\n".as_slice(),
+            EventsFault::BadLine(2),
+        ),
+        (
+            b"sip-events 1\nlocal 192.0.2.1:65536\n".as_slice(),
+            EventsFault::BadLine(2),
+        ),
+        (
+            b"sip-events 1\nlocal 192.0.2.1:5060".as_slice(),
+            EventsFault::BadLine(2),
+        ),
+        (
+            b"sip-events 1\nlocal 192.0.2.1:5060\ndatagram 192.0.2.9:5060 a\n".as_slice(),
+            EventsFault::BadLine(3),
+        ),
+        (
+            b"sip-events 1\nlocal 192.0.2.1:5060\nround 01\n".as_slice(),
+            EventsFault::BadLine(3),
+        ),
+        (
+            b"sip-events 1\nlocal 192.0.2.1:5060\nround 0\ncancel c1 0.1\n".as_slice(),
+            EventsFault::BadLine(4),
+        ),
+    ];
+    for (file, fault) in cases {
+        assert!(rt; read_events(rt.alloc(), file).err() == Some(fault));
+    }
+}
+
+#[test]
+fn words_of_texts(rt: HostRuntime) -> Result<(), Fail> {
+    let cases = [
+        (b"".as_slice(), b"-".as_slice()),
+        (b"-".as_slice(), b"\\x2d".as_slice()),
+        (b"--".as_slice(), b"--".as_slice()),
+        (b"a b\r\n\t\\".as_slice(), b"a\\sb\\r\\n\\t\\\\".as_slice()),
+        (b"\x00\x7f\xff".as_slice(), b"\\x00\\x7f\\xff".as_slice()),
+    ];
+    for (text, word) in cases {
+        let mut line = Vec::new(rt.alloc());
+        push_word(&mut line, text)?;
+        assert_eq!(rt; line.as_slice(), word);
+        let read = read_word(rt.alloc(), word)?.ok_or("a word")?;
+        assert_eq!(rt; read.as_slice(), text);
+    }
+    Ok(())
+}
+
+#[test]
+fn rests_of_texts(rt: HostRuntime) -> Result<(), Fail> {
+    let cases = [
+        (b"".as_slice(), b"".as_slice()),
+        (b"-".as_slice(), b"-".as_slice()),
+        (b" a b\r\n".as_slice(), b" a b\\r\\n".as_slice()),
+    ];
+    for (text, rest) in cases {
+        let mut line = Vec::new(rt.alloc());
+        push_rest(&mut line, text)?;
+        assert_eq!(rt; line.as_slice(), rest);
+        let read = read_rest(rt.alloc(), rest)?.ok_or("a rest")?;
+        assert_eq!(rt; read.as_slice(), text);
+    }
+    Ok(())
+}
+
+#[test]
+fn other_spellings_are_no_words(rt: HostRuntime) -> Result<(), Fail> {
+    let spellings = [
+        b"".as_slice(),
+        b"a b".as_slice(),
+        b"\\x41".as_slice(),
+        b"\\x20".as_slice(),
+        b"\\x0A".as_slice(),
+        b"\\x0a".as_slice(),
+        b"\\xFF".as_slice(),
+        b"\\x2d-".as_slice(),
+        b"\\".as_slice(),
+        b"\\x0".as_slice(),
+        b"\\q".as_slice(),
+        b"\xff".as_slice(),
+    ];
+    for spelling in spellings {
+        assert!(rt; read_word(rt.alloc(), spelling)?.is_none());
+    }
+    assert!(rt; read_rest(rt.alloc(), b"\\s")?.is_none());
+    Ok(())
+}
