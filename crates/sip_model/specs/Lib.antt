@@ -1,4 +1,5 @@
 pub mod History
 pub mod Inputs
 pub mod Machine
+pub mod Owned
 pub mod Table

@@ -6,7 +6,10 @@ use Rattle.sip_message.specs.declared.key.Key.{Key}
 use Rattle.sip_message.specs.declared.key.Key.TheVariants as key
 use Rattle.sip_message.specs.declared.start_line.StartLine.{StartLine}
 use Rattle.sip_message.specs.declared.start_line.StartLine.TheVariants as start
+use Rattle.sip_message.specs.Key.{key_cmp}
+use Rattle.sip_model.specs.Inputs.{Inputs}
 use Rattle.sip_model.specs.Machine.{state_after, outputs_from, IsLife}
+use Rattle.sip_model.specs.Owned.{owned, told_by}
 use Rattle.sip_transactions.specs.declared.input.Command.{Command}
 use Rattle.sip_transactions.specs.declared.input.Input.{Input}
 use Rattle.sip_transactions.specs.declared.input.Input.TheVariants.{Tick, Receive, Start, Answer, Failed}
@@ -98,3 +101,8 @@ NothingAfterTheEnd = (key : Key) (before : List Timed) (first : Timed) (rest aft
     → state_after transaction_machine key (before ++ first ∷ rest) ≡ None → id_of first.input ≡ Some id
     → IsDistinct same_id (filter_map (λ timed. naming_id timed.input) (before ++ first ∷ rest ++ after))
     → list_any (carries id) (outputs_from transaction_machine key None after) ≡ false
+
+-- the items of the keys that a shard owns add, alone and in their order, what they add among the items of all keys
+abbrev pub ShardsWorkApart : Type 0
+ShardsWorkApart = (owns : Key → Bool) (part whole : Inputs key_cmp Timed) (items : List (Key × Timed)) → ((key : Key) → owns key ≡ true → part.history key ≡ whole.history key)
+    → told_by key_cmp transaction_machine part (owned owns items) ≡ owned owns (told_by key_cmp transaction_machine whole items)
