@@ -1,11 +1,10 @@
 -- A made name tells its round, its place and its index.
-use Rattle.std.proofs.Common.{◌≡◌, ℕ, zero, suc, ◌+◌, ◌-◌, ◌*◌, ◌/◌, ◌%◌, ◌<◌, ◌^◌, Bool, true, false, List, [], ◌∷◌, ◌++◌, length, take, drop, refl, sym, ap, ◌∙◌, arith, length-append, nat_lt, if◌then◌else◌}
+use Rattle.std.proofs.Common.{◌≡◌, ℕ, zero, suc, ◌+◌, ◌-◌, ◌/◌, ◌%◌, ◌<◌, ◌^◌, List, [], ◌∷◌, ◌++◌, length, take, drop, sym, ap, ◌∙◌, arith, length-append, nat_lt, if◌then◌else◌}
 use Rattle.std.proofs.lemmas.Bool.{ltb-true, ltb-false}
 use Rattle.std.proofs.Math.Seq.{take-append_seam, drop-append_seam}
 use Rattle.sip_model.proofs.Ordered.{by_bool}
-use Rattle.sip_message.specs.declared.id.Id.{Id}
 use Rattle.sip_calls.proofs.Hex.{length-hex}
-use Rattle.sip_calls.specs.Name.{digit_of, hex, name_of, word_of_name, NamesDiffer}
+use Rattle.sip_calls.specs.Name.{digit_of, hex, NamesDiffer}
 
 -- two texts of two parts each, where the first parts are as long
 module _ (xs ys zs ws : List ℕ) (long : length xs ≡ length ys) (same : xs ++ zs ≡ ys ++ ws) where

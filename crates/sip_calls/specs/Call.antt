@@ -5,7 +5,7 @@ use Rattle.sip_message.specs.declared.id.Id.{Id}
 use Rattle.sip_model.specs.Machine.{Machine}
 use Rattle.sip_served.specs.Removal.{after_tick}
 use Rattle.sip_served.specs.Requests.{after_item, given_for_item}
-use Rattle.sip_served.specs.ServerSide.{ServerSide, all_held}
+use Rattle.sip_served.specs.ServerSide.{all_held}
 use Rattle.sip_served.specs.declared.command.UserCommand.{UserCommand}
 use Rattle.sip_served.specs.declared.command.UserCommand.TheVariants.{Respond}
 use Rattle.sip_served.specs.declared.held_request.HeldRequest.{HeldRequest}

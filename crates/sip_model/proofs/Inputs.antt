@@ -1,21 +1,21 @@
 -- One input more, of one key or of all, and what a table holds then.
-use Rattle.std.proofs.Common.{◌≡◌, Bool, true, false, cond, ◌&&◌, ◌||◌, List, [], ◌∷◌, ◌++◌, map, refl, sym, ◌∙◌, ap, subst, T, append_assoc}
+use Rattle.std.proofs.Common.{◌≡◌, Bool, true, false, cond, ◌&&◌, List, [], ◌∷◌, ◌++◌, map, refl, sym, ◌∙◌, ap, subst, T, append_assoc}
 use Rattle.std.proofs.lemmas.List.{append-nil}
 use Rattle.std.specs.Prelude.{Option, None, Some, is_some, IsSome}
 use Rattle.std.specs.declared.cmp.Ordering.{Ordering}
 use Rattle.std.specs.declared.cmp.Ordering.TheVariants.{Less, Equal, Greater}
-use Rattle.std.specs.Ordering.{is_lt, is_eq, eq_by_cmp}
+use Rattle.std.specs.Ordering.{is_lt, eq_by_cmp}
 use Rattle.std.specs.Cmp.{IsTotalOrder}
 use Rattle.std.specs.BTreeMap.{is_at}
-use Rattle.std.specs.List.{flat_map, list_any, AllByRecursion}
+use Rattle.std.specs.List.{list_any, AllByRecursion}
 use Rattle.std.specs.List.Sorted.{IsStrictlySortedBy}
 use Rattle.std.specs.FinMap as finite
 use Rattle.std.specs.FinMap.Entries.{is_sorted, below_all}
 use Rattle.std.specs.FinSet.{FinSet}
 use Rattle.sip_model.specs.Machine.{Machine, IsQuiet, state_after}
 use Rattle.sip_model.specs.Table.{Held, Covers}
-use Rattle.sip_model.specs.History.{states_after, all_longer, longer, StandsFor, AddsInput, AddsInputs}
-use Rattle.sip_model.proofs.Ordered.{by_bool, by_ordering, is_at_back}
+use Rattle.sip_model.specs.History.{states_after, longer, AddsInput, AddsInputs}
+use Rattle.sip_model.proofs.Ordered.{by_bool, is_at_back}
 use Rattle.sip_model.proofs.History.{state_after-push}
 use Rattle.sip_model.specs.Inputs.{Inputs, no_inputs, with_input, added_by, with_tick, added_by_tick, with_items, added_by_items, HoldsAfter}
 

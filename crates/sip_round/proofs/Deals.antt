@@ -1,5 +1,5 @@
 -- The three phases together are one round.
-use Rattle.std.proofs.Common.{◌≡◌, ℕ, List, [], ◌∷◌, ◌++◌, refl, sym, ◌∙◌, ap, subst, append_assoc}
+use Rattle.std.proofs.Common.{◌≡◌, ℕ, List, [], ◌++◌, ◌∙◌, ap, subst}
 use Rattle.std.specs.List.{flat_map}
 use Rattle.sip_message.specs.Key.{key_cmp}
 use Rattle.sip_message.specs.declared.id.Id.{Id}
@@ -7,8 +7,6 @@ use Rattle.sip_transactions.specs.declared.input.Command.{Command}
 use Rattle.sip_transactions.specs.declared.input.Timed.{Timed}
 use Rattle.sip_served.specs.declared.item.CallOut.{CallOut}
 use Rattle.sip_served.specs.declared.item.Item.{Item}
-use Rattle.sip_calls.specs.declared.calls.CallInput.{CallInput}
-use Rattle.sip_calls.specs.CallShard.{call_cmp}
 use Rattle.sip_files.specs.declared.config.Config.{Config}
 use Rattle.sip_files.specs.declared.output.Output.{Output}
 use Rattle.sip_files.specs.declared.round.Round.{Round}

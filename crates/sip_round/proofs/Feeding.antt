@@ -1,5 +1,5 @@
 -- Steps of a phase: by what a shard answers, one after the other, and over lists.
-use Rattle.std.proofs.Common.{◌≡◌, ℕ, Bool, true, false, cond, List, [], ◌∷◌, ◌++◌, refl, sym, ◌∙◌, ap, append_assoc}
+use Rattle.std.proofs.Common.{◌≡◌, ℕ, List, [], ◌++◌, refl, sym, ◌∙◌, ap, append_assoc}
 use Rattle.std.specs.Prelude.{Result, Ok, Err, OnOk}
 use Rattle.std.specs.List.{flat_map}
 use Rattle.std.proofs.lemmas.List.{append-nil}
@@ -11,7 +11,7 @@ use Rattle.sip_model.specs.History.{AddsInput, AddsInputs}
 use Rattle.sip_calls.specs.declared.calls.Calls.{Calls}
 use Rattle.sip_calls.specs.Call.{call_machine, tick_input}
 use Rattle.sip_round.specs.Feeding.{Feeds}
-use Rattle.sip_model.specs.Inputs.{Inputs, HoldsAfter, with_input, added_by, with_tick, added_by_tick}
+use Rattle.sip_model.specs.Inputs.{HoldsAfter, with_input, added_by, with_tick, added_by_tick}
 use Rattle.sip_model.proofs.Inputs.{holds_one_more, says_one_more, holds_tick, says_tick}
 
 -- what holds where a call answered Ok

@@ -10,7 +10,7 @@ use Rattle.sip_transactions.specs.Shard.{Lives}
 use Rattle.sip_served.specs.declared.item.Item.{Item}
 use Rattle.sip_round.specs.declared.arrival.Arrival.{Arrival}
 use Rattle.sip_files.specs.declared.output.Output.{Output}
-use Rattle.sip_round.specs.Feeding.{Feeds, HoldsLives, HoldsCalls}
+use Rattle.sip_round.specs.Feeding.{Feeds, HoldsLives}
 use Rattle.sip_model.specs.Inputs.{Inputs}
 use Rattle.sip_round.specs.Phases.{sent_of, items_of_arrival, with_arrival, added_by_arrival, with_arrivals, sent_by_arrivals, items_by_arrivals}
 use Rattle.sip_round.proofs.Feeding.{feeds_nothing, feeds_then}

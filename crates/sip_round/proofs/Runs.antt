@@ -1,7 +1,7 @@
 -- One round more.
 use Rattle.std.proofs.Common.{◌≡◌, ℕ, suc, ◌+◌, List, [], ◌∷◌, ◌++◌, length, refl, sym, ◌∙◌, ap, subst, arith}
 use Rattle.std.proofs.lemmas.List.{length_push}
-use Rattle.std.specs.Prelude.{Option, None, Some, false}
+use Rattle.std.specs.Prelude.{Option, None, Some}
 use Rattle.sip_files.specs.declared.config.Config.{Config}
 use Rattle.sip_files.specs.declared.output.Output.{Output}
 use Rattle.sip_files.specs.declared.round.Round.{Round}

@@ -1,5 +1,5 @@
 -- What rounds answer: the tables folded over each transaction's and each call's own inputs alone, in stamp order.
-use Rattle.std.specs.Prelude.{suc, ◌≡◌, ℕ, ◌+◌, ◌^◌, false, List, [], ◌∷◌, ◌++◌, length, map, Option, Some, None, nat_lt, if◌then◌else◌}
+use Rattle.std.specs.Prelude.{suc, ◌≡◌, ℕ, ◌+◌, false, List, [], ◌∷◌, ◌++◌, length, Option, Some, None}
 use Rattle.std.specs.List.{flat_map}
 use Rattle.sip_message.specs.declared.id.Id.{Id}
 use Rattle.sip_message.specs.Key.{key_cmp}
@@ -15,7 +15,6 @@ use Rattle.sip_files.specs.declared.config.Config.{Config}
 use Rattle.sip_files.specs.declared.output.Output.{Output}
 use Rattle.sip_files.specs.declared.round.Round.{Round}
 use Rattle.sip_round.specs.declared.round_fault.RoundFault.{RoundFault}
-use Rattle.sip_round.specs.declared.round_fault.RoundFault.TheVariants.{MomentBackwards, MomentTooLarge, TooManyEvents, RoundsUsedUp}
 use Rattle.sip_round.specs.AgentState.{AgentState, round_fault}
 use Rattle.sip_round.specs.Arrivals.{arrivals_from}
 use Rattle.sip_round.specs.Feeding.{HoldsLives, HoldsCalls}

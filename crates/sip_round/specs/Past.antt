@@ -1,5 +1,4 @@
 -- What an agent was given so far, as its two layers have it.
-use Rattle.std.specs.Prelude.{ℕ}
 use Rattle.sip_calls.specs.CallShard.{call_cmp}
 use Rattle.sip_calls.specs.declared.calls.CallInput.{CallInput}
 use Rattle.sip_message.specs.Key.{key_cmp}

@@ -1,5 +1,5 @@
 use Rattle.std.proofs.lemmas.Result.{on_ok_weaker}
-use Rattle.sip_round.proofs.Arriving.{FeedsArrival, feeds_message, feeds_failed, feeds_unreadable, feeds_command}
+use Rattle.sip_round.proofs.Arriving.{feeds_message, feeds_failed, feeds_unreadable, feeds_command}
 use Rattle.sip_round.proofs.Feeding.{on_both}
 use Rattle.sip_round.proofs.phases.feed_arrival.Goals as goal
 

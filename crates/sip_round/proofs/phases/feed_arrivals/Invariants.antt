@@ -1,4 +1,3 @@
-use Rattle.std.proofs.Common.{◌≡◌, ◌++◌}
 use Rattle.std.specs.Vec.Iter.{into_iter_items}
 use Rattle.sip_round.proofs.Loops.{FedArrivals}
 use Rattle.sip_round.proofs.phases.feed_arrivals.Given as goal

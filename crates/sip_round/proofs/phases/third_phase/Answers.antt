@@ -1,4 +1,4 @@
-use Rattle.std.proofs.Common.{◌≡◌, [], ◌∷◌, ◌∙◌, subst}
+use Rattle.std.proofs.Common.{[], ◌∷◌, ◌∙◌, subst}
 use Rattle.std.specs.Vec.Iter.{into_iter_items}
 use Rattle.sip_message.specs.Key.{key_cmp, keys_total}
 use Rattle.sip_transactions.specs.Machine.{transaction_machine}

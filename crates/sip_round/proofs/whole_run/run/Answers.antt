@@ -1,4 +1,4 @@
-use Rattle.std.proofs.Common.{◌≡◌, ◌≤◌, ◌∙◌, sym, ap, length, take, map, arith}
+use Rattle.std.proofs.Common.{◌≤◌, ◌∙◌, sym, ap, length, arith}
 use Rattle.std.proofs.lemmas.List.{take_all}
 use Rattle.sip_round.specs.Answers.{answers, refused}
 use Rattle.sip_round.proofs.SoFar.{at_start, one_more, ends, fine_where_ok}
