@@ -1,7 +1,7 @@
 -- The status of the program where its input is no event file.
 use Rattle.std.specs.Prelude.{ℕ}
-use Rattle.sip_round.specs.declared.events_file.EventsFault.{EventsFault}
-use Rattle.sip_round.specs.declared.events_file.EventsFault.TheVariants.{TooLong, BadVersion, BadLine, NoMemory}
+use Rattle.sip_files.specs.declared.events_fault.EventsFault.{EventsFault}
+use Rattle.sip_files.specs.declared.events_fault.EventsFault.TheVariants.{TooLong, BadVersion, BadLine, NoMemory}
 
 abbrev pub events_status : EventsFault → ℕ
 events_status TooLong = 1
