@@ -1,7 +1,7 @@
 //! The shard of calls.
 
-ghost use Rattle.std.specs.Prelude.{◌≡◌, ◌≤◌, ◌^◌, [], Some, None, Err, OnErr, IfOk, length};
-ghost use Rattle.sip_model.specs.Table.{entries_of, StepsAll, StepsKey};
+ghost use Rattle.std.specs.Prelude.{◌≡◌, ◌≤◌, ◌^◌, ℕ, List, [], Some, None, Err, OnErr, IfOk, length, count_by, is_some};
+ghost use Rattle.sip_model.specs.Table.{entries_of, state_at, Covers, StepsAll, StepsKey};
 ghost use Rattle.sip_model.specs.History.{AddsInput, AddsInputs};
 ghost use Rattle.sip_served.specs.Command.{call_of_item};
 ghost use Rattle.sip_calls.specs.Call.{call_machine, tick_input};
@@ -47,7 +47,8 @@ impl CallShard {
 
     /// How many calls are held.
     pub fn live(&self) -> usize
-        ensures { result ≡ length (entries_of self.now.held) }
+        ensures entries { result ≡ length (entries_of self.now.held) }
+        ensures counts { (keys : List (List ℕ)) → Covers call_cmp keys (state_at call_cmp self.now.held) → result ≡ count_by (λ key. is_some (state_at call_cmp self.now.held key)) keys }
     {
         self.table.live()
     }

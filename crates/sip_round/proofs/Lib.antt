@@ -6,3 +6,5 @@ pub mod ItemLoops
 pub mod Deals
 pub mod Runs
 pub mod SoFar
+pub mod Streams
+pub mod Live

@@ -7,7 +7,7 @@ use Rattle.sip_files.specs.declared.output.Output.{Output}
 use Rattle.sip_files.specs.declared.round.Round.{Round}
 use Rattle.sip_round.specs.declared.round_fault.RoundFault.{RoundFault}
 use Rattle.sip_round.specs.AgentState.{AgentState, round_fault}
-use Rattle.sip_round.specs.Answers.{past_after, answer, past_from, answers_from, last_moment_from, past_of, answers, last_moment, refused_or, refused_from, refused, calls_of, Knows, Deals, StandsFor}
+use Rattle.sip_round.specs.Answers.{past_after, answer, past_from, answers_from, last_moment_from, past_of, answers, last_moment, refused_or, refused_from, calls_of, Knows, Deals, StandsFor}
 use Rattle.sip_round.specs.Feeding.{HoldsLives, HoldsCalls}
 use Rattle.sip_round.specs.Past.{Past, no_past}
 

@@ -4,3 +4,6 @@ pub mod Arrivals
 pub mod Phases
 pub mod Feeding
 pub mod Answers
+pub mod Replay
+pub mod Live
+pub mod Laws

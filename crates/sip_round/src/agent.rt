@@ -47,7 +47,8 @@ impl Model for Agent {
 
 impl Agent {
     ghost use Rattle.sip_round.specs.AgentState.{refusal_of};
-    ghost use Rattle.sip_round.specs.Answers.{Deals, StandsFor, answers};
+    ghost use Rattle.sip_round.specs.Answers.{Deals, StandsFor, answers, past_of};
+    ghost use Rattle.sip_round.specs.Live.{live_of};
     ghost use Rattle.sip_files.specs.declared.config.Config.{Config};
     ghost use Rattle.sip_files.specs.declared.round.Round.{Round};
 
@@ -71,7 +72,10 @@ impl Agent {
 
     /// How many transactions and how many calls are held.
     pub fn live(&self) -> (u128, u128)
-        ensures { self.now.broken ≡ true → result ≡ (0, 0) }
+        ensures broken { self.now.broken ≡ true → result ≡ (0, 0) }
+
+        // Of an agent that stands for rounds: those that have begun and not ended.
+        ensures counts { (config : Config) (rounds : List Round) → StandsFor self.now config rounds → result ≡ live_of config (past_of config rounds) }
     {
         if self.broken {
             return (0, 0);

@@ -1,5 +1,12 @@
 //! Replays: an event file in, its output file out.
 
+ghost use Rattle.std.specs.Prelude.{◌≡◌, ◌≢◌, ◌++◌, ℕ, List, map, IfOk, IfErr, IfSome, OnOk, OnErr, Err};
+ghost use Rattle.std.specs.List.{zip};
+ghost use Rattle.std.specs.Io.KnownBytes.{Appends};
+ghost use Rattle.sip_files.specs.Outputs.{told};
+ghost use Rattle.sip_round.specs.Replay.{Replays, TellsReplay, WritesAll, WritesFront};
+ghost use Rattle.sip_round.specs.declared.file_replay.ReplayFault.TheVariants as replay_fault;
+
 use crate::round_fault::RoundFault;
 use crate::whole_run::run;
 use sip_files::{EventsFault, MAX_EVENTS, Output, Round, read_events, write_outputs};
@@ -26,6 +33,8 @@ pub enum ReplayFault {
 }
 
 impl From<AllocError> for ReplayFault {
+    ghost from_gives = { λ _ fault. fault ≡ replay_fault.NoMemory };
+
     fn from(_error: AllocError) -> ReplayFault {
         ReplayFault::NoMemory
     }
@@ -48,39 +57,64 @@ impl Error for ReplayFault {}
 
 /// Reads an event file, runs its rounds, and writes the output file: all is read before the first round runs, and all rounds have
 /// run before the first byte is written.
+///
+/// # Errors
+///
+/// With every fault but `Output` nothing was written; with `Output` the front of the output file may have been.
 pub fn replay<R: Read, W: Write>(
     alloc: Global,
     reader: &mut R,
     writer: &mut W,
-) -> Result<(), ReplayFault> {
+) -> Result<(), ReplayFault>
+    ensures replays { OnOk result (IfSome (R.remaining reader.old) (WritesAll (W.contents writer.old) (W.contents writer.new))) }
+    ensures fault { IfErr result (λ fault. IfSome (R.remaining reader.old) (TellsReplay fault)) }
+    ensures unwritten { IfErr result (λ fault. fault ≢ replay_fault.Output → writer.new ≡ writer.old) }
+    ensures front { result ≡ Err replay_fault.Output → IfSome (R.remaining reader.old) (WritesFront (W.contents writer.old) (W.contents writer.new)) }
+{
     let text = read_all(alloc, reader)?;
-    let (config, rounds) = read_events(alloc, text.as_slice()).map_err(ReplayFault::Events)?;
-    let answers = run(alloc, config, rounds.as_slice()).map_err(|(index, fault)| ReplayFault::Round(
-        index, fault,
-    ))?;
-    let told = with_moments(alloc, rounds.as_slice(), answers)?;
-    let file = write_outputs(alloc, told.as_slice())?;
+    let file = replayed(alloc, text.as_slice())?;
     write_whole(writer, file.as_slice())
 }
 
-// The bytes of the reader; past the limit of an event file reading stops. Each read gives at least one byte, the end or an error.
-fn read_all<R: Read>(alloc: Global, reader: &mut R) -> Result<Vec<u8>, ReplayFault> {
+// All bytes of the reader, up to the limit of an event file. Each read gives at least one byte, the end or an error.
+fn read_all<R: Read>(alloc: Global, reader: &mut R) -> Result<Vec<u8>, ReplayFault>
+    ensures all { IfOk result (λ text. IfSome (R.remaining reader.old) (λ input. text.items ≡ input)) }
+    ensures fault { IfErr result (λ fault. IfSome (R.remaining reader.old) (TellsReplay fault)) }
+    ensures unwritten { IfErr result (λ fault. fault ≢ replay_fault.Output) }
+{
     let mut text = Vec::new(alloc);
     let mut chunk = [0u8; CHUNK];
     for _ in 0..MAX_EVENTS + 2 {
-        let count = match reader.read(&mut chunk) {
-            Ok(count) => count,
+        match reader.read(&mut chunk) {
+            Ok(0) => return Ok(text),
+            Ok(count) => text.extend_from_slice(&chunk[..count])?,
             Err(_) => return Err(ReplayFault::Input),
-        };
-        if count == 0 {
+        }
+        if text.len() > MAX_EVENTS {
             break;
         }
-        text.extend_from_slice(&chunk[..count])?;
-        if text.len() > MAX_EVENTS {
-            return Err(ReplayFault::Events(EventsFault::TooLong));
-        }
     }
-    Ok(text)
+    Err(ReplayFault::Events(EventsFault::TooLong))
+}
+
+// The output file of an event file.
+fn replayed(alloc: Global, text: &[u8]) -> Result<Vec<u8>, ReplayFault>
+    ensures replays { IfOk result (λ file. Replays text.now file.items) }
+    ensures fault { IfErr result (λ fault. TellsReplay fault text.now) }
+    ensures unwritten { IfErr result (λ fault. fault ≢ replay_fault.Output) }
+{
+    let (config, events) = match read_events(alloc, text) {
+        Ok(read) => read,
+        Err(fault) => return Err(ReplayFault::Events(fault)),
+    };
+    let rounds = events.as_slice();
+    let answers = match run(alloc, config, rounds) {
+        Ok(answers) => answers,
+        Err((index, fault)) => return Err(ReplayFault::Round(index, fault)),
+    };
+    let told = with_moments(alloc, rounds, answers)?;
+    let file = write_outputs(alloc, told.as_slice())?;
+    Ok(file)
 }
 
 // Each answer beside the moment of its round.
@@ -88,16 +122,27 @@ fn with_moments(
     alloc: Global,
     rounds: &[Round],
     answers: Vec<Vec<Output>>,
-) -> Result<Vec<(u64, Vec<Output>)>, AllocError> {
-    let mut told = Vec::with_capacity(alloc, rounds.len())?;
-    for (round, outputs) in rounds.iter().zip(answers) {
-        told.push((round.moment, outputs))?;
+) -> Result<Vec<(u64, Vec<Output>)>, AllocError>
+    ensures { IfOk result (λ made. told made.items ≡ zip (map (λ round. round.moment) rounds.now) (map (λ outputs. outputs.items) answers.items)) }
+{
+    let mut made = Vec::with_capacity(alloc, rounds.len())?;
+    let mut left = rounds;
+    for outputs in answers {
+        let [round, rest @ ..] = left else {
+            return Ok(made);
+        };
+        made.push((round.moment, outputs))?;
+        left = rest;
     }
-    Ok(told)
+    Ok(made)
 }
 
 // Each write takes at least one byte, or the writer has failed.
-fn write_whole<W: Write>(writer: &mut W, bytes: &[u8]) -> Result<(), ReplayFault> {
+fn write_whole<W: Write>(writer: &mut W, bytes: &[u8]) -> Result<(), ReplayFault>
+    ensures all { OnOk result (Appends (W.contents writer.old) (W.contents writer.new) bytes.now) }
+    ensures front { OnErr result ((front rest : List ℕ) × (bytes.now ≡ front ++ rest) × Appends (W.contents writer.old) (W.contents writer.new) front) }
+    ensures fault { OnErr result (result ≡ Err replay_fault.Output) }
+{
     let mut left = bytes;
     while !left.is_empty() {
         match writer.write(left) {
@@ -105,5 +150,8 @@ fn write_whole<W: Write>(writer: &mut W, bytes: &[u8]) -> Result<(), ReplayFault
             Ok(count) => left = &left[count..],
         }
     }
-    writer.flush().map_err(|_| ReplayFault::Output)
+    match writer.flush() {
+        Ok(()) => Ok(()),
+        Err(_) => Err(ReplayFault::Output),
+    }
 }

@@ -1,4 +1,4 @@
-use Rattle.std.proofs.Common.{◌+◌, ap, arith}
+use Rattle.std.proofs.Common.{◌+◌, ap}
 use Rattle.sip_round.specs.Arrivals.{arrivals_from}
 use Rattle.sip_round.proofs.Places.{arrival_more}
 use Rattle.sip_round.proofs.arrival.arrivals_of.Goals as goal
