@@ -1,6 +1,7 @@
 //! The program: its words, its faults and their statuses.
 
-ghost use Rattle.std.specs.Prelude.{◌≡◌, MatchResult};
+ghost use Rattle.std.specs.Prelude.{◌≡◌, ◌≢◌, IfSome, MatchResult};
+ghost use Rattle.sip_round.specs.Replay.{WritesAll};
 ghost use Rattle.sip_ua.specs.Status.{fault_status};
 
 use clap::error::ErrorKind;
@@ -32,7 +33,10 @@ pub fn ua<S: AsStr, R: Read, W: Write, E: Write>(
     input: &mut R,
     output: &mut W,
     errors: &mut E,
-) -> u8 {
+) -> u8
+    ensures replays { result ≡ 0 → IfSome (R.remaining input.old) (WritesAll (W.contents output.old) (W.contents output.new)) }
+    ensures unwritten { result ≢ 0 → result ≢ 4 → output.new ≡ output.old }
+{
     match parse(alloc, words) {
         Ok(()) => finish(replay(alloc, input, output), errors),
         Err(error) if error.kind() == ErrorKind::OutOfMemory => no_memory(errors),
