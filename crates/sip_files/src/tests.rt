@@ -271,6 +271,21 @@ fn texts_that_are_no_event_files(rt: HostRuntime) {
 }
 
 #[test]
+fn faults_are_named(rt: HostRuntime) -> Result<(), Fail> {
+    let faults = [
+        (EventsFault::TooLong, "event file too long"),
+        (EventsFault::BadVersion, "event file version"),
+        (EventsFault::BadLine(12), "event file line 12"),
+        (EventsFault::NoMemory, "no memory"),
+    ];
+    for (fault, name) in faults {
+        let text = format!(in rt.alloc(); "{fault}")?;
+        assert_eq!(rt; text.as_str(), name);
+    }
+    Ok(())
+}
+
+#[test]
 fn words_of_texts(rt: HostRuntime) -> Result<(), Fail> {
     let cases = [
         (b"".as_slice(), b"-".as_slice()),
