@@ -1,11 +1,12 @@
 //! What happens to the held server requests.
 
-ghost use Rattle.std.specs.Prelude.{◌≡◌, ◌<◌, ◌≤◌, ◌^◌, ◌∷◌, [], IfOk, IsTrue, Ok, Err, filter, length, vec_len};
+ghost use Rattle.std.specs.Prelude.{◌≡◌, ◌<◌, ◌≤◌, ◌^◌, ◌∷◌, ◌++◌, [], None, IfOk, IsTrue, Ok, Err, filter, length, vec_len};
 ghost use Rattle.sip_served.specs.Notices.{request_notice, local_tag_of};
 ghost use Rattle.sip_served.specs.Removal.{after_tick, is_kept_at};
 ghost use Rattle.sip_served.specs.Requests.{after_item, given_for_item};
 ghost use Rattle.sip_served.specs.Respond.{after_decision, after_respond, given_by_decision, given_by_respond};
 ghost use Rattle.sip_served.specs.Up.{after_up, given_by_up};
+ghost use Rattle.sip_served.specs.declared.item.CallOut.TheVariants as call_out;
 
 use crate::command::{Respond, UserCommand};
 use crate::held_request::HeldRequest;
@@ -13,7 +14,7 @@ use crate::item::{CallOut, Item};
 use crate::notice::Notice;
 use crate::refusal::Refusal;
 use crate::respond::{Answerable, answer, decide, note_answer};
-use sip_message::{CallId, Id, Message, Token};
+use sip_message::{CallId, Id, Key, Message, Token};
 use sip_text::Text;
 use sip_transactions::{Kind, Up};
 use std::alloc::{AllocError, Global};
@@ -55,27 +56,46 @@ fn take_up(
         kind,
     } = up;
     match kind {
-        Kind::Request(request, _) => {
-            let notice = notice_of_request(alloc, id, call_id, &request, &tag)?;
-            held.push(HeldRequest {
-                id,
-                key,
-                request,
-                tag,
-                removal: None,
-            })?;
-            Ok((held, one(alloc, CallOut::Notice(notice))?))
-        }
-        Kind::Timeout => Ok((
-            held,
-            one(alloc, CallOut::Notice(Notice::Timeout { call_id, id }))?,
-        )),
-        Kind::Failed => Ok((
-            held,
-            one(alloc, CallOut::Notice(Notice::Failed { call_id, id }))?,
-        )),
+        Kind::Request(request, _) => hold(alloc, held, tag, key, id, call_id, request),
+        Kind::Timeout => tell(alloc, held, Notice::Timeout { call_id, id }),
+        Kind::Failed => tell(alloc, held, Notice::Failed { call_id, id }),
         Kind::Ack(_) | Kind::Response(_) => Ok((held, Vec::new(alloc))),
     }
+}
+
+fn hold(
+    alloc: Global,
+    mut held: Vec<HeldRequest>,
+    tag: Token,
+    key: Key,
+    id: Id,
+    call_id: CallId,
+    request: Message,
+) -> Result<(Vec<HeldRequest>, Vec<CallOut>), AllocError>
+    ensures after { IfOk result (λ taken. taken.0.items ≡ held.items ++ record { id = id; key = key; request = request; tag = tag; removal = None } ∷ []) }
+    ensures given { IfOk result (λ taken. taken.1.items ≡ call_out.Notice (request_notice id call_id request tag) ∷ []) }
+{
+    let notice = notice_of_request(alloc, id, call_id, &request, &tag)?;
+    held.push(HeldRequest {
+        id,
+        key,
+        request,
+        tag,
+        removal: None,
+    })?;
+    tell(alloc, held, notice)
+}
+
+fn tell(
+    alloc: Global,
+    held: Vec<HeldRequest>,
+    notice: Notice,
+) -> Result<(Vec<HeldRequest>, Vec<CallOut>), AllocError>
+    ensures after { IfOk result (λ taken. taken.0.items ≡ held.items) }
+    ensures given { IfOk result (λ taken. taken.1.items ≡ call_out.Notice notice ∷ []) }
+{
+    let outs = one(alloc, CallOut::Notice(notice))?;
+    Ok((held, outs))
 }
 
 // How the user is told of a request.
