@@ -2,6 +2,20 @@
 use Rattle.std.specs.Prelude.{ℕ, Bool, ◌||◌, List, [], ◌∷◌, codes}
 use Rattle.std.specs.List.{list_any}
 use Rattle.std.specs.Str.{str_eq_ignore_ascii_case}
+use Rattle.sip_parts.specs.declared.header_name.HeaderName.{HeaderName}
+use Rattle.sip_parts.specs.declared.header_name.HeaderName.TheVariants.{Via, From, To, CallId, CSeq, MaxForwards, ContentLength, RSeq, RAck}
+
+-- the long name, as it is written
+abbrev pub header_name : HeaderName → List ℕ
+header_name Via = codes "Via"
+header_name From = codes "From"
+header_name To = codes "To"
+header_name CallId = codes "Call-ID"
+header_name CSeq = codes "CSeq"
+header_name MaxForwards = codes "Max-Forwards"
+header_name ContentLength = codes "Content-Length"
+header_name RSeq = codes "RSeq"
+header_name RAck = codes "RAck"
 
 -- two names of headers are the same without regard to case
 abbrev pub is_same_name : List ℕ → List ℕ → Bool

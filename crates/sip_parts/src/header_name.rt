@@ -20,7 +20,9 @@ pub enum HeaderName {
 
 impl HeaderName {
     /// Its long name, as it is written.
-    pub fn as_str(self) -> &'static str {
+    pub fn as_str(self) -> &'static str
+        ensures { result.now ≡ names.header_name self }
+    {
         match self {
             HeaderName::Via => "Via",
             HeaderName::From => "From",
