@@ -9,3 +9,4 @@ pub mod TopVia
 pub mod MessageKey
 pub mod Response
 pub mod Source
+pub mod Fault

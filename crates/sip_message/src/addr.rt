@@ -1,7 +1,8 @@
 //! Addresses of the network.
-ghost use Rattle.std.specs.Prelude.{◌≡◌, ◌≤◌, ◌+◌, ◌++◌, decimal, IsTrue};
+ghost use Rattle.std.specs.Prelude.{◌≡◌, ◌≤◌, ◌+◌, ◌++◌, decimal, IsTrue, Some};
 ghost use Rattle.sip_parts.specs.ParameterValue.{is_parameter_value};
 ghost use Rattle.arrayvec.specs.ArrayVec.{array_vec_len};
+ghost use Rattle.sip_message.specs.Addr.{addr_text};
 ghost use Rattle.sip_message.specs.Ip.{ip_text};
 
 use arrayvec::ArrayVec;
@@ -16,6 +17,8 @@ pub struct Addr {
 }
 
 impl fmt::Display for Addr {
+    ghost output = { λ addr. Some (addr_text addr) };
+
     fn fmt<W: fmt::Write>(&self, f: &mut fmt::Formatter<W>) -> fmt::Result {
         let [a, b, c, d] = self.ip;
         let port = self.port;

@@ -1,4 +1,7 @@
 //! Why a text isn't a message.
+ghost use Rattle.std.specs.Prelude.{◌≡◌, Some};
+ghost use Rattle.sip_message.specs.Fault.{fault_name, fault_text};
+
 use sip_parts::HeaderName;
 use std::alloc::{AllocError, AllocFailed};
 use std::fmt;
@@ -33,7 +36,9 @@ pub enum ReadFault {
 
 impl ReadFault {
     /// The name of the fault.
-    pub fn as_str(self) -> &'static str {
+    pub fn as_str(self) -> &'static str
+        ensures { result.now ≡ fault_name self }
+    {
         match self {
             ReadFault::TooLong => "TooLong",
             ReadFault::NoEmptyLine => "NoEmptyLine",
@@ -52,6 +57,8 @@ impl ReadFault {
 
 /// The fault's name, and after Missing and Repeated a space and the header's name.
 impl fmt::Display for ReadFault {
+    ghost output = { λ fault. Some (fault_text fault) };
+
     fn fmt<W: fmt::Write>(&self, f: &mut fmt::Formatter<W>) -> fmt::Result {
         f.write_str(self.as_str())?;
         match self {
