@@ -2,11 +2,8 @@
 use Rattle.std.specs.Prelude.{ℕ, List, ◌++◌, codes, decimal, map}
 use Rattle.std.specs.Global.{Vec}
 use Rattle.std.specs.List.{flat_map}
-use Rattle.sip_parts.specs.declared.header_name.HeaderName.{HeaderName}
-use Rattle.sip_parts.specs.declared.header_name.HeaderName.TheVariants.{Via, From, To, CallId, CSeq, MaxForwards, ContentLength, RSeq, RAck}
 use Rattle.sip_message.specs.declared.id.Id.{Id}
-use Rattle.sip_message.specs.declared.fault.ReadFault.{ReadFault}
-use Rattle.sip_message.specs.declared.fault.ReadFault.TheVariants.{TooLong, NoEmptyLine, BadStartLine, BadHeader, Missing, Repeated, BadNumber, OldBranch, MethodMismatch, Truncated, NoMemory}
+use Rattle.sip_message.specs.Fault.{fault_text}
 use Rattle.sip_transactions.specs.declared.output.DropReason.{DropReason}
 use Rattle.sip_transactions.specs.declared.output.DropReason.TheVariants.{NotOurs, NoTransaction, Unreadable}
 use Rattle.sip_served.specs.declared.notice.Notice.{Notice}
@@ -16,35 +13,10 @@ use Rattle.sip_files.specs.declared.output.Output.{Output}
 use Rattle.sip_files.specs.declared.output.Output.TheVariants as output
 use Rattle.sip_files.specs.Field.{plain_field, number_field, id_field, address_field, word_field, rest_field}
 
-abbrev pub header_name : HeaderName → List ℕ
-header_name Via = codes "Via"
-header_name From = codes "From"
-header_name To = codes "To"
-header_name CallId = codes "Call-ID"
-header_name CSeq = codes "CSeq"
-header_name MaxForwards = codes "Max-Forwards"
-header_name ContentLength = codes "Content-Length"
-header_name RSeq = codes "RSeq"
-header_name RAck = codes "RAck"
-
--- the fault's name, and after two of them the header's
-abbrev pub fault_text : ReadFault → List ℕ
-fault_text TooLong = plain_field (codes "TooLong")
-fault_text NoEmptyLine = plain_field (codes "NoEmptyLine")
-fault_text BadStartLine = plain_field (codes "BadStartLine")
-fault_text BadHeader = plain_field (codes "BadHeader")
-fault_text (Missing header) = plain_field (codes "Missing") ++ plain_field (header_name header)
-fault_text (Repeated header) = plain_field (codes "Repeated") ++ plain_field (header_name header)
-fault_text BadNumber = plain_field (codes "BadNumber")
-fault_text OldBranch = plain_field (codes "OldBranch")
-fault_text MethodMismatch = plain_field (codes "MethodMismatch")
-fault_text Truncated = plain_field (codes "Truncated")
-fault_text NoMemory = plain_field (codes "NoMemory")
-
 abbrev pub reason_text : DropReason → List ℕ
 reason_text NotOurs = plain_field (codes "NotOurs")
 reason_text NoTransaction = plain_field (codes "NoTransaction")
-reason_text (Unreadable fault) = fault_text fault
+reason_text (Unreadable fault) = plain_field (fault_text fault)
 
 -- `notice`, the call as a word, and the name of the notice's form
 unfoldable pub form_text : List ℕ → List ℕ → List ℕ

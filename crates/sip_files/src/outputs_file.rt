@@ -2,12 +2,13 @@
 
 ghost use Rattle.std.specs.Prelude.{◌≡◌, ◌++◌, IfOk, OnOk, codes, decimal};
 ghost use Rattle.std.specs.List.{flat_map};
+ghost use Rattle.sip_message.specs.Fault.{fault_text};
 ghost use Rattle.sip_files.specs.Field as field;
 ghost use Rattle.sip_files.specs.Outputs as written;
 
 use crate::output::Output;
 use crate::words::{push_rest, push_word};
-use sip_message::{Addr, CallId, HeaderName, Id, ReadFault, ip_text};
+use sip_message::{Addr, CallId, Id, ReadFault, ip_text};
 use sip_served::Notice;
 use sip_text::decimal;
 use sip_transactions::DropReason;
@@ -90,44 +91,16 @@ fn push_reason(file: &mut Vec<u8>, reason: DropReason) -> Result<(), AllocError>
 }
 
 // The fault's name, and after two of them the header's.
+#[tactic(auto, unfolding(crate::specs::Field::plain_field))]
 fn push_fault(file: &mut Vec<u8>, fault: ReadFault) -> Result<(), AllocError>
-    ensures { OnOk result (file.new.items ≡ file.old.items ++ written.fault_text fault) }
+    ensures { OnOk result (file.new.items ≡ file.old.items ++ field.plain_field (fault_text fault)) }
 {
+    push_plain(file, fault.as_str().as_bytes())?;
     match fault {
-        ReadFault::TooLong => push_plain(file, b"TooLong"),
-        ReadFault::NoEmptyLine => push_plain(file, b"NoEmptyLine"),
-        ReadFault::BadStartLine => push_plain(file, b"BadStartLine"),
-        ReadFault::BadHeader => push_plain(file, b"BadHeader"),
-        ReadFault::Missing(header) => push_header_fault(file, b"Missing", header),
-        ReadFault::Repeated(header) => push_header_fault(file, b"Repeated", header),
-        ReadFault::BadNumber => push_plain(file, b"BadNumber"),
-        ReadFault::OldBranch => push_plain(file, b"OldBranch"),
-        ReadFault::MethodMismatch => push_plain(file, b"MethodMismatch"),
-        ReadFault::Truncated => push_plain(file, b"Truncated"),
-        ReadFault::NoMemory => push_plain(file, b"NoMemory"),
-    }
-}
-
-fn push_header_fault(file: &mut Vec<u8>, fault: &[u8], header: HeaderName) -> Result<(), AllocError>
-    ensures { OnOk result (file.new.items ≡ file.old.items ++ (field.plain_field fault.now ++ field.plain_field (written.header_name header))) }
-{
-    push_plain(file, fault)?;
-    push_plain(file, header_name(header))
-}
-
-fn header_name(header: HeaderName) -> &'static [u8]
-    ensures { result.now ≡ written.header_name header }
-{
-    match header {
-        HeaderName::Via => b"Via",
-        HeaderName::From => b"From",
-        HeaderName::To => b"To",
-        HeaderName::CallId => b"Call-ID",
-        HeaderName::CSeq => b"CSeq",
-        HeaderName::MaxForwards => b"Max-Forwards",
-        HeaderName::ContentLength => b"Content-Length",
-        HeaderName::RSeq => b"RSeq",
-        HeaderName::RAck => b"RAck",
+        ReadFault::Missing(header) | ReadFault::Repeated(header) => {
+            push_plain(file, header.as_str().as_bytes())
+        }
+        _ => Ok(()),
     }
 }
 
