@@ -1,5 +1,8 @@
 //! Runs of the whole program over memory.
 
+mod plain_fold;
+mod rounds;
+
 use crate::program::ua;
 use std::alloc::{AllocError, Global};
 use std::io::{self, Read, Write};
