@@ -8,3 +8,5 @@ pub mod Runs
 pub mod SoFar
 pub mod Streams
 pub mod Live
+pub mod Beginnings
+pub mod Requests

@@ -2,7 +2,7 @@
 
 ghost use Rattle.sip_round.specs.Laws.{OneRequestUpInRounds};
 
-/// In any rounds, each life of a server transaction hands its request up once, by its first input.
+/// In any rounds, the request of a server transaction comes up as often as that transaction begins a life: once for each.
 pub fn one_request_up_in_rounds()
     ensures { OneRequestUpInRounds }
 {}

@@ -3,3 +3,4 @@ pub mod LawSteps
 pub mod OneRequest
 pub mod Pace
 pub mod RowFacts
+pub mod Counted

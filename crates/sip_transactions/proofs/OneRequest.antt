@@ -85,7 +85,7 @@ begins_once key now (Receive id message reply_to) step trigger triggered passed 
     requests-outputs key _ step (Receive id message reply_to)
     ∙ up_request key _ step.handed id message reply_to message.start refl (and-left (is_message step.handed) (is_request trigger) request) (ap is_request same ∙ and-right (is_message step.handed) (is_request trigger) request)
 
-first_once : (key : Key) → IsServer key → (first : Timed) → IsSome (stepped key None first).0 → requests_in (stepped key None first).1 ≡ 1
+pub first_once : (key : Key) → IsServer key → (first : Timed) → IsSome (stepped key None first).0 → requests_in (stepped key None first).1 ≡ 1
 first_once key server first =
     by_step (λ after. IsSome after.0 → requests_in after.1 ≡ 1) key None first (λ some. absurd (false≢true some))
     (λ step row. begins_once key first.moment first.input step row.trigger row.triggered (row_passes begins_by_request (rows_of (role_of key)) (server_tables key server) None row.trigger step row.row))
@@ -100,7 +100,7 @@ later_receive key life message reply_to (start.Request uri) is other =
     (λ ack. ap (λ b. requests_in (option_to_list (Some (up_out key life (cond b (kind.Ack message) (kind.Request message reply_to)))))) ack)
     (λ plain. absurd (false≢true (sym (ap (λ b. not (is_request (cond b on.Ack on.Request))) plain) ∙ other)))
 
-later_once : (key : Key) (life : Life) (handed : Handed) (now : ℕ) (input : Input) (trigger : Trigger) → trigger_of (Some life) now input ≡ Some trigger → not (is_message handed && is_request trigger) ≡ true
+pub later_once : (key : Key) (life : Life) (handed : Handed) (now : ℕ) (input : Input) (trigger : Trigger) → trigger_of (Some life) now input ≡ Some trigger → not (is_message handed && is_request trigger) ≡ true
     → requests_in (option_to_list (handed_out key life handed input)) ≡ 0
 unfolding handed_out
 later_once key life up.Nothing now input trigger triggered passed = refl
@@ -119,7 +119,7 @@ later_once key life up.Message now (Receive id message reply_to) trigger trigger
     let same : arrival_of message.start message.cseq.method ≡ trigger = cc in
     later_receive key life message reply_to message.start refl (ap (λ t. not (is_request t)) same ∙ passed)
 
-held_silent : (key : Key) (life : Life) (timed : Timed) → requests_in (stepped key (Some life) timed).1 ≡ 0
+pub held_silent : (key : Key) (life : Life) (timed : Timed) → requests_in (stepped key (Some life) timed).1 ≡ 0
 held_silent key life timed =
     by_step (λ after. requests_in after.1 ≡ 0) key (Some life) timed refl
     (λ step row. requests-outputs key life step timed.input
