@@ -1,11 +1,10 @@
--- What was read so far, and what was written so far.
+-- A replay in the middle of its reading, of its pairs of moments and answers, and of its writing.
 use Rattle.std.proofs.Common.{◌≡◌, ℕ, ◌-◌, ◌≤◌, ◌^◌, List, [], ◌∷◌, ◌++◌, map, length, take, drop, refl, sym, ap, ◌∙◌, append_assoc, append-nil, take-append-drop}
 use Rattle.std.proofs.lemmas.List.{take_rest, map-append}
 use Rattle.std.proofs.KnownBytes.{Appends-trans}
-use Rattle.std.specs.Prelude.{Option}
+use Rattle.std.specs.Prelude.{Option, None}
 use Rattle.std.specs.List.{zip}
 use Rattle.std.specs.Io.KnownBytes.{Appends, Consumes}
-use Rattle.std.specs.Prelude.{None}
 use Rattle.std.specs.Global.{Vec}
 use Rattle.sip_files.specs.EventFile.{SpellsEvents}
 use Rattle.sip_files.specs.Outputs.{told, outputs_text}
