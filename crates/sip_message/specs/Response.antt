@@ -2,7 +2,10 @@
 use Rattle.std.specs.Prelude.{ℕ, Bool, List, [], ◌∷◌, ◌++◌, Option, Some, None, codes, ◌==◌, ◌||◌, is_some, if◌then◌else◌}
 use Rattle.sip_parts.specs.declared.parameter.Parameter.{Parameter}
 use Rattle.sip_message.specs.declared.party.Party.{Party}
+use Rattle.sip_message.specs.declared.start_line.StartLine.{StartLine}
 use Rattle.sip_message.specs.declared.start_line.StartLine.TheVariants.{Response}
+use Rattle.sip_message.specs.declared.via.Via.{Via}
+use Rattle.sip_message.specs.declared.cseq.CSeq.{CSeq}
 use Rattle.sip_message.specs.declared.message.Message.{Message}
 use Rattle.sip_parts.specs.Parameters.{parameter_named}
 
@@ -21,16 +24,16 @@ tagged party tag = if is_tagged party then party else record party { parameters 
 abbrev pub answering_to : Party → ℕ → List ℕ → Party
 answering_to party status tag = if status == 100 then party else tagged party tag
 
--- Via, From, To, Call-ID and CSeq of the request, with a tag in To, and nothing else
-unfoldable pub response_of : Message → ℕ → List ℕ → List ℕ → Message
-response_of request status reason tag = record {
-  start = Response status reason;
-  vias = request.vias;
+-- a message with no header but Via, From, To, Call-ID and CSeq, and without a body
+unfoldable pub bare : StartLine → List Via → Party → Party → List ℕ → CSeq → Message
+bare start vias from to call_id cseq = record {
+  start = start;
+  vias = vias;
   max_forwards = None;
-  from = request.from;
-  to = answering_to request.to status tag;
-  call_id = request.call_id;
-  cseq = request.cseq;
+  from = from;
+  to = to;
+  call_id = call_id;
+  cseq = cseq;
   contacts = [];
   record_routes = [];
   routes = [];
@@ -41,3 +44,8 @@ response_of request status reason tag = record {
   others = [];
   body = [];
 }
+
+-- Via, From, To, Call-ID and CSeq of the request, with a tag in To, and nothing else
+abbrev pub response_of : Message → ℕ → List ℕ → List ℕ → Message
+response_of request status reason tag =
+    bare (Response status reason) request.vias request.from (answering_to request.to status tag) request.call_id request.cseq

@@ -5,10 +5,18 @@ use sip_parts::Token;
 use std::alloc::AllocError;
 
 /// A number in the order of a dialog's requests, and a method.
-#[derive(Drop)]
 pub struct CSeq {
     pub number: u32,
     pub method: Token,
+}
+
+impl Drop for CSeq {
+    fn drop(self) {
+        let CSeq {
+            number: _,
+            method: _,
+        } = self;
+    }
 }
 
 impl Clone for CSeq {

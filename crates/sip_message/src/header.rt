@@ -5,10 +5,15 @@ use sip_parts::{HeaderValue, OtherName};
 use std::alloc::AllocError;
 
 /// A header that isn't read into a field of its own.
-#[derive(Drop)]
 pub struct Header {
     pub name: OtherName,
     pub value: HeaderValue,
+}
+
+impl Drop for Header {
+    fn drop(self) {
+        let Header { name: _, value: _ } = self;
+    }
 }
 
 impl Clone for Header {

@@ -15,7 +15,6 @@ use std::cmp::Ordering;
 
 /// What tells transactions apart. The branch and the host are in lower case. Client keys come before server keys, then
 /// the order is by branch, host, port and method.
-#[derive(Drop)]
 pub enum Key {
     /// A client's: its top branch, and the method of its CSeq.
     Client {
@@ -102,6 +101,22 @@ impl Key {
     {
         match self {
             Key::Client { method, .. } | Key::Server { method, .. } => method.as_slice(),
+        }
+    }
+}
+
+impl Drop for Key {
+    fn drop(self) {
+        match self {
+            Key::Client {
+                branch: _,
+                method: _,
+            } => {}
+            Key::Server {
+                branch: _,
+                sent_by: _,
+                method: _,
+            } => {}
         }
     }
 }

@@ -6,11 +6,20 @@ use sip_text::Series;
 use std::alloc::AllocError;
 
 /// A display text, a URI and parameters.
-#[derive(Drop)]
 pub struct NameAddr {
     pub display: DisplayText,
     pub uri: Uri,
     pub parameters: Series<Parameter>,
+}
+
+impl Drop for NameAddr {
+    fn drop(self) {
+        let NameAddr {
+            display: _,
+            uri: _,
+            parameters: _,
+        } = self;
+    }
 }
 
 impl Clone for NameAddr {

@@ -8,7 +8,6 @@ use sip_text::Series;
 use std::alloc::{AllocError, Global};
 
 /// The value of a From or a To: a display text, a URI and parameters, among them the tag.
-#[derive(Drop)]
 pub struct Party {
     pub display: PartyDisplay,
     pub uri: Uri,
@@ -46,6 +45,16 @@ fn tag_alone(alloc: Global, tag: Option<Token>) -> Result<PartyParameters, Alloc
         parameters.push(tag_parameter(alloc, &tag)?)?;
     }
     Ok(PartyParameters::from_series(parameters))
+}
+
+impl Drop for Party {
+    fn drop(self) {
+        let Party {
+            display: _,
+            uri: _,
+            parameters: _,
+        } = self;
+    }
 }
 
 impl Clone for Party {

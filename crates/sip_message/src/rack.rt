@@ -5,11 +5,20 @@ use sip_parts::Token;
 use std::alloc::AllocError;
 
 /// The RSeq that a PRACK acknowledges, and the CSeq of the request that it answered.
-#[derive(Drop)]
 pub struct RAck {
     pub rseq: u32,
     pub cseq: u32,
     pub method: Token,
+}
+
+impl Drop for RAck {
+    fn drop(self) {
+        let RAck {
+            rseq: _,
+            cseq: _,
+            method: _,
+        } = self;
+    }
 }
 
 impl Clone for RAck {

@@ -4,11 +4,13 @@ ghost use Rattle.sip_text.specs.Token as token_rule;
 ghost use Rattle.sip_parts.specs.Parameters.{parameter_named};
 ghost use Rattle.sip_message.specs.Response as response;
 
+use crate::cseq::CSeq;
 use crate::message::Message;
 use crate::party::Party;
 use crate::start_line::StartLine;
+use crate::vias::Vias;
 use sip_parts::{
-    Parameter, ParameterValue, PartyParameters, Reason, StatusCode, Token, parameter_named,
+    CallId, Parameter, ParameterValue, PartyParameters, Reason, StatusCode, Token, parameter_named,
 };
 use sip_text::{Series, Text};
 use std::alloc::{AllocError, Global};
@@ -28,14 +30,33 @@ pub fn response_to(
     let vias = request.vias.clone()?;
     let from = request.from.clone()?;
     let to = answering_to(alloc, &request.to, status, tag)?;
-    Ok(Message {
-        start: StartLine::Response { status, reason },
+    let call_id = request.call_id.clone()?;
+    let cseq = request.cseq.clone()?;
+    let start = StartLine::Response { status, reason };
+    Ok(bare(alloc, start, vias, from, to, call_id, cseq))
+}
+
+// A message with no header but these and without a body.
+#[tactic(auto, unfolding(crate::specs::Response::bare))]
+fn bare(
+    alloc: Global,
+    start: StartLine,
+    vias: Vias,
+    from: Party,
+    to: Party,
+    call_id: CallId,
+    cseq: CSeq,
+) -> Message
+    ensures { result ≡ response.bare start vias from to call_id cseq }
+{
+    Message {
+        start,
         vias,
         max_forwards: None,
         from,
         to,
-        call_id: request.call_id.clone()?,
-        cseq: request.cseq.clone()?,
+        call_id,
+        cseq,
         contacts: Series::new(alloc),
         record_routes: Series::new(alloc),
         routes: Series::new(alloc),
@@ -45,7 +66,7 @@ pub fn response_to(
         rack: None,
         others: Series::new(alloc),
         body: Text::from_vec(Vec::new(alloc)),
-    })
+    }
 }
 
 fn answering_to(

@@ -5,10 +5,15 @@ use sip_text::Text;
 use std::alloc::AllocError;
 
 /// The host and the port of a Via.
-#[derive(Drop)]
 pub struct SentBy {
     pub host: Text,
     pub port: u16,
+}
+
+impl Drop for SentBy {
+    fn drop(self) {
+        let SentBy { host: _, port: _ } = self;
+    }
 }
 
 impl Clone for SentBy {

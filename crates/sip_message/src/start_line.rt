@@ -5,10 +5,21 @@ use sip_parts::{Reason, RequestUri, StatusCode};
 use std::alloc::AllocError;
 
 /// A request line, whose method is that of the CSeq, or a status line.
-#[derive(Drop)]
 pub enum StartLine {
     Request { uri: RequestUri },
     Response { status: StatusCode, reason: Reason },
+}
+
+impl Drop for StartLine {
+    fn drop(self) {
+        match self {
+            StartLine::Request { uri: _ } => {}
+            StartLine::Response {
+                status: _,
+                reason: _,
+            } => {}
+        }
+    }
 }
 
 impl Clone for StartLine {

@@ -6,7 +6,6 @@ use sip_text::Series;
 use std::alloc::AllocError;
 
 /// One value of a Via: a hop that the request made.
-#[derive(Drop)]
 pub struct Via {
     pub transport: Token,
     pub host: Host,
@@ -22,6 +21,17 @@ impl Via {
         ensures { result.now ≡ branch_of self.now }
     {
         value_named(self.parameters.as_slice(), b"branch")
+    }
+}
+
+impl Drop for Via {
+    fn drop(self) {
+        let Via {
+            transport: _,
+            host: _,
+            port: _,
+            parameters: _,
+        } = self;
     }
 }
 

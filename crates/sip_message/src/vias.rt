@@ -11,7 +11,6 @@ use std::marker::Model;
 
 /// Via values, the top one first. There is at least one, and the branch of the top one begins with `z9hG4bK`, in any
 /// case of the letters. A contract sees them as their list.
-#[derive(Drop)]
 pub struct Vias {
     vias: Series<Via>,
 }
@@ -61,6 +60,12 @@ impl Vias {
         ensures rule { IsTrue (via.are_vias self.now) }
     {
         self.vias.as_slice()
+    }
+}
+
+impl Drop for Vias {
+    fn drop(self) {
+        let Vias { vias: _ } = self;
     }
 }
 

@@ -17,7 +17,6 @@ use std::hash::{Hash, Hasher};
 use std::marker::Model;
 
 /// A Call-ID: not empty, without spaces, tabs and line ends. Compared byte by byte.
-#[derive(Drop)]
 pub struct CallId {
     text: Text,
 }
@@ -65,7 +64,14 @@ impl CallId {
         ensures value { result ≡ self }
         ensures rule { IsTrue (rule.is_word self) }
     {
-        self.text
+        let CallId { text } = self;
+        text
+    }
+}
+
+impl Drop for CallId {
+    fn drop(self) {
+        let CallId { text: _ } = self;
     }
 }
 

@@ -14,7 +14,6 @@ use std::marker::Model;
 
 /// The display text of an address in a list: empty, a quoted string, or a text without `<`, `>`, `"`,
 /// `,` and line ends, and without spaces or tabs at its ends.
-#[derive(Drop)]
 pub struct DisplayText {
     text: Text,
 }
@@ -62,7 +61,14 @@ impl DisplayText {
         ensures value { result ≡ self }
         ensures rule { IsTrue (rule.is_display_text self) }
     {
-        self.text
+        let DisplayText { text } = self;
+        text
+    }
+}
+
+impl Drop for DisplayText {
+    fn drop(self) {
+        let DisplayText { text: _ } = self;
     }
 }
 

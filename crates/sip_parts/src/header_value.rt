@@ -10,7 +10,6 @@ use std::alloc::AllocError;
 use std::marker::Model;
 
 /// A header's value: without line ends, and without spaces or tabs at its ends. It may be empty.
-#[derive(Drop)]
 pub struct HeaderValue {
     text: Text,
 }
@@ -58,7 +57,14 @@ impl HeaderValue {
         ensures value { result ≡ self }
         ensures rule { IsTrue (rule.is_header_value self) }
     {
-        self.text
+        let HeaderValue { text } = self;
+        text
+    }
+}
+
+impl Drop for HeaderValue {
+    fn drop(self) {
+        let HeaderValue { text: _ } = self;
     }
 }
 

@@ -11,7 +11,6 @@ use std::alloc::AllocError;
 use std::marker::Model;
 
 /// A host name or address as text. One in brackets may have colons.
-#[derive(Drop)]
 pub struct Host {
     text: Text,
 }
@@ -59,7 +58,14 @@ impl Host {
         ensures value { result ≡ self }
         ensures rule { IsTrue (rule.is_host self) }
     {
-        self.text
+        let Host { text } = self;
+        text
+    }
+}
+
+impl Drop for Host {
+    fn drop(self) {
+        let Host { text: _ } = self;
     }
 }
 

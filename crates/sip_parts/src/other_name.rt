@@ -12,7 +12,6 @@ use std::marker::Model;
 
 /// The name of a header that isn't read into a field of its own: a token, and neither the name of such a header
 /// nor a compact name, in any case of the letters.
-#[derive(Drop)]
 pub struct OtherName {
     text: Text,
 }
@@ -60,7 +59,14 @@ impl OtherName {
         ensures value { result ≡ self }
         ensures rule { IsTrue (rule.is_other_name self) }
     {
-        self.text
+        let OtherName { text } = self;
+        text
+    }
+}
+
+impl Drop for OtherName {
+    fn drop(self) {
+        let OtherName { text: _ } = self;
     }
 }
 

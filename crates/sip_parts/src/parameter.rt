@@ -6,10 +6,15 @@ use crate::token::Token;
 use std::alloc::AllocError;
 
 /// A parameter: a name, and a value where it has one.
-#[derive(Drop)]
 pub struct Parameter {
     pub name: Token,
     pub value: Option<ParameterValue>,
+}
+
+impl Drop for Parameter {
+    fn drop(self) {
+        let Parameter { name: _, value: _ } = self;
+    }
 }
 
 impl Clone for Parameter {

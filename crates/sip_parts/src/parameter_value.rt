@@ -12,7 +12,6 @@ use std::alloc::AllocError;
 use std::marker::Model;
 
 /// A quoted string with its quotes, or one or more bytes without spaces, tabs, line ends, `;`, `,`, `<`, `>` and `"`.
-#[derive(Drop)]
 pub struct ParameterValue {
     text: Text,
 }
@@ -60,7 +59,14 @@ impl ParameterValue {
         ensures value { result ≡ self }
         ensures rule { IsTrue (rule.is_parameter_value self) }
     {
-        self.text
+        let ParameterValue { text } = self;
+        text
+    }
+}
+
+impl Drop for ParameterValue {
+    fn drop(self) {
+        let ParameterValue { text: _ } = self;
     }
 }
 

@@ -14,7 +14,6 @@ use std::marker::Model;
 
 /// The display text of a From or a To: empty, a quoted string, or a text without `<`, `>`, `"` and line
 /// ends, and without spaces or tabs at its ends.
-#[derive(Drop)]
 pub struct PartyDisplay {
     text: Text,
 }
@@ -72,7 +71,14 @@ impl PartyDisplay {
         ensures value { result ≡ self }
         ensures rule { IsTrue (rule.is_party_display self) }
     {
-        self.text
+        let PartyDisplay { text } = self;
+        text
+    }
+}
+
+impl Drop for PartyDisplay {
+    fn drop(self) {
+        let PartyDisplay { text: _ } = self;
     }
 }
 

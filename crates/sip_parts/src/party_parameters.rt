@@ -10,7 +10,6 @@ use std::alloc::AllocError;
 use std::marker::Model;
 
 /// Parameters whose `tag`, where there is one, is a token. A contract sees them as their list.
-#[derive(Drop)]
 pub struct PartyParameters {
     parameters: Series<Parameter>,
 }
@@ -58,7 +57,8 @@ impl PartyParameters {
     pub fn into_series(self) -> Series<Parameter>
         ensures { result ≡ self }
     {
-        self.parameters
+        let PartyParameters { parameters } = self;
+        parameters
     }
 
     /// The tag: empty where there is none.
@@ -66,6 +66,12 @@ impl PartyParameters {
         ensures { result.now ≡ tags.tag_in self.now }
     {
         value_named(self.parameters.as_slice(), b"tag")
+    }
+}
+
+impl Drop for PartyParameters {
+    fn drop(self) {
+        let PartyParameters { parameters: _ } = self;
     }
 }
 

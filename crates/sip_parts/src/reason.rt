@@ -11,7 +11,6 @@ use std::alloc::{AllocError, Global};
 use std::marker::Model;
 
 /// A reason phrase: without line ends. It may be empty.
-#[derive(Drop)]
 pub struct Reason {
     text: Text,
 }
@@ -68,7 +67,14 @@ impl Reason {
         ensures value { result ≡ self }
         ensures rule { IsTrue (rule.is_reason self) }
     {
-        self.text
+        let Reason { text } = self;
+        text
+    }
+}
+
+impl Drop for Reason {
+    fn drop(self) {
+        let Reason { text: _ } = self;
     }
 }
 

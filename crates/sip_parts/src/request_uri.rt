@@ -12,7 +12,6 @@ use std::alloc::AllocError;
 use std::marker::Model;
 
 /// The URI of a request line: not empty, without spaces, tabs and line ends.
-#[derive(Drop)]
 pub struct RequestUri {
     text: Text,
 }
@@ -60,7 +59,8 @@ impl RequestUri {
         ensures value { result ≡ self }
         ensures rule { IsTrue (rule.is_word self) }
     {
-        self.text
+        let RequestUri { text } = self;
+        text
     }
 
     /// The same URI in the place of a Request-URI.
@@ -70,6 +70,12 @@ impl RequestUri {
         RequestUri {
             text: uri.into_text(),
         }
+    }
+}
+
+impl Drop for RequestUri {
+    fn drop(self) {
+        let RequestUri { text: _ } = self;
     }
 }
 

@@ -17,7 +17,6 @@ use std::marker::Model;
 
 /// One or more letters, digits and marks among ``-.!%*_+`'~``. Compared byte by byte; `token_eq` compares
 /// without case.
-#[derive(Drop)]
 pub struct Token {
     text: Text,
 }
@@ -65,7 +64,14 @@ impl Token {
         ensures value { result ≡ self }
         ensures rule { IsTrue (rule.is_token self) }
     {
-        self.text
+        let Token { text } = self;
+        text
+    }
+}
+
+impl Drop for Token {
+    fn drop(self) {
+        let Token { text: _ } = self;
     }
 }
 

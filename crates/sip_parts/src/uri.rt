@@ -11,7 +11,6 @@ use std::alloc::AllocError;
 use std::marker::Model;
 
 /// A URI in a header field: not empty, without spaces, tabs, line ends, `<`, `>` and `"`.
-#[derive(Drop)]
 pub struct Uri {
     text: Text,
 }
@@ -59,7 +58,14 @@ impl Uri {
         ensures value { result ≡ self }
         ensures rule { IsTrue (rule.is_uri self) }
     {
-        self.text
+        let Uri { text } = self;
+        text
+    }
+}
+
+impl Drop for Uri {
+    fn drop(self) {
+        let Uri { text: _ } = self;
     }
 }
 
