@@ -24,7 +24,6 @@ pub enum Reliability {
 }
 
 /// Starts a call: a first INVITE to an address.
-#[derive(Drop)]
 pub struct Invite {
     pub call_id: CallId,
     pub address: Addr,
@@ -36,7 +35,6 @@ pub struct Invite {
 }
 
 /// Sends a request outside of any dialog.
-#[derive(Drop)]
 pub struct Plain {
     pub call_id: CallId,
     pub address: Addr,
@@ -48,7 +46,6 @@ pub struct Plain {
 }
 
 /// Sends a request inside a dialog. An absent tag is the empty tag.
-#[derive(Drop)]
 pub struct DialogRequest {
     pub call_id: CallId,
     pub local_tag: Option<Token>,
@@ -71,7 +68,6 @@ pub struct Respond {
 }
 
 /// The body that an ACK or a PRACK of a dialog is to carry. An absent tag is the empty tag.
-#[derive(Drop)]
 pub struct DialogBody {
     pub call_id: CallId,
     pub local_tag: Option<Token>,
@@ -80,7 +76,6 @@ pub struct DialogBody {
 }
 
 /// Cancels a client INVITE.
-#[derive(Drop)]
 pub struct Cancel {
     pub call_id: CallId,
     /// The INVITE.
@@ -119,6 +114,20 @@ impl UserCommand {
     }
 }
 
+impl Drop for Invite {
+    fn drop(self) {
+        let Invite {
+            call_id: _,
+            address: _,
+            request_uri: _,
+            from: _,
+            to: _,
+            support: _,
+            body: _,
+        } = self;
+    }
+}
+
 impl Clone for Invite {
     ghost is_clone = { λ a b. b ≡ a };
 
@@ -135,6 +144,20 @@ impl Clone for Invite {
     }
 }
 
+impl Drop for Plain {
+    fn drop(self) {
+        let Plain {
+            call_id: _,
+            address: _,
+            method: _,
+            request_uri: _,
+            from: _,
+            to: _,
+            body: _,
+        } = self;
+    }
+}
+
 impl Clone for Plain {
     ghost is_clone = { λ a b. b ≡ a };
 
@@ -148,6 +171,18 @@ impl Clone for Plain {
             to: self.to.clone()?,
             body: self.body.clone()?,
         })
+    }
+}
+
+impl Drop for DialogRequest {
+    fn drop(self) {
+        let DialogRequest {
+            call_id: _,
+            local_tag: _,
+            remote_tag: _,
+            method: _,
+            body: _,
+        } = self;
     }
 }
 
@@ -180,6 +215,17 @@ impl Clone for Respond {
     }
 }
 
+impl Drop for DialogBody {
+    fn drop(self) {
+        let DialogBody {
+            call_id: _,
+            local_tag: _,
+            remote_tag: _,
+            body: _,
+        } = self;
+    }
+}
+
 impl Clone for DialogBody {
     ghost is_clone = { λ a b. b ≡ a };
 
@@ -190,6 +236,12 @@ impl Clone for DialogBody {
             remote_tag: self.remote_tag.clone()?,
             body: self.body.clone()?,
         })
+    }
+}
+
+impl Drop for Cancel {
+    fn drop(self) {
+        let Cancel { call_id: _, id: _ } = self;
     }
 }
 

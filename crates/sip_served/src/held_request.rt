@@ -3,7 +3,6 @@
 use sip_message::{Id, Key, Message, Token};
 
 /// A server request that came up.
-#[derive(Drop)]
 pub struct HeldRequest {
     pub id: Id,
     /// The key of its transaction.
@@ -13,4 +12,16 @@ pub struct HeldRequest {
     pub tag: Token,
     /// After the final response: the moment in ms at which it is removed.
     pub removal: Option<u64>,
+}
+
+impl Drop for HeldRequest {
+    fn drop(self) {
+        let HeldRequest {
+            id: _,
+            key: _,
+            request: _,
+            tag: _,
+            removal: _,
+        } = self;
+    }
 }
