@@ -3,7 +3,12 @@
 use sip_served::Served;
 
 /// All that is held under one Call-ID.
-#[derive(Drop)]
 pub struct Call {
     pub served: Served,
+}
+
+impl Drop for Call {
+    fn drop(self) {
+        let Call { served: _ } = self;
+    }
 }

@@ -19,6 +19,3 @@ pub use events_file::{MAX_EVENTS, read_events};
 pub use output::Output;
 pub use outputs_file::write_outputs;
 pub use round::{Event, Round};
-
-#[cfg(test)]
-mod tests;

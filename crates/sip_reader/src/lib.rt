@@ -14,8 +14,6 @@ mod parts;
 mod reader;
 mod rules;
 mod start_reader;
-#[cfg(test)]
-mod tests;
 mod via_reader;
 mod via_words;
 

@@ -14,7 +14,6 @@ use std::marker::Model;
 ///
 /// A contract sees what is held, or that nothing is known any more: after a call answered `NoMemory` it holds nothing, and every
 /// later call that can fail answers `Broken`.
-#[derive(Drop)]
 pub struct Served {
     alloc: Global,
     local: Addr,
@@ -100,5 +99,15 @@ impl Served {
         let held = self.requests.take().ok_or(ShardFault::Broken)?;
         self.requests = Some(without_due(self.alloc, held, now)?);
         Ok(Vec::new(self.alloc))
+    }
+}
+
+impl Drop for Served {
+    fn drop(self) {
+        let Served {
+            alloc: _,
+            local: _,
+            requests: _,
+        } = self;
     }
 }

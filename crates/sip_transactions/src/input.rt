@@ -1,9 +1,10 @@
 //! What comes to a transaction.
 
+ghost use Rattle.std.specs.Prelude.{◌≡◌};
+
 use sip_message::{Addr, CallId, Id, Key, Message};
 
 /// What the user of the transactions asks.
-#[derive(Drop)]
 pub enum Command {
     /// Starts a client transaction, which sends the request to the address.
     Start {
@@ -17,6 +18,48 @@ pub enum Command {
         key: Key,
         message: Message,
     },
+}
+
+impl Command {
+    ghost use Rattle.sip_transactions.specs.Shard.{command_key, order};
+
+    /// The key of its transaction, and what it is to that one: an input of this id at the moment `now`, in ms.
+    pub(crate) fn addressed(self, id: Id, now: u64) -> (Key, Timed)
+        ensures { result ≡ (command_key self, order id self now) }
+    {
+        let (key, input) = match self {
+            Command::Start {
+                key,
+                call_id,
+                message,
+                to,
+            } => (
+                key,
+                Input::Start {
+                    id,
+                    call_id,
+                    message,
+                    to,
+                },
+            ),
+            Command::Answer { key, message } => (key, Input::Answer { id, message }),
+        };
+        (key, Timed { moment: now, input })
+    }
+}
+
+impl Drop for Command {
+    fn drop(self) {
+        match self {
+            Command::Start {
+                key: _,
+                call_id: _,
+                message: _,
+                to: _,
+            } => {}
+            Command::Answer { key: _, message: _ } => {}
+        }
+    }
 }
 
 /// One input of one transaction.

@@ -19,6 +19,3 @@ pub use output::{DropReason, Kind, Out, Up};
 pub use shard::Shard;
 pub use sip_model::ShardFault;
 pub use state::State;
-
-#[cfg(test)]
-mod tests;

@@ -125,25 +125,8 @@ impl Shard {
         ensures step { IfOk result (λ outs. StepsKey key_cmp transaction_machine self.old.held self.new.held (command_key command) (order id command now) outs.items) }
         ensures histories { IfOk result (λ outs. AddsInput key_cmp transaction_machine self.old.held self.new.held (command_key command) (order id command now) outs.items) }
     {
-        let (key, input) = match command {
-            Command::Start {
-                key,
-                call_id,
-                message,
-                to,
-            } => (
-                key,
-                Input::Start {
-                    id,
-                    call_id,
-                    message,
-                    to,
-                },
-            ),
-            Command::Answer { key, message } => (key, Input::Answer { id, message }),
-        };
-        self.table
-            .handle(&Transactions, key, Timed { moment: now, input })
+        let (key, input) = command.addressed(id, now);
+        self.table.handle(&Transactions, key, input)
     }
 
     /// Lets a transaction know that one of its sends failed.

@@ -1,7 +1,10 @@
 //! Runs of the whole program over memory.
 
+mod files;
 mod plain_fold;
+mod reading;
 mod rounds;
+mod transactions;
 
 use crate::program::ua;
 use std::alloc::{AllocError, Global};

@@ -1,11 +1,11 @@
 //! A request that comes again, and a shard beside plain folds of its transactions.
 
-use super::*;
 use sip_message::{
     Addr, CSeq, CallId, Host, Id, Key, Message, Parameter, ParameterValue, Party, Reason,
     RequestUri, StartLine, StatusCode, Token, Uri, Via, Vias, key_of, response_to,
 };
 use sip_text::{Series, Text};
+use sip_transactions::{Command, DropReason, Kind, Out, Shard, ShardFault, State};
 use std::alloc::{AllocError, Global};
 use std::process::Abort;
 use std::test::Fail;

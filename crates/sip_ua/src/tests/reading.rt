@@ -1,5 +1,7 @@
-use super::*;
+//! Worked examples of messages, and texts that are none.
+
 use sip_message::{HeaderName, Message, ReadFault, StartLine};
+use sip_reader::read;
 use std::alloc::{AllocError, Global};
 use std::test::Fail;
 

@@ -1,10 +1,9 @@
 //! Worked examples of both files, and the texts that are none.
 
-use crate::words::{push_rest, push_word, read_rest, read_word};
-use crate::{Event, EventsFault, Output, read_events, write_outputs};
+use sip_files::{Event, EventsFault, Output, Round, read_events, write_outputs};
 use sip_message::{Addr, CallId, HeaderName, Id, ReadFault, StatusCode, Token};
 use sip_served::{Notice, Refusal, UserCommand};
-use sip_text::Text;
+use sip_text::{Series, Text};
 use sip_transactions::DropReason;
 use std::alloc::Global;
 use std::test::Fail;
@@ -285,8 +284,46 @@ fn faults_are_named(rt: HostRuntime) -> Result<(), Fail> {
     Ok(())
 }
 
+fn last_event(rounds: Series<Round>) -> Option<Event> {
+    rounds.into_vec().pop()?.events.into_vec().pop()
+}
+
+// The one event of a file with this line in its only round, or None where the line is none.
+fn event_of(alloc: Global, line: &[u8]) -> Result<Option<Event>, Fail> {
+    let mut file = Vec::from_slice(alloc, b"sip-events 1\nlocal 192.0.2.1:5060\nround 0\n")?;
+    file.extend_from_slice(line)?;
+    file.push(b'\n')?;
+    match read_events(alloc, &file) {
+        Ok((_, rounds)) => Ok(last_event(rounds)),
+        Err(EventsFault::BadLine(4)) => Ok(None),
+        Err(_) => Err("the fault is in the fourth line".into()),
+    }
+}
+
+// The body of an answer whose body is spelled so, or None where that is no spelling.
+fn body_of(alloc: Global, word: &[u8]) -> Result<Option<Text>, Fail> {
+    let mut line = Vec::from_slice(alloc, b"respond c1 0.1 200 plain ")?;
+    line.extend_from_slice(word)?;
+    line.extend_from_slice(b" OK")?;
+    match event_of(alloc, &line)? {
+        Some(Event::Command(UserCommand::Respond(respond))) => Ok(Some(respond.body)),
+        _ => Ok(None),
+    }
+}
+
+// The bytes of a datagram that are spelled so, or None where that is no spelling.
+fn datagram_of(alloc: Global, rest: &[u8]) -> Result<Option<Text>, Fail> {
+    let mut line = Vec::from_slice(alloc, b"datagram 192.0.2.9:5060 ")?;
+    line.extend_from_slice(rest)?;
+    match event_of(alloc, &line)? {
+        Some(Event::Datagram { bytes, .. }) => Ok(Some(bytes)),
+        _ => Ok(None),
+    }
+}
+
 #[test]
 fn words_of_texts(rt: HostRuntime) -> Result<(), Fail> {
+    let alloc = rt.alloc();
     let cases = [
         (b"".as_slice(), b"-".as_slice()),
         (b"-".as_slice(), b"\\x2d".as_slice()),
@@ -294,29 +331,42 @@ fn words_of_texts(rt: HostRuntime) -> Result<(), Fail> {
         (b"a b\r\n\t\\".as_slice(), b"a\\sb\\r\\n\\t\\\\".as_slice()),
         (b"\x00\x7f\xff".as_slice(), b"\\x00\\x7f\\xff".as_slice()),
     ];
-    for (text, word) in cases {
-        let mut line = Vec::new(rt.alloc());
-        push_word(&mut line, text)?;
-        assert_eq!(rt; line.as_slice(), word);
-        let read = read_word(rt.alloc(), word)?.ok_or("a word")?;
-        assert_eq!(rt; read.as_slice(), text);
+    for (bytes, word) in cases {
+        let ack = Notice::Ack {
+            call_id: call(alloc)?,
+            id: ID,
+            body: text(alloc, bytes)?,
+        };
+        let mut line = Vec::from_slice(alloc, b"notice c1 ack 3.2 ")?;
+        line.extend_from_slice(word)?;
+        line.push(b'\n')?;
+        assert!(rt; is_told(alloc, ack, &line)?);
+        let read = body_of(alloc, word)?.ok_or("a word")?;
+        assert_eq!(rt; read.as_slice(), bytes);
     }
     Ok(())
 }
 
 #[test]
 fn rests_of_texts(rt: HostRuntime) -> Result<(), Fail> {
+    let alloc = rt.alloc();
     let cases = [
         (b"".as_slice(), b"".as_slice()),
         (b"-".as_slice(), b"-".as_slice()),
         (b" a b\r\n".as_slice(), b" a b\\r\\n".as_slice()),
     ];
-    for (text, rest) in cases {
-        let mut line = Vec::new(rt.alloc());
-        push_rest(&mut line, text)?;
-        assert_eq!(rt; line.as_slice(), rest);
-        let read = read_rest(rt.alloc(), rest)?.ok_or("a rest")?;
-        assert_eq!(rt; read.as_slice(), text);
+    for (bytes, rest) in cases {
+        let send = Output::Send {
+            key: None,
+            to: ADDRESS,
+            bytes: text(alloc, bytes)?,
+        };
+        let mut line = Vec::from_slice(alloc, b"send 192.0.2.1:5060 ")?;
+        line.extend_from_slice(rest)?;
+        line.push(b'\n')?;
+        assert_eq!(rt; told(alloc, send)?.as_slice(), line.as_slice());
+        let read = datagram_of(alloc, rest)?.ok_or("a rest")?;
+        assert_eq!(rt; read.as_slice(), bytes);
     }
     Ok(())
 }
@@ -325,7 +375,6 @@ fn rests_of_texts(rt: HostRuntime) -> Result<(), Fail> {
 fn other_spellings_are_no_words(rt: HostRuntime) -> Result<(), Fail> {
     let spellings = [
         b"".as_slice(),
-        b"a b".as_slice(),
         b"\\x41".as_slice(),
         b"\\x20".as_slice(),
         b"\\x0A".as_slice(),
@@ -338,8 +387,8 @@ fn other_spellings_are_no_words(rt: HostRuntime) -> Result<(), Fail> {
         b"\xff".as_slice(),
     ];
     for spelling in spellings {
-        assert!(rt; read_word(rt.alloc(), spelling)?.is_none());
+        assert!(rt; body_of(rt.alloc(), spelling)?.is_none());
     }
-    assert!(rt; read_rest(rt.alloc(), b"\\s")?.is_none());
+    assert!(rt; datagram_of(rt.alloc(), b"\\s")?.is_none());
     Ok(())
 }
