@@ -39,12 +39,20 @@ pub fn ua<S: AsStr, R: Read, W: Write, E: Write>(
 {
     match parse(alloc, words) {
         Ok(()) => finish(replay(alloc, input, output), errors),
-        Err(error) if error.kind() == ErrorKind::OutOfMemory => no_memory(errors),
-        Err(error) => {
-            let _ = write!(errors, "{error}");
-            BAD_WORDS
-        }
+        Err(error) => tell_words(&error, errors),
     }
+}
+
+// Tells a fault of the words, and gives its status.
+fn tell_words<E: Write>(error: &Error, errors: &mut E) -> u8
+    ensures fault { result ≢ 0 }
+    ensures stream { result ≢ 4 }
+{
+    if error.kind() == ErrorKind::OutOfMemory {
+        return no_memory(errors);
+    }
+    let _ = write!(errors, "{error}");
+    BAD_WORDS
 }
 
 /// Tells that there is no memory, and gives the status of that.

@@ -12,7 +12,9 @@ use std::io::{self, Read, Write};
 use std::process::Abort;
 use std::test::Fail;
 
-const HEAD: &str = "sip-events 1\nlocal 192.0.2.1:5060\n";
+const VERSION: &str = "sip-events 1";
+
+const LOCAL: &str = "local 192.0.2.1:5060";
 
 const OPTIONS: &str =
     "datagram 192.0.2.9:5060 OPTIONS sip:192.0.2.1 SIP/2.0\\r\\nVia: SIP/2.0/UDP 192.0.2.9;branch=z9hG4bKa1\\r\\nFrom: <sip:a@192.0.2.9>;tag=f1\\r\\nTo: <sip:192.0.2.1>\\r\\nCall-ID: c1\\r\\nCSeq: 7 OPTIONS\\r\\n\\r\\n";
@@ -32,12 +34,21 @@ struct Ended {
     errors: Vec<u8>,
 }
 
+// The text of these lines.
+fn lines(alloc: Global, lines: &[&str]) -> Result<Vec<u8>, AllocError> {
+    let mut text = Vec::new(alloc);
+    for line in lines {
+        text.extend_from_slice(line.as_bytes())?;
+        text.push(b'\n')?;
+    }
+    Ok(text)
+}
+
 // The program, with these words and this input.
-fn run_on(alloc: Global, words: &[&str], input: &str) -> Ended {
-    let mut reader = input.as_bytes();
+fn run_on<R: Read>(alloc: Global, words: &[&str], input: &mut R) -> Ended {
     let mut output = Vec::new(alloc);
     let mut errors = Vec::new(alloc);
-    let status = ua(alloc, words, &mut reader, &mut output, &mut errors);
+    let status = ua(alloc, words, input, &mut output, &mut errors);
     Ended {
         status,
         output,
@@ -45,17 +56,25 @@ fn run_on(alloc: Global, words: &[&str], input: &str) -> Ended {
     }
 }
 
-// A run that ends well and writes this output file.
-fn replays(rt: &impl Abort, alloc: Global, input: &str, output: &str) {
-    let ended = run_on(alloc, ["replay"].as_slice(), input);
+// A run on the lines of an event file that ends well and writes the lines of this output file.
+fn replays(
+    rt: &impl Abort,
+    alloc: Global,
+    input: &[&str],
+    output: &[&str],
+) -> Result<(), AllocError> {
+    let input = lines(alloc, input)?;
+    let output = lines(alloc, output)?;
+    let ended = run_on(alloc, ["replay"].as_slice(), &mut input.as_slice());
     assert_eq!(rt; ended.status, 0);
-    assert_eq!(rt; ended.output.as_slice(), output.as_bytes());
+    assert_eq!(rt; ended.output.as_slice(), output.as_slice());
     assert!(rt; ended.errors.is_empty());
+    Ok(())
 }
 
 // A run that ends in this status, tells this fault and writes nothing.
 fn fails(rt: &impl Abort, alloc: Global, input: &str, status: u8, errors: &str) {
-    let ended = run_on(alloc, ["replay"].as_slice(), input);
+    let ended = run_on(alloc, ["replay"].as_slice(), &mut input.as_bytes());
     assert_eq!(rt; ended.status, status);
     assert!(rt; ended.output.is_empty());
     assert_eq!(rt; ended.errors.as_slice(), errors.as_bytes());
@@ -63,89 +82,136 @@ fn fails(rt: &impl Abort, alloc: Global, input: &str, status: u8, errors: &str) 
 
 #[test]
 fn an_options_is_told_and_answered(rt: HostRuntime) -> Result<(), Fail> {
-    let alloc = rt.alloc();
-    let input = format!(in alloc; "{HEAD}round 0\n{OPTIONS}\nround 10\n{RESPOND}\n")?;
-    let output = format!(in alloc; "sip-outputs 1\nround 0\n{NOTICE}\nround 10\n{SENT}\n")?;
-    replays(&rt, rt.alloc(), input.as_str(), output.as_str());
+    let input = [VERSION, LOCAL, "round 0", OPTIONS, "round 10", RESPOND];
+    let output = ["sip-outputs 1", "round 0", NOTICE, "round 10", SENT];
+    replays(&rt, rt.alloc(), &input, &output)?;
     Ok(())
 }
 
 #[test]
 fn a_repeated_request_is_told_once_and_its_answer_sent_again(rt: HostRuntime) -> Result<(), Fail> {
-    let alloc = rt.alloc();
-    let first = format!(in alloc;
-        "{HEAD}round 0\n{OPTIONS}\n{OPTIONS}\n{OPTIONS}\nround 10\n{RESPOND}\n"
-    )?;
-    let input = format!(in alloc; "{first}round 32009\n{OPTIONS}\nround 32010\n{OPTIONS}\n")?;
-    let told = format!(in alloc; "sip-outputs 1\nround 0\n{NOTICE}\nround 10\n{SENT}\n")?;
-    let again = "notice c1 request 3.1 OPTIONS 00000000000000030000000000000001081042a12 f1 -";
-    let output = format!(in alloc; "{told}round 32009\n{SENT}\nround 32010\n{again}\n")?;
-    replays(&rt, rt.alloc(), input.as_str(), output.as_str());
+    let input = [
+        VERSION,
+        LOCAL,
+        "round 0",
+        OPTIONS,
+        OPTIONS,
+        OPTIONS,
+        "round 10",
+        RESPOND,
+        "round 32009",
+        OPTIONS,
+        "round 32010",
+        OPTIONS,
+    ];
+    let output = [
+        "sip-outputs 1",
+        "round 0",
+        NOTICE,
+        "round 10",
+        SENT,
+        "round 32009",
+        SENT,
+        "round 32010",
+        "notice c1 request 3.1 OPTIONS 00000000000000030000000000000001081042a12 f1 -",
+    ];
+    replays(&rt, rt.alloc(), &input, &output)?;
     Ok(())
 }
 
 #[test]
 fn answers_are_refused_in_order(rt: HostRuntime) -> Result<(), Fail> {
-    let alloc = rt.alloc();
-    let commands =
-        "respond c9 0.1 200 plain - OK\nrespond c1 0.2 200 plain - OK\nrespond c1 0.1 99 plain - X";
-    let input = format!(in alloc;
-        "{HEAD}round 0\n{OPTIONS}\nround 10\n{commands}\n{RESPOND}\n{RESPOND}\n"
-    )?;
-    let refused =
-        "notice c9 refused 1 2\nnotice c1 refused 2 4\nnotice c1 refused 3 6\nnotice c1 refused 5 5";
-    let output = format!(in alloc;
-        "sip-outputs 1\nround 0\n{NOTICE}\nround 10\n{refused}\n{SENT}\n"
-    )?;
-    replays(&rt, rt.alloc(), input.as_str(), output.as_str());
+    let input = [
+        VERSION,
+        LOCAL,
+        "round 0",
+        OPTIONS,
+        "round 10",
+        "respond c9 0.1 200 plain - OK",
+        "respond c1 0.2 200 plain - OK",
+        "respond c1 0.1 99 plain - X",
+        RESPOND,
+        RESPOND,
+    ];
+    let output = [
+        "sip-outputs 1",
+        "round 0",
+        NOTICE,
+        "round 10",
+        "notice c9 refused 1 2",
+        "notice c1 refused 2 4",
+        "notice c1 refused 3 6",
+        "notice c1 refused 5 5",
+        SENT,
+    ];
+    replays(&rt, rt.alloc(), &input, &output)?;
     Ok(())
 }
 
 #[test]
 fn a_reliable_answer_is_refused(rt: HostRuntime) -> Result<(), Fail> {
-    let alloc = rt.alloc();
-    let input = format!(in alloc;
-        "{HEAD}round 0\n{OPTIONS}\nround 10\nrespond c1 0.1 183 reliable - X\n"
-    )?;
-    let output = format!(in alloc;
-        "sip-outputs 1\nround 0\n{NOTICE}\nround 10\nnotice c1 refused 1 8\n"
-    )?;
-    replays(&rt, rt.alloc(), input.as_str(), output.as_str());
+    let input = [
+        VERSION,
+        LOCAL,
+        "round 0",
+        OPTIONS,
+        "round 10",
+        "respond c1 0.1 183 reliable - X",
+    ];
+    let output = [
+        "sip-outputs 1",
+        "round 0",
+        NOTICE,
+        "round 10",
+        "notice c1 refused 1 8",
+    ];
+    replays(&rt, rt.alloc(), &input, &output)?;
     Ok(())
 }
 
 #[test]
 fn an_answer_carries_its_body_and_what_it_is(rt: HostRuntime) -> Result<(), Fail> {
-    let alloc = rt.alloc();
-    let input = format!(in alloc;
-        "{HEAD}round 0\n{OPTIONS}\nround 10\nrespond c1 0.1 200 plain v=0\\n OK\n"
-    )?;
-    let to = "To: <sip:192.0.2.1>;tag=000000000000000000000000000000010bee7079f";
-    let head =
-        "send 192.0.2.9:5060 SIP/2.0 200 OK\\r\\nVia: SIP/2.0/UDP 192.0.2.9;branch=z9hG4bKa1\\r\\nFrom: <sip:a@192.0.2.9>;tag=f1";
-    let body =
-        "Call-ID: c1\\r\\nCSeq: 7 OPTIONS\\r\\nContent-Type: application/sdp\\r\\nContent-Length: 4\\r\\n\\r\\nv=0\\n";
-    let output = format!(in alloc;
-        "sip-outputs 1\nround 0\n{NOTICE}\nround 10\n{head}\\r\\n{to}\\r\\n{body}\n"
-    )?;
-    replays(&rt, rt.alloc(), input.as_str(), output.as_str());
+    let input = [
+        VERSION,
+        LOCAL,
+        "round 0",
+        OPTIONS,
+        "round 10",
+        "respond c1 0.1 200 plain v=0\\n OK",
+    ];
+    let output = [
+        "sip-outputs 1",
+        "round 0",
+        NOTICE,
+        "round 10",
+        "send 192.0.2.9:5060 SIP/2.0 200 OK\\r\\nVia: SIP/2.0/UDP 192.0.2.9;branch=z9hG4bKa1\\r\\nFrom: <sip:a@192.0.2.9>;tag=f1\\r\\nTo: <sip:192.0.2.1>;tag=000000000000000000000000000000010bee7079f\\r\\nCall-ID: c1\\r\\nCSeq: 7 OPTIONS\\r\\nContent-Type: application/sdp\\r\\nContent-Length: 4\\r\\n\\r\\nv=0\\n",
+    ];
+    replays(&rt, rt.alloc(), &input, &output)?;
     Ok(())
 }
 
 #[test]
 fn two_requests_of_one_call_are_answered_by_id(rt: HostRuntime) -> Result<(), Fail> {
-    let alloc = rt.alloc();
-    let second =
-        "datagram 192.0.2.9:5060 INFO sip:192.0.2.1 SIP/2.0\\r\\nVia: SIP/2.0/UDP 192.0.2.9;branch=z9hG4bKa2\\r\\nFrom: <sip:a@192.0.2.9>;tag=f1\\r\\nTo: <sip:192.0.2.1>;tag=t1\\r\\nCall-ID: c1\\r\\nCSeq: 8 INFO\\r\\n\\r\\nhi";
-    let input = format!(in alloc;
-        "{HEAD}round 0\n{OPTIONS}\n{second}\nround 10\nrespond c1 0.2 404 plain - \n{RESPOND}\n"
-    )?;
-    let answer =
-        "send 192.0.2.9:5060 SIP/2.0 404 \\r\\nVia: SIP/2.0/UDP 192.0.2.9;branch=z9hG4bKa2\\r\\nFrom: <sip:a@192.0.2.9>;tag=f1\\r\\nTo: <sip:192.0.2.1>;tag=t1\\r\\nCall-ID: c1\\r\\nCSeq: 8 INFO\\r\\nContent-Length: 0\\r\\n\\r\\n";
-    let output = format!(in alloc;
-        "sip-outputs 1\nround 0\n{NOTICE}\nnotice c1 request 0.2 INFO t1 f1 hi\nround 10\n{answer}\n{SENT}\n"
-    )?;
-    replays(&rt, rt.alloc(), input.as_str(), output.as_str());
+    let input = [
+        VERSION,
+        LOCAL,
+        "round 0",
+        OPTIONS,
+        "datagram 192.0.2.9:5060 INFO sip:192.0.2.1 SIP/2.0\\r\\nVia: SIP/2.0/UDP 192.0.2.9;branch=z9hG4bKa2\\r\\nFrom: <sip:a@192.0.2.9>;tag=f1\\r\\nTo: <sip:192.0.2.1>;tag=t1\\r\\nCall-ID: c1\\r\\nCSeq: 8 INFO\\r\\n\\r\\nhi",
+        "round 10",
+        "respond c1 0.2 404 plain - ",
+        RESPOND,
+    ];
+    let output = [
+        "sip-outputs 1",
+        "round 0",
+        NOTICE,
+        "notice c1 request 0.2 INFO t1 f1 hi",
+        "round 10",
+        "send 192.0.2.9:5060 SIP/2.0 404 \\r\\nVia: SIP/2.0/UDP 192.0.2.9;branch=z9hG4bKa2\\r\\nFrom: <sip:a@192.0.2.9>;tag=f1\\r\\nTo: <sip:192.0.2.1>;tag=t1\\r\\nCall-ID: c1\\r\\nCSeq: 8 INFO\\r\\nContent-Length: 0\\r\\n\\r\\n",
+        SENT,
+    ];
+    replays(&rt, rt.alloc(), &input, &output)?;
     Ok(())
 }
 
@@ -153,87 +219,84 @@ fn two_requests_of_one_call_are_answered_by_id(rt: HostRuntime) -> Result<(), Fa
 fn a_request_from_elsewhere_gets_received_and_its_answer_goes_to_the_source(
     rt: HostRuntime,
 ) -> Result<(), Fail> {
-    let alloc = rt.alloc();
-    let request =
-        "datagram 192.0.2.9:7000 OPTIONS sip:192.0.2.1 SIP/2.0\\r\\nVia: SIP/2.0/UDP example.org:5070;branch=z9hG4bKa1\\r\\nFrom: <sip:a@192.0.2.9>;tag=f1\\r\\nTo: <sip:192.0.2.1>\\r\\nCall-ID: c1\\r\\nCSeq: 7 OPTIONS\\r\\n\\r\\n";
-    let input = format!(in alloc; "{HEAD}round 0\n{request}\nround 10\n{RESPOND}\n")?;
-    let answer =
-        "send 192.0.2.9:5070 SIP/2.0 200 OK\\r\\nVia: SIP/2.0/UDP example.org:5070;branch=z9hG4bKa1;received=192.0.2.9\\r\\nFrom: <sip:a@192.0.2.9>;tag=f1\\r\\nTo: <sip:192.0.2.1>;tag=000000000000000000000000000000010bee7079f\\r\\nCall-ID: c1\\r\\nCSeq: 7 OPTIONS\\r\\nContent-Length: 0\\r\\n\\r\\n";
-    let output = format!(in alloc; "sip-outputs 1\nround 0\n{NOTICE}\nround 10\n{answer}\n")?;
-    replays(&rt, rt.alloc(), input.as_str(), output.as_str());
+    let input = [
+        VERSION,
+        LOCAL,
+        "round 0",
+        "datagram 192.0.2.9:7000 OPTIONS sip:192.0.2.1 SIP/2.0\\r\\nVia: SIP/2.0/UDP example.org:5070;branch=z9hG4bKa1\\r\\nFrom: <sip:a@192.0.2.9>;tag=f1\\r\\nTo: <sip:192.0.2.1>\\r\\nCall-ID: c1\\r\\nCSeq: 7 OPTIONS\\r\\n\\r\\n",
+        "round 10",
+        RESPOND,
+    ];
+    let output = [
+        "sip-outputs 1",
+        "round 0",
+        NOTICE,
+        "round 10",
+        "send 192.0.2.9:5070 SIP/2.0 200 OK\\r\\nVia: SIP/2.0/UDP example.org:5070;branch=z9hG4bKa1;received=192.0.2.9\\r\\nFrom: <sip:a@192.0.2.9>;tag=f1\\r\\nTo: <sip:192.0.2.1>;tag=000000000000000000000000000000010bee7079f\\r\\nCall-ID: c1\\r\\nCSeq: 7 OPTIONS\\r\\nContent-Length: 0\\r\\n\\r\\n",
+    ];
+    replays(&rt, rt.alloc(), &input, &output)?;
     Ok(())
 }
 
 #[test]
 fn datagrams_are_dropped_with_their_reason(rt: HostRuntime) -> Result<(), Fail> {
-    let alloc = rt.alloc();
-    let rest =
-        "branch=z9hG4bKa1\\r\\nFrom: <sip:a@192.0.2.9>;tag=f1\\r\\nTo: <sip:192.0.2.1>\\r\\nCall-ID: c1\\r\\nCSeq: 7 OPTIONS\\r\\n\\r\\n";
-    let not_ours = format!(in alloc;
-        "datagram 192.0.2.9:5060 SIP/2.0 200 OK\\r\\nVia: SIP/2.0/UDP 192.0.2.9;{rest}"
-    )?;
-    let no_transaction = format!(in alloc;
-        "datagram 192.0.2.9:5060 SIP/2.0 200 OK\\r\\nVia: SIP/2.0/UDP 192.0.2.1;{rest}"
-    )?;
-    let bad_start = format!(in alloc;
-        "datagram 192.0.2.9:5060 OPTIONS sip:192.0.2.1 SIP/3.0\\r\\nVia: SIP/2.0/UDP 192.0.2.9;{rest}"
-    )?;
-    let no_via =
-        "datagram 192.0.2.9:5060 OPTIONS sip:192.0.2.1 SIP/2.0\\r\\nFrom: <sip:a@192.0.2.9>;tag=f1\\r\\n\\r\\n";
-    let input = format!(in alloc;
-        "{HEAD}round 0\n{not_ours}\n{no_transaction}\n{bad_start}\n{no_via}\n"
-    )?;
-    let drops = "drop 1 NotOurs\ndrop 2 NoTransaction\ndrop 3 BadStartLine\ndrop 4 Missing Via";
-    let output = format!(in alloc; "sip-outputs 1\nround 0\n{drops}\n")?;
-    replays(&rt, rt.alloc(), input.as_str(), output.as_str());
-    Ok(())
-}
-
-#[test]
-fn a_round_that_goes_back_is_refused_whole(rt: HostRuntime) -> Result<(), Fail> {
-    let input = format!(in rt.alloc(); "{HEAD}round 10\nround 9\n")?;
-    fails(
-        &rt,
-        rt.alloc(),
-        input.as_str(),
-        3,
-        "ua: round 1: MomentBackwards\n",
-    );
-    Ok(())
-}
-
-#[test]
-fn rounds_past_the_limits_are_refused(rt: HostRuntime) -> Result<(), Fail> {
-    let late = format!(in rt.alloc(); "{HEAD}round 4611686018427387905\n")?;
-    fails(
-        &rt,
-        rt.alloc(),
-        late.as_str(),
-        3,
-        "ua: round 0: MomentTooLarge\n",
-    );
-    let last = format!(in rt.alloc(); "{HEAD}first 4611686018427387904\nround 0\nround 0\n")?;
-    fails(
-        &rt,
-        rt.alloc(),
-        last.as_str(),
-        3,
-        "ua: round 1: RoundsUsedUp\n",
-    );
+    let input = [
+        VERSION,
+        LOCAL,
+        "round 0",
+        "datagram 192.0.2.9:5060 SIP/2.0 200 OK\\r\\nVia: SIP/2.0/UDP 192.0.2.9;branch=z9hG4bKa1\\r\\nFrom: <sip:a@192.0.2.9>;tag=f1\\r\\nTo: <sip:192.0.2.1>\\r\\nCall-ID: c1\\r\\nCSeq: 7 OPTIONS\\r\\n\\r\\n",
+        "datagram 192.0.2.9:5060 SIP/2.0 200 OK\\r\\nVia: SIP/2.0/UDP 192.0.2.1;branch=z9hG4bKa1\\r\\nFrom: <sip:a@192.0.2.9>;tag=f1\\r\\nTo: <sip:192.0.2.1>\\r\\nCall-ID: c1\\r\\nCSeq: 7 OPTIONS\\r\\n\\r\\n",
+        "datagram 192.0.2.9:5060 OPTIONS sip:192.0.2.1 SIP/3.0\\r\\nVia: SIP/2.0/UDP 192.0.2.9;branch=z9hG4bKa1\\r\\nFrom: <sip:a@192.0.2.9>;tag=f1\\r\\nTo: <sip:192.0.2.1>\\r\\nCall-ID: c1\\r\\nCSeq: 7 OPTIONS\\r\\n\\r\\n",
+        "datagram 192.0.2.9:5060 OPTIONS sip:192.0.2.1 SIP/2.0\\r\\nFrom: <sip:a@192.0.2.9>;tag=f1\\r\\n\\r\\n",
+    ];
+    let output = [
+        "sip-outputs 1",
+        "round 0",
+        "drop 1 NotOurs",
+        "drop 2 NoTransaction",
+        "drop 3 BadStartLine",
+        "drop 4 Missing Via",
+    ];
+    replays(&rt, rt.alloc(), &input, &output)?;
     Ok(())
 }
 
 #[test]
 fn rounds_without_events_are_told(rt: HostRuntime) -> Result<(), Fail> {
-    replays(&rt, rt.alloc(), HEAD, "sip-outputs 1\n");
-    let input = format!(in rt.alloc(); "{HEAD}round 7\nround 7\n")?;
-    replays(
+    replays(&rt, rt.alloc(), &[VERSION, LOCAL], &["sip-outputs 1"])?;
+    let input = [VERSION, LOCAL, "round 7", "round 7"];
+    let output = ["sip-outputs 1", "round 7", "round 7"];
+    replays(&rt, rt.alloc(), &input, &output)?;
+    Ok(())
+}
+
+#[test]
+fn a_round_that_goes_back_is_refused_whole(rt: HostRuntime) {
+    fails(
         &rt,
         rt.alloc(),
-        input.as_str(),
-        "sip-outputs 1\nround 7\nround 7\n",
+        "sip-events 1\nlocal 192.0.2.1:5060\nround 10\nround 9\n",
+        3,
+        "ua: round 1: MomentBackwards\n",
     );
-    Ok(())
+}
+
+#[test]
+fn rounds_past_the_limits_are_refused(rt: HostRuntime) {
+    fails(
+        &rt,
+        rt.alloc(),
+        "sip-events 1\nlocal 192.0.2.1:5060\nround 4611686018427387905\n",
+        3,
+        "ua: round 0: MomentTooLarge\n",
+    );
+    fails(
+        &rt,
+        rt.alloc(),
+        "sip-events 1\nlocal 192.0.2.1:5060\nfirst 4611686018427387904\nround 0\nround 0\n",
+        3,
+        "ua: round 1: RoundsUsedUp\n",
+    );
 }
 
 #[test]
@@ -285,7 +348,7 @@ fn event_files_with_a_fault_are_refused(rt: HostRuntime) {
 
 #[test]
 fn words_that_name_no_command_are_refused(rt: HostRuntime) {
-    let ended = run_on(rt.alloc(), ["record"].as_slice(), "");
+    let ended = run_on(rt.alloc(), ["record"].as_slice(), &mut b"".as_slice());
     assert_eq!(rt; ended.status, 2);
     assert!(rt; ended.output.is_empty());
     assert!(rt; ended.errors.as_slice().starts_with(b"error: "));
@@ -328,35 +391,24 @@ impl Write for Failing {
 }
 
 #[test]
-fn a_reader_that_fails_is_told_and_nothing_written(rt: HostRuntime) -> Result<(), Fail> {
-    let alloc = rt.alloc();
+fn a_reader_that_fails_is_told_and_nothing_written(rt: HostRuntime) {
     for calls_left in 0..3 {
         let mut reader = Failing {
             calls_left,
-            bytes: Vec::new(alloc),
+            bytes: Vec::new(rt.alloc()),
         };
-        let mut output = Vec::new(alloc);
-        let mut errors = Vec::new(alloc);
-        let status = ua(
-            alloc,
-            ["replay"].as_slice(),
-            &mut reader,
-            &mut output,
-            &mut errors,
-        );
-        assert_eq!(rt; status, 4);
-        assert!(rt; output.is_empty());
-        assert_eq!(rt; errors.as_slice(), b"ua: input failed\n".as_slice());
+        let ended = run_on(rt.alloc(), ["replay"].as_slice(), &mut reader);
+        assert_eq!(rt; ended.status, 4);
+        assert!(rt; ended.output.is_empty());
+        assert_eq!(rt; ended.errors.as_slice(), b"ua: input failed\n".as_slice());
     }
-    Ok(())
 }
 
 #[test]
-fn a_writer_that_fails_is_told_and_a_prefix_written(rt: HostRuntime) -> Result<(), Fail> {
+fn a_writer_that_fails_is_told_and_a_prefix_written(rt: HostRuntime) {
     let alloc = rt.alloc();
     let whole = b"sip-outputs 1\n";
     for calls_left in 0..whole.len() {
-        let mut reader = HEAD.as_bytes();
         let mut writer = Failing {
             calls_left,
             bytes: Vec::new(alloc),
@@ -365,7 +417,7 @@ fn a_writer_that_fails_is_told_and_a_prefix_written(rt: HostRuntime) -> Result<(
         let status = ua(
             alloc,
             ["replay"].as_slice(),
-            &mut reader,
+            &mut b"sip-events 1\nlocal 192.0.2.1:5060\n".as_slice(),
             &mut writer,
             &mut errors,
         );
@@ -373,5 +425,4 @@ fn a_writer_that_fails_is_told_and_a_prefix_written(rt: HostRuntime) -> Result<(
         assert_eq!(rt; writer.bytes.as_slice(), &whole[..calls_left]);
         assert_eq!(rt; errors.as_slice(), b"ua: output failed\n".as_slice());
     }
-    Ok(())
 }
