@@ -13,7 +13,7 @@ use Rattle.sip_workers.specs.declared.seat.Served.{Served}
 use Rattle.sip_workers.specs.declared.seat.Served.TheVariants as ended
 use Rattle.sip_workers.specs.Balance.{log}
 use Rattle.sip_workers.specs.Ran.{Ran}
-use Rattle.sip_workers.specs.Seats.{OwnerOf, IsReady, IsThiefOf, IsOwnerOf, AreSeats, IsThiefsResult, Serves}
+use Rattle.sip_workers.specs.Seats.{OwnerOf, IsReady, IsThiefOf, IsOwnerOf, AreSeats, IsThiefsResult, Serves, AreResults}
 
 pub log_is : {J : Type 0} (v : Log J) (parts : ℕ) (put taken : List (Piece J)) → v.parts ≡ parts → v.put ≡ put → v.taken ≡ taken → v ≡ log parts put taken
 log_is v parts put taken p q r =
@@ -114,10 +114,14 @@ module _ {J D : Type 0} (gives : J → D → Type 0) where
     pub thieves : AllByRecursion (IsThiefsResult gives owner) rest
     pub ran : Ran gives (worker_view owner).taken dones.items
 
-  pub comes_back : (put : List (Piece J)) (count : ℕ) (seats : List (Seat J)) (results rest : List (Result (Served J D) NoMemory)) (owner : OwnerOf J) (dones : Vec (ℕ × D) Global)
-      → AreSeats put count seats → AllZip (Serves gives) seats results
+  pub come_back : (put : List (Piece J)) (count : ℕ) (seats : List (Seat J)) (results : List (Result (Served J D) NoMemory)) → AreSeats put count seats → AllZip (Serves gives) seats results → AreResults gives put results
+  come_back put count seats results are served = record { count = count; seats = seats; are_seats = are; served = served }
+
+  pub comes_back : (put : List (Piece J)) (results rest : List (Result (Served J D) NoMemory)) (owner : OwnerOf J) (dones : Vec (ℕ × D) Global)
+      → AreResults gives put results
       → results ≡ rest ++ Ok (ended.Owner owner dones) ∷ [] → ComesBack put owner dones rest
-  comes_back put count seats results rest owner dones s served is =
+  comes_back put results rest owner dones were is =
+      let count = were.count in let seats = were.seats in let s = were.are_seats in let served = were.served in
       let all : AllZip (Serves gives) (s.thieves ++ s.last ∷ []) (rest ++ Ok (ended.Owner owner dones) ∷ []) =
       subst (λ (xs : List (Seat J)). AllZip (Serves gives) xs (rest ++ Ok (ended.Owner owner dones) ∷ [])) s.are
       (subst (λ (ys : List (Result (Served J D) NoMemory)). AllZip (Serves gives) seats ys) is served) in

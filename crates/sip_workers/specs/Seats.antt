@@ -1,6 +1,6 @@
 -- What each seat of the parallel map begins with, and what it gives back.
 use Rattle.std.specs.Prelude.{◌≡◌, ℕ, ◌-◌, ◌<◌, ◌≤◌, List, [], ◌∷◌, ◌++◌, length, Result, Ok, Err, ⊤}
-use Rattle.std.specs.List.{AllByRecursion}
+use Rattle.std.specs.List.{AllByRecursion, AllZip}
 use Rattle.std.specs.declared.alloc.Global.{Global}
 use Rattle.crossbeam_deque.specs.Handles.{view, IsPassOf, worker_deque, worker_view, stealer_deque}
 use Rattle.crossbeam_deque.specs.declared.handles.Worker.{Worker}
@@ -63,3 +63,10 @@ module _ {J D : Type 0} (gives : J → D → Type 0) where
   pub record Serves (seat : Seat J) (result : Result (Served J D) NoMemory) : Type 0 where
     pub thief : (deque : OwnerOf J) → IsThiefOf deque seat → IsThiefsResult deque result
     pub owner : (deque : OwnerOf J) (parts : ℕ) (put : List (Piece J)) → IsOwnerOf deque parts put seat → IsOwnersResult deque parts put result
+
+  -- what the seats give back, of a deque into which these pieces were put
+  pub record AreResults (put : List (Piece J)) (results : List (Result (Served J D) NoMemory)) : Type 0 where
+    pub count : ℕ
+    pub seats : List (Seat J)
+    pub are_seats : AreSeats put count seats
+    pub served : AllZip Serves seats results

@@ -1,12 +1,13 @@
-ghost use Rattle.std.specs.Prelude.{◌≡◌, ◌<◌, ◌≤◌, ◌+◌, [], IfOk, vec_len, All, map, nat_eq};
+ghost use Rattle.std.specs.Prelude.{◌≡◌, ◌<◌, ◌≤◌, ◌+◌, List, [], IfOk, vec_len, All, map, nat_eq};
 ghost use Rattle.std.specs.List.{AllByRecursion, AllZip, IsDistinct};
 ghost use Rattle.crossbeam_deque.specs.Handles.{worker_deque, worker_view};
+ghost use Rattle.sip_workers.specs.declared.piece.Piece.{Piece};
 ghost use Rattle.sip_workers.specs.Ran.{Ran, AllRan};
 ghost use Rattle.sip_workers.specs.Balance.{log};
-ghost use Rattle.sip_workers.specs.Seats.{IsReady, AreSeats, Serves, IsThiefsResult};
+ghost use Rattle.sip_workers.specs.Seats.{IsReady, AreSeats, Serves, IsThiefsResult, AreResults};
 
 use crate::deque::{Cut, Joined, Owner, Pops, Puts};
-use crate::seat::{Seat, Served, own, run_piece, thieve};
+use crate::seat::{Seat, Served, run_piece};
 use crate::{Gate, Job, NoMemory, Piece};
 use std::alloc::Global;
 use std::thread;
@@ -37,12 +38,8 @@ where
     let most = pieces.len();
     let owner = filled(alloc, pieces)?;
     let seats = seated(alloc, owner, workers - 1)?;
-    let mut results = served(rt, alloc, seats, most, gate)?;
-    let Some(Ok(Served::Owner(owner, dones))) = results.pop() else {
-        return Err(NoMemory);
-    };
-    let (owner, dones) = joined(owner, dones, results)?;
-    drained(owner, dones, gate)
+    let results = served(rt, alloc, seats, most, gate)?;
+    finished(results, gate)
 }
 
 // A deque with room for all pieces, and all of them in it.
@@ -99,32 +96,25 @@ where
         &|seat: Seat<J>| -> Result<Served<J, J::Done>, NoMemory>
             requires { IsReady seat }
             ensures { Serves J.gives seat result }
-        { work(alloc, seat, most, gate) },
+        { seat.work(alloc, most, gate) },
     )?;
     Ok(results)
 }
 
-fn work<J: Job + Drop, G: Gate>(
-    alloc: Global,
-    seat: Seat<J>,
-    most: usize,
+// The owner's result is the last. It gets every pass back, and takes what is left.
+fn finished<J: Job + Drop, G: Gate>(
+    mut results: Vec<Result<Served<J, J::Done>, NoMemory>>,
     gate: &G,
-) -> Result<Served<J, J::Done>, NoMemory>
+) -> Result<Vec<(usize, J::Done)>, NoMemory>
 where
     J::Done: Drop,
-    requires { IsReady seat }
-    ensures { Serves J.gives seat result }
+    requires given { (put : List (Piece J)) × AreResults J.gives put results.items }
+    ensures { (put : List (Piece J)) → AreResults J.gives put results.items
+        → IfOk result (λ dones. AllRan J.gives put dones.items) }
 {
-    match seat {
-        Seat::Owner(owner) => {
-            let (owner, dones) = own(alloc, owner, most, gate)?;
-            Ok(Served::Owner(owner, dones))
-        }
-        Seat::Thief(thief, pass) => {
-            let (pass, dones) = thieve(alloc, &thief, pass, most, gate)?;
-            Ok(Served::Thief(pass, dones))
-        }
-    }
+    let (owner, dones) = Served::owner(results.pop())?;
+    let (owner, dones) = joined(owner, dones, results)?;
+    drained(owner, dones, gate)
 }
 
 // The owner gets every pass back, and the dones of the thieves go behind its own.
@@ -143,9 +133,7 @@ where
     ensures ran { IfOk result (λ r. Ran J.gives (worker_view r.0).taken r.1.items) }
 {
     while let Some(result) = thieves.pop() {
-        let Served::Thief(pass, mut theirs) = result? else {
-            return Err(NoMemory);
-        };
+        let (pass, mut theirs) = Served::thief(result)?;
         owner.absorb::<Joined>(pass);
         dones.append(&mut theirs)?;
     }

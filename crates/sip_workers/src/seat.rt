@@ -1,7 +1,9 @@
-ghost use Rattle.std.specs.Prelude.{◌≡◌, ◌<◌, [], ◌∷◌, ◌++◌, IfOk, IfSome, IfNone, IsOk};
+ghost use Rattle.std.specs.Prelude.{◌≡◌, ◌<◌, [], ◌∷◌, ◌++◌, Some, Ok, IfOk, IfSome, IfNone, IsOk};
 ghost use Rattle.crossbeam_deque.specs.Handles.{view, IsPassOf, worker_deque, worker_view, stealer_deque};
 ghost use Rattle.sip_workers.specs.Ran.{IsDoneOf, Ran};
 ghost use Rattle.sip_workers.specs.Balance.{log};
+ghost use Rattle.sip_workers.specs.declared.seat.Served.TheVariants as ended;
+ghost use Rattle.sip_workers.specs.Seats.{IsReady, Serves};
 
 use crate::deque::{Owner, Pops, Steals, Thief, ThiefPass};
 use crate::{Gate, Job, NoMemory, Piece};
@@ -12,10 +14,46 @@ use std::alloc::Global;
 const MOST_RETRIES: usize = 1000;
 
 // A seat of the parallel map.
-#[derive(Drop)]
 pub enum Seat<J> {
     Owner(Owner<J>),
     Thief(Thief<J>, ThiefPass<J>),
+}
+
+// Written out, so that it is dropped by one call wherever a value that holds one is.
+impl<J: Drop> Drop for Seat<J> {
+    fn drop(self) {
+        match self {
+            Seat::Owner(_) => {}
+            Seat::Thief(_, _) => {}
+        }
+    }
+}
+
+impl<J: Job + Drop> Seat<J>
+where
+    J::Done: Drop,
+{
+    // Takes pieces, at most `most`, until it finds none.
+    pub fn work<G: Gate>(
+        self,
+        alloc: Global,
+        most: usize,
+        gate: &G,
+    ) -> Result<Served<J, J::Done>, NoMemory>
+        requires { IsReady self }
+        ensures { Serves J.gives self result }
+    {
+        match self {
+            Seat::Owner(owner) => {
+                let (owner, dones) = own(alloc, owner, most, gate)?;
+                Ok(Served::Owner(owner, dones))
+            }
+            Seat::Thief(thief, pass) => {
+                let (pass, dones) = thieve(alloc, &thief, pass, most, gate)?;
+                Ok(Served::Thief(pass, dones))
+            }
+        }
+    }
 }
 
 // What a seat gives back, with the dones of the pieces that it took.
@@ -23,6 +61,32 @@ pub enum Seat<J> {
 pub enum Served<J, D> {
     Owner(Owner<J>, Vec<(usize, D)>),
     Thief(ThiefPass<J>, Vec<(usize, D)>),
+}
+
+impl<J: Drop, D: Drop> Served<J, D> {
+    // The owner and its dones, where the owner's seat gave them back.
+    pub fn owner(
+        seat: Option<Result<Served<J, D>, NoMemory>>,
+    ) -> Result<(Owner<J>, Vec<(usize, D)>), NoMemory>
+        ensures { IfOk result (λ r. seat ≡ Some (Ok (ended.Owner r.0 r.1))) }
+    {
+        match seat {
+            Some(Ok(Served::Owner(owner, dones))) => Ok((owner, dones)),
+            _ => Err(NoMemory),
+        }
+    }
+
+    // A thief's pass and its dones, where the thief's seat gave them back.
+    pub fn thief(
+        seat: Result<Served<J, D>, NoMemory>,
+    ) -> Result<(ThiefPass<J>, Vec<(usize, D)>), NoMemory>
+        ensures { IfOk result (λ r. seat ≡ Ok (ended.Thief r.0 r.1)) }
+    {
+        match seat {
+            Ok(Served::Thief(pass, dones)) => Ok((pass, dones)),
+            _ => Err(NoMemory),
+        }
+    }
 }
 
 pub fn run_piece<J: Job, G: Gate>(piece: Piece<J>, gate: &G) -> (usize, J::Done)
@@ -34,7 +98,7 @@ pub fn run_piece<J: Job, G: Gate>(piece: Piece<J>, gate: &G) -> (usize, J::Done)
 }
 
 // The owner takes until the deque is empty. It holds at most `most` pieces.
-pub fn own<J: Job + Drop, G: Gate>(
+fn own<J: Job + Drop, G: Gate>(
     alloc: Global,
     mut owner: Owner<J>,
     most: usize,
@@ -79,7 +143,7 @@ fn steal<J>(thief: &Thief<J>, pass: &mut ThiefPass<J>) -> Option<Piece<J>>
 }
 
 // A thief steals one piece at a time, until it finds none.
-pub fn thieve<J: Job + Drop, G: Gate>(
+fn thieve<J: Job + Drop, G: Gate>(
     alloc: Global,
     thief: &Thief<J>,
     mut pass: ThiefPass<J>,

@@ -1,4 +1,5 @@
 use Rattle.std.proofs.Common.{arith, ap, ◌∙◌}
+use Rattle.std.proofs.lemmas.Result.{IfOk-from_err}
 use Rattle.crossbeam_deque.specs.Handles.{worker_view}
 use Rattle.sip_workers.proofs.Balances.{takes, pops, drained}
 use Rattle.sip_workers.proofs.Runs.{ran_more}
@@ -20,3 +21,6 @@ loop-piece-preserved g c =
       ap (λ v. v.put) took ∙ c.loop-piece.invariant.1,
       ran_more g.J.Job.gives (worker_view c.loop-piece.owner) (worker_view c.pop_as.new.self) c.in-Some.piece c.run_piece.result c.loop-piece.dones.items c.push.new.self.items took c.in_ok-push.ensures.items c.run_piece.ensures c.loop-piece.invariant.2,
     )
+
+pub returns-in_err-push : goal.returns-in_err-push
+returns-in_err-push g c = IfOk-from_err _ _ c.from_residual.ensures.0

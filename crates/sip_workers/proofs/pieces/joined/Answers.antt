@@ -1,4 +1,5 @@
 use Rattle.std.proofs.Common.{◌++◌, arith, ap, ◌∙◌, append-nil}
+use Rattle.std.proofs.lemmas.Result.{IfOk-from_err}
 use Rattle.crossbeam_deque.specs.Handles.{view, worker_view}
 use Rattle.sip_workers.proofs.Balances.{merges}
 use Rattle.sip_workers.proofs.Runs.{ran_joined}
@@ -10,12 +11,22 @@ absorb-requires-clause-rule g c = merges _ _ _ _
 
 pub loop-result-preserved : goal.loop-result-preserved
 loop-result-preserved g c =
-    let theirs = thiefs_last g.J.Job.gives c.args.owner c.loop-result.thieves.items c.pop.new.self.items c.in-Some.result c.in_ok-pass.field-0 c.loop-result.invariant.3 c.in-Some.ensures.items c.in_ok-pass.was in
-    let pass = rw c.in-Thief.is at theirs.1 in
+    let theirs = thiefs_last g.J.Job.gives c.args.owner c.loop-result.thieves.items c.pop.new.self.items c.in-Some.result _ c.loop-result.invariant.3 c.in-Some.ensures.items c.in_ok-pass.ensures in
+    let pass = theirs.1 in
     let both = c.absorb.ensures.rule in (
       c.absorb.ensures.same.0.0 ∙ c.loop-result.invariant.0,
       omega (arith, ap (λ v. v.parts) both, pass.1, c.in-Some.ensures.cases),
       ap (λ v. v.put) both ∙ ap (λ xs. (worker_view c.loop-result.owner).put ++ xs) pass.2 ∙ append-nil _ ∙ c.loop-result.invariant.2,
       theirs.0,
-      ran_joined g.J.Job.gives (worker_view c.loop-result.owner) (view c.in-Thief.pass) (worker_view c.absorb.new.self) c.loop-result.dones.items c.in-Thief.theirs.items c.append.new.self.items both c.in_ok-append.ensures.items c.loop-result.invariant.4 pass.3,
+      ran_joined g.J.Job.gives (worker_view c.loop-result.owner) (view c.in_ok-pass.pass) (worker_view c.absorb.new.self) c.loop-result.dones.items c.in_ok-pass.theirs.items c.append.new.self.items both c.in_ok-append.ensures.items c.loop-result.invariant.4 pass.3,
     )
+
+pub returns-in_err-pass : goal.returns-in_err-pass
+returns-in_err-pass g c =
+    let failed = c.from_residual.ensures.0 in
+    record { whole = IfOk-from_err _ _ failed; put = IfOk-from_err _ _ failed; ran = IfOk-from_err _ _ failed }
+
+pub returns-in_err-append : goal.returns-in_err-append
+returns-in_err-append g c =
+    let failed = c.from_residual-in_err-append.ensures.0 in
+    record { whole = IfOk-from_err _ _ failed; put = IfOk-from_err _ _ failed; ran = IfOk-from_err _ _ failed }
