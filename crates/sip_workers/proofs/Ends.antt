@@ -1,5 +1,7 @@
 -- The seats as they begin, and as their results come back.
 use Rattle.std.proofs.Common.{◌≡◌, ℕ, zero, suc, ◌+◌, ◌-◌, ◌<◌, get_or, All, Vec, Err, arith, List, [], ◌∷◌, ◌++◌, length, Result, Ok, sym, subst, ap, ◌∙◌, refl}
+use mathlib.Core.Bool.{true≢false}
+use Rattle.std.specs.Prelude.{IsErr}
 use Rattle.std.specs.List.{AllByRecursion, AllZip}
 use Rattle.std.proofs.lemmas.List.{get_or_default}
 use Rattle.std.specs.declared.alloc.Global.{Global}
@@ -64,7 +66,7 @@ holds_at P [] all i x within is = absurd (omega arith)
 holds_at {X} P (y ∷ ys) all zero x within is = subst (λ (u : X). P u) (sym is) all.0
 holds_at P (y ∷ ys) all (suc i) x within is = holds_at P ys all.1 i x (omega arith) is
 
-both_hold : {X : Type 0} (P : X → Type 0) (xs : List X) (x : X) → AllByRecursion P xs → P x → AllByRecursion P (xs ++ x ∷ [])
+pub both_hold : {X : Type 0} (P : X → Type 0) (xs : List X) (x : X) → AllByRecursion P xs → P x → AllByRecursion P (xs ++ x ∷ [])
 both_hold P [] x all one = (one, tt)
 both_hold P (y ∷ ys) x all one = (all.0, both_hold P ys x all.1 one)
 
@@ -92,6 +94,11 @@ seats_ready {J} put count seats s = λ k d within.
 -- ---- the results after the map
 
 module _ {J D : Type 0} (gives : J → D → Type 0) where
+  -- where a seat fails, nothing is asked of it
+  pub failed_serves : (seat : Seat J) (result : Result (Served J D) NoMemory) → IsErr result → Serves gives seat result
+  failed_serves seat (Ok served) failed = absurd (true≢false (sym failed))
+  failed_serves seat (Err e) failed = record { thief = λ deque is. tt; owner = λ deque parts put is. tt }
+
   thieves_served : (deque : OwnerOf J) (seats : List (Seat J)) (results : List (Result (Served J D) NoMemory)) → AllByRecursion (IsThiefOf deque) seats → AllZip (Serves gives) seats results → AllByRecursion (IsThiefsResult gives deque) results
   thieves_served deque [] [] all served = tt
   thieves_served deque [] (r ∷ rs) all served = absurd served

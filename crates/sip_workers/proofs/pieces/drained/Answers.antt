@@ -1,5 +1,4 @@
-use Rattle.std.proofs.Common.{arith, ap, ◌∙◌}
-use Rattle.std.proofs.lemmas.Result.{IfOk-from_err}
+use Rattle.std.proofs.Common.{[], ◌∷◌, length, length-append, arith, ap, ◌∙◌}
 use Rattle.crossbeam_deque.specs.Handles.{worker_view}
 use Rattle.sip_workers.proofs.Balances.{takes, pops, drained}
 use Rattle.sip_workers.proofs.Runs.{ran_more}
@@ -22,5 +21,7 @@ loop-piece-preserved g c =
       ran_more g.J.Job.gives (worker_view c.loop-piece.owner) (worker_view c.pop_as.new.self) c.in-Some.piece c.run_piece.result c.loop-piece.dones.items c.push.new.self.items took c.in_ok-push.ensures.items c.run_piece.ensures c.loop-piece.invariant.2,
     )
 
-pub returns-in_err-push : goal.returns-in_err-push
-returns-in_err-push g c = IfOk-from_err _ _ c.from_residual.ensures.0
+pub loop-piece-smaller : goal.loop-piece-smaller
+loop-piece-smaller g c =
+    let took = c.in-Some.ensures.rule.0 in
+    omega (arith, ap (λ v. length v.put) took, ap (λ v. length v.taken) took, length-append (worker_view c.loop-piece.owner).taken (c.in-Some.piece ∷ []), c.in-Some.ensures.rule.1 c.loop-piece.invariant.0)

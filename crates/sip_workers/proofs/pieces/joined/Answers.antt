@@ -1,6 +1,5 @@
-use Rattle.std.proofs.Common.{◌++◌, arith, ap, ◌∙◌, append-nil}
-use Rattle.std.proofs.lemmas.Result.{IfOk-from_err}
-use Rattle.crossbeam_deque.specs.Handles.{view, worker_view}
+use Rattle.std.proofs.Common.{◌++◌, arith, ap, subst, sym, ◌∙◌, append-nil}
+use Rattle.crossbeam_deque.specs.Handles.{view, IsPassOf, worker_view}
 use Rattle.sip_workers.proofs.Balances.{merges}
 use Rattle.sip_workers.proofs.Runs.{ran_joined}
 use Rattle.sip_workers.proofs.Ends.{thiefs_last}
@@ -8,6 +7,11 @@ use Rattle.sip_workers.proofs.pieces.joined.Goals as goal
 
 pub absorb-requires-clause-rule : goal.absorb-requires-clause-rule
 absorb-requires-clause-rule g c = merges _ _ _ _
+
+pub absorb-requires-clause-table : goal.absorb-requires-clause-table
+absorb-requires-clause-table g c =
+    let theirs = thiefs_last g.J.Job.gives c.args.owner c.loop-result.thieves.items c.pop.new.self.items c.in-Some.result _ c.loop-result.invariant.3 c.in-Some.ensures.items c.in_ok-pass.ensures in
+    subst (λ d. IsPassOf d c.in_ok-pass.pass) (sym c.loop-result.invariant.0) theirs.1.0
 
 pub loop-result-preserved : goal.loop-result-preserved
 loop-result-preserved g c =
@@ -20,13 +24,3 @@ loop-result-preserved g c =
       theirs.0,
       ran_joined g.J.Job.gives (worker_view c.loop-result.owner) (view c.in_ok-pass.pass) (worker_view c.absorb.new.self) c.loop-result.dones.items c.in_ok-pass.theirs.items c.append.new.self.items both c.in_ok-append.ensures.items c.loop-result.invariant.4 pass.3,
     )
-
-pub returns-in_err-pass : goal.returns-in_err-pass
-returns-in_err-pass g c =
-    let failed = c.from_residual.ensures.0 in
-    record { whole = IfOk-from_err _ _ failed; put = IfOk-from_err _ _ failed; ran = IfOk-from_err _ _ failed }
-
-pub returns-in_err-append : goal.returns-in_err-append
-returns-in_err-append g c =
-    let failed = c.from_residual-in_err-append.ensures.0 in
-    record { whole = IfOk-from_err _ _ failed; put = IfOk-from_err _ _ failed; ran = IfOk-from_err _ _ failed }

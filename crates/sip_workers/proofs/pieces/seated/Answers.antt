@@ -1,8 +1,10 @@
-use Rattle.std.proofs.Common.{◌≡◌, arith, ◌∙◌}
-use Rattle.crossbeam_deque.specs.Handles.{worker_view}
-use Rattle.sip_workers.specs.declared.seat.Seat.TheVariants.{Owner}
+use Rattle.std.proofs.Common.{◌≡◌, [], ◌∷◌, length, length-append, arith, ap, subst, sym, ◌∙◌}
+use Rattle.crossbeam_deque.specs.Handles.{IsPassOf, worker_view}
+use Rattle.std.specs.List.{AllByRecursion}
+use Rattle.sip_workers.specs.Seats.{IsThiefOf}
+use Rattle.sip_workers.specs.declared.seat.Seat.TheVariants.{Owner, Thief}
 use Rattle.sip_workers.proofs.Balances.{forks}
-use Rattle.sip_workers.proofs.Ends.{log_is}
+use Rattle.sip_workers.proofs.Ends.{log_is, both_hold}
 use Rattle.sip_workers.proofs.pieces.seated.Goals as goal
 
 pub another-pass-requires : goal.another-pass-requires
@@ -21,3 +23,19 @@ returns g c =
       all_thieves = c.loop.invariant.5;
       owner = (c.loop.invariant.0, log_is (worker_view c.loop.owner) _ _ _ (omega arith) c.loop.invariant.2 (c.loop.invariant.3 ∙ c.requires.nothing));
     }
+
+pub loop-preserved : goal.loop-preserved
+loop-preserved g c =
+    let split = c.another-pass.ensures.rule.0 in
+    let same = c.another-pass.ensures.same.0.0 in
+    let thief = c.in_ok-thief.thief in
+    let pass = c.another-pass.result in
+    let deque = c.in_ok-thief.ensures.0 ∙ c.loop.invariant.0 in (
+      same ∙ c.loop.invariant.0,
+      omega (arith, ap (λ v. v.parts) split, c.loop.invariant.1, c.loop-test.true, c.requires.few),
+      ap (λ v. v.put) split ∙ c.loop.invariant.2,
+      ap (λ v. v.taken) split ∙ c.loop.invariant.3,
+      ap length c.in_ok-push.ensures.items ∙ omega (arith, length-append c.loop.seats.items (Thief thief pass ∷ []), c.loop.invariant.4),
+      subst (λ seats. AllByRecursion (IsThiefOf c.args.owner) seats) (sym c.in_ok-push.ensures.items)
+          (both_hold (IsThiefOf c.args.owner) c.loop.seats.items (Thief thief pass) c.loop.invariant.5 (deque, subst (λ d. IsPassOf d pass) c.loop.invariant.0 c.another-pass.ensures.same.2, c.another-pass.ensures.rule.1)),
+    )

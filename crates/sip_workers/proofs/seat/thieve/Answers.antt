@@ -1,8 +1,9 @@
-use Rattle.std.proofs.Common.{ap, ◌∙◌}
-use Rattle.std.proofs.lemmas.Result.{IfOk-from_err}
-use Rattle.crossbeam_deque.specs.Handles.{view}
+use Rattle.std.proofs.Common.{◌≡◌, ap, subst, sym, ◌∙◌}
+use Rattle.crossbeam_deque.specs.Handles.{view, IsPassOf, stealer_deque}
 use Rattle.sip_workers.proofs.Runs.{ran_more}
+use Rattle.sip_workers.specs.Ran.{Ran}
 use Rattle.sip_workers.proofs.seat.thieve.Goals as goal
+use Rattle.sip_workers.proofs.seat.thieve.Goals.{else-loop-test, then-loop-test+in_default}
 
 pub loop-preserved : goal.loop-preserved
 loop-preserved g c =
@@ -13,7 +14,16 @@ loop-preserved g c =
       ran_more g.J.Job.gives (view c.loop.pass) (view c.steal.new.pass) c.in-Some.piece c.run_piece.result c.loop.dones.items c.push.new.self.items took c.in_ok-push.ensures.items c.run_piece.ensures c.loop.invariant.3,
     )
 
-pub returns-in_err-push : goal.returns-in_err-push
-returns-in_err-push g c =
-    let failed = c.from_residual.ensures.0 in
-    record { same = IfOk-from_err _ _ failed; parts = IfOk-from_err _ _ failed; put = IfOk-from_err _ _ failed; ran = IfOk-from_err _ _ failed }
+pub returns : goal.returns
+returns g c =
+    let alike : IsPassOf (stealer_deque c.args.thief.now) c.loop-test.pass × (view c.loop-test.pass ≡ view c.loop.pass) =
+    elim c.loop-test.branch [
+      | else-loop-test w ↦ (subst (λ pass. IsPassOf (stealer_deque c.args.thief.now) pass) (sym w.pass-is) c.loop.invariant.0, ap view w.pass-is)
+      | then-loop-test+in_default w ↦ (subst (λ pass. IsPassOf (stealer_deque c.args.thief.now) pass) (sym w.pass-is) w.in_default.ensures.same, ap view w.pass-is ∙ w.in_default.ensures.none)
+    ] in
+    record {
+      same = alike.0;
+      parts = ap (λ v. v.parts) alike.1 ∙ c.loop.invariant.1;
+      put = ap (λ v. v.put) alike.1 ∙ c.loop.invariant.2;
+      ran = subst (λ v. Ran g.J.Job.gives v.taken c.loop.dones.items) (sym alike.1) c.loop.invariant.3;
+    }
