@@ -1,11 +1,11 @@
 -- The seats as they begin, and as their results come back.
 use Rattle.std.proofs.Common.{◌≡◌, ℕ, zero, suc, ◌+◌, ◌-◌, ◌<◌, get_or, All, Vec, Err, arith, List, [], ◌∷◌, ◌++◌, length, Result, Ok, sym, subst, ap, ◌∙◌, refl}
-use mathlib.Core.Bool.{true≢false}
-use Rattle.std.specs.Prelude.{IsErr}
 use Rattle.std.specs.List.{AllByRecursion, AllZip}
 use Rattle.std.proofs.lemmas.List.{get_or_default}
 use Rattle.std.specs.declared.alloc.Global.{Global}
-use Rattle.crossbeam_deque.specs.Handles.{worker_deque, worker_view}
+use Rattle.crossbeam_deque.specs.Handles.{Pass, view, IsPassOf, worker_deque, worker_view, stealer_deque}
+use Rattle.crossbeam_deque.specs.declared.handles.Stealer.{Stealer}
+use Rattle.sip_workers.specs.declared.deque.Fair.{Fair}
 use Rattle.sip_workers.specs.declared.piece.Piece.{Piece}
 use Rattle.sip_workers.specs.declared.no_memory.NoMemory.{NoMemory}
 use Rattle.sip_workers.specs.declared.deque.Log.{Log}
@@ -94,10 +94,17 @@ seats_ready {J} put count seats s = λ k d within.
 -- ---- the results after the map
 
 module _ {J D : Type 0} (gives : J → D → Type 0) where
-  -- where a seat fails, nothing is asked of it
-  pub failed_serves : (seat : Seat J) (result : Result (Served J D) NoMemory) → IsErr result → Serves gives seat result
-  failed_serves seat (Ok served) failed = absurd (true≢false (sym failed))
-  failed_serves seat (Err e) failed = record { thief = λ deque is. tt; owner = λ deque parts put is. tt }
+  pub owner_serves : (seat : Seat J) (first owner : OwnerOf J) (dones : Vec (ℕ × D) Global) → seat ≡ begun.Owner first → worker_deque owner ≡ worker_deque first
+      → (worker_view owner).parts ≡ (worker_view first).parts → (worker_view owner).put ≡ (worker_view first).put → Ran gives (worker_view owner).taken dones.items → Serves gives seat (Ok (ended.Owner owner dones))
+  owner_serves seat first owner dones is same parts put ran =
+      subst (λ (s : Seat J). Serves gives s (Ok (ended.Owner owner dones))) (sym is)
+      record { thief = λ deque of. absurd of; owner = λ deque n pieces of. (same ∙ of.0, parts ∙ ap (λ v. v.parts) of.1, put ∙ ap (λ v. v.put) of.1, ran) }
+
+  pub thief_serves : (seat : Seat J) (thief : Stealer (Piece J) Global (Log J) Fair) (first pass : Pass (Piece J) (Log J) Global) (dones : Vec (ℕ × D) Global) → seat ≡ begun.Thief thief first → IsPassOf (stealer_deque thief) pass
+      → (view pass).parts ≡ 1 → (view pass).put ≡ [] → Ran gives (view pass).taken dones.items → Serves gives seat (Ok (ended.Thief pass dones))
+  thief_serves seat thief first pass dones is same parts put ran =
+      subst (λ (s : Seat J). Serves gives s (Ok (ended.Thief pass dones))) (sym is)
+      record { thief = λ deque of. (subst (λ d. IsPassOf d pass) of.0 same, parts, put, ran); owner = λ deque n pieces of. absurd of }
 
   thieves_served : (deque : OwnerOf J) (seats : List (Seat J)) (results : List (Result (Served J D) NoMemory)) → AllByRecursion (IsThiefOf deque) seats → AllZip (Serves gives) seats results → AllByRecursion (IsThiefsResult gives deque) results
   thieves_served deque [] [] all served = tt

@@ -87,7 +87,7 @@ fn served<R: Threads + Sync, J: Job + Send + Drop, G: Gate>(
 ) -> Result<Vec<Result<Served<J, J::Done>, NoMemory>>, NoMemory>
 where
     J::Done: Send + Drop,
-    requires { All IsReady seats.items }
+    requires ready { All IsReady seats.items }
     ensures { IfOk result (λ results. AllZip (Serves J.gives) seats.items results.items) }
 {
     let results = thread::map_vec(

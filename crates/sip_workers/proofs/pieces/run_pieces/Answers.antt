@@ -5,8 +5,8 @@ use Rattle.sip_workers.proofs.Gathers.{distinct_done}
 use Rattle.sip_workers.proofs.Ends.{seats_ready, come_back}
 use Rattle.sip_workers.proofs.pieces.run_pieces.Goals as goal
 
-pub served-requires : goal.served-requires
-served-requires g c = (c.type_bounds.send-J, (c.type_bounds.send-J-Done, (c.type_bounds.sync-R, (c.type_bounds.sync-G, seats_ready _ _ _ c.in_ok-seats.ensures))))
+pub served-requires-clause-ready : goal.served-requires-clause-ready
+served-requires-clause-ready g c = λ κs within. seats_ready _ _ _ c.in_ok-seats.ensures
 
 pub finished-requires-clause-given : goal.finished-requires-clause-given
 finished-requires-clause-given g c = λ κs within. ((worker_view c.in_ok-owner.owner).put, come_back g.J.Job.gives _ _ _ _ c.in_ok-seats.ensures c.in_ok-results.ensures)
