@@ -14,19 +14,10 @@ use std::alloc::Global;
 const MOST_RETRIES: usize = 1000;
 
 // A seat of the parallel map.
+#[derive(Drop)]
 pub enum Seat<J> {
     Owner(Owner<J>),
     Thief(Thief<J>, ThiefPass<J>),
-}
-
-// Written out, so that it is dropped by one call wherever a value that holds one is.
-impl<J: Drop> Drop for Seat<J> {
-    fn drop(self) {
-        match self {
-            Seat::Owner(_) => {}
-            Seat::Thief(_, _) => {}
-        }
-    }
 }
 
 impl<J: Job + Drop> Seat<J>
