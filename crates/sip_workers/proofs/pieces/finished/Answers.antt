@@ -1,7 +1,5 @@
-use Rattle.std.proofs.Common.{◌≡◌, List, arith, ◌∙◌}
+use Rattle.std.proofs.Common.{◌≡◌, arith, ◌∙◌}
 use Rattle.crossbeam_deque.specs.Handles.{worker_view}
-use Rattle.sip_workers.specs.declared.piece.Piece.{Piece}
-use Rattle.sip_workers.specs.Seats.{AreResults}
 use Rattle.sip_workers.proofs.Ends.{comes_back}
 use Rattle.sip_workers.proofs.pieces.finished.Goals as goal
 
