@@ -5,7 +5,7 @@ use sip_message::{Addr, CallId, HeaderName, Id, ReadFault, StatusCode, Token};
 use sip_served::{Notice, Refusal, UserCommand};
 use sip_text::{Series, Text};
 use sip_transactions::DropReason;
-use std::alloc::Global;
+use std::alloc::{AllocError, Global};
 use std::test::Fail;
 
 const ID: Id = Id { round: 3, place: 2 };
@@ -206,27 +206,35 @@ fn an_event_file_is_read(rt: HostRuntime) -> Result<(), Fail> {
     let file =
         b"sip-events 1\nlocal 192.0.2.1:5060\nfirst 9\nround 0\ndatagram 192.0.2.9:5070 a b\\r\\n\nrespond c1 0.1 200 plain - OK\nround 5\n";
     let (config, rounds) = read_events(rt.alloc(), file)?;
-    assert!(rt; config.local == ADDRESS);
-    assert!(rt; config.seed == [0; 32]);
-    assert_eq!(rt; config.first, 9);
-    let [first, second] = rounds.as_slice() else {
-        return Err("two rounds".into());
-    };
-    assert_eq!(rt; first.moment, 0);
-    assert_eq!(rt; second.moment, 5);
-    assert!(rt; second.events.is_empty());
-    let [
-        Event::Datagram { from, bytes },
-        Event::Command(UserCommand::Respond(respond)),
-    ] = first.events.as_slice()
-    else {
-        return Err("a datagram and an answer".into());
-    };
-    assert_eq!(rt; from.port, 5070);
-    assert_eq!(rt; bytes.as_slice(), b"a b\r\n".as_slice());
-    assert_eq!(rt; respond.status, 200);
-    assert_eq!(rt; respond.reason.as_slice(), b"OK".as_slice());
+    assert!(rt; config.local == ADDRESS && config.seed == [0; 32] && config.first == 9);
+    assert!(rt; are_the_rounds(rounds.as_slice()));
     Ok(())
+}
+
+fn are_the_rounds(rounds: &[Round]) -> bool {
+    match rounds {
+        [first, second] => {
+            (first.moment, second.moment) == (0, 5)
+                && are_the_events(first.events.as_slice())
+                && second.events.is_empty()
+        }
+        _ => false,
+    }
+}
+
+fn are_the_events(events: &[Event]) -> bool {
+    match events {
+        [
+            Event::Datagram { from, bytes },
+            Event::Command(UserCommand::Respond(respond)),
+        ] => {
+            from.port == 5070
+                && bytes.as_slice() == b"a b\r\n".as_slice()
+                && respond.status == 200
+                && respond.reason.as_slice() == b"OK".as_slice()
+        }
+        _ => false,
+    }
 }
 
 #[test]
@@ -284,15 +292,26 @@ fn faults_are_named(rt: HostRuntime) -> Result<(), Fail> {
     Ok(())
 }
 
+fn between(
+    alloc: Global,
+    before: &[u8],
+    bytes: &[u8],
+    after: &[u8],
+) -> Result<Vec<u8>, AllocError> {
+    let mut text = Vec::from_slice(alloc, before)?;
+    text.extend_from_slice(bytes)?;
+    text.extend_from_slice(after)?;
+    Ok(text)
+}
+
 fn last_event(rounds: Series<Round>) -> Option<Event> {
     rounds.into_vec().pop()?.events.into_vec().pop()
 }
 
 // The one event of a file with this line in its only round, or None where the line is none.
 fn event_of(alloc: Global, line: &[u8]) -> Result<Option<Event>, Fail> {
-    let mut file = Vec::from_slice(alloc, b"sip-events 1\nlocal 192.0.2.1:5060\nround 0\n")?;
-    file.extend_from_slice(line)?;
-    file.push(b'\n')?;
+    let head = b"sip-events 1\nlocal 192.0.2.1:5060\nround 0\n";
+    let file = between(alloc, head, line, b"\n")?;
     match read_events(alloc, &file) {
         Ok((_, rounds)) => Ok(last_event(rounds)),
         Err(EventsFault::BadLine(4)) => Ok(None),
@@ -302,9 +321,7 @@ fn event_of(alloc: Global, line: &[u8]) -> Result<Option<Event>, Fail> {
 
 // The body of an answer whose body is spelled so, or None where that is no spelling.
 fn body_of(alloc: Global, word: &[u8]) -> Result<Option<Text>, Fail> {
-    let mut line = Vec::from_slice(alloc, b"respond c1 0.1 200 plain ")?;
-    line.extend_from_slice(word)?;
-    line.extend_from_slice(b" OK")?;
+    let line = between(alloc, b"respond c1 0.1 200 plain ", word, b" OK")?;
     match event_of(alloc, &line)? {
         Some(Event::Command(UserCommand::Respond(respond))) => Ok(Some(respond.body)),
         _ => Ok(None),
@@ -313,8 +330,7 @@ fn body_of(alloc: Global, word: &[u8]) -> Result<Option<Text>, Fail> {
 
 // The bytes of a datagram that are spelled so, or None where that is no spelling.
 fn datagram_of(alloc: Global, rest: &[u8]) -> Result<Option<Text>, Fail> {
-    let mut line = Vec::from_slice(alloc, b"datagram 192.0.2.9:5060 ")?;
-    line.extend_from_slice(rest)?;
+    let line = between(alloc, b"datagram 192.0.2.9:5060 ", rest, b"")?;
     match event_of(alloc, &line)? {
         Some(Event::Datagram { bytes, .. }) => Ok(Some(bytes)),
         _ => Ok(None),
@@ -332,19 +348,22 @@ fn words_of_texts(rt: HostRuntime) -> Result<(), Fail> {
         (b"\x00\x7f\xff".as_slice(), b"\\x00\\x7f\\xff".as_slice()),
     ];
     for (bytes, word) in cases {
-        let ack = Notice::Ack {
-            call_id: call(alloc)?,
-            id: ID,
-            body: text(alloc, bytes)?,
-        };
-        let mut line = Vec::from_slice(alloc, b"notice c1 ack 3.2 ")?;
-        line.extend_from_slice(word)?;
-        line.push(b'\n')?;
-        assert!(rt; is_told(alloc, ack, &line)?);
+        assert!(rt; is_written_as(alloc, bytes, word)?);
         let read = body_of(alloc, word)?.ok_or("a word")?;
         assert_eq!(rt; read.as_slice(), bytes);
     }
     Ok(())
+}
+
+// Whether the body of a notice is spelled so.
+fn is_written_as(alloc: Global, body: &[u8], word: &[u8]) -> Result<bool, Fail> {
+    let line = between(alloc, b"notice c1 ack 3.2 ", word, b"\n")?;
+    let ack = Notice::Ack {
+        call_id: call(alloc)?,
+        id: ID,
+        body: text(alloc, body)?,
+    };
+    is_told(alloc, ack, &line)
 }
 
 #[test]
@@ -356,19 +375,22 @@ fn rests_of_texts(rt: HostRuntime) -> Result<(), Fail> {
         (b" a b\r\n".as_slice(), b" a b\\r\\n".as_slice()),
     ];
     for (bytes, rest) in cases {
-        let send = Output::Send {
-            key: None,
-            to: ADDRESS,
-            bytes: text(alloc, bytes)?,
-        };
-        let mut line = Vec::from_slice(alloc, b"send 192.0.2.1:5060 ")?;
-        line.extend_from_slice(rest)?;
-        line.push(b'\n')?;
-        assert_eq!(rt; told(alloc, send)?.as_slice(), line.as_slice());
+        assert!(rt; is_sent_as(alloc, bytes, rest)?);
         let read = datagram_of(alloc, rest)?.ok_or("a rest")?;
         assert_eq!(rt; read.as_slice(), bytes);
     }
     Ok(())
+}
+
+// Whether the bytes of a send are spelled so.
+fn is_sent_as(alloc: Global, bytes: &[u8], rest: &[u8]) -> Result<bool, Fail> {
+    let line = between(alloc, b"send 192.0.2.1:5060 ", rest, b"\n")?;
+    let send = Output::Send {
+        key: None,
+        to: ADDRESS,
+        bytes: text(alloc, bytes)?,
+    };
+    Ok(told(alloc, send)?.as_slice() == line.as_slice())
 }
 
 #[test]

@@ -290,6 +290,16 @@ impl Past {
             answers: Vec::new(alloc),
         };
         self.to_transactions.push((None, Happening::Tick(now)))?;
+        self.arrive_all(number, round, &mut dealt)?;
+        self.to_calls.push((None, Item::Tick(now)))?;
+        self.tell_all(&mut dealt)?;
+        for (key, response) in mem::replace(&mut dealt.answers, Vec::new(alloc)) {
+            self.give(key, Happening::Answer(now, response), &mut dealt)?;
+        }
+        Ok(mem::replace(&mut dealt.outputs, Vec::new(alloc)))
+    }
+
+    fn arrive_all(&mut self, number: u64, round: &Round, dealt: &mut Dealt) -> Result<(), Fail> {
         let mut place = 0u32;
         for event in round.events.as_slice() {
             place = place.wrapping_add(1);
@@ -297,17 +307,17 @@ impl Past {
                 round: number,
                 place,
             };
-            self.arrive(id, now, event, &mut dealt)?;
+            self.arrive(id, round.moment, event, dealt)?;
         }
-        self.to_calls.push((None, Item::Tick(now)))?;
-        for (call_id, item) in mem::replace(&mut dealt.items, Vec::new(alloc)) {
-            self.tell(&call_id, &item, &mut dealt)?;
+        Ok(())
+    }
+
+    fn tell_all(&mut self, dealt: &mut Dealt) -> Result<(), Fail> {
+        for (call_id, item) in mem::replace(&mut dealt.items, Vec::new(self.alloc)) {
+            self.tell(&call_id, &item, dealt)?;
             self.to_calls.push((Some(call_id), item))?;
         }
-        for (key, response) in mem::replace(&mut dealt.answers, Vec::new(alloc)) {
-            self.give(key, Happening::Answer(now, response), &mut dealt)?;
-        }
-        Ok(mem::replace(&mut dealt.outputs, Vec::new(alloc)))
+        Ok(())
     }
 
     fn arrive(&mut self, id: Id, now: u64, event: &Event, dealt: &mut Dealt) -> Result<(), Fail> {

@@ -47,23 +47,35 @@ fn fault_of(alloc: Global, text: &[u8]) -> Option<ReadFault> {
 #[test]
 fn a_request(rt: HostRuntime) -> Result<(), Fail> {
     let message = message_with(rt.alloc(), 6, b"", b"")?;
-    assert!(rt; message.is_request());
-    assert_eq!(rt; message.method().as_slice(), b"OPTIONS".as_slice());
-    if let StartLine::Request { uri } = &message.start {
-        assert_eq!(rt; uri.as_slice(), b"sip:192.0.2.1".as_slice());
+    let via = message.vias.top();
+    let texts = [
+        (request_uri(&message), b"sip:192.0.2.1".as_slice()),
+        (message.method().as_slice(), b"OPTIONS".as_slice()),
+        (via.transport.as_slice(), b"UDP".as_slice()),
+        (via.host.as_slice(), b"192.0.2.9".as_slice()),
+        (via.branch(), b"z9hG4bKa1".as_slice()),
+        (message.from.uri.as_slice(), b"sip:a@192.0.2.9".as_slice()),
+        (message.from.tag(), b"f1".as_slice()),
+        (message.to.tag(), b"".as_slice()),
+        (message.call_id.as_slice(), b"c1".as_slice()),
+        (message.body.as_slice(), b"".as_slice()),
+    ];
+    for (text, expected) in texts {
+        assert_eq!(rt; text, expected);
     }
-    assert_eq!(rt; message.vias.top().host.as_slice(), b"192.0.2.9".as_slice());
-    assert_eq!(rt; message.vias.top().transport.as_slice(), b"UDP".as_slice());
-    assert_eq!(rt; message.vias.top().port, None);
-    assert_eq!(rt; message.vias.top().branch(), b"z9hG4bKa1".as_slice());
-    assert_eq!(rt; message.from.uri.as_slice(), b"sip:a@192.0.2.9".as_slice());
-    assert_eq!(rt; message.from.tag(), b"f1".as_slice());
-    assert_eq!(rt; message.to.tag(), b"".as_slice());
-    assert_eq!(rt; message.call_id.as_slice(), b"c1".as_slice());
-    assert_eq!(rt; message.cseq.number, 7);
-    assert!(rt; message.others.is_empty());
-    assert!(rt; message.body.is_empty());
+    assert_eq!(rt;
+        (via.port, message.cseq.number, message.others.len()),
+        (None, 7, 0)
+    );
     Ok(())
+}
+
+// The Request-URI: empty where the message is a response.
+fn request_uri(message: &Message) -> &[u8] {
+    match &message.start {
+        StartLine::Request { uri } => uri.as_slice(),
+        StartLine::Response { .. } => b"",
+    }
 }
 
 #[test]
@@ -91,30 +103,31 @@ fn bodies(rt: HostRuntime) -> Result<(), Fail> {
 }
 
 #[test]
-fn spellings(rt: HostRuntime) -> Result<(), Fail> {
-    let alloc = rt.alloc();
-    let via = message_with(
-        alloc,
-        1,
-        b"VIA \t:  sip/2.0/TCP \t [2001:db8::1]:5061;ttl=1;branch=Z9HG4BKx \t",
-        b"",
-    )?;
-    assert_eq!(rt; via.vias.top().host.as_slice(), b"[2001:db8::1]".as_slice());
-    assert_eq!(rt; via.vias.top().port, Some(5061));
-    assert_eq!(rt; via.vias.top().branch(), b"Z9HG4BKx".as_slice());
-    let kept = message_with(
-        alloc,
-        3,
-        b"c: application/sdp\r\nTo: <sip:192.0.2.1>\r\nMax-Forwards: 70",
-        b"",
-    )?;
-    assert_eq!(rt; kept.others.len(), 2);
-    for header in kept.others.as_slice().iter().take(1) {
-        assert_eq!(rt; header.name.as_slice(), b"Content-Type".as_slice());
-        assert_eq!(rt; header.value.as_slice(), b"application/sdp".as_slice());
-    }
-    let lines = message_with(alloc, 0, b"\n\r\nOPTIONS sip:192.0.2.1 SIP/2.0", b"")?;
-    assert!(rt; lines.is_request());
+fn a_via_with_tabs_and_a_port(rt: HostRuntime) -> Result<(), Fail> {
+    let line = b"VIA \t:  sip/2.0/TCP \t [2001:db8::1]:5061;ttl=1;branch=Z9HG4BKx \t";
+    let message = message_with(rt.alloc(), 1, line, b"")?;
+    let via = message.vias.top();
+    assert_eq!(rt; via.host.as_slice(), b"[2001:db8::1]".as_slice());
+    assert_eq!(rt; via.port, Some(5061));
+    assert_eq!(rt; via.branch(), b"Z9HG4BKx".as_slice());
+    Ok(())
+}
+
+#[test]
+fn a_compact_name_gets_its_long_form(rt: HostRuntime) -> Result<(), Fail> {
+    let line = b"c: application/sdp\r\nTo: <sip:192.0.2.1>\r\nMax-Forwards: 70";
+    let message = message_with(rt.alloc(), 3, line, b"")?;
+    assert_eq!(rt; message.others.len(), 2);
+    let header = message.others.first().ok_or("two headers are kept")?;
+    assert_eq!(rt; header.name.as_slice(), b"Content-Type".as_slice());
+    assert_eq!(rt; header.value.as_slice(), b"application/sdp".as_slice());
+    Ok(())
+}
+
+#[test]
+fn line_ends_before_the_start_line(rt: HostRuntime) -> Result<(), Fail> {
+    let message = message_with(rt.alloc(), 0, b"\n\r\nOPTIONS sip:192.0.2.1 SIP/2.0", b"")?;
+    assert!(rt; message.is_request());
     Ok(())
 }
 

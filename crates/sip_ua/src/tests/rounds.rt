@@ -200,36 +200,54 @@ fn datagram(alloc: Global, from: Addr, bytes: &str) -> Result<Event, Fail> {
 
 // A line as an event, where it is one.
 fn event_of(alloc: Global, line: &Line) -> Result<Option<Event>, Fail> {
-    Ok(Some(match *line {
+    let event = match *line {
         At(..) => return Ok(None),
         Request(from, method, via, call_id, to, body) => {
             let request = format!(in alloc;
                 "{method} sip:192.0.2.1 SIP/2.0\r\nVia: SIP/2.0/UDP {via}\r\nFrom: <sip:a@192.0.2.9>;tag=f1\r\nTo: <sip:192.0.2.1>{to}\r\nCall-ID: {call_id}\r\nCSeq: 7 {method}\r\n\r\n{body}"
             )?;
-            datagram(alloc, from, request.as_str())?
+            datagram(alloc, from, request.as_str())
         }
         Response(via) => {
             let response = format!(in alloc;
                 "SIP/2.0 200 OK\r\nVia: SIP/2.0/UDP {via}\r\nFrom: <sip:a@192.0.2.9>;tag=f1\r\nTo: <sip:192.0.2.1>\r\nCall-ID: c1\r\nCSeq: 7 OPTIONS\r\n\r\n"
             )?;
-            datagram(alloc, PEER, response.as_str())?
+            datagram(alloc, PEER, response.as_str())
         }
-        Bytes(bytes) => datagram(alloc, PEER, bytes)?,
+        Bytes(bytes) => datagram(alloc, PEER, bytes),
         Respond(call_id, (round, place), status, reliability, body, reason) => {
-            Event::Command(UserCommand::Respond(sip_served::Respond {
-                call_id: CallId::new(text(alloc, call_id)?).ok_or("a Call-ID")?,
-                id: Id { round, place },
-                status,
-                reliability,
-                body: text(alloc, body)?,
-                reason: Reason::new(text(alloc, reason)?).ok_or("a reason")?,
-            }))
+            let id = Id { round, place };
+            respond(alloc, call_id, id, status, reliability, body, reason)
         }
-        Failed(branch, host, port, method) => {
-            let method = Token::new(text(alloc, method)?).ok_or("a method")?;
-            Event::Failed(Key::server(alloc, branch.as_bytes(), host.as_bytes(), port, method)?)
-        }
-    }))
+        Failed(branch, host, port, method) => failed(alloc, branch, host, port, method),
+    };
+    Ok(Some(event?))
+}
+
+fn respond(
+    alloc: Global,
+    call_id: &str,
+    id: Id,
+    status: u16,
+    reliability: Reliability,
+    body: &str,
+    reason: &str,
+) -> Result<Event, Fail> {
+    let respond = sip_served::Respond {
+        call_id: CallId::new(text(alloc, call_id)?).ok_or("a Call-ID")?,
+        id,
+        status,
+        reliability,
+        body: text(alloc, body)?,
+        reason: Reason::new(text(alloc, reason)?).ok_or("a reason")?,
+    };
+    Ok(Event::Command(UserCommand::Respond(respond)))
+}
+
+fn failed(alloc: Global, branch: &str, host: &str, port: u16, method: &str) -> Result<Event, Fail> {
+    let method = Token::new(text(alloc, method)?).ok_or("a method")?;
+    let key = Key::server(alloc, branch.as_bytes(), host.as_bytes(), port, method)?;
+    Ok(Event::Failed(key))
 }
 
 // The rounds of the table.
@@ -276,6 +294,22 @@ fn file(alloc: Global, moment: u64, outputs: Vec<Output>) -> Result<Vec<u8>, Fai
     Ok(write_outputs(alloc, rounds.as_slice())?)
 }
 
+fn are_keys_equal(outputs: &[Output], expected: &[Output]) -> bool {
+    let mut pairs = outputs.iter().zip(expected);
+    pairs.all(|(one, other)| key_of_send(one) == key_of_send(other))
+}
+
+fn is_same_file(
+    alloc: Global,
+    moment: u64,
+    outputs: Vec<Output>,
+    expected: Vec<Output>,
+) -> Result<bool, Fail> {
+    let outputs = file(alloc, moment, outputs)?;
+    let expected = file(alloc, moment, expected)?;
+    Ok(outputs.as_slice() == expected.as_slice())
+}
+
 // What the table says that a round gives.
 fn letters_in(line: &Line) -> Option<&'static str> {
     match *line {
@@ -298,17 +332,14 @@ fn a_table_of_rounds_beside_plain_folds(rt: HostRuntime) -> Result<(), Fail> {
     let given = TABLE.iter().filter_map(letters_in);
     for ((round, outputs), letters_given) in rounds.iter().zip(answers).zip(given) {
         let expected = past.answer(number, round)?;
-        assert_eq!(rt;
-            letters(alloc, &expected)?.as_slice(),
-            letters_given.as_bytes(),
-            "round {number}"
+        let has_letters = letters(alloc, &expected)?.as_slice() == letters_given.as_bytes();
+        assert!(rt; has_letters, "letters of round {number}");
+        assert!(rt;
+            are_keys_equal(&outputs, &expected),
+            "keys of round {number}"
         );
-        for (one, other) in outputs.iter().zip(&expected) {
-            assert!(rt; key_of_send(one) == key_of_send(other), "round {number}");
-        }
-        let outputs = file(alloc, round.moment, outputs)?;
-        let expected = file(alloc, round.moment, expected)?;
-        assert_eq!(rt; outputs.as_slice(), expected.as_slice(), "round {number}");
+        let is_same = is_same_file(alloc, round.moment, outputs, expected)?;
+        assert!(rt; is_same, "file of round {number}");
         number = number.wrapping_add(1);
     }
     Ok(())

@@ -1,10 +1,8 @@
 //! A request that comes again, and a shard beside plain folds of its transactions.
 
-use sip_message::{
-    Addr, CSeq, CallId, Host, Id, Key, Message, Parameter, ParameterValue, Party, Reason,
-    RequestUri, StartLine, StatusCode, Token, Uri, Via, Vias, key_of, response_to,
-};
-use sip_text::{Series, Text};
+use sip_message::{Addr, Id, Key, Message, Reason, StatusCode, Token, key_of, response_to};
+use sip_reader::read;
+use sip_text::Text;
 use sip_transactions::{Command, DropReason, Kind, Out, Shard, ShardFault, State};
 use std::alloc::{AllocError, Global};
 use std::process::Abort;
@@ -31,65 +29,12 @@ const ELSEWHERE: Addr = Addr {
 const ANSWER: &str =
     "SIP/2.0 200 OK\r\nVia: SIP/2.0/UDP 192.0.2.9;branch=z9hG4bKa1\r\nFrom: <sip:a@192.0.2.9>;tag=f1\r\nTo: <sip:192.0.2.1>;tag=t1\r\nCall-ID: c1\r\nCSeq: 7 OPTIONS\r\nContent-Length: 0\r\n\r\n";
 
-fn token(rt: &impl Abort, alloc: Global, bytes: &[u8]) -> Result<Token, AllocError> {
-    Ok(Token::new(Text::copy_of(alloc, bytes)?).expect(rt, "a token"))
-}
-
-fn uri(rt: &impl Abort, alloc: Global, bytes: &[u8]) -> Result<Uri, AllocError> {
-    Ok(Uri::new(Text::copy_of(alloc, bytes)?).expect(rt, "a URI"))
-}
-
-// The peer's Via, with this branch.
-fn vias(rt: &impl Abort, alloc: Global, branch: &[u8]) -> Result<Vias, AllocError> {
-    let mut parameters = Series::new(alloc);
-    parameters.push(Parameter {
-        name: token(rt, alloc, b"branch")?,
-        value: ParameterValue::new(Text::copy_of(alloc, branch)?),
-    })?;
-    let mut vias = Series::new(alloc);
-    vias.push(Via {
-        transport: token(rt, alloc, b"UDP")?,
-        host: Host::new(Text::copy_of(alloc, b"192.0.2.9")?).expect(rt, "a host"),
-        port: None,
-        parameters,
-    })?;
-    Ok(Vias::new(vias).expect(rt, "a branch that begins with the cookie"))
-}
-
 // A request of the peer with this branch and this method.
-fn request(
-    rt: &impl Abort,
-    alloc: Global,
-    branch: &[u8],
-    method: &[u8],
-) -> Result<Message, AllocError> {
-    let tag = token(rt, alloc, b"f1")?;
-    let caller = Party::new(alloc, uri(rt, alloc, b"sip:a@192.0.2.9")?, Some(tag))?;
-    let callee = Party::new(alloc, uri(rt, alloc, b"sip:192.0.2.1")?, None)?;
-    let call_id = CallId::new(Text::copy_of(alloc, b"c1")?).expect(rt, "a Call-ID");
-    Ok(Message {
-        start: StartLine::Request {
-            uri: RequestUri::from_uri(uri(rt, alloc, b"sip:192.0.2.1")?),
-        },
-        vias: vias(rt, alloc, branch)?,
-        max_forwards: None,
-        from: caller,
-        to: callee,
-        call_id,
-        cseq: CSeq {
-            number: 7,
-            method: token(rt, alloc, method)?,
-        },
-        contacts: Series::new(alloc),
-        record_routes: Series::new(alloc),
-        routes: Series::new(alloc),
-        require: Series::new(alloc),
-        supported: Series::new(alloc),
-        rseq: None,
-        rack: None,
-        others: Series::new(alloc),
-        body: Text::from_vec(Vec::new(alloc)),
-    })
+fn request(alloc: Global, branch: &str, method: &str) -> Result<Message, Fail> {
+    let text = format!(in alloc;
+        "{method} sip:192.0.2.1 SIP/2.0\r\nVia: SIP/2.0/UDP 192.0.2.9;branch={branch}\r\nFrom: <sip:a@192.0.2.9>;tag=f1\r\nTo: <sip:192.0.2.1>\r\nCall-ID: c1\r\nCSeq: 7 {method}\r\n\r\n"
+    )?;
+    Ok(read(alloc, text.as_bytes()).ok().ok_or("a request")?)
 }
 
 // The answer of this status to a request, with the tag `t1`.
@@ -101,7 +46,8 @@ fn answer(
 ) -> Result<Message, AllocError> {
     let status = StatusCode::new(status).expect(rt, "a status");
     let reason = Reason::new(Text::copy_of(alloc, b"OK")?).expect(rt, "a reason");
-    response_to(alloc, request, status, reason, &token(rt, alloc, b"t1")?)
+    let tag = Token::new(Text::copy_of(alloc, b"t1")?).expect(rt, "a tag");
+    response_to(alloc, request, status, reason, &tag)
 }
 
 // What a shard says, without its texts.
@@ -325,8 +271,8 @@ fn seen(shard: &Shard, first: &Key, second: &Key, outs: &[Out]) -> View {
 fn a_shard_beside_plain_folds(rt: HostRuntime) -> Result<(), Fail> {
     let alloc = rt.alloc();
     let mut shard = Shard::new(alloc, LOCAL);
-    let one = request(&rt, alloc, b"z9hG4bKa1", b"OPTIONS")?;
-    let two = request(&rt, alloc, b"z9hG4bKb2", b"INFO")?;
+    let one = request(alloc, "z9hG4bKa1", "OPTIONS")?;
+    let two = request(alloc, "z9hG4bKb2", "INFO")?;
     let (first, second) = (key_of(alloc, &one)?, key_of(alloc, &two)?);
     let lines = script();
     for (index, &(moment, is_second, happening)) in lines.iter().enumerate() {
@@ -334,7 +280,10 @@ fn a_shard_beside_plain_folds(rt: HostRuntime) -> Result<(), Fail> {
         let request = if is_second { &two } else { &one };
         let outs = give(&rt, alloc, &mut shard, request, place, moment, happening)?;
         let seen = seen(&shard, &first, &second, &outs);
-        assert_eq!(rt; seen, expected(&lines[..=index]), "line {place}");
+        assert!(rt;
+            seen == expected(&lines[..=index]),
+            "line {place}: {seen:?}"
+        );
     }
     Ok(())
 }
@@ -352,7 +301,7 @@ fn sent_alone(outs: &[Out]) -> Option<&[u8]> {
 fn a_request_that_comes_again(rt: HostRuntime) -> Result<(), Fail> {
     let alloc = rt.alloc();
     let mut shard = Shard::new(alloc, LOCAL);
-    let options = request(&rt, alloc, b"z9hG4bKa1", b"OPTIONS")?;
+    let options = request(alloc, "z9hG4bKa1", "OPTIONS")?;
     let again = Happening::Request(ELSEWHERE);
     let outs = give(
         &rt,
@@ -408,14 +357,14 @@ fn said_of(
 #[test]
 fn what_begins_no_transaction(rt: HostRuntime) -> Result<(), Fail> {
     let alloc = rt.alloc();
-    let options = request(&rt, alloc, b"z9hG4bKa1", b"OPTIONS")?;
+    let options = request(alloc, "z9hG4bKa1", "OPTIONS")?;
     let response = answer(&rt, alloc, &options, 200)?;
     let said = said_of(&rt, alloc, LOCAL, response.clone()?)?;
     assert_eq!(rt; said, Some(Said::Dropped(2, DropReason::NotOurs)));
     let said = said_of(&rt, alloc, PEER, response)?;
     assert_eq!(rt; said, Some(Said::Dropped(2, DropReason::NoTransaction)));
 
-    let ack = request(&rt, alloc, b"z9hG4bKa1", b"ACK")?;
+    let ack = request(alloc, "z9hG4bKa1", "ACK")?;
     let said = said_of(&rt, alloc, LOCAL, ack)?;
     assert_eq!(rt; said, Some(Said::Other(Id { round: 4, place: 2 })));
     Ok(())
