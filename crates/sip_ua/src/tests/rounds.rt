@@ -233,15 +233,21 @@ fn respond(
     body: &str,
     reason: &str,
 ) -> Result<Event, Fail> {
-    let respond = sip_served::Respond {
-        call_id: CallId::new(text(alloc, call_id)?).ok_or("a Call-ID")?,
+    let (Some(call_id), Some(reason)) = (
+        CallId::new(text(alloc, call_id)?),
+        Reason::new(text(alloc, reason)?),
+    ) else {
+        return Err("a Call-ID and a reason".into());
+    };
+    let body = text(alloc, body)?;
+    Ok(Event::Command(UserCommand::Respond(sip_served::Respond {
+        call_id,
         id,
         status,
         reliability,
-        body: text(alloc, body)?,
-        reason: Reason::new(text(alloc, reason)?).ok_or("a reason")?,
-    };
-    Ok(Event::Command(UserCommand::Respond(respond)))
+        body,
+        reason,
+    })))
 }
 
 fn failed(alloc: Global, branch: &str, host: &str, port: u16, method: &str) -> Result<Event, Fail> {
