@@ -7,6 +7,7 @@ pub mod Deals
 pub mod Runs
 pub mod SoFar
 pub mod Streams
+pub mod Counts
 pub mod Live
 pub mod Beginnings
 pub mod Requests

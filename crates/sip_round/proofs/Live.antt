@@ -1,20 +1,13 @@
 -- How many keys a table holds, told of the inputs of its keys.
-use Rattle.std.proofs.Common.{◌≡◌, ℕ, ◌+◌, List, [], ◌∷◌, Bool, is_some, ap, refl, ◌∙◌, subst}
-use Rattle.std.specs.Prelude.{IsSome, cond, count_by}
-use Rattle.std.specs.List.{fold}
+use Rattle.std.proofs.Common.{◌≡◌, ℕ, List, is_some, ap, ◌∙◌, subst}
+use Rattle.std.specs.Prelude.{IsSome, count_by}
 use Rattle.std.specs.FinMap as map
 use Rattle.std.specs.declared.cmp.Ordering.{Ordering}
 use Rattle.sip_model.specs.Inputs.{Inputs, HoldsAfter}
 use Rattle.sip_model.specs.Machine.{Machine}
 use Rattle.sip_model.specs.Table.{Held, state_at, Covers}
 use Rattle.sip_round.specs.Live.{live_after}
-
-same_sum : {A : Type 0} (f g : A → ℕ) → ((a : A) → f a ≡ g a) → (start : ℕ) (all : List A) → fold (λ n x. n + f x) start all ≡ fold (λ n x. n + g x) start all
-same_sum f g same start [] = refl
-same_sum f g same start (a ∷ more) = ap (λ k. fold (λ n x. n + f x) (start + k) more) (same a) ∙ same_sum f g same (start + g a) more
-
-same_count : {A : Type 0} (p q : A → Bool) → ((a : A) → p a ≡ q a) → (all : List A) → count_by p all ≡ count_by q all
-same_count p q same all = same_sum (λ x. cond (p x) 1 0) (λ x. cond (q x) 1 0) (λ a. ap (λ b. cond b 1 0) (same a)) 0 all
+use Rattle.sip_round.proofs.Counts.{same_count}
 
 module _ {K S I O : Type 0} {cmp : K → K → Ordering} (machine : Machine K S I O) where
   -- a table that holds the states after these inputs has as many keys as have a state after them

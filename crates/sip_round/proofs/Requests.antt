@@ -35,15 +35,12 @@ use Rattle.sip_round.specs.Phases.{raised_of, with_arrival, added_by_arrival, it
 use Rattle.sip_round.specs.declared.arrival.Arrival.{Arrival}
 use Rattle.sip_round.specs.declared.arrival.Arrival.TheVariants as arrival
 use Rattle.sip_round.proofs.Beginnings.{CountsLives, lives_by_input, lives_by_items, lives_by_tick, plus_assoc}
+use Rattle.sip_round.proofs.Counts.{same_fold}
 
 -- ---- lists of outputs
 all_map : {P Q : Out → Type 0} → ((o : Out) → P o → Q o) → (outs : List Out) → AllByRecursion P outs → AllByRecursion Q outs
 all_map f [] all = tt
 all_map f (o ∷ outs) all = (f o all.0, all_map f outs all.1)
-
-same_fold : (p q : Out → Bool) (outs : List Out) → AllByRecursion (λ o. p o ≡ q o) outs → (start : ℕ) → fold (λ n o. n + cond (p o) 1 0) start outs ≡ fold (λ n o. n + cond (q o) 1 0) start outs
-same_fold p q [] all start = refl
-same_fold p q (o ∷ outs) all start = ap (λ b. fold (λ n o. n + cond (p o) 1 0) (start + cond b 1 0) outs) all.0 ∙ same_fold p q outs all.1 (start + cond (q o) 1 0)
 
 none_fold : (outs : List Out) (start : ℕ) → fold (λ n o. n + 0) start outs ≡ start
 none_fold [] start = refl
