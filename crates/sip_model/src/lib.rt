@@ -9,6 +9,3 @@ mod table;
 pub use fault::ShardFault;
 pub use machine::StateMachine;
 pub use table::Table;
-
-#[cfg(test)]
-mod tests;

@@ -72,37 +72,3 @@ pub fn taken_in_order()
     ensures consecutive { (came : List ℕ) → IsConsecutive (in_order came) }
     ensures once { (came : List ℕ) → AllPairs (λ x y. x ≢ y) (in_order came) }
 {}
-
-#[cfg(test)]
-mod tests {
-    use super::*;
-
-    #[test]
-    fn takes_the_first_and_then_each_next(rt: HostRuntime) {
-        let mut inbound = Inbound::new();
-        for (rseq, offer) in [
-            (7, Offer::Taken),
-            (7, Offer::Repeat),
-            (9, Offer::Gap),
-            (8, Offer::Taken),
-            (3, Offer::Repeat),
-            (9, Offer::Taken),
-        ] {
-            assert_eq!(rt; inbound.offer(rseq), offer, "at {rseq}");
-        }
-        taken_in_order();
-    }
-
-    #[test]
-    fn nothing_follows_the_last_number(rt: HostRuntime) {
-        let mut inbound = Inbound::new();
-        for (rseq, offer) in [
-            (4_294_967_295, Offer::Taken),
-            (4_294_967_295, Offer::Repeat),
-            (0, Offer::Repeat),
-            (1, Offer::Repeat),
-        ] {
-            assert_eq!(rt; inbound.offer(rseq), offer, "at {rseq}");
-        }
-    }
-}

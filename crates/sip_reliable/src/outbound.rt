@@ -201,6 +201,3 @@ impl Outbound {
         }
     }
 }
-
-#[cfg(test)]
-mod tests;

@@ -120,6 +120,3 @@ impl<K: Ord + Clone + Drop> Queue<K> {
         Ok(keys)
     }
 }
-
-#[cfg(test)]
-mod tests;

@@ -3,8 +3,12 @@
 mod files;
 mod plain_fold;
 mod reading;
+mod reliable;
 mod rounds;
+mod table;
+mod timers;
 mod transactions;
+mod workers;
 
 use crate::program::ua;
 use std::alloc::{AllocError, Global};

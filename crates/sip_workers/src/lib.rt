@@ -16,6 +16,3 @@ pub use job::Job;
 pub use no_memory::NoMemory;
 pub use piece::Piece;
 pub use pieces::run_pieces;
-
-#[cfg(test)]
-mod tests;

@@ -179,6 +179,14 @@ fn act(
 }
 
 impl Dealt {
+    fn new(alloc: Global) -> Dealt {
+        Dealt {
+            outputs: Vec::new(alloc),
+            items: Vec::new(alloc),
+            answers: Vec::new(alloc),
+        }
+    }
+
     fn drop_at(&mut self, id: Id, reason: DropReason) -> Result<(), Fail> {
         let place = id.place;
         self.outputs.push(Output::Dropped { place, reason })?;
@@ -282,21 +290,14 @@ impl Past {
     /// What the round of this number gives: first come ticks, datagrams and failures, then what came up and the commands of
     /// the user, and last the user's answers.
     pub(super) fn answer(&mut self, number: u64, round: &Round) -> Result<Vec<Output>, Fail> {
-        let alloc = self.alloc;
         let now = round.moment;
-        let mut dealt = Dealt {
-            outputs: Vec::new(alloc),
-            items: Vec::new(alloc),
-            answers: Vec::new(alloc),
-        };
+        let mut dealt = Dealt::new(self.alloc);
         self.to_transactions.push((None, Happening::Tick(now)))?;
         self.arrive_all(number, round, &mut dealt)?;
         self.to_calls.push((None, Item::Tick(now)))?;
         self.tell_all(&mut dealt)?;
-        for (key, response) in mem::replace(&mut dealt.answers, Vec::new(alloc)) {
-            self.give(key, Happening::Answer(now, response), &mut dealt)?;
-        }
-        Ok(mem::replace(&mut dealt.outputs, Vec::new(alloc)))
+        self.answer_all(now, &mut dealt)?;
+        Ok(mem::replace(&mut dealt.outputs, Vec::new(self.alloc)))
     }
 
     fn arrive_all(&mut self, number: u64, round: &Round, dealt: &mut Dealt) -> Result<(), Fail> {
@@ -316,6 +317,13 @@ impl Past {
         for (call_id, item) in mem::replace(&mut dealt.items, Vec::new(self.alloc)) {
             self.tell(&call_id, &item, dealt)?;
             self.to_calls.push((Some(call_id), item))?;
+        }
+        Ok(())
+    }
+
+    fn answer_all(&mut self, now: u64, dealt: &mut Dealt) -> Result<(), Fail> {
+        for (key, response) in mem::replace(&mut dealt.answers, Vec::new(self.alloc)) {
+            self.give(key, Happening::Answer(now, response), dealt)?;
         }
         Ok(())
     }

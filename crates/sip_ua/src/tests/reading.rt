@@ -61,12 +61,9 @@ fn a_request(rt: HostRuntime) -> Result<(), Fail> {
         (message.body.as_slice(), b"".as_slice()),
     ];
     for (text, expected) in texts {
-        assert_eq!(rt; text, expected);
+        assert!(rt; text == expected);
     }
-    assert_eq!(rt;
-        (via.port, message.cseq.number, message.others.len()),
-        (None, 7, 0)
-    );
+    assert!(rt; via.port.is_none() && message.cseq.number == 7 && message.others.is_empty());
     Ok(())
 }
 
@@ -82,8 +79,8 @@ fn request_uri(message: &Message) -> &[u8] {
 fn a_response(rt: HostRuntime) -> Result<(), Fail> {
     let message = message_with(rt.alloc(), 0, b"sip/2.0 486 Busy Here", b"")?;
     if let StartLine::Response { status, reason } = &message.start {
-        assert_eq!(rt; status.code(), 486);
-        assert_eq!(rt; reason.as_slice(), b"Busy Here".as_slice());
+        assert!(rt; status.code() == 486);
+        assert!(rt; reason.as_slice() == b"Busy Here".as_slice());
     }
     assert!(rt; !message.is_request());
     let message = message_with(rt.alloc(), 0, b"SIP/2.0 200", b"")?;
@@ -95,10 +92,10 @@ fn a_response(rt: HostRuntime) -> Result<(), Fail> {
 fn bodies(rt: HostRuntime) -> Result<(), Fail> {
     let alloc = rt.alloc();
     let rest = message_with(alloc, 6, b"", b"ab")?;
-    assert_eq!(rt; rest.body.as_slice(), b"ab".as_slice());
+    assert!(rt; rest.body.as_slice() == b"ab".as_slice());
     let cut = message_with(alloc, 4, b"Content-Length: 1\r\nCall-ID: c1", b"ab")?;
-    assert_eq!(rt; cut.body.as_slice(), b"a".as_slice());
-    assert_eq!(rt; cut.call_id.as_slice(), b"c1".as_slice());
+    assert!(rt; cut.body.as_slice() == b"a".as_slice());
+    assert!(rt; cut.call_id.as_slice() == b"c1".as_slice());
     Ok(())
 }
 
@@ -107,9 +104,9 @@ fn a_via_with_tabs_and_a_port(rt: HostRuntime) -> Result<(), Fail> {
     let line = b"VIA \t:  sip/2.0/TCP \t [2001:db8::1]:5061;ttl=1;branch=Z9HG4BKx \t";
     let message = message_with(rt.alloc(), 1, line, b"")?;
     let via = message.vias.top();
-    assert_eq!(rt; via.host.as_slice(), b"[2001:db8::1]".as_slice());
-    assert_eq!(rt; via.port, Some(5061));
-    assert_eq!(rt; via.branch(), b"Z9HG4BKx".as_slice());
+    assert!(rt; via.host.as_slice() == b"[2001:db8::1]".as_slice());
+    assert!(rt; via.port == Some(5061));
+    assert!(rt; via.branch() == b"Z9HG4BKx".as_slice());
     Ok(())
 }
 
@@ -117,10 +114,10 @@ fn a_via_with_tabs_and_a_port(rt: HostRuntime) -> Result<(), Fail> {
 fn a_compact_name_gets_its_long_form(rt: HostRuntime) -> Result<(), Fail> {
     let line = b"c: application/sdp\r\nTo: <sip:192.0.2.1>\r\nMax-Forwards: 70";
     let message = message_with(rt.alloc(), 3, line, b"")?;
-    assert_eq!(rt; message.others.len(), 2);
+    assert!(rt; message.others.len() == 2);
     let header = message.others.first().ok_or("two headers are kept")?;
-    assert_eq!(rt; header.name.as_slice(), b"Content-Type".as_slice());
-    assert_eq!(rt; header.value.as_slice(), b"application/sdp".as_slice());
+    assert!(rt; header.name.as_slice() == b"Content-Type".as_slice());
+    assert!(rt; header.value.as_slice() == b"application/sdp".as_slice());
     Ok(())
 }
 

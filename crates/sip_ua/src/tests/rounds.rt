@@ -324,28 +324,42 @@ fn letters_in(line: &Line) -> Option<&'static str> {
     }
 }
 
+// In what a round's outputs differ from those of the folds, or from the letters of the table: None where they are the same.
+fn difference(
+    alloc: Global,
+    moment: u64,
+    outputs: Vec<Output>,
+    expected: Vec<Output>,
+    letters_given: &str,
+) -> Result<Option<&'static str>, Fail> {
+    if letters(alloc, &expected)?.as_slice() != letters_given.as_bytes() {
+        return Ok(Some("letters"));
+    }
+    if !are_keys_equal(&outputs, &expected) {
+        return Ok(Some("keys"));
+    }
+    if !is_same_file(alloc, moment, outputs, expected)? {
+        return Ok(Some("file"));
+    }
+    Ok(None)
+}
+
 // `run` answers each round as the plain folds do: the same lines of an output file, sent by the same transactions.
 #[test]
 fn a_table_of_rounds_beside_plain_folds(rt: HostRuntime) -> Result<(), Fail> {
     let alloc = rt.alloc();
     let rounds = rounds(alloc)?;
-    let Ok(answers) = run(alloc, CONFIG, rounds.as_slice()) else {
-        return Err(Fail::from("a round is refused"));
-    };
+    let answers = run(alloc, CONFIG, rounds.as_slice())
+        .ok()
+        .ok_or("a round is refused")?;
     assert_eq!(rt; answers.len(), rounds.len());
     let mut past = Past::new(alloc, CONFIG, Vec::from_array(alloc, WORDS)?);
     let mut number = CONFIG.first;
     let given = TABLE.iter().filter_map(letters_in);
     for ((round, outputs), letters_given) in rounds.iter().zip(answers).zip(given) {
         let expected = past.answer(number, round)?;
-        let has_letters = letters(alloc, &expected)?.as_slice() == letters_given.as_bytes();
-        assert!(rt; has_letters, "letters of round {number}");
-        assert!(rt;
-            are_keys_equal(&outputs, &expected),
-            "keys of round {number}"
-        );
-        let is_same = is_same_file(alloc, round.moment, outputs, expected)?;
-        assert!(rt; is_same, "file of round {number}");
+        let difference = difference(alloc, round.moment, outputs, expected, letters_given)?;
+        assert!(rt; difference.is_none(), "round {number}: {difference:?}");
         number = number.wrapping_add(1);
     }
     Ok(())

@@ -1,4 +1,4 @@
-//! A request that comes again, and a shard beside plain folds of its transactions.
+//! A shard beside plain folds of its transactions, and messages that begin none.
 
 use sip_message::{Addr, Id, Key, Message, Reason, StatusCode, Token, key_of, response_to};
 use sip_reader::read;
@@ -25,9 +25,6 @@ const ELSEWHERE: Addr = Addr {
     ip: [192, 0, 2, 77],
     port: 7000,
 };
-
-const ANSWER: &str =
-    "SIP/2.0 200 OK\r\nVia: SIP/2.0/UDP 192.0.2.9;branch=z9hG4bKa1\r\nFrom: <sip:a@192.0.2.9>;tag=f1\r\nTo: <sip:192.0.2.1>;tag=t1\r\nCall-ID: c1\r\nCSeq: 7 OPTIONS\r\nContent-Length: 0\r\n\r\n";
 
 // A request of the peer with this branch and this method.
 fn request(alloc: Global, branch: &str, method: &str) -> Result<Message, Fail> {
@@ -311,57 +308,6 @@ fn a_shard_beside_plain_folds(rt: HostRuntime) -> Result<(), Fail> {
         let is_same = is_as_folded(&rt, alloc, &mut shard, &requests, place, so_far)?;
         assert!(rt; is_same, "line {place}");
     }
-    Ok(())
-}
-
-// What is sent, where it is all that is said.
-fn sent_alone(outs: &[Out]) -> Option<&[u8]> {
-    match outs {
-        [Out::Send { bytes, .. }] => Some(bytes.as_slice()),
-        _ => None,
-    }
-}
-
-// Three requests hand one up. The answer is sent again until 32,000 ms after it, and then the branch begins a new life.
-#[test]
-fn a_request_that_comes_again(rt: HostRuntime) -> Result<(), Fail> {
-    let alloc = rt.alloc();
-    let mut shard = Shard::new(alloc, LOCAL);
-    let options = request(alloc, "z9hG4bKa1", "OPTIONS")?;
-    let again = Happening::Request(ELSEWHERE);
-    let outs = give(
-        &rt,
-        alloc,
-        &mut shard,
-        &options,
-        1,
-        0,
-        Happening::Request(PEER),
-    )?;
-    assert_eq!(rt; outs.len(), 1);
-    assert!(rt; give(&rt, alloc, &mut shard, &options, 2, 0, again)?.is_empty());
-    assert!(rt; give(&rt, alloc, &mut shard, &options, 3, 0, again)?.is_empty());
-    let outs = give(
-        &rt,
-        alloc,
-        &mut shard,
-        &options,
-        4,
-        10,
-        Happening::Answer(200),
-    )?;
-    assert!(rt; sent_alone(&outs) == Some(ANSWER.as_bytes()));
-
-    assert!(rt; shard.tick(32_009)?.is_empty());
-    let outs = give(&rt, alloc, &mut shard, &options, 5, 32_009, again)?;
-    assert!(rt; sent_alone(&outs) == Some(ANSWER.as_bytes()));
-    assert!(rt; shard.tick(32_010)?.is_empty());
-    assert_eq!(rt; shard.live(), 0);
-    let outs = give(&rt, alloc, &mut shard, &options, 6, 32_010, again)?;
-    assert_eq!(rt;
-        outs.first().map(said_by),
-        Some(Said::Request(Id { round: 0, place: 6 }))
-    );
     Ok(())
 }
 

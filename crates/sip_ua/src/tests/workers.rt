@@ -1,7 +1,9 @@
+//! Pieces of work on several threads.
+
 ghost use Rattle.std.specs.Prelude.{IfOk};
 ghost use Rattle.sip_workers.specs.Ran.{IsNumbered};
 
-use crate::{Gate, Job, NoMemory, Piece, dones_in_order, gather, run_pieces};
+use sip_workers::{Gate, Job, NoMemory, Piece, dones_in_order, gather, run_pieces};
 use std::alloc::Global;
 use std::sync::atomic::{AtomicU64, Ordering};
 use std::test::Fail;

@@ -1,6 +1,6 @@
 use Rattle.std.proofs.Common.{refl}
 use Rattle.sip_workers.proofs.Gathers.{numbered_grown}
-use Rattle.sip_workers.proofs.tests.squares.Goals as goal
+use Rattle.sip_ua.proofs.tests.workers.squares.Goals as goal
 
 pub loop-k-preserved : goal.loop-k-preserved
 loop-k-preserved c = numbered_grown _ _ _ _ _ c.in_ok-push.ensures.items c.loop-k.invariant (refl, refl)

@@ -1,7 +1,9 @@
+//! A table at a machine of numbers.
+
 ghost use Rattle.std.specs.Prelude.{◌≡◌, ◌==◌, if◌then◌else◌, IfOk, None, Some, option_to_list, refl};
 ghost use Rattle.std.proofs.lemmas.Map.Lookups.{exact_unsigned};
 
-use super::*;
+use sip_model::{ShardFault, StateMachine, Table};
 use std::alloc::{AllocError, Global};
 use std::test::Fail;
 
