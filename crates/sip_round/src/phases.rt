@@ -210,16 +210,29 @@ fn part(
     ensures items { OnOk result (items.new.items ≡ items.old.items ++ flat_map (phase.raised_of id) outs.items) }
 {
     for out in outs {
-        match out {
-            Out::Up(up) => push(items, (id, Item::Up(up)))?,
-            Out::Send { key, to, bytes } => {
-                let key = Some(key);
-                push(outputs, Output::Send { key, to, bytes })?;
-            }
-            Out::Dropped { place, reason } => push(outputs, Output::Dropped { place, reason })?,
-        }
+        put(out, id, outputs, items)?;
     }
     Ok(())
+}
+
+// One output of a transaction.
+fn put(
+    out: Out,
+    id: Id,
+    outputs: &mut Vec<Output>,
+    items: &mut Vec<(Id, Item)>,
+) -> Result<(), ShardFault>
+    ensures outputs { OnOk result (outputs.new.items ≡ outputs.old.items ++ phase.sent_of out) }
+    ensures items { OnOk result (items.new.items ≡ items.old.items ++ phase.raised_of id out) }
+{
+    match out {
+        Out::Up(up) => push(items, (id, Item::Up(up))),
+        Out::Send { key, to, bytes } => {
+            let key = Some(key);
+            push(outputs, Output::Send { key, to, bytes })
+        }
+        Out::Dropped { place, reason } => push(outputs, Output::Dropped { place, reason }),
+    }
 }
 
 // The outputs of calls: notices and direct sends go out, commands wait for the third phase.

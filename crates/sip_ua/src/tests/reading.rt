@@ -132,10 +132,9 @@ fn line_ends_before_the_start_line(rt: HostRuntime) -> Result<(), Fail> {
 fn faults(rt: HostRuntime) -> Result<(), Fail> {
     let alloc = rt.alloc();
     let long = vec![in alloc; b'a'; 65536]?;
-    assert_eq!(rt; fault_of(alloc, &long), Some(ReadFault::TooLong));
-    assert_eq!(rt;
-        fault_of(alloc, b"OPTIONS sip:a SIP/2.0\r\nTo: <sip:a>\r\n"),
-        Some(ReadFault::NoEmptyLine)
+    assert!(rt; fault_of(alloc, &long) == Some(ReadFault::TooLong));
+    assert!(rt;
+        fault_of(alloc, b"OPTIONS sip:a SIP/2.0\r\nTo: <sip:a>\r\n") == Some(ReadFault::NoEmptyLine)
     );
     for (at, line, fault) in [
         (
@@ -195,7 +194,7 @@ fn faults(rt: HostRuntime) -> Result<(), Fail> {
             ReadFault::Truncated,
         ),
     ] {
-        assert_eq!(rt; fault_with(alloc, at, line)?, Some(fault), "at {at}");
+        assert!(rt; fault_with(alloc, at, line)? == Some(fault), "at {at}");
     }
     Ok(())
 }

@@ -13,7 +13,7 @@ fn takes_the_first_and_then_each_next(rt: HostRuntime) {
         (3, Offer::Repeat),
         (9, Offer::Taken),
     ] {
-        assert_eq!(rt; inbound.offer(rseq), offer, "at {rseq}");
+        assert!(rt; inbound.offer(rseq) == offer, "at {rseq}");
     }
     taken_in_order();
 }
@@ -27,16 +27,16 @@ fn nothing_follows_the_last_number(rt: HostRuntime) {
         (0, Offer::Repeat),
         (1, Offer::Repeat),
     ] {
-        assert_eq!(rt; inbound.offer(rseq), offer, "at {rseq}");
+        assert!(rt; inbound.offer(rseq) == offer, "at {rseq}");
     }
 }
 
 #[test]
 fn sends_again_until_it_is_given_up(rt: HostRuntime) {
     let mut outbound = Outbound::new(1, true);
-    assert_eq!(rt; outbound.next_due(), None);
-    assert_eq!(rt; outbound.send(0, false), Ok(1));
-    assert_eq!(rt; outbound.next_due(), Some(500));
+    assert!(rt; outbound.next_due().is_none());
+    assert!(rt; outbound.send(0, false) == Ok(1));
+    assert!(rt; outbound.next_due() == Some(500));
     assert!(rt; !outbound.body_waits());
     for (now, tick) in [
         (499u32, Tick::Nothing),
@@ -53,48 +53,48 @@ fn sends_again_until_it_is_given_up(rt: HostRuntime) {
         (32_000, Tick::Nothing),
         (99_000, Tick::Nothing),
     ] {
-        assert_eq!(rt; outbound.tick(u64::from(now)), tick, "at {now}");
+        assert!(rt; outbound.tick(u64::from(now)) == tick, "at {now}");
     }
-    assert_eq!(rt; outbound.next_due(), None);
-    assert_eq!(rt; outbound.acknowledge(1), Ok(()));
-    assert_eq!(rt; outbound.send(99_000, true), Ok(2));
+    assert!(rt; outbound.next_due().is_none());
+    assert!(rt; outbound.acknowledge(1) == Ok(()));
+    assert!(rt; outbound.send(99_000, true) == Ok(2));
     assert!(rt; outbound.body_waits());
-    assert_eq!(rt; outbound.next_due(), Some(99_500));
+    assert!(rt; outbound.next_due() == Some(99_500));
 }
 
 #[test]
 fn is_given_up_at_a_late_tick(rt: HostRuntime) {
     let mut outbound = Outbound::new(1, true);
-    assert_eq!(rt; outbound.send(0, false), Ok(1));
-    assert_eq!(rt; outbound.tick(499), Tick::Nothing);
-    assert_eq!(rt; outbound.tick(500), Tick::Again);
-    assert_eq!(rt; outbound.tick(1499), Tick::Nothing);
-    assert_eq!(rt; outbound.tick(32_000), Tick::GivenUp);
+    assert!(rt; outbound.send(0, false) == Ok(1));
+    assert!(rt; outbound.tick(499) == Tick::Nothing);
+    assert!(rt; outbound.tick(500) == Tick::Again);
+    assert!(rt; outbound.tick(1499) == Tick::Nothing);
+    assert!(rt; outbound.tick(32_000) == Tick::GivenUp);
 }
 
 #[test]
 fn refuses_in_order(rt: HostRuntime) {
     let mut outbound = Outbound::new(4_294_967_295, true);
-    assert_eq!(rt; outbound.send(0, false), Ok(4_294_967_295));
-    assert_eq!(rt; outbound.send(0, false), Err(SendFault::Unacknowledged));
-    assert_eq!(rt; outbound.acknowledge(1), Err(NoMatch));
-    assert_eq!(rt; outbound.acknowledge(4_294_967_295), Ok(()));
-    assert_eq!(rt; outbound.acknowledge(4_294_967_295), Err(NoMatch));
-    assert_eq!(rt; outbound.send(0, false), Err(SendFault::NumbersUsedUp));
+    assert!(rt; outbound.send(0, false) == Ok(4_294_967_295));
+    assert!(rt; outbound.send(0, false) == Err(SendFault::Unacknowledged));
+    assert!(rt; outbound.acknowledge(1) == Err(NoMatch));
+    assert!(rt; outbound.acknowledge(4_294_967_295) == Ok(()));
+    assert!(rt; outbound.acknowledge(4_294_967_295) == Err(NoMatch));
+    assert!(rt; outbound.send(0, false) == Err(SendFault::NumbersUsedUp));
     outbound.close();
-    assert_eq!(rt; outbound.send(0, false), Err(SendFault::Closed));
+    assert!(rt; outbound.send(0, false) == Err(SendFault::Closed));
     let mut unsupported = Outbound::new(1, false);
-    assert_eq!(rt; unsupported.send(0, false), Err(SendFault::NotSupported));
+    assert!(rt; unsupported.send(0, false) == Err(SendFault::NotSupported));
 }
 
 #[test]
 fn is_acknowledged_after_the_close(rt: HostRuntime) {
     let mut outbound = Outbound::new(1, true);
-    assert_eq!(rt; outbound.send(0, true), Ok(1));
+    assert!(rt; outbound.send(0, true) == Ok(1));
     outbound.close();
-    assert_eq!(rt; outbound.tick(500), Tick::Nothing);
-    assert_eq!(rt; outbound.next_due(), None);
+    assert!(rt; outbound.tick(500) == Tick::Nothing);
+    assert!(rt; outbound.next_due().is_none());
     assert!(rt; outbound.body_waits());
-    assert_eq!(rt; outbound.acknowledge(1), Ok(()));
+    assert!(rt; outbound.acknowledge(1) == Ok(()));
     assert!(rt; !outbound.body_waits());
 }

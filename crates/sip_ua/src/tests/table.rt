@@ -64,17 +64,14 @@ fn a_table_of_numbers(rt: HostRuntime) -> Result<(), Fail> {
         let outputs = table.handle(&Numbers, key, number)?;
         assert!(rt; outputs.is_empty());
     }
-    assert_eq!(rt; table.live(), 3);
-    assert_eq!(rt; table.state(&6).copied(), Some(60));
-    assert_eq!(rt;
-        table.tick(&Numbers, 5)?.as_slice(),
-        [30, 60, 90].as_slice()
-    );
+    assert!(rt; table.live() == 3);
+    assert!(rt; table.state(&6).copied() == Some(60));
+    assert!(rt; table.tick(&Numbers, 5)?.as_slice() == [30, 60, 90].as_slice());
 
-    assert_eq!(rt; table.handle(&Numbers, 6, 1)?.as_slice(), [60].as_slice());
-    assert_eq!(rt; table.state(&6), None);
-    assert_eq!(rt; table.live(), 2);
-    assert_eq!(rt; table.tick(&Numbers, 6)?.as_slice(), [30, 90].as_slice());
+    assert!(rt; table.handle(&Numbers, 6, 1)?.as_slice() == [60].as_slice());
+    assert!(rt; table.state(&6).is_none());
+    assert!(rt; table.live() == 2);
+    assert!(rt; table.tick(&Numbers, 6)?.as_slice() == [30, 90].as_slice());
     Ok(())
 }
 
@@ -83,16 +80,13 @@ fn a_table_of_numbers(rt: HostRuntime) -> Result<(), Fail> {
 fn a_table_is_broken_by_what_was_refused(rt: HostRuntime) -> Result<(), Fail> {
     let mut table = Table::new(rt.alloc());
     table.handle(&Numbers, 3, 30)?;
-    assert_eq!(rt; table.check(Ok(7)), Ok(7));
-    assert_eq!(rt; table.live(), 1);
+    assert!(rt; table.check(Ok(7)) == Ok(7));
+    assert!(rt; table.live() == 1);
 
-    assert_eq!(rt;
-        table.check::<u32>(Err(AllocError)),
-        Err(ShardFault::NoMemory)
-    );
-    assert_eq!(rt; table.live(), 0);
-    assert_eq!(rt; table.state(&3), None);
-    assert_eq!(rt; table.check(Ok(7)), Err(ShardFault::Broken));
+    assert!(rt; table.check::<u32>(Err(AllocError)) == Err(ShardFault::NoMemory));
+    assert!(rt; table.live() == 0);
+    assert!(rt; table.state(&3).is_none());
+    assert!(rt; table.check(Ok(7)) == Err(ShardFault::Broken));
     assert!(rt; table.handle(&Numbers, 3, 30) == Err(ShardFault::Broken));
     assert!(rt; table.tick(&Numbers, 5) == Err(ShardFault::Broken));
     Ok(())
@@ -101,6 +95,6 @@ fn a_table_is_broken_by_what_was_refused(rt: HostRuntime) -> Result<(), Fail> {
 #[test]
 fn faults_are_named(rt: HostRuntime) -> Result<(), Fail> {
     let text = format!(in rt.alloc(); "{}", ShardFault::NoMemory)?;
-    assert_eq!(rt; text.as_str(), "no memory");
+    assert!(rt; text.as_str() == "no memory");
     Ok(())
 }

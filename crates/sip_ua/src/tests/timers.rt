@@ -24,25 +24,40 @@ fn invite(rt: &impl Abort, alloc: Global, branch: &str) -> Result<Key, AllocErro
     Key::client(alloc, branch.as_bytes(), method)
 }
 
+fn arm(
+    rt: &impl Abort,
+    alloc: Global,
+    queue: &mut Queue<Key>,
+    branch: &str,
+    due: u64,
+) -> Result<(), Fail> {
+    queue.arm(invite(rt, alloc, branch)?, due)?;
+    Ok(())
+}
+
+// Whether the keys due at this moment have these branches, in this order.
+fn are_due(alloc: Global, queue: &mut Queue<Key>, now: u64, expected: &str) -> Result<bool, Fail> {
+    let due = queue.take_due(now)?;
+    Ok(branches(alloc, &due)?.as_str() == expected)
+}
+
 #[test]
 fn gives_what_is_due_in_key_order(rt: HostRuntime) -> Result<(), Fail> {
     let alloc = rt.alloc();
     let mut queue = Queue::new(alloc);
-    assert_eq!(rt; queue.next_due(), None);
-    queue.arm(invite(&rt, alloc, "a")?, 5)?;
-    queue.arm(invite(&rt, alloc, "b")?, 3)?;
-    queue.arm(invite(&rt, alloc, "a")?, 7)?;
-    assert_eq!(rt; queue.next_due(), Some(3));
-    let due = queue.take_due(7)?;
-    assert_eq!(rt; branches(alloc, &due)?.as_str(), "a b ");
-    assert_eq!(rt; queue.take_due(7)?.len(), 0);
-    assert_eq!(rt; queue.next_due(), None);
+    assert!(rt; queue.next_due().is_none());
+    for (branch, due) in [("a", 5), ("b", 3), ("a", 7)] {
+        arm(&rt, alloc, &mut queue, branch, due)?;
+    }
+    assert!(rt; queue.next_due() == Some(3));
+    assert!(rt; are_due(alloc, &mut queue, 7, "a b ")?);
+    assert!(rt; are_due(alloc, &mut queue, 7, "")?);
+    assert!(rt; queue.next_due().is_none());
 
-    queue.arm(invite(&rt, alloc, "b")?, 1)?;
-    queue.arm(invite(&rt, alloc, "c")?, 2)?;
-    queue.arm(invite(&rt, alloc, "a")?, 2)?;
-    let due = queue.take_due(2)?;
-    assert_eq!(rt; branches(alloc, &due)?.as_str(), "a b c ");
+    for (branch, due) in [("b", 1), ("c", 2), ("a", 2)] {
+        arm(&rt, alloc, &mut queue, branch, due)?;
+    }
+    assert!(rt; are_due(alloc, &mut queue, 2, "a b c ")?);
     Ok(())
 }
 
@@ -50,14 +65,14 @@ fn gives_what_is_due_in_key_order(rt: HostRuntime) -> Result<(), Fail> {
 fn a_later_arm_replaces_the_moment(rt: HostRuntime) -> Result<(), Fail> {
     let alloc = rt.alloc();
     let mut queue = Queue::new(alloc);
-    queue.arm(invite(&rt, alloc, "a")?, 5)?;
-    queue.arm(invite(&rt, alloc, "a")?, 9)?;
-    assert_eq!(rt; queue.next_due(), Some(9));
-    assert_eq!(rt; queue.take_due(5)?.len(), 0);
+    arm(&rt, alloc, &mut queue, "a", 5)?;
+    arm(&rt, alloc, &mut queue, "a", 9)?;
+    assert!(rt; queue.next_due() == Some(9));
+    assert!(rt; are_due(alloc, &mut queue, 5, "")?);
     queue.disarm(&invite(&rt, alloc, "b")?);
-    assert_eq!(rt; queue.next_due(), Some(9));
+    assert!(rt; queue.next_due() == Some(9));
     queue.disarm(&invite(&rt, alloc, "a")?);
-    assert_eq!(rt; queue.next_due(), None);
+    assert!(rt; queue.next_due().is_none());
     Ok(())
 }
 
@@ -73,32 +88,13 @@ fn a_refusal_of_memory_leaves_the_queue_as_it_was(rt: HostRuntime) -> Result<(),
     ) else {
         return Ok(());
     };
-    let earliest = match queue.arm(a, 5) {
-        Ok(()) => Some(5),
-        Err(NoMemory) => None,
-    };
-    assert_eq!(rt; queue.next_due(), earliest);
-    let earliest = match queue.arm(b, 3) {
-        Ok(()) => Some(3),
-        Err(NoMemory) => earliest,
-    };
-    assert_eq!(rt; queue.next_due(), earliest);
-    let last = queue.arm(c, 9).is_ok();
-    assert_eq!(rt;
-        queue.next_due(),
-        earliest.or(if last { Some(9) } else { None })
-    );
-    match queue.take_due(8) {
-        Ok(due) => {
-            assert!(rt; due.len() <= 2);
-            assert_eq!(rt; queue.next_due(), if last { Some(9) } else { None });
-        }
-        Err(NoMemory) => {
-            assert_eq!(rt;
-                queue.next_due(),
-                earliest.or(if last { Some(9) } else { None })
-            );
-        }
-    }
+    let mut earliest = queue.arm(a, 5).ok().and(Some(5));
+    assert!(rt; queue.next_due() == earliest);
+    earliest = queue.arm(b, 3).ok().map_or(earliest, |()| Some(3));
+    assert!(rt; queue.next_due() == earliest);
+    let last = queue.arm(c, 9).ok().and(Some(9));
+    assert!(rt; queue.next_due() == earliest.or(last));
+    let due = queue.take_due(8);
+    assert!(rt; queue.next_due() == if due.is_ok() { last } else { earliest.or(last) });
     Ok(())
 }

@@ -110,9 +110,9 @@ fn two_pieces_run_at_the_same_time(rt: HostRuntime) -> Result<(), Fail> {
     let running = AtomicU64::new(0);
     let pieces = waiting(rt.alloc(), &running, 2, 0, true)?;
     let dones = run_pieces(&rt, rt.alloc(), pieces, 2, &gate)?;
-    assert_eq!(rt; dones.len(), 2);
+    assert!(rt; dones.len() == 2);
     assert!(rt; all_met(&dones));
-    assert_eq!(rt; gate.0.load(Ordering::SeqCst), 2);
+    assert!(rt; gate.0.load(Ordering::SeqCst) == 2);
     Ok(())
 }
 
@@ -122,7 +122,7 @@ fn one_worker_runs_one_piece_at_a_time(rt: HostRuntime) -> Result<(), Fail> {
     let running = AtomicU64::new(0);
     let pieces = waiting(rt.alloc(), &running, 2, 0, true)?;
     let dones = run_pieces(&rt, rt.alloc(), pieces, 1, &gate)?;
-    assert_eq!(rt; dones.len(), 2);
+    assert!(rt; dones.len() == 2);
     assert!(rt; !all_met(&dones));
     Ok(())
 }
@@ -134,9 +134,9 @@ fn a_piece_that_waits_holds_up_no_other(rt: HostRuntime) -> Result<(), Fail> {
         let running = AtomicU64::new(0);
         let pieces = waiting(rt.alloc(), &running, 4, waiter, false)?;
         let dones = run_pieces(&rt, rt.alloc(), pieces, 2, &gate)?;
-        assert_eq!(rt; dones.len(), 4);
+        assert!(rt; dones.len() == 4);
         assert!(rt; all_met(&dones), "where {waiter} waits");
-        assert_eq!(rt; gate.0.load(Ordering::SeqCst), 4);
+        assert!(rt; gate.0.load(Ordering::SeqCst) == 4);
     }
     Ok(())
 }
@@ -145,10 +145,10 @@ fn a_piece_that_waits_holds_up_no_other(rt: HostRuntime) -> Result<(), Fail> {
 fn more_workers_than_pieces(rt: HostRuntime) -> Result<(), Fail> {
     let gate = Count(AtomicU64::new(0));
     let dones = run_pieces(&rt, rt.alloc(), squares(rt.alloc(), 3)?, 64, &gate)?;
-    assert_eq!(rt; dones.len(), 3);
+    assert!(rt; dones.len() == 3);
     let none = run_pieces(&rt, rt.alloc(), squares(rt.alloc(), 0)?, 64, &gate)?;
-    assert_eq!(rt; none.len(), 0);
-    assert_eq!(rt; gate.0.load(Ordering::SeqCst), 3);
+    assert!(rt; none.is_empty());
+    assert!(rt; gate.0.load(Ordering::SeqCst) == 3);
     Ok(())
 }
 
@@ -159,10 +159,10 @@ fn gathers_the_same_each_time(rt: HostRuntime) -> Result<(), Fail> {
         let gate = Count(AtomicU64::new(0));
         let dones = run_pieces(&rt, rt.alloc(), squares(rt.alloc(), 64)?, 8, &gate)?;
         let gathered = gather(rt.alloc(), dones)?;
-        assert_eq!(rt; gathered.len(), 64);
+        assert!(rt; gathered.len() == 64);
         for k in 0..64u32 {
             let square = u64::from(k).wrapping_mul(u64::from(k));
-            assert_eq!(rt; gathered.get(k as usize).copied(), Some(square), "at {k}");
+            assert!(rt; gathered.get(k as usize).copied() == Some(square), "at {k}");
         }
     }
     Ok(())

@@ -10,3 +10,6 @@ returns-in-Ok-clause-answers c = λ config rounds stands.
     c.in-Ok.ensures.answers c.in-Ok.ensures.broken c.in-Ok.ensures.number
     (ap (λ a. a.broken) c.self.view_is) (ap (λ a. a.next_round + 1) c.self.view_is) refl (ap (λ a. a.transactions) c.self.view_is) (ap (λ a. a.calls) c.self.view_is) stands in
     (longer.stands, longer.answered)
+
+pub returns-in-Err-clause-broken : goal.returns-in-Err-clause-broken
+returns-in-Err-clause-broken c = λ _. refl
