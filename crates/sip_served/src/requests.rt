@@ -164,7 +164,6 @@ fn refused(
 }
 
 // Answers a request. After a final response it is held for a while longer.
-#[tactic(auto, using(std::proofs::lemmas::Option::slice_get_read))]
 fn give(
     alloc: Global,
     mut held: Vec<HeldRequest>,
@@ -178,8 +177,9 @@ fn give(
     ensures given { IfOk result (λ taken. taken.1.items ≡ given_by_decision held.items respond.id respond (Ok answerable)) }
 {
     let Answerable { index, status } = answerable;
-    let out = answer(alloc, &held[index], status, respond)?;
-    note_answer(&mut held[index], status, now);
+    let answered = &mut held[index];
+    let out = answer(alloc, answered, status, respond)?;
+    note_answer(answered, status, now);
     Ok((held, one(alloc, out)?))
 }
 
