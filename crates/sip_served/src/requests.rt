@@ -42,7 +42,7 @@ pub(crate) fn take_item(
 // A request is held and told; that a transaction timed out or failed is told.
 fn take_up(
     alloc: Global,
-    mut held: Vec<HeldRequest>,
+    held: Vec<HeldRequest>,
     tag: Token,
     up: Up,
 ) -> Result<(Vec<HeldRequest>, Vec<CallOut>), AllocError>
@@ -75,14 +75,15 @@ fn hold(
     ensures after { IfOk result (λ taken. taken.0.items ≡ held.items ++ record { id = id; key = key; request = request; tag = tag; removal = None } ∷ []) }
     ensures given { IfOk result (λ taken. taken.1.items ≡ call_out.Notice (request_notice id call_id request tag) ∷ []) }
 {
-    let notice = notice_of_request(alloc, id, call_id, &request, &tag)?;
-    held.push(HeldRequest {
+    let begun = HeldRequest {
         id,
         key,
         request,
         tag,
         removal: None,
-    })?;
+    };
+    let notice = notice_of_request(alloc, call_id, &begun)?;
+    held.push(begun)?;
     tell(alloc, held, notice)
 }
 
@@ -101,18 +102,17 @@ fn tell(
 // How the user is told of a request.
 fn notice_of_request(
     alloc: Global,
-    id: Id,
     call_id: CallId,
-    request: &Message,
-    tag: &Token,
+    held: &HeldRequest,
 ) -> Result<Notice, AllocError>
-    ensures { IfOk result (λ notice. notice ≡ request_notice id call_id request.now tag.now) }
+    ensures { IfOk result (λ notice. notice ≡ request_notice held.now.id call_id held.now.request held.now.tag) }
 {
+    let request = &held.request;
     Ok(Notice::Request {
         call_id,
-        id,
+        id: held.id,
         method: request.cseq.method.clone()?,
-        local_tag: local_tag(alloc, request, tag)?,
+        local_tag: local_tag(alloc, request, &held.tag)?,
         remote_tag: Text::copy_of(alloc, request.from.tag())?,
         body: request.body.clone()?,
     })
