@@ -1,11 +1,11 @@
 //! One input of one transaction.
 
-ghost use Rattle.std.specs.Prelude.{◌≡◌, ◌≤◌, ◌^◌, IfOk, IfSome, None};
+ghost use Rattle.std.specs.Prelude.{◌≡◌, ◌≤◌, ◌^◌, ◌++◌, IfOk, IfSome, None, option_to_list, option_map, option_copied};
 ghost use Rattle.sip_transactions.specs.Input.{role_of};
 ghost use Rattle.sip_transactions.specs.Life.{step_for, begun, life_of, life_after, entered, last_of, stepped, acted, acted_if};
 ghost use Rattle.sip_transactions.specs.Timers.{IsTimely, no_dues};
 ghost use Rattle.sip_transactions.specs.Repeats.{RepeatsInTime};
-ghost use Rattle.sip_transactions.specs.Output.{handed_out, sent_bytes, given_bytes, outputs_of, message_out, up_out, send_out, drop_out, kind_of};
+ghost use Rattle.sip_transactions.specs.Output.{handed_out, sent_bytes, given_bytes, message_out, up_out, send_out, drop_out, kind_of};
 
 use crate::input::{Input, Timed};
 use crate::life::Life;
@@ -218,14 +218,29 @@ fn act(
     ensures adds { IfOk result (λ after. after.1.items ≡ (acted key.now now input life step).1) }
 {
     let bytes = bytes_to_send(alloc, &life, step.sent, &input)?;
+    let outputs = said(alloc, key, &life, step.handed, input, bytes.as_ref())?;
+    Ok((life_after(life, step, now, bytes), outputs))
+}
+
+// What is handed up, and what is sent.
+fn said(
+    alloc: Global,
+    key: &Key,
+    life: &Life,
+    handed: Handed,
+    input: Input,
+    bytes: Option<&Text>,
+) -> Result<Vec<Out>, AllocError>
+    ensures { IfOk result (λ outputs. outputs.items ≡ option_to_list (handed_out key.now life.now handed input) ++ option_to_list (option_map (send_out key.now life.now.to) (option_copied bytes.entry))) }
+{
     let mut outputs = Vec::new(alloc);
-    if let Some(out) = hand_up(key, &life, step.handed, input)? {
+    if let Some(out) = hand_up(key, life, handed, input)? {
         outputs.push(out)?;
     }
-    if let Some(bytes) = &bytes {
+    if let Some(bytes) = bytes {
         outputs.push(send_out(key, life.to, bytes)?)?;
     }
-    Ok((life_after(life, step, now, bytes), outputs))
+    Ok(outputs)
 }
 
 fn send_out(key: &Key, to: Addr, bytes: &Text) -> Result<Out, AllocError>
