@@ -3,13 +3,14 @@
 ghost use Rattle.std.specs.Prelude.{◌≡◌, ◌++◌, IfOk, OnOk, codes, decimal};
 ghost use Rattle.std.specs.List.{flat_map};
 ghost use Rattle.sip_message.specs.Fault.{fault_text};
+ghost use Rattle.sip_served.specs.declared.notice.Notice.TheVariants as notice;
 ghost use Rattle.sip_files.specs.Field as field;
 ghost use Rattle.sip_files.specs.Outputs as written;
 
 use crate::output::Output;
 use crate::words::{push_rest, push_word};
 use sip_message::{Addr, CallId, Id, ReadFault, ip_text};
-use sip_served::Notice;
+use sip_served::{Notice, Refusal};
 use sip_text::decimal;
 use sip_transactions::DropReason;
 use std::alloc::{AllocError, Global};
@@ -176,12 +177,21 @@ fn push_notice(file: &mut Vec<u8>, notice: &Notice) -> Result<(), AllocError>
             call_id,
             place,
             refusal,
-        } => {
-            push_form(file, call_id, b"refused")?;
-            push_number(file, u64::from(*place))?;
-            push_number(file, u64::from(refusal.number()))
-        }
+        } => push_refused(file, call_id, u64::from(*place), *refusal),
     }
+}
+
+fn push_refused(
+    file: &mut Vec<u8>,
+    call_id: &CallId,
+    place: u64,
+    refusal: Refusal,
+) -> Result<(), AllocError>
+    ensures { OnOk result (file.new.items ≡ file.old.items ++ written.notice_text (notice.Refused call_id.now place refusal)) }
+{
+    push_form(file, call_id, b"refused")?;
+    push_number(file, place)?;
+    push_number(file, u64::from(refusal.number()))
 }
 
 // The call as a word, and the name of the notice's form.
