@@ -1,9 +1,11 @@
 //! The header lines of a message, by header.
-ghost use Rattle.std.specs.Prelude.{◌≡◌, OnOk, IfNone};
+ghost use Rattle.std.specs.Prelude.{◌≡◌, Some, OnOk, IfNone};
 ghost use Rattle.sip_reader.specs.Fields as gathered;
+ghost use Rattle.sip_reader.specs.Parts as parts;
 
 use crate::cseq_words::CSeqWords;
 use crate::field::Field;
+use crate::parts::{Parts, first, needed};
 use crate::via_words::ViaWords;
 use sip_message::{Header, Party, ReadFault};
 use sip_parts::{CallId, HeaderName};
@@ -11,7 +13,6 @@ use sip_text::{Series, Text};
 use std::alloc::{AllocError, Global};
 
 /// The values of each header, in the order of their lines.
-#[derive(Drop)]
 pub(crate) struct Fields {
     pub(crate) vias: Series<ViaWords>,
     pub(crate) froms: Series<Party>,
@@ -20,6 +21,20 @@ pub(crate) struct Fields {
     pub(crate) cseqs: Series<CSeqWords>,
     pub(crate) lengths: Series<Text>,
     pub(crate) others: Series<Header>,
+}
+
+impl Drop for Fields {
+    fn drop(self) {
+        let Fields {
+            vias: _,
+            froms: _,
+            tos: _,
+            call_ids: _,
+            cseqs: _,
+            lengths: _,
+            others: _,
+        } = self;
+    }
 }
 
 impl Fields {
@@ -105,6 +120,32 @@ impl Fields {
             Some(HeaderName::ContentLength)
         } else {
             None
+        }
+    }
+
+    /// The headers of these fields, none of which is missing: the first value of each.
+    #[tactic(auto, unfolding(crate::specs::Parts::parts_of))]
+    pub(crate) fn into_parts(self) -> Parts
+        requires { gathered.IsComplete self }
+        ensures { parts.parts_of self ≡ Some result }
+    {
+        let Fields {
+            vias,
+            froms,
+            tos,
+            call_ids,
+            cseqs,
+            lengths,
+            others,
+        } = self;
+        Parts {
+            via: needed(vias),
+            from: needed(froms),
+            to: needed(tos),
+            call_id: needed(call_ids),
+            cseq: needed(cseqs),
+            length: first(lengths),
+            others,
         }
     }
 }

@@ -10,7 +10,7 @@ use crate::fields::Fields;
 use crate::first_line::FirstLine;
 use crate::layout::{header_of, without_line_ends};
 use crate::numbers::{Numbers, numbers_of};
-use crate::parts::{Parts, parts_of};
+use crate::parts::Parts;
 use crate::start_reader::start_of;
 use crate::via_words::ViaWords;
 use sip_message::{CSeq, Header, Message, Party, ReadFault, StartLine, Via, Vias};
@@ -91,7 +91,7 @@ fn read_fields(
     if let Some(fault) = fields.fault() {
         return Err(fault);
     }
-    message_of(alloc, start, parts_of(fields), body)
+    message_of(alloc, start, fields.into_parts(), body)
 }
 
 /// What the header lines say. None where one isn't a header line, or there is a second Via.
