@@ -1,5 +1,5 @@
 //! The header lines of a message, by header.
-ghost use Rattle.std.specs.Prelude.{◌≡◌, Some, OnOk, IfNone};
+ghost use Rattle.std.specs.Prelude.{◌≡◌, Some, OnOk, IfNone, length, nat_lt};
 ghost use Rattle.sip_reader.specs.Fields as gathered;
 ghost use Rattle.sip_reader.specs.Parts as parts;
 
@@ -65,6 +65,12 @@ impl Fields {
             Field::ContentLength(length) => self.lengths.push(length),
             Field::Other(header) => self.others.push(header),
         }
+    }
+
+    pub(crate) fn has_second_via(&self) -> bool
+        ensures { result ≡ nat_lt 1 (length self.now.vias) }
+    {
+        self.vias.len() > 1
     }
 
     /// Missing for the first header that isn't there, then Repeated for the first that is there twice.

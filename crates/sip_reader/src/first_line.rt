@@ -1,9 +1,43 @@
 //! The start line, read.
+ghost use Rattle.std.specs.Prelude.{◌≡◌};
+ghost use Rattle.sip_message.specs.declared.fault.ReadFault.TheVariants as fault;
+ghost use Rattle.sip_reader.specs.ReadMessage as reading;
+
+use sip_message::{ReadFault, StartLine};
 use sip_parts::{Reason, RequestUri, StatusCode, Token};
 
 /// What the start line says: of a request with its method, which has to be that of the CSeq.
-#[derive(Drop)]
 pub(crate) enum FirstLine {
     Request { method: Token, uri: RequestUri },
     Response { status: StatusCode, reason: Reason },
+}
+
+impl Drop for FirstLine {
+    fn drop(self) {
+        match self {
+            FirstLine::Request { method: _, uri: _ } => {}
+            FirstLine::Response {
+                status: _,
+                reason: _,
+            } => {}
+        }
+    }
+}
+
+impl FirstLine {
+    /// The start line; a request's method has to be that of its CSeq.
+    #[tactic(auto, unfolding(crate::specs::ReadMessage::start_line_of))]
+    pub(crate) fn fitting(self, cseq_method: &Token) -> Result<StartLine, ReadFault>
+        ensures { result ≡ reading.or_fault fault.MethodMismatch (reading.start_line_of self cseq_method.now) }
+    {
+        match self {
+            FirstLine::Request { method, uri } => {
+                if method.as_slice() != cseq_method.as_slice() {
+                    return Err(ReadFault::MethodMismatch);
+                }
+                Ok(StartLine::Request { uri })
+            }
+            FirstLine::Response { status, reason } => Ok(StartLine::Response { status, reason }),
+        }
+    }
 }

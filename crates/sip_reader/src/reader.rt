@@ -1,7 +1,9 @@
 //! Messages, read from their texts.
-ghost use Rattle.std.specs.Prelude.{◌≡◌, ◌++◌, ◌∷◌, [], IfOk, IfErr, OnOk, map};
+ghost use Rattle.std.specs.Prelude.{◌≡◌, ◌++◌, ◌∷◌, [], IfOk, IfErr, OnOk, length, map, nat_lt};
+ghost use Rattle.sip_message.specs.declared.fault.ReadFault.TheVariants as fault;
 ghost use Rattle.sip_message.specs.declared.message.Message.{Message};
 ghost use Rattle.sip_reader.specs.Faults.{TellsFault};
+ghost use Rattle.sip_reader.specs.Numbers.{numbers_of};
 ghost use Rattle.sip_reader.specs.ReadMessage as reading;
 ghost use Rattle.sip_reader.specs.Spells.{Spells, Answers};
 
@@ -13,8 +15,7 @@ use crate::numbers::{Numbers, numbers_of};
 use crate::parts::Parts;
 use crate::start_reader::start_of;
 use crate::via_words::ViaWords;
-use sip_message::{CSeq, Header, Message, Party, ReadFault, StartLine, Via, Vias};
-use sip_parts::{CallId, Token};
+use sip_message::{Message, ReadFault, Via, Vias};
 use sip_text::{Series, Text, next_line};
 use std::alloc::{AllocError, Global};
 
@@ -42,10 +43,16 @@ pub fn read(alloc: Global, text: &[u8]) -> Result<Message, ReadFault>
 fn read_text(alloc: Global, text: &[u8]) -> Result<Message, ReadFault>
     ensures { reading.Gives result (reading.message_at text.now) }
 {
-    if text.len() > MAX_BYTES {
+    if is_too_long(text) {
         return Err(ReadFault::TooLong);
     }
     read_lines(alloc, without_line_ends(text))
+}
+
+fn is_too_long(text: &[u8]) -> bool
+    ensures { result ≡ nat_lt 65535 (length text.now) }
+{
+    text.len() > MAX_BYTES
 }
 
 #[tactic(auto, unfolding(crate::specs::ReadMessage::message_in))]
@@ -102,7 +109,7 @@ fn fields_of(alloc: Global, lines: &[&[u8]]) -> Result<Option<Fields>, AllocErro
     let Some(fields) = all_fields_of(alloc, lines)? else {
         return Ok(None);
     };
-    if fields.vias.len() > 1 {
+    if fields.has_second_via() {
         return Ok(None);
     }
     Ok(Some(fields))
@@ -130,38 +137,24 @@ fn message_of(
 ) -> Result<Message, ReadFault>
     ensures { reading.Gives result (reading.message_of_parts start parts body.now) }
 {
-    let Some(numbers) = numbers_of(&parts) else {
-        return Err(ReadFault::BadNumber);
-    };
-    let Parts {
-        via,
-        from,
-        to,
-        call_id,
-        cseq,
-        length: _,
-        others,
-    } = parts;
-    let Some(vias) = vias_of(alloc, via, numbers.port)? else {
-        return Err(ReadFault::OldBranch);
-    };
-    let Some(start) = start_line_of(start, &cseq.method) else {
-        return Err(ReadFault::MethodMismatch);
-    };
-    let Some(body) = body_of(alloc, body, numbers.length)? else {
-        return Err(ReadFault::Truncated);
-    };
-    let cseq = CSeq {
-        number: numbers.cseq,
-        method: cseq.method,
-    };
-    Ok(made(alloc, start, vias, (from, to, call_id, cseq), others, body))
+    let numbers = known_numbers(&parts)?;
+    let (via, headers) = parts.into_headers();
+    let vias = vias_of(alloc, via, numbers.port)?;
+    let start = start.fitting(&headers.cseq.method)?;
+    let body = body_of(alloc, body, numbers.length)?;
+    Ok(headers.into_message(alloc, start, vias, numbers.cseq, body))
 }
 
-/// The one Via value, or None where its branch doesn't begin with `z9hG4bK`.
+fn known_numbers(parts: &Parts) -> Result<Numbers, ReadFault>
+    ensures { result ≡ reading.or_fault fault.BadNumber (numbers_of parts.now) }
+{
+    numbers_of(parts).ok_or(ReadFault::BadNumber)
+}
+
+/// The one Via value, whose branch has to begin with `z9hG4bK`.
 #[tactic(auto, unfolding(crate::specs::ReadMessage::vias_of))]
-fn vias_of(alloc: Global, via: ViaWords, port: Option<u16>) -> Result<Option<Vias>, AllocError>
-    ensures { IfOk result (λ vias. vias ≡ reading.vias_of via port) }
+fn vias_of(alloc: Global, via: ViaWords, port: Option<u16>) -> Result<Vias, ReadFault>
+    ensures { reading.Gives result (reading.or_fault fault.OldBranch (reading.vias_of via port)) }
 {
     let mut vias = Series::new(alloc);
     vias.push(Via {
@@ -170,69 +163,20 @@ fn vias_of(alloc: Global, via: ViaWords, port: Option<u16>) -> Result<Option<Via
         port,
         parameters: via.parameters,
     })?;
-    Ok(Vias::new(vias))
+    Vias::new(vias).ok_or(ReadFault::OldBranch)
 }
 
-/// The start line, or None where a request's method isn't that of its CSeq.
-#[tactic(auto, unfolding(crate::specs::ReadMessage::start_line_of))]
-fn start_line_of(start: FirstLine, cseq_method: &Token) -> Option<StartLine>
-    ensures { result ≡ reading.start_line_of start cseq_method.now }
-{
-    match start {
-        FirstLine::Request { method, uri } => {
-            if method.as_slice() != cseq_method.as_slice() {
-                return None;
-            }
-            Some(StartLine::Request { uri })
-        }
-        FirstLine::Response { status, reason } => Some(StartLine::Response { status, reason }),
-    }
-}
-
-/// As many bytes as the length says, or None where there are fewer; without a length all of them.
+/// As many bytes as the length says; without a length all of them.
 #[tactic(auto, unfolding(crate::specs::ReadMessage::body_of))]
-fn body_of(alloc: Global, text: &[u8], length: Option<u32>) -> Result<Option<Text>, AllocError>
-    ensures { IfOk result (λ body. body ≡ reading.body_of text.now length) }
+fn body_of(alloc: Global, text: &[u8], length: Option<u32>) -> Result<Text, ReadFault>
+    ensures { reading.Gives result (reading.or_fault fault.Truncated (reading.body_of text.now length)) }
 {
     let Some(length) = length else {
-        return Ok(Some(Text::copy_of(alloc, text)?));
+        return Ok(Text::copy_of(alloc, text)?);
     };
     let length = length as usize;
     if text.len() < length {
-        return Ok(None);
+        return Err(ReadFault::Truncated);
     }
-    Ok(Some(Text::copy_of(alloc, &text[..length])?))
-}
-
-type Identity = (Party, Party, CallId, CSeq);
-
-#[tactic(auto, unfolding(crate::specs::ReadMessage::made))]
-fn made(
-    alloc: Global,
-    start: StartLine,
-    vias: Vias,
-    identity: Identity,
-    others: Series<Header>,
-    body: Text,
-) -> Message
-    ensures { result ≡ reading.made start vias identity others body }
-{
-    Message {
-        start,
-        vias,
-        max_forwards: None,
-        from: identity.0,
-        to: identity.1,
-        call_id: identity.2,
-        cseq: identity.3,
-        contacts: Series::new(alloc),
-        record_routes: Series::new(alloc),
-        routes: Series::new(alloc),
-        require: Series::new(alloc),
-        supported: Series::new(alloc),
-        rseq: None,
-        rack: None,
-        others,
-        body,
-    }
+    Ok(Text::copy_of(alloc, &text[..length])?)
 }

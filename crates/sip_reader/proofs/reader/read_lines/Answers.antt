@@ -1,0 +1,25 @@
+use Rattle.std.proofs.Common.{refl}
+use Rattle.std.proofs.lemmas.Result.{err_from_is_err_and}
+use Rattle.sip_reader.specs.ReadMessage.{message_in}
+use Rattle.sip_reader.proofs.reader.read_lines.Goals as goal
+
+pub returns-in_default : goal.returns-in_default
+unfolding message_in
+returns-in_default c = rw (← c.in_default.ensures.parts) refl
+
+pub returns-in_err-lines : goal.returns-in_err-lines
+returns-in_err-lines c =
+    let p = err_from_is_err_and c.from_residual.result c.from_residual.ensures.1 in
+    rw (p.1, p.2) tt
+
+pub returns-in_default-2 : goal.returns-in_default-2
+unfolding message_in
+returns-in_default-2 c =
+    let header = rw c.in_default-2.is at c.in_ok-lines.ensures in
+    rw (← c.in-Some.ensures.parts, ← header) refl
+
+pub returns : goal.returns
+unfolding message_in
+returns c =
+    let header = rw c.in-Some-2.is at c.in_ok-lines.ensures in
+    rw (← c.in-Some.ensures.parts, ← header) (rw c.deref.ensures.value at c.read_header.ensures)
