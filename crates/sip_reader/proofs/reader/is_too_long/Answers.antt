@@ -1,0 +1,5 @@
+use Rattle.std.proofs.Common.{refl}
+use Rattle.sip_reader.proofs.reader.is_too_long.Goals as goal
+
+pub returns : goal.returns
+returns c = refl
