@@ -6,18 +6,18 @@ use Rattle.std.specs.Cmp.{IsTotalOrder}
 use Rattle.std.specs.BTreeMap.{is_at}
 use Rattle.std.specs.List.{flat_map}
 use Rattle.std.proofs.lemmas.Map.Lookups.{CmpEqualImpliesEq}
-use Rattle.sip_model.specs.Machine.{Machine, state_from, state_after}
+use Rattle.sip_model.specs.Machine.{Machine, next, adds, state_from, state_after}
 use Rattle.sip_model.specs.Table.{Held, state_at, StepsKey, StepsAll}
 use Rattle.sip_model.specs.History.{AddsInput, AddsInputs}
 use Rattle.sip_model.proofs.Ordered.{by_bool, exact_at}
 
 module _ {K S I O : Type 0} (machine : Machine K S I O) where
   -- one input more
-  pub state_from-push : (key : K) (state : Option S) (inputs : List I) (input : I) → state_from machine key state (inputs ++ input ∷ []) ≡ machine.next key (state_from machine key state inputs) input
+  pub state_from-push : (key : K) (state : Option S) (inputs : List I) (input : I) → state_from machine key state (inputs ++ input ∷ []) ≡ next machine key (state_from machine key state inputs) input
   state_from-push key state [] input = refl
-  state_from-push key state (i ∷ is) input = state_from-push key (machine.next key state i) is input
+  state_from-push key state (i ∷ is) input = state_from-push key (next machine key state i) is input
 
-  pub state_after-push : (key : K) (inputs : List I) (input : I) → state_after machine key (inputs ++ input ∷ []) ≡ machine.next key (state_after machine key inputs) input
+  pub state_after-push : (key : K) (inputs : List I) (input : I) → state_after machine key (inputs ++ input ∷ []) ≡ next machine key (state_after machine key inputs) input
   state_after-push key inputs input = state_from-push key None inputs input
 
 flat_map-same : {X O : Type 0} (f g : X → List O) → ((x : X) → f x ≡ g x) → (xs : List X) → flat_map f xs ≡ flat_map g xs
@@ -31,14 +31,14 @@ module _ {K S I O : Type 0} {cmp : K → K → Ordering} (exact : CmpEqualImplie
       sound = step.sound;
       states = λ q. by_bool (is_at (cmp key) q)
           (λ hit. let same : key ≡ q = exact_at total exact key q hit in
-          step.states q ∙ ap (λ b. cond b (machine.next key (state_at cmp old key) input) (state_at cmp old q)) hit
-          ∙ ap (λ k. machine.next k (state_at cmp old k) input) same ∙ ap (λ s. machine.next q s input) (holds.states q)
+          step.states q ∙ ap (λ b. cond b (next machine key (state_at cmp old key) input) (state_at cmp old q)) hit
+          ∙ ap (λ k. next machine k (state_at cmp old k) input) same ∙ ap (λ s. next machine q s input) (holds.states q)
           ∙ sym (state_after-push machine q (histories q) input)
           ∙ sym (ap (λ b. state_after machine q (cond b (histories q ++ input ∷ []) (histories q))) hit))
-          (λ miss. step.states q ∙ ap (λ b. cond b (machine.next key (state_at cmp old key) input) (state_at cmp old q)) miss ∙ holds.states q
+          (λ miss. step.states q ∙ ap (λ b. cond b (next machine key (state_at cmp old key) input) (state_at cmp old q)) miss ∙ holds.states q
           ∙ sym (ap (λ b. state_after machine q (cond b (histories q ++ input ∷ []) (histories q))) miss));
     };
-    added = λ histories holds. step.added ∙ ap (λ s. machine.adds key s input) (holds.states key);
+    added = λ histories holds. step.added ∙ ap (λ s. adds machine key s input) (holds.states key);
   }
 
 module _ {K S I O : Type 0} {cmp : K → K → Ordering} {machine : Machine K S I O} where
@@ -46,9 +46,9 @@ module _ {K S I O : Type 0} {cmp : K → K → Ordering} {machine : Machine K S 
   adds_inputs old new input outputs step = record {
     stands = λ histories holds. record {
       sound = step.sound;
-      states = λ q. step.states q ∙ ap (λ s. machine.next q s input) (holds.states q) ∙ sym (state_after-push machine q (histories q) input);
+      states = λ q. step.states q ∙ ap (λ s. next machine q s input) (holds.states q) ∙ sym (state_after-push machine q (histories q) input);
     };
     added = λ histories holds keys covers.
         step.added keys (record { ordered = covers.ordered; each = λ key found. covers.each key (subst IsSome (holds.states key) found) })
-        ∙ flat_map-same _ _ (λ key. ap (λ s. machine.adds key s input) (holds.states key)) keys;
+        ∙ flat_map-same _ _ (λ key. ap (λ s. adds machine key s input) (holds.states key)) keys;
   }

@@ -12,7 +12,7 @@ use Rattle.std.specs.List.Sorted.{IsStrictlySortedBy}
 use Rattle.std.specs.FinMap as finite
 use Rattle.std.specs.FinMap.Entries.{is_sorted, below_all}
 use Rattle.std.specs.FinSet.{FinSet}
-use Rattle.sip_model.specs.Machine.{Machine, IsQuiet, state_after}
+use Rattle.sip_model.specs.Machine.{Machine, next, adds, state_after}
 use Rattle.sip_model.specs.Table.{Held, Covers}
 use Rattle.sip_model.specs.History.{states_after, longer, AddsInput, AddsInputs}
 use Rattle.sip_model.proofs.Ordered.{by_bool, is_at_back}
@@ -87,12 +87,12 @@ module _ {K S I O : Type 0} {cmp : K → K → Ordering} (total : IsTotalOrder c
 -- ---- one input more of every key
 
 module _ {K S I O : Type 0} (machine : Machine K S I O) where
-  some_before : (tick : I) → IsQuiet machine tick → (key : K) (state : Option S) → IsSome (machine.next key state tick) → IsSome state
-  some_before tick quiet key None found = subst IsSome (quiet.stays key) found
+  some_before : (tick : I) → ((key : K) → next machine key None tick ≡ None) → (key : K) (state : Option S) → IsSome (next machine key state tick) → IsSome state
+  some_before tick quiet key None found = subst IsSome (quiet key) found
   some_before tick quiet key (Some s) found = refl
 
 module _ {K S I O : Type 0} {cmp : K → K → Ordering} (machine : Machine K S I O) where
-  pub holds_tick : (tick : I) → IsQuiet machine tick → (old new : Held K S) (inputs : Inputs cmp I) (outputs : List O)
+  pub holds_tick : (tick : I) → ((key : K) → next machine key None tick ≡ None) → (old new : Held K S) (inputs : Inputs cmp I) (outputs : List O)
       → AddsInputs cmp machine old new tick outputs → HoldsAfter cmp machine old inputs
       → HoldsAfter cmp machine new (with_tick cmp machine inputs tick)
   holds_tick tick quiet old new inputs outputs adds holds = record {

@@ -1,5 +1,5 @@
 -- Lists of keys in order, and look-ups among entries whose keys are in order.
-use Rattle.std.proofs.Common.{◌≡◌, Bool, true, false, cond, ◌||◌, List, [], ◌∷◌, ◌++◌, refl, sym, ◌∙◌, ap}
+use Rattle.std.proofs.Common.{◌≡◌, Bool, true, false, cond, ◌||◌, List, [], ◌∷◌, ◌++◌, refl, sym, ◌∙◌, ap, subst}
 use Rattle.std.specs.Prelude.{None, Some, is_some, filter}
 use Rattle.std.specs.declared.cmp.Ordering.{Ordering}
 use Rattle.std.specs.declared.cmp.Ordering.TheVariants.{Less, Equal, Greater}
@@ -139,3 +139,72 @@ module _ {K : Type 0} {cmp : K → K → Ordering} (total : IsTotalOrder cmp) wh
   pub is_some-lookup : {S : Type 0} (q : K) (es : List (K × S)) → is_some (lookup (is_at (cmp q)) es) ≡ list_any (is_at (cmp q)) (keys_of es)
   is_some-lookup q [] = refl
   is_some-lookup q (e ∷ es) = by_bool (is_at (cmp q) e.0) (λ hit. rw hit refl) (λ miss. rw miss (is_some-lookup q es))
+
+-- ---- two lists of keys in order
+
+right_of : (a b : Bool) → false ≡ (a || b) → false ≡ b
+right_of true b e = absurd (false≢true e)
+right_of false b e = e
+
+module _ {K : Type 0} {cmp : K → K → Ordering} (total : IsTotalOrder cmp) where
+  none_pass : (p : K → Bool) (ys : List K) → ((q : K) → p q ≡ true → false ≡ list_any (is_at (cmp q)) ys) → filter p ys ≡ []
+  none_pass p [] h = refl
+  none_pass p (y ∷ ys) h =
+      let off : p y ≡ false = by_bool (p y) (λ passes. absurd (false≢true (h y passes ∙ ap (λ b. b || list_any (is_at (cmp y)) ys) (is_at_itself total y)))) (λ no. no) in
+      rw off (none_pass p ys (λ q passes. right_of (is_at (cmp q) y) (list_any (is_at (cmp q)) ys) (h q passes)))
+
+module _ {K : Type 0} {cmp : K → K → Ordering} (total : IsTotalOrder cmp) (exact : CmpEqualImpliesEq cmp) where
+  abbrev among : K → List K → Bool
+  among q ks = list_any (is_at (cmp q)) ks
+
+  
+  
+
+  -- a key that doesn't pass may be left out
+  without_first : (p : K → Bool) (k : K) (ks ys : List K) → p k ≡ false → ((q : K) → p q ≡ true → among q (k ∷ ks) ≡ among q ys) → (q : K) → p q ≡ true → among q ks ≡ among q ys
+  without_first p k ks ys off same q passes =
+      by_bool (is_at (cmp q) k)
+      (λ hit. absurd (false≢true (sym off ∙ ap p (sym (exact_at total exact q k hit)) ∙ passes)))
+      (λ miss. sym (ap (λ b. b || among q ks) miss) ∙ same q passes)
+
+  -- so may one that both have first
+  without_both : (p : K → Bool) (k : K) (ks hs : List K) → among k ks ≡ false → among k hs ≡ false → ((q : K) → p q ≡ true → among q (k ∷ ks) ≡ among q (k ∷ hs)) → (q : K) → p q ≡ true → among q ks ≡ among q hs
+  without_both p k ks hs gone lost same q passes =
+      by_bool (is_at (cmp q) k)
+      (λ hit. let is : q ≡ k = exact_at total exact q k hit in ap (λ x. among x ks) is ∙ gone ∙ sym (ap (λ x. among x hs) is ∙ lost))
+      (λ miss. sym (ap (λ b. b || among q ks) miss) ∙ same q passes ∙ ap (λ b. b || among q hs) miss)
+
+  off_below : (p : K → Bool) (k : K) (ks ys : List K) → AllByRecursion (λ y. cmp k y ≡ Less) ys → ((q : K) → p q ≡ true → among q (k ∷ ks) ≡ among q ys) → p k ≡ false
+  off_below p k ks ys below same =
+      by_bool (p k)
+      (λ passes. absurd (false≢true (sym (none_below total k ys below) ∙ sym (same k passes) ∙ ap (λ b. b || among k ks) (is_at_itself total k))))
+      (λ no. no)
+
+  -- lists in order that have the same keys of those that pass have them in the same places
+  pub same_filtered : (p : K → Bool) (xs ys : List K) → IsStrictlySortedBy cmp xs → IsStrictlySortedBy cmp ys → ((q : K) → p q ≡ true → among q xs ≡ among q ys) → filter p xs ≡ filter p ys
+  same_filtered p [] [] sx sy same = refl
+  same_filtered p [] (y ∷ ys) sx sy same = sym (none_pass total p (y ∷ ys) same)
+  same_filtered p (x ∷ xs) [] sx sy same = none_pass total p (x ∷ xs) (λ q passes. sym (same q passes))
+  same_filtered p (k ∷ ks) (h ∷ hs) sx sy same =
+      let above_k : AllByRecursion (λ y. cmp k y ≡ Less) ks = sorted_head cmp k ks sx in
+      let above_h : AllByRecursion (λ y. cmp h y ≡ Less) hs = sorted_head cmp h hs sy in
+      let ks_ordered : IsStrictlySortedBy cmp ks = sorted_tail cmp k ks sx in
+      let hs_ordered : IsStrictlySortedBy cmp hs = sorted_tail cmp h hs sy in
+      by_ordering (cmp k h)
+      (λ less.
+      let off : p k ≡ false = off_below p k ks (h ∷ hs) (below_all total k h hs less above_h) same in
+      rw off (same_filtered p ks (h ∷ hs) ks_ordered sy (without_first p k ks (h ∷ hs) off same)))
+      (λ equal.
+      let is : h ≡ k = sym (exact k h equal) in
+      let below : AllByRecursion (λ y. cmp k y ≡ Less) hs = subst (λ x. AllByRecursion (λ y. cmp x y ≡ Less) hs) is above_h in
+      let rest : filter p ks ≡ filter p hs =
+      same_filtered p ks hs ks_ordered hs_ordered
+      (without_both p k ks hs (none_below total k ks above_k) (none_below total k hs below) (λ q passes. same q passes ∙ ap (λ x. is_at (cmp q) x || among q hs) is)) in
+      both_first ks hs is rest)
+      (λ greater.
+      let less : cmp h k ≡ Less = total.antisymm h k ∙ ap ordering_reverse greater in
+      let off : p h ≡ false = off_below p h hs (k ∷ ks) (below_all total h k ks less above_k) (λ q passes. sym (same q passes)) in
+      rw off (same_filtered p (k ∷ ks) hs sx hs_ordered (λ q passes. sym (without_first p h hs (k ∷ ks) off (λ x y. sym (same x y)) q passes))))
+    where
+      both_first : {k h : K} (ks hs : List K) → h ≡ k → filter p ks ≡ filter p hs → filter p (k ∷ ks) ≡ filter p (h ∷ hs)
+      both_first {k} {h} ks hs is rest = ap (λ rest. cond (p k) (k ∷ rest) rest) rest ∙ ap (λ x. cond (p x) (x ∷ filter p hs) (filter p hs)) (sym is)

@@ -5,7 +5,7 @@ use Rattle.std.specs.BTreeMap.{is_at}
 use Rattle.std.specs.Cmp.{IsTotalOrder}
 use Rattle.std.proofs.lemmas.Bool.{true≢false}
 use Rattle.std.proofs.lemmas.Map.Lookups.{CmpEqualImpliesEq}
-use Rattle.sip_model.specs.Machine.{Machine, state_after}
+use Rattle.sip_model.specs.Machine.{Machine, adds, state_after}
 use Rattle.sip_model.proofs.Ordered.{by_bool, exact_at}
 use Rattle.sip_model.specs.Inputs.{Inputs, with_input, added_by}
 use Rattle.sip_model.specs.Owned.{owned, told_by}
@@ -32,7 +32,7 @@ module _ {K S I O : Type 0} {cmp : K → K → Ordering} (exact : CmpEqualImplie
       by_bool (owns item.0)
       (λ own.
       ap (λ b. told_by cmp machine part (cond b (item ∷ owned owns items) (owned owns items))) own
-      ∙ ap (λ h. (item.0, machine.adds item.0 (state_after machine item.0 h) item.1) ∷ told_by cmp machine (with_input cmp machine part item.0 item.1) (owned owns items)) (agree item.0 own)
+      ∙ ap (λ h. (item.0, adds machine item.0 (state_after machine item.0 h) item.1) ∷ told_by cmp machine (with_input cmp machine part item.0 item.1) (owned owns items)) (agree item.0 own)
       ∙ ap (λ t. (item.0, added_by cmp machine whole item.0 item.1) ∷ t) (told_apart (with_input cmp machine part item.0 item.1) (with_input cmp machine whole item.0 item.1) items (agree_with part whole item.0 item.1 agree))
       ∙ sym (ap (λ b. cond b ((item.0, added_by cmp machine whole item.0 item.1) ∷ owned owns rest) (owned owns rest)) own))
       (λ other.

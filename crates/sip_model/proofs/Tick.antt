@@ -1,86 +1,126 @@
--- One tick of every held key: what has been said and kept so far, and what is left.
-use Rattle.std.proofs.Common.{◌≡◌, true, false, cond, List, [], ◌∷◌, ◌++◌, refl, sym, ◌∙◌, ap, subst, append_assoc, append-nil}
-use Rattle.std.specs.Prelude.{Option, None, Some, is_some, IsSome}
+-- A tick of the keys of which something is due: what has been said so far, and what is left.
+use Rattle.std.proofs.Common.{◌≡◌, ℕ, Bool, true, false, cond, ◌||◌, List, [], ◌∷◌, ◌++◌, map, refl, sym, ◌∙◌, ap, subst, append_assoc, arith}
+use Rattle.std.specs.Prelude.{Option, None, Some, is_some, IsSome, filter}
 use Rattle.std.specs.declared.cmp.Ordering.{Ordering}
+use Rattle.std.specs.declared.vec.Vec.{Vec}
 use Rattle.std.specs.Cmp.{IsTotalOrder}
 use Rattle.std.specs.BTreeMap.{is_at}
-use Rattle.std.specs.Map.{lookup, keys_of}
-use Rattle.std.specs.List.{flat_map}
+use Rattle.std.specs.List.{list_any, flat_map, AllByRecursion}
 use Rattle.std.specs.List.Sorted.{IsStrictlySortedBy}
 use Rattle.std.proofs.lemmas.Map.Keys.{sorted_head, sorted_tail}
 use Rattle.std.proofs.lemmas.Map.Lookups.{CmpEqualImpliesEq}
 use Rattle.std.proofs.lemmas.Bool.{false≢true}
-use Rattle.sip_model.specs.Machine.{Machine, IsQuiet}
-use Rattle.sip_model.specs.Table.{StepsAll}
-use Rattle.sip_model.proofs.Ordered.{by_bool, is_at_back, lookup_below, exact_at}
-use Rattle.sip_model.proofs.Held.{flat_map-covered}
+use Rattle.std.proofs.lemmas.Grind.{common_steps}
+use Rattle.sip_timers.specs.Queue.{moment, is_due, if_later}
+use Rattle.sip_model.specs.Machine.{Machine, IsIdle, next, adds, due_of}
+use Rattle.sip_model.specs.Table.{AreDues, Covers}
+use Rattle.sip_model.specs.Told.{speaks, groups, told_ticks, with_said}
+use Rattle.sip_model.proofs.Ordered.{by_bool, by_ordering, is_at_back, is_at_itself, none_below, exact_at, flat_map-filter, same_filtered}
 
-module _ {K S I O : Type 0} (cmp : K → K → Ordering) (machine : Machine K S I O) (input : I) where
-  -- the state in the end of a key that has `kept` among what is kept so far, and this among what is left
-  abbrev pub state_then : K → Option S → Option S → Option S
-  state_then q kept None = kept
-  state_then q kept (Some state) = machine.next q (Some state) input
+-- a tick over `all` that has `rest` left: the states and the due moments now, and what was told
+pub record TickLeft {K S I O : Type 0} (cmp : K → K → Ordering) (machine : Machine K S I O) (due : S → Option ℕ) (input : I) (old : K → Option S) (all rest : List K)
+    (states : K → Option S) (dues : List (K × ℕ)) (told : List (K × List O)) : Type 0 where
+  pub ordered : IsStrictlySortedBy cmp rest
+  pub waiting : (q : K) → list_any (is_at (cmp q)) rest ≡ true → states q ≡ old q
+  pub done : (q : K) → list_any (is_at (cmp q)) rest ≡ false → states q ≡ next machine q (old q) input
+  pub armed : (q : K) → list_any (is_at (cmp q)) rest ≡ false → moment cmp dues q ≡ due_of due (states q)
+  pub said : told ++ told_ticks machine old input rest ≡ told_ticks machine old input all
 
-  -- what entries say
-  abbrev pub said_by : List (K × S) → List O
-  said_by es = flat_map (λ e. machine.adds e.0 (Some e.1) input) es
+later_kept : (now : ℕ) (o : Option ℕ) → is_due now o ≡ false → if_later now o ≡ o
+later_kept now None e = refl
+later_kept now (Some due) e = grind (arith, common_steps, e)
 
-  abbrev pub find : K → List (K × S) → Option S
-  find q es = lookup (is_at (cmp q)) es
+module _ {K S I O : Type 0} {cmp : K → K → Ordering} (total : IsTotalOrder cmp) (exact : CmpEqualImpliesEq cmp) (machine : Machine K S I O) (due : S → Option ℕ) (input : I) where
+  pub tick_left_at_first : (now : ℕ) → IsIdle machine due now input → (old : K → Option S) (dues : List (K × ℕ)) (keys : List K) (left : List (K × ℕ))
+      → AreDues cmp due old dues → IsStrictlySortedBy cmp keys → ((q : K) → list_any (is_at (cmp q)) keys ≡ is_due now (moment cmp dues q)) → ((q : K) → moment cmp left q ≡ if_later now (moment cmp dues q))
+      → TickLeft cmp machine due input old keys keys old left []
+  tick_left_at_first now idle old dues keys left are ordered given later = record {
+    ordered = ordered;
+    waiting = λ q here. refl;
+    done = λ q gone. sym (ap (λ r. r.0) (idle q (old q) (ap (is_due now) (sym (are q)) ∙ sym (given q) ∙ gone)));
+    armed = λ q gone. later q ∙ later_kept now (moment cmp dues q) (sym (given q) ∙ gone) ∙ are q;
+    said = refl;
+  }
 
-  -- a tick over `all` that has `rest` left, holds `kept` and has said `outputs`
-  pub record TickLeft (all rest kept : List (K × S)) (outputs : List O) : Type 0 where
-    pub ordered : IsStrictlySortedBy cmp (keys_of rest)
-    pub apart : (q : K) → IsSome (find q rest) → find q kept ≡ None
-    pub states : (q : K) → state_then q (find q kept) (find q rest) ≡ state_then q None (find q all)
-    pub said : outputs ++ said_by rest ≡ said_by all
+  told_first : (old : K → Option S) (told : List (K × List O)) (k : K) (rest : List K) (outputs : List O) → outputs ≡ adds machine k (old k) input
+      → with_said told k outputs ++ told_ticks machine old input rest ≡ told ++ told_ticks machine old input (k ∷ rest)
+  told_first old told k rest outputs is =
+      append_assoc told (cond (speaks outputs) ((k, outputs) ∷ []) []) (told_ticks machine old input rest)
+      ∙ ap (λ more. told ++ more) (ap (λ os. cond (speaks os) ((k, os) ∷ []) [] ++ told_ticks machine old input rest) is ∙ by_speech (speaks (adds machine k (old k) input)))
+    where
+      group : K → K × List O
+      group q = (q, adds machine q (old q) input)
+      by_speech : (b : Bool) → cond b (group k ∷ []) [] ++ told_ticks machine old input rest ≡ map group (cond b (k ∷ filter (λ q. speaks (adds machine q (old q) input)) rest) (filter (λ q. speaks (adds machine q (old q) input)) rest))
+      by_speech true = refl
+      by_speech false = refl
 
-none_is_not_some : {S : Type 0} (o : Option S) → o ≡ None → IsSome o → ⊥
-none_is_not_some o none some = false≢true (sym (ap is_some none) ∙ some)
+  among_tail : (q k : K) (rest : List K) (b : Bool) → is_at (cmp k) q ≡ false → list_any (is_at (cmp q)) rest ≡ b → list_any (is_at (cmp q)) (k ∷ rest) ≡ b
+  among_tail q k rest b miss is = ap (λ x. x || list_any (is_at (cmp q)) rest) (is_at_back total k q false miss) ∙ is
 
-module _ {K S I O : Type 0} {cmp : K → K → Ordering} (total : IsTotalOrder cmp) (exact : CmpEqualImpliesEq cmp) (machine : Machine K S I O) (input : I) where
-  pub tick_left_at_first : (all : List (K × S)) → IsStrictlySortedBy cmp (keys_of all) → TickLeft cmp machine input all all [] []
-  tick_left_at_first all ordered = record { ordered = ordered; apart = λ q found. refl; states = λ q. refl; said = refl }
-
-  pub tick_left_more : (all rest kept after : List (K × S)) (outputs more : List O) (k : K) (s : S) (new : Option S) (given : I) → TickLeft cmp machine input all ((k, s) ∷ rest) kept outputs
-      → given ≡ input → new ≡ machine.next k (Some s) given → more ≡ machine.adds k (Some s) given → ((q : K) → find cmp machine input q after ≡ cond (is_at (cmp k) q) new (find cmp machine input q kept))
-      → TickLeft cmp machine input all rest after (outputs ++ more)
-  tick_left_more all rest kept after outputs more k s new given left same_input new_is more_is keeps =
-      let is_new : new ≡ machine.next k (Some s) input = new_is ∙ ap (machine.next k (Some s)) same_input in
-      let is_more : more ≡ machine.adds k (Some s) input = more_is ∙ ap (machine.adds k (Some s)) same_input in
-      let here : K → List (K × S) → Option S = λ q es. find cmp machine input q es in
-      let then' : K → Option S → Option S → Option S = state_then cmp machine input in
-      let gone : find cmp machine input k rest ≡ None = lookup_below total k rest (sorted_head cmp k (keys_of rest) left.ordered) in
-      let missing : (q : K) → is_at (cmp k) q ≡ true → find cmp machine input q rest ≡ None = λ q hit. subst (λ x. find cmp machine input x rest ≡ None) (exact_at total exact k q hit) gone in
+  pub tick_left_more : (old : K → Option S) (all rest : List K) (k : K) (states newer : K → Option S) (dues later : List (K × ℕ)) (told : List (K × List O)) (outputs : List O) (given : I)
+      → TickLeft cmp machine due input old all (k ∷ rest) states dues told → given ≡ input
+      → ((q : K) → newer q ≡ cond (is_at (cmp k) q) (next machine k (states k) given) (states q))
+      → ((q : K) → moment cmp later q ≡ cond (is_at (cmp k) q) (due_of due (next machine k (states k) given)) (moment cmp dues q))
+      → outputs ≡ adds machine k (states k) given
+      → TickLeft cmp machine due input old all rest newer later (with_said told k outputs)
+  tick_left_more old all rest k states newer dues later told outputs given left same_input steps arms says =
+      let here : states k ≡ old k = left.waiting k (ap (λ b. b || list_any (is_at (cmp k)) rest) (is_at_itself total k)) in
+      let after : next machine k (states k) given ≡ next machine k (old k) input = ap (λ s. next machine k s given) here ∙ ap (next machine k (old k)) same_input in
+      let gone : list_any (is_at (cmp k)) rest ≡ false = none_below total k rest (sorted_head cmp k rest left.ordered) in
       record {
-        ordered = sorted_tail cmp k (keys_of rest) left.ordered;
-        apart = λ q found. by_bool (is_at (cmp k) q)
-            (λ hit. absurd (none_is_not_some (here q rest) (missing q hit) found))
-            (λ miss. keeps q ∙ ap (λ b. cond b new (here q kept)) miss
-            ∙ left.apart q (subst IsSome (sym (ap (λ b. cond b (Some s) (here q rest)) (is_at_back total k q false miss))) found));
-        states = λ q. by_bool (is_at (cmp k) q)
-            (λ hit. ap (then' q (here q after)) (missing q hit) ∙ keeps q ∙ ap (λ b. cond b new (here q kept)) hit ∙ is_new
-            ∙ ap (λ x. machine.next x (Some s) input) (exact_at total exact k q hit)
-            ∙ sym (ap (λ b. then' q (here q kept) (cond b (Some s) (here q rest))) (is_at_back total k q true hit)) ∙ left.states q)
-            (λ miss. ap (λ o. then' q o (here q rest)) (keeps q ∙ ap (λ b. cond b new (here q kept)) miss)
-            ∙ sym (ap (λ b. then' q (here q kept) (cond b (Some s) (here q rest))) (is_at_back total k q false miss)) ∙ left.states q);
-        said = append_assoc outputs more (said_by cmp machine input rest) ∙ ap (λ m. outputs ++ (m ++ said_by cmp machine input rest)) is_more ∙ left.said;
+        ordered = sorted_tail cmp k rest left.ordered;
+        waiting = λ q among. by_bool (is_at (cmp k) q)
+            (λ hit. absurd (false≢true (sym gone ∙ ap (λ x. list_any (is_at (cmp x)) rest) (exact_at total exact k q hit) ∙ among)))
+            (λ miss. steps q ∙ ap (λ b. cond b (next machine k (states k) given) (states q)) miss ∙ left.waiting q (among_tail q k rest true miss among));
+        done = λ q absent. by_bool (is_at (cmp k) q)
+            (λ hit. steps q ∙ ap (λ b. cond b (next machine k (states k) given) (states q)) hit ∙ after ∙ ap (λ x. next machine x (old x) input) (exact_at total exact k q hit))
+            (λ miss. steps q ∙ ap (λ b. cond b (next machine k (states k) given) (states q)) miss ∙ left.done q (among_tail q k rest false miss absent));
+        armed = λ q absent. by_bool (is_at (cmp k) q)
+            (λ hit. arms q ∙ ap (λ b. cond b (due_of due (next machine k (states k) given)) (moment cmp dues q)) hit
+            ∙ ap (due_of due) (sym (steps q ∙ ap (λ b. cond b (next machine k (states k) given) (states q)) hit)))
+            (λ miss. arms q ∙ ap (λ b. cond b (due_of due (next machine k (states k) given)) (moment cmp dues q)) miss ∙ left.armed q (among_tail q k rest false miss absent)
+            ∙ ap (due_of due) (sym (steps q ∙ ap (λ b. cond b (next machine k (states k) given) (states q)) miss)));
+        said = told_first old told k rest outputs (says ∙ ap (λ s. adds machine k s given) here ∙ ap (adds machine k (old k)) same_input) ∙ left.said;
       }
 
-  -- what is kept has no key that is left
-  pub absent_while_left : (all rest kept : List (K × S)) (outputs : List O) (k : K) (s : S) → TickLeft cmp machine input all ((k, s) ∷ rest) kept outputs
-      → (q : K) → is_at (cmp k) q ≡ true → find cmp machine input q kept ≡ None
-  absent_while_left all rest kept outputs k s left q hit =
-      left.apart q (ap (λ b. is_some (cond b (Some s) (find cmp machine input q rest))) (is_at_back total k q true hit))
+  silent : (now : ℕ) → IsIdle machine due now input → (q : K) (state : Option S) → is_due now (due_of due state) ≡ false → speaks (adds machine q state input) ≡ false
+  silent now idle q state calm = ap (λ r. speaks r.1) (idle q state calm)
 
-  -- at the end, where a tick of a key without a state does nothing
-  pub tick_left_at_end : (all kept : List (K × S)) (outputs : List O) → IsStrictlySortedBy cmp (keys_of all) → IsQuiet machine input → TickLeft cmp machine input all [] kept outputs
-      → StepsAll cmp machine (Some all) (Some kept) input outputs
-  tick_left_at_end all kept outputs ordered quiet left = record {
-    sound = refl;
-    states = λ q. left.states q ∙ next_of q (find cmp machine input q all);
-    added = λ keys covers. sym (append-nil outputs) ∙ left.said ∙ flat_map-covered total all ordered exact (λ k s. machine.adds k s input) quiet.silent keys covers;
-  } where
-    next_of : (q : K) (found : Option S) → state_then cmp machine input q None found ≡ machine.next q found input
-    next_of q None = sym (quiet.stays q)
-    next_of q (Some s) = refl
+  speaks_if_some : (now : ℕ) → IsIdle machine due now input → (q : K) (state : Option S) → speaks (adds machine q state input) ≡ true → IsSome state
+  speaks_if_some now idle q None said = absurd (false≢true (sym (silent now idle q None refl) ∙ said))
+  speaks_if_some now idle q (Some s) said = refl
+
+  -- the keys that are due tell what any keys tell among which are all that are held
+  pub told_by_due : (now : ℕ) → IsIdle machine due now input → (old : K → Option S) (dues : List (K × ℕ)) (keys : List K) → AreDues cmp due old dues → IsStrictlySortedBy cmp keys
+      → ((q : K) → list_any (is_at (cmp q)) keys ≡ is_due now (moment cmp dues q)) → (held : List K) → Covers cmp held old
+      → told_ticks machine old input keys ≡ told_ticks machine old input held
+  told_by_due now idle old dues keys are ordered given held covers =
+      ap (map (λ q. (q, adds machine q (old q) input)))
+      (same_filtered total exact (λ q. speaks (adds machine q (old q) input)) keys held ordered covers.ordered
+      (λ q said.
+      by_bool (is_due now (due_of due (old q)))
+      (λ is. given q ∙ ap (is_due now) (are q) ∙ is ∙ sym (covers.each q (speaks_if_some now idle q (old q) said)))
+      (λ not. absurd (false≢true (sym (silent now idle q (old q) not) ∙ said)))))
+
+-- ---- all that was told, joined
+
+module _ {K O : Type 0} where
+  flat_map-groups : {Z : Type 0} (told : List (K × Vec O Z)) → flat_map (λ group. group.1.items) told ≡ flat_map (λ (group : K × List O). group.1) (groups told)
+  flat_map-groups [] = refl
+  flat_map-groups (g ∷ gs) = ap (λ rest. g.1.items ++ rest) (flat_map-groups gs)
+
+  flat_map-told : (says : K → List O) (keys : List K) → flat_map (λ (group : K × List O). group.1) (map (λ key. (key, says key)) keys) ≡ flat_map says keys
+  flat_map-told says [] = refl
+  flat_map-told says (k ∷ ks) = ap (λ rest. says k ++ rest) (flat_map-told says ks)
+
+silence : {O : Type 0} (outputs : List O) → speaks outputs ≡ false → outputs ≡ []
+silence [] e = refl
+silence (o ∷ os) e = absurd (false≢true (sym e))
+
+-- what is told of some keys, joined, is what all of them say
+pub joined_told : {K S I O Z : Type 0} (machine : Machine K S I O) (states : K → Option S) (tick : I) (keys : List K) (told : List (K × Vec O Z)) (outputs : List O)
+    → groups told ≡ told_ticks machine states tick keys → outputs ≡ flat_map (λ group. group.1.items) told → outputs ≡ flat_map (λ key. adds machine key (states key) tick) keys
+joined_told {K} {S} {I} {O} machine states tick keys told outputs is joins =
+    joins ∙ flat_map-groups told ∙ ap (flat_map (λ (group : K × List O). group.1)) is
+    ∙ flat_map-told (λ key. adds machine key (states key) tick) (filter (λ key. speaks (adds machine key (states key) tick)) keys)
+    ∙ flat_map-filter (λ key. adds machine key (states key) tick) (λ key. speaks (adds machine key (states key) tick)) (λ key off. silence _ off) keys

@@ -4,7 +4,7 @@ use Rattle.std.specs.declared.cmp.Ordering.{Ordering}
 use Rattle.std.specs.List.{flat_map}
 use Rattle.std.specs.FinMap as map
 use Rattle.std.specs.FinSet.{FinSet}
-use Rattle.sip_model.specs.Machine.{Machine}
+use Rattle.sip_model.specs.Machine.{Machine, adds}
 use Rattle.sip_model.specs.Table.{Held, Covers}
 use Rattle.sip_model.specs.History.{states_after, all_longer, longer, StandsFor}
 
@@ -23,7 +23,7 @@ module _ {K S I O : Type 0} (cmp : K → K → Ordering) (machine : Machine K S 
   with_input inputs key input = record { history = longer cmp machine inputs.history key input; named = map.insert inputs.named key tt }
 
   abbrev pub added_by : Inputs cmp I → K → I → List O
-  added_by inputs key input = machine.adds key (states_after machine inputs.history key) input
+  added_by inputs key input = adds machine key (states_after machine inputs.history key) input
 
   -- one input more of every key, and what it adds, in the order of the keys
   abbrev pub with_tick : Inputs cmp I → I → Inputs cmp I

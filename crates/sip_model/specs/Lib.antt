@@ -3,3 +3,4 @@ pub mod Inputs
 pub mod Machine
 pub mod Owned
 pub mod Table
+pub mod Told

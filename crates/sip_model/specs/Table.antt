@@ -1,11 +1,12 @@
 -- What a table of held keys shows: its entries in key order, or `None` once it is broken.
-use Rattle.std.specs.Prelude.{◌≡◌, true, List, [], Option, None, Some, IsSome, cond}
+use Rattle.std.specs.Prelude.{◌≡◌, ℕ, true, List, [], Option, None, Some, IsSome, cond}
 use Rattle.std.specs.declared.cmp.Ordering.{Ordering}
 use Rattle.std.specs.BTreeMap.{is_at}
 use Rattle.std.specs.Map.{lookup}
 use Rattle.std.specs.List.{flat_map, list_any}
 use Rattle.std.specs.List.Sorted.{IsStrictlySortedBy}
-use Rattle.sip_model.specs.Machine.{Machine}
+use Rattle.sip_timers.specs.Queue.{moment}
+use Rattle.sip_model.specs.Machine.{Machine, next, adds, due_of}
 
 -- the value of a table of keys `K` and states `S`
 abbrev pub Held : Type 0 → Type 0 → Type 0
@@ -17,9 +18,17 @@ entries_of None = []
 entries_of (Some entries) = entries
 
 module _ {K S : Type 0} (cmp : K → K → Ordering) where
+  -- the state of a key among entries
+  abbrev pub state_in : List (K × S) → K → Option S
+  state_in entries key = lookup (is_at (cmp key)) entries
+
   -- the state that is held for a key
   abbrev pub state_at : Held K S → K → Option S
-  state_at table key = lookup (is_at (cmp key)) (entries_of table)
+  state_at table key = state_in (entries_of table) key
+
+  -- a queue has for each key the moment at which something is due of its state, and no other
+  abbrev pub AreDues : (S → Option ℕ) → (K → Option S) → List (K × ℕ) → Type 0
+  AreDues due states dues = (q : K) → moment cmp dues q ≡ due_of due (states q)
 
   -- a list of keys in order that has each key with a state
   pub record Covers (keys : List K) (states : K → Option S) : Type 0 where
@@ -29,11 +38,11 @@ module _ {K S : Type 0} (cmp : K → K → Ordering) where
   -- the table after one input of one key: that key's state is the machine's next, and every other stays
   pub record StepsKey {I O : Type 0} (machine : Machine K S I O) (old new : Held K S) (key : K) (input : I) (outputs : List O) : Type 0 where
     pub sound : IsSome new
-    pub states : (q : K) → state_at new q ≡ cond (is_at (cmp key) q) (machine.next key (state_at old key) input) (state_at old q)
-    pub added : outputs ≡ machine.adds key (state_at old key) input
+    pub states : (q : K) → state_at new q ≡ cond (is_at (cmp key) q) (next machine key (state_at old key) input) (state_at old q)
+    pub added : outputs ≡ adds machine key (state_at old key) input
 
   -- the table after one input of every key: each state is the machine's next, and the outputs follow the order of the keys
   pub record StepsAll {I O : Type 0} (machine : Machine K S I O) (old new : Held K S) (input : I) (outputs : List O) : Type 0 where
     pub sound : IsSome new
-    pub states : (q : K) → state_at new q ≡ machine.next q (state_at old q) input
-    pub added : (keys : List K) → Covers keys (state_at old) → outputs ≡ flat_map (λ key. machine.adds key (state_at old key) input) keys
+    pub states : (q : K) → state_at new q ≡ next machine q (state_at old q) input
+    pub added : (keys : List K) → Covers keys (state_at old) → outputs ≡ flat_map (λ key. adds machine key (state_at old key) input) keys

@@ -4,7 +4,9 @@
 
 mod fault;
 mod machine;
+mod one_key;
 mod table;
+mod ticks;
 
 pub use fault::ShardFault;
 pub use machine::StateMachine;

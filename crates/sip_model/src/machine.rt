@@ -1,14 +1,15 @@
 //! The machine of one key, as code.
 
-ghost use Rattle.std.specs.Prelude.{◌≡◌, ℕ, List, Option, IfOk, IsOk};
+ghost use Rattle.std.specs.Prelude.{◌≡◌, ℕ, Bool, List, Option, IfOk, IsOk, IsTrue};
 ghost use Rattle.std.proofs.lemmas.Map.Lookups.{CmpEqualImpliesEq};
-ghost use Rattle.sip_model.specs.Machine.{Machine, IsQuiet};
+ghost use Rattle.sip_timers.specs.Queue.{IsClonedAlike};
+ghost use Rattle.sip_model.specs.Machine.{Machine, IsIdle, next, adds};
 
 use std::alloc::{AllocError, Global};
 
 /// A machine for each key, as code over one key's state.
 pub trait StateMachine {
-    type Key: Ord + Drop;
+    type Key: Ord + Clone + Drop;
 
     type State: Drop;
 
@@ -19,14 +20,20 @@ pub trait StateMachine {
     /// The machine that `step` computes.
     ghost machine: { Self → Machine Self.Key Self.State Self.Input Self.Output };
 
-    /// The input of a tick at a moment, in milliseconds.
+    /// The input of a tick at a moment, in ms.
     ghost tick: { ℕ → Self.Input };
 
+    /// The moment in ms at which something is due of a state, if ever.
+    ghost due: { Self.State → Option ℕ };
+
     /// What an input has to meet, as a bound on its moment.
-    ghost admits: { Self.Input → Type 0 };
+    ghost admits: { Self.Input → Bool };
 
     fn tick_at(&self, moment: u64) -> Self::Input
         ensures { result ≡ tick moment };
+
+    fn due_of(&self, state: &Self::State) -> Option<u64>
+        ensures { result ≡ due state.now };
 
     fn step(
         &self,
@@ -35,13 +42,16 @@ pub trait StateMachine {
         state: Option<Self::State>,
         input: Self::Input,
     ) -> Result<(Option<Self::State>, Vec<Self::Output>), AllocError>
-        requires { admits input }
-        ensures next { IfOk result (λ after. after.0 ≡ (machine self.now).next key.now state input) }
-        ensures adds { IfOk result (λ after. after.1.items ≡ (machine self.now).adds key.now state input) };
+        requires { IsTrue (admits input) }
+        ensures next { IfOk result (λ after. after.0 ≡ next (machine self.now) key.now state input) }
+        ensures adds { IfOk result (λ after. after.1.items ≡ adds (machine self.now) key.now state input) };
 
     /// Keys that compare equal are one key.
     ghost exact: { CmpEqualImpliesEq Self.Key.cmp };
 
-    /// A tick of a key without a state does nothing.
-    ghost quiet: { (self : Self) (moment : ℕ) → IsQuiet (machine self) (tick moment) };
+    /// A clone of a key equals it.
+    ghost copies: { (key : Self.Key) → IsClonedAlike Self.Key.is_clone key };
+
+    /// Where nothing is due, a tick does nothing.
+    ghost idle: { (self : Self) (moment : ℕ) → IsIdle (machine self) due moment (tick moment) };
 }

@@ -66,6 +66,13 @@ impl<K: Ord + Clone + Drop> Queue<K> {
         self.moments.remove(key);
     }
 
+    /// The moment at which `key` is due, if it is armed. It takes no memory.
+    pub fn moment(&self, key: &K) -> Option<u64>
+        ensures { result ≡ moment K.cmp self.now key.now }
+    {
+        self.moments.get(key).copied()
+    }
+
     /// The earliest moment at which a key is due. It takes no memory.
     pub fn next_due(&self) -> Option<u64>
         ensures earliest { result ≡ reduce min (values_of self.now) }

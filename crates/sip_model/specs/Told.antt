@@ -1,0 +1,22 @@
+-- What machines say: each key's outputs beside the key.
+use Rattle.std.specs.Prelude.{Bool, true, false, cond, List, [], ◌∷◌, ◌++◌, Option, map, filter}
+use Rattle.std.specs.declared.vec.Vec.{Vec}
+use Rattle.sip_model.specs.Machine.{Machine, adds}
+
+-- something is said
+abbrev pub speaks : {O : Type 0} → List O → Bool
+speaks [] = false
+speaks (output ∷ outputs) = true
+
+-- what one key says goes behind what was told, where it says something
+abbrev pub with_said : {K O : Type 0} → List (K × List O) → K → List O → List (K × List O)
+with_said told key outputs = told ++ cond (speaks outputs) ((key, outputs) ∷ []) []
+
+-- groups of outputs, as lists
+abbrev pub groups : {L O Z : Type 0} → List (L × Vec O Z) → List (L × List O)
+groups told = map (λ group. (group.0, group.1.items)) told
+
+-- what each of some keys says to a tick, where it says something
+abbrev pub told_ticks : {K S I O : Type 0} → Machine K S I O → (K → Option S) → I → List K → List (K × List O)
+told_ticks machine states tick keys =
+    map (λ key. (key, adds machine key (states key) tick)) (filter (λ key. speaks (adds machine key (states key) tick)) keys)

@@ -1,0 +1,110 @@
+//! One input of one key, among the states that are held and their due moments.
+
+ghost use Rattle.std.specs.Prelude.{◌≡◌, Option, None, true, IfOk, IfSome, OnOk, IsTrue, cond};
+ghost use Rattle.std.specs.declared.cmp.Ordering.TheVariants.{Equal};
+ghost use Rattle.std.specs.Option.{option_copied};
+ghost use Rattle.std.specs.BTreeMap.{get, is_at};
+ghost use Rattle.sip_timers.specs.Queue.{moment};
+ghost use Rattle.sip_model.specs.Machine.{next, adds, due_of};
+
+use crate::machine::StateMachine;
+use sip_timers::Queue;
+use std::alloc::{AllocError, Global};
+use std::collections::BTreeMap;
+
+/// Gives one key an input, and answers what its machine says.
+pub(crate) fn step_key<M: StateMachine>(
+    alloc: Global,
+    machine: &M,
+    states: &mut BTreeMap<M::Key, M::State>,
+    dues: &mut Queue<M::Key>,
+    key: &M::Key,
+    input: M::Input,
+) -> Result<Vec<M::Output>, AllocError>
+    requires { IsTrue (M.admits input) }
+    ensures states { OnOk result ((q : M.Key) → get M.Key.cmp states.new q
+        ≡ cond (is_at (M.Key.cmp key.now) q) (next (M.machine machine.now) key.now (get M.Key.cmp states.old key.now) input) (get M.Key.cmp states.old q)) }
+    ensures dues { OnOk result ((q : M.Key) → moment M.Key.cmp dues.new q
+        ≡ cond (is_at (M.Key.cmp key.now) q) (due_of M.due (next (M.machine machine.now) key.now (get M.Key.cmp states.old key.now) input)) (moment M.Key.cmp dues.old q)) }
+    ensures added { IfOk result (λ outputs. outputs.items ≡ adds (M.machine machine.now) key.now (get M.Key.cmp states.old key.now) input) }
+{
+    let (held, state) = taken(states, key);
+    let (after, outputs) = machine.step(alloc, key, state, input)?;
+    rearm::<M>(dues, key, due_moment(machine, after.as_ref()))?;
+    put_back::<M>(states, key, held, after)?;
+    Ok(outputs)
+}
+
+// The key and the state that are held for a key, taken out.
+fn taken<K: Ord, S>(states: &mut BTreeMap<K, S>, key: &K) -> (Option<K>, Option<S>)
+    ensures key { IfSome result.0 (λ held. K.cmp key.now held ≡ Equal) }
+    ensures state { result.1 ≡ get K.cmp states.old key.now }
+    ensures states { (q : K) → get K.cmp states.new q ≡ cond (is_at (K.cmp key.now) q) None (get K.cmp states.old q) }
+{
+    match states.remove_entry(key) {
+        None => (None, None),
+        Some((held, state)) => (Some(held), Some(state)),
+    }
+}
+
+// Holds the state of a key that was taken out, if there is one.
+fn put_back<M: StateMachine>(
+    states: &mut BTreeMap<M::Key, M::State>,
+    key: &M::Key,
+    held: Option<M::Key>,
+    state: Option<M::State>,
+) -> Result<(), AllocError>
+    requires same { IfSome held (λ held. M.Key.cmp key.now held ≡ Equal) }
+    requires absent { (q : M.Key) → is_at (M.Key.cmp key.now) q ≡ true → get M.Key.cmp states.old q ≡ None }
+    ensures { OnOk result ((q : M.Key) → get M.Key.cmp states.new q ≡ cond (is_at (M.Key.cmp key.now) q) state (get M.Key.cmp states.old q)) }
+{
+    let Some(state) = state else {
+        return Ok(());
+    };
+    states.insert(own_key::<M>(key, held)?, state)?;
+    Ok(())
+}
+
+// The key itself, by what was held of it or by a copy.
+fn own_key<M: StateMachine>(key: &M::Key, held: Option<M::Key>) -> Result<M::Key, AllocError>
+    requires { IfSome held (λ held. M.Key.cmp key.now held ≡ Equal) }
+    ensures { IfOk result (λ own. own ≡ key.now) }
+{
+    match held {
+        Some(held) => Ok(held),
+        None => key.clone(),
+    }
+}
+
+// The moment at which something is due of what is held of a key.
+fn due_moment<M: StateMachine>(machine: &M, state: Option<&M::State>) -> Option<u64>
+    ensures { result ≡ due_of M.due (option_copied state.entry) }
+{
+    match state {
+        None => None,
+        Some(state) => machine.due_of(state),
+    }
+}
+
+// Arms a key for the moment at which something is due of it, if there is one.
+fn rearm<M: StateMachine>(
+    dues: &mut Queue<M::Key>,
+    key: &M::Key,
+    due: Option<u64>,
+) -> Result<(), AllocError>
+    ensures { OnOk result ((q : M.Key) → moment M.Key.cmp dues.new q ≡ cond (is_at (M.Key.cmp key.now) q) due (moment M.Key.cmp dues.old q)) }
+{
+    if dues.moment(key) == due {
+        return Ok(());
+    }
+    match due {
+        None => {
+            dues.disarm(key);
+            Ok(())
+        }
+        Some(due) => match dues.arm(key.clone()?, due) {
+            Ok(()) => Ok(()),
+            Err(_) => Err(AllocError),
+        },
+    }
+}

@@ -1,0 +1,69 @@
+//! A tick of every key of which something is due.
+
+ghost use Rattle.std.specs.Prelude.{◌≡◌, List, IfOk, OnOk, IsTrue};
+ghost use Rattle.std.specs.List.{flat_map};
+ghost use Rattle.std.specs.BTreeMap.{get};
+ghost use Rattle.sip_model.specs.Machine.{next};
+ghost use Rattle.sip_model.specs.Table.{AreDues, Covers, state_in};
+ghost use Rattle.sip_model.specs.Told.{groups, told_ticks, with_said};
+
+use crate::machine::StateMachine;
+use crate::one_key::step_key;
+use sip_timers::Queue;
+use std::alloc::{AllocError, Global};
+use std::collections::BTreeMap;
+
+/// Gives every key of which something is due the input of a tick at a moment in ms, in key order. Answers what each
+/// says, where it says something.
+pub(crate) fn tick_due<M: StateMachine>(
+    alloc: Global,
+    machine: &M,
+    states: &mut BTreeMap<M::Key, M::State>,
+    dues: &mut Queue<M::Key>,
+    now: u64,
+) -> Result<Vec<(M::Key, Vec<M::Output>)>, AllocError>
+    requires admitted { IsTrue (M.admits (M.tick now)) }
+    requires armed { AreDues M.Key.cmp M.due (get M.Key.cmp states.old) dues.old }
+    ensures states { OnOk result ((q : M.Key) → get M.Key.cmp states.new q ≡ next (M.machine machine.now) q (get M.Key.cmp states.old q) (M.tick now)) }
+    ensures armed { OnOk result (AreDues M.Key.cmp M.due (get M.Key.cmp states.new) dues.new) }
+    ensures told { IfOk result (λ told. (keys : List M.Key) → Covers M.Key.cmp keys (get M.Key.cmp states.old)
+        → groups told.items ≡ told_ticks (M.machine machine.now) (get M.Key.cmp states.old) (M.tick now) keys) }
+{
+    let Ok(due) = dues.take_due(now) else {
+        return Err(AllocError);
+    };
+    let mut told = Vec::new(alloc);
+    for key in due {
+        let outputs = step_key(alloc, machine, states, dues, &key, machine.tick_at(now))?;
+        tell(&mut told, key, outputs)?;
+    }
+    Ok(told)
+}
+
+// What one key says goes behind what was told, where it says something.
+fn tell<K: Drop, O: Drop>(
+    told: &mut Vec<(K, Vec<O>)>,
+    key: K,
+    outputs: Vec<O>,
+) -> Result<(), AllocError>
+    ensures { OnOk result (groups told.new.items ≡ with_said (groups told.old.items) key outputs.items) }
+{
+    if !outputs.is_empty() {
+        told.push((key, outputs))?;
+    }
+    Ok(())
+}
+
+/// All that was said, one after the other.
+pub(crate) fn joined<K: Drop, O: Drop>(
+    alloc: Global,
+    told: Vec<(K, Vec<O>)>,
+) -> Result<Vec<O>, AllocError>
+    ensures { IfOk result (λ outputs. outputs.items ≡ flat_map (λ group. group.1.items) told.items) }
+{
+    let mut outputs = Vec::new(alloc);
+    for (_, mut said) in told {
+        outputs.append(&mut said)?;
+    }
+    Ok(outputs)
+}
