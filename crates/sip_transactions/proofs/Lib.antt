@@ -1,6 +1,6 @@
 pub mod AfterTheEnd
+pub mod Counted
 pub mod LawSteps
 pub mod OneRequest
 pub mod Pace
 pub mod RowFacts
-pub mod Counted

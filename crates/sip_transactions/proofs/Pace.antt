@@ -7,7 +7,8 @@ use native.Mathlib.Decide.{dec_le}
 use Rattle.sip_transactions.specs.declared.step.Pace.{Pace}
 use Rattle.sip_transactions.specs.declared.step.Pace.TheVariants.{Doubled, Capped, Even}
 use Rattle.sip_transactions.specs.Dues.{spent, is_paced}
-use Rattle.sip_transactions.specs.Timers.{is_due, interval}
+use Rattle.sip_timers.specs.Queue.{is_due}
+use Rattle.sip_transactions.specs.Timers.{interval}
 
 pub doubled_bound : (j : ℕ) → j ≤ 10 → 500 * 2 ^ j ≤ 512000
 doubled_bound j h = let p : 2 ^ j ≤ 2 ^ 10 = pow_mono h in omega arith

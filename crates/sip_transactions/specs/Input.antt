@@ -14,7 +14,7 @@ use Rattle.sip_transactions.specs.declared.trigger.Trigger.TheVariants as on
 use Rattle.sip_transactions.specs.declared.input.Input.{Input}
 use Rattle.sip_transactions.specs.declared.input.Input.TheVariants.{Tick, Receive, Start, Answer, Failed}
 use Rattle.sip_transactions.specs.declared.life.Life.{Life}
-use Rattle.sip_transactions.specs.Timers.{is_due}
+use Rattle.sip_timers.specs.Queue.{is_due}
 
 -- methods are compared with their case
 abbrev pub is_method : List ℕ → List ℕ → Bool

@@ -8,7 +8,7 @@ use Rattle.sip_message.specs.declared.start_line.StartLine.{StartLine}
 use Rattle.sip_message.specs.declared.start_line.StartLine.TheVariants as start
 use Rattle.sip_message.specs.Key.{key_cmp}
 use Rattle.sip_model.specs.Inputs.{Inputs}
-use Rattle.sip_model.specs.Machine.{state_after, outputs_from, IsLife}
+use Rattle.sip_model.specs.Machine.{adds, state_after, outputs_from, IsLife}
 use Rattle.sip_model.specs.Owned.{owned, told_by}
 use Rattle.sip_transactions.specs.declared.input.Command.{Command}
 use Rattle.sip_transactions.specs.declared.input.Input.{Input}
@@ -38,7 +38,7 @@ IsSend (out.Dropped place reason) = ⊥
 
 -- a command hands nothing up and drops nothing
 abbrev pub CommandsOnlySend : Type 0
-CommandsOnlySend = (key : Key) (held : Option Life) (id : Id) (command : Command) (now : ℕ) → AllByRecursion IsSend (transaction_machine.adds key held (order id command now))
+CommandsOnlySend = (key : Key) (held : Option Life) (id : Id) (command : Command) (now : ℕ) → AllByRecursion IsSend (adds transaction_machine key held (order id command now))
 
 abbrev pub IsServer : Key → Type 0
 IsServer (key.Client branch method) = ⊥
@@ -63,7 +63,7 @@ requests_in outs = count_by is_request_up outs
 -- a life of a server key hands its request up once, by its first input
 abbrev pub OneRequestUp : Type 0
 OneRequestUp = (key : Key) → IsServer key → (before : List Timed) (first : Timed) (rest : List Timed) → IsLife transaction_machine key before first rest
-    → (requests_in (transaction_machine.adds key (state_after transaction_machine key before) first) ≡ 1)
+    → (requests_in (adds transaction_machine key (state_after transaction_machine key before) first) ≡ 1)
     × (requests_in (outputs_from transaction_machine key (state_after transaction_machine key (before ++ first ∷ [])) rest) ≡ 0)
 
 -- the id of an input, where it has one

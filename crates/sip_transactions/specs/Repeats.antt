@@ -5,7 +5,7 @@ use Rattle.sip_transactions.specs.declared.step.Due.{Due}
 use Rattle.sip_transactions.specs.declared.step.Due.TheVariants.{Keep, Clear, Ending, Both, Again}
 use Rattle.sip_transactions.specs.declared.trigger.Trigger.{Trigger}
 use Rattle.sip_transactions.specs.declared.trigger.Trigger.TheVariants as on
-use Rattle.sip_transactions.specs.Timers.{is_due}
+use Rattle.sip_timers.specs.Queue.{is_due}
 
 -- a row fires the repeat only of a life whose repeat is due, and its end isn't
 abbrev pub RepeatsInTime : Due → ℕ → Option Life → Type 0

@@ -1,5 +1,7 @@
 -- What a row does to the due moments.
-use Rattle.std.specs.Prelude.{◌≡◌, ℕ, ◌+◌, ◌*◌, ◌^◌, min, Bool, true, false, nat_le, Option, None, Some}
+use Rattle.std.specs.Prelude.{◌≡◌, ℕ, ◌+◌, ◌*◌, ◌^◌, min, true, false, Option, None, Some}
+use Rattle.sip_timers.specs.Queue.{is_due}
+use Rattle.sip_timers.specs.Earlier.{earlier}
 use Rattle.sip_transactions.specs.declared.step.Due.{Due}
 use Rattle.sip_transactions.specs.declared.step.Due.TheVariants.{Keep, Clear, Ending, Both, Again}
 use Rattle.sip_transactions.specs.declared.step.Pace.{Pace}
@@ -10,10 +12,9 @@ use Rattle.sip_transactions.specs.Dues.{Dues}
 abbrev pub no_dues : Dues
 no_dues = record { repeat = None; fired = 0; ending = None }
 
--- a moment that has come
-abbrev pub is_due : ℕ → Option ℕ → Bool
-is_due now None = false
-is_due now (Some due) = nat_le due now
+-- the moment at which something is due: the earlier of the two
+abbrev pub first_due : Dues → Option ℕ
+first_due dues = earlier dues.ending dues.repeat
 
 -- the interval after j firings (RFC 3261 sections 17.1.1.2, 17.1.2.2 and 17.2.1: timers A, E and G)
 abbrev pub interval : Pace → ℕ → ℕ

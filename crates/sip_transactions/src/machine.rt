@@ -287,10 +287,10 @@ fn life_of(held: Option<Life>, input: &Input) -> Result<Option<Life>, AllocError
 pub struct Transactions;
 
 impl StateMachine for Transactions {
-    ghost use Rattle.std.specs.Prelude.{◌≤◌, ◌^◌};
+    ghost use Rattle.std.specs.Prelude.{◌^◌, nat_le};
     ghost use Rattle.sip_transactions.specs.Keys.{exact_keys};
-    ghost use Rattle.sip_transactions.specs.declared.input.Input.TheVariants.{Tick};
-    ghost use Rattle.sip_transactions.specs.Machine.{transaction_machine, ticks_are_quiet};
+    ghost use Rattle.sip_transactions.specs.Machine.{transaction_machine, tick_at, life_due};
+    ghost use Rattle.sip_transactions.specs.Idle.{ticks_are_idle};
 
     type Key = Key;
 
@@ -302,15 +302,21 @@ impl StateMachine for Transactions {
 
     ghost machine = { λ _. transaction_machine };
 
-    ghost tick = { λ now. record { moment = now; input = Tick } };
+    ghost tick = { tick_at };
 
-    ghost admits = { λ timed. timed.moment ≤ 2 ^ 62 };
+    ghost due = { life_due };
+
+    ghost admits = { λ timed. nat_le timed.moment (2 ^ 62) };
 
     fn tick_at(&self, moment: u64) -> Timed {
         Timed {
             moment,
             input: Input::Tick,
         }
+    }
+
+    fn due_of(&self, state: &Life) -> Option<u64> {
+        state.timers.first_due()
     }
 
     #[tactic(auto, unfolding(crate::specs::Life::stepped))]
@@ -334,5 +340,7 @@ impl StateMachine for Transactions {
 
     ghost exact = { exact_keys };
 
-    ghost quiet = { λ _ moment. ticks_are_quiet moment };
+    ghost copies = { λ _ _ same. same };
+
+    ghost idle = { λ _ moment. ticks_are_idle moment };
 }

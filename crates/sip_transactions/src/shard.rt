@@ -26,7 +26,7 @@ use std::marker::Model;
 pub struct Shard {
     alloc: Global,
     local: Addr,
-    table: Table<Key, Life>,
+    table: Table<Transactions>,
 }
 
 impl Model for Shard {

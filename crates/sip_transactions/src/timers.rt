@@ -1,7 +1,9 @@
 //! The due moments of a transaction.
 
 ghost use Rattle.std.specs.Prelude.{◌≡◌, ◌≤◌, ◌^◌, ◌<◌, true, false, None};
-ghost use Rattle.sip_transactions.specs.Timers.{interval, rearmed, is_due, IsTimely};
+ghost use Rattle.sip_timers.specs.Queue.{is_due};
+ghost use Rattle.sip_timers.specs.Earlier.{earlier};
+ghost use Rattle.sip_transactions.specs.Timers.{interval, rearmed, first_due, IsTimely};
 
 use crate::step::{Due, Pace};
 use std::marker::Model;
@@ -47,6 +49,13 @@ impl Timers {
             fired: 0,
             ending: None,
         }
+    }
+
+    /// The moment at which something is due, if ever.
+    pub fn first_due(&self) -> Option<u64>
+        ensures { result ≡ first_due self.now }
+    {
+        earlier(self.ending, self.repeat)
     }
 
     /// Whether the moment to end has come.
@@ -112,6 +121,15 @@ fn interval(pace: Pace, fired: u32) -> u64
         Pace::Doubled => T1 << fired,
         Pace::Capped => (T1 << fired).min(T2),
         Pace::Even => T2,
+    }
+}
+
+fn earlier(moment: Option<u64>, other: Option<u64>) -> Option<u64>
+    ensures { result ≡ earlier moment other }
+{
+    match (moment, other) {
+        (None, due) | (due, None) => due,
+        (Some(moment), Some(other)) => Some(moment.min(other)),
     }
 }
 

@@ -1,5 +1,5 @@
 use Rattle.std.proofs.Common.{arith, ◌≤◌, ◌+◌, ◌∙◌, ap}
-use Rattle.sip_transactions.specs.Timers.{is_due}
+use Rattle.sip_timers.specs.Queue.{is_due}
 use Rattle.sip_transactions.proofs.Pace.{fired_bound, paced_again, interval_least}
 use Rattle.sip_transactions.proofs.timers.Timers.again.Goals as goal
 

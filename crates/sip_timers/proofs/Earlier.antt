@@ -1,0 +1,15 @@
+-- Where the earlier of two moments isn't due, neither is.
+use Rattle.std.proofs.Common.{◌≡◌, ℕ, Bool, true, false, ◌||◌, min, nat_le, refl, sym, arith}
+use Rattle.std.specs.Prelude.{Option, None, Some}
+use Rattle.std.proofs.lemmas.Grind.{common_steps}
+use Rattle.sip_timers.specs.Queue.{is_due}
+use Rattle.sip_timers.specs.Earlier.{earlier}
+
+pub earlier_is_due : (now : ℕ) (a b : Option ℕ) → is_due now (earlier a b) ≡ (is_due now a || is_due now b)
+earlier_is_due now None b = refl
+earlier_is_due now (Some a) None = sym (or_false (nat_le a now))
+  where
+    or_false : (x : Bool) → (x || false) ≡ x
+    or_false true = refl
+    or_false false = refl
+earlier_is_due now (Some a) (Some b) = grind (arith, common_steps)
