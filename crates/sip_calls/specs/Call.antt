@@ -3,7 +3,7 @@ use Rattle.std.specs.Prelude.{ℕ, List, [], ◌∷◌, Option, None, Some, nat_
 use Rattle.sip_message.specs.declared.addr.Addr.{Addr}
 use Rattle.sip_message.specs.declared.id.Id.{Id}
 use Rattle.sip_model.specs.Machine.{Machine}
-use Rattle.sip_served.specs.Removal.{after_tick}
+use Rattle.sip_served.specs.Removal.{after_tick, next_removal}
 use Rattle.sip_served.specs.Requests.{after_item, given_for_item}
 use Rattle.sip_served.specs.ServerSide.{all_held}
 use Rattle.sip_served.specs.declared.command.UserCommand.{UserCommand}
@@ -34,45 +34,44 @@ with_held call held = record call { served = record call.served { requests = Som
 abbrev pub new_call : Addr → Call
 new_call local = record { served = record { local = local; requests = Some [] } }
 
--- the call after an item, whose event makes the To tag of a request without one, and what it gives
-abbrev pub after_call_item : List ℕ → Call → Id → Item → ℕ → Option Call
-after_call_item seed call id item now = kept_call (with_held call (after_item (all_held call.served) (name_of seed id 0) item now))
+-- a call after what happens to it, `None` if it isn't held, and what it gives
+abbrev pub Taken : Type 0
+Taken = Option Call × List CallOut
 
-abbrev pub given_by_call : List ℕ → Call → Id → Item → List CallOut
-given_by_call seed call id item = given_for_item (all_held call.served) (name_of seed id 0) id item
+-- an item of a call, whose event makes the To tag of a request without one
+abbrev pub item_taken : List ℕ → Call → Id → Item → ℕ → Taken
+item_taken seed call id item now = (
+  kept_call (with_held call (after_item (all_held call.served) (name_of seed id 0) item now)),
+  given_for_item (all_held call.served) (name_of seed id 0) id item,
+)
 
--- an item of a call that isn't held: what comes up may begin it, and an answer is refused
-abbrev pub after_new_item : Calls → Id → Item → ℕ → Option Call
-after_new_item calls id (Up up) now = after_call_item calls.seed (new_call calls.local) id (Up up) now
-after_new_item calls id (User command) now = None
-
+-- an answer to a call that isn't held is refused
 abbrev pub given_unheld : Id → UserCommand → List CallOut
 given_unheld id (Respond respond) = Notice (Refused respond.call_id id.place NoSuchCall) ∷ []
 given_unheld id _ = []
 
-abbrev pub given_by_new : Calls → Id → Item → List CallOut
-given_by_new calls id (Up up) = given_by_call calls.seed (new_call calls.local) id (Up up)
-given_by_new calls id (User command) = given_unheld id command
+-- an item of a call that isn't held: what comes up may begin it
+abbrev pub new_item_taken : Calls → Id → Item → ℕ → Taken
+new_item_taken calls id (Up up) now = item_taken calls.seed (new_call calls.local) id (Up up) now
+new_item_taken calls id (User command) now = (None, given_unheld id command)
 
--- the state of a call after what happens to it; `None` is a call that isn't held
-abbrev pub after_happening : Calls → Option Call → Happening → ℕ → Option Call
-after_happening calls None Tick now = None
-after_happening calls None (AnItem id item) now = after_new_item calls id item now
-after_happening calls (Some call) Tick now = kept_call (with_held call (after_tick (all_held call.served) now))
-after_happening calls (Some call) (AnItem id item) now = after_call_item calls.seed call id item now
+abbrev pub tick_taken : Call → ℕ → Taken
+tick_taken call now = (kept_call (with_held call (after_tick (all_held call.served) now)), [])
 
--- what it gives then
-abbrev pub given_by_happening : Calls → Option Call → Happening → List CallOut
-given_by_happening calls state Tick = []
-given_by_happening calls None (AnItem id item) = given_by_new calls id item
-given_by_happening calls (Some call) (AnItem id item) = given_by_call calls.seed call id item
+-- what happens to a call
+abbrev pub call_step : Calls → Option Call → Happening → ℕ → Taken
+call_step calls None Tick now = (None, [])
+call_step calls None (AnItem id item) now = new_item_taken calls id item now
+call_step calls (Some call) Tick now = tick_taken call now
+call_step calls (Some call) (AnItem id item) now = item_taken calls.seed call id item now
 
 -- one machine for every Call-ID
 abbrev pub call_machine : Calls → Machine (List ℕ) Call CallInput CallOut
-call_machine calls = record {
-  next = λ key state input. after_happening calls state input.happening input.now;
-  adds = λ key state input. given_by_happening calls state input.happening;
-}
+call_machine calls = record { step = λ key state input. call_step calls state input.happening input.now }
+
+-- the moment at which something is due of a call; one under which nothing is held is over at once
+abbrev pub call_due : Call → Option ℕ
+call_due call = if nat_lt 0 (length (all_held call.served)) then next_removal (all_held call.served) else Some 0
 
 -- the input of a tick
 abbrev pub tick_input : ℕ → CallInput

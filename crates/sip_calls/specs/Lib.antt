@@ -1,3 +1,4 @@
 pub mod Call
 pub mod CallShard
+pub mod Idle
 pub mod Name

@@ -1,10 +1,9 @@
 //! The machine of one call: what each of its inputs makes of it, and what it gives.
 
-ghost use Rattle.std.specs.Prelude.{◌≡◌, ◌≤◌, ◌^◌, [], IfOk, refl};
-ghost use Rattle.sip_calls.specs.Call.{after_call_item, after_happening, call_machine, given_by_call, given_by_happening, given_unheld, kept_call, tick_input, with_held};
+ghost use Rattle.std.specs.Prelude.{◌≡◌, ◌≤◌, ◌^◌, nat_le, IfOk};
+ghost use Rattle.sip_calls.specs.Call.{call_due, call_machine, call_step, given_unheld, item_taken, kept_call, tick_input, tick_taken};
+ghost use Rattle.sip_calls.specs.Idle.{ticks_are_idle};
 ghost use Rattle.std.proofs.lemmas.Map.Lookups.{exact_bytes};
-ghost use Rattle.sip_served.specs.Removal.{after_tick};
-ghost use Rattle.sip_served.specs.ServerSide.{all_held};
 
 use crate::call::Call;
 use crate::name::made_name;
@@ -51,11 +50,15 @@ impl StateMachine for Calls {
 
     ghost tick = { tick_input };
 
-    ghost admits = { λ input. input.now ≤ 2 ^ 62 };
+    ghost due = { call_due };
+
+    ghost admits = { λ input. nat_le input.now (2 ^ 62) };
 
     ghost exact = { exact_bytes };
 
-    ghost quiet = { λ calls moment. record { stays = λ _. refl; silent = λ _. refl } };
+    ghost copies = { λ _ _ same. same };
+
+    ghost idle = { ticks_are_idle };
 
     fn tick_at(&self, moment: u64) -> CallInput
         ensures { result ≡ tick_input moment }
@@ -63,6 +66,14 @@ impl StateMachine for Calls {
         CallInput {
             now: moment,
             happening: Happening::Tick,
+        }
+    }
+
+    fn due_of(&self, state: &Call) -> Option<u64> {
+        if state.served.holds() {
+            state.served.next_due()
+        } else {
+            Some(0)
         }
     }
 
@@ -74,8 +85,8 @@ impl StateMachine for Calls {
         input: CallInput,
     ) -> Result<(Option<Call>, Vec<CallOut>), AllocError>
         requires { input.now ≤ 2 ^ 62 }
-        ensures next { IfOk result (λ after. after.0 ≡ after_happening self.now state input.happening input.now) }
-        ensures adds { IfOk result (λ after. after.1.items ≡ given_by_happening self.now state input.happening) }
+        ensures next { IfOk result (λ after. after.0 ≡ (call_step self.now state input.happening input.now).0) }
+        ensures adds { IfOk result (λ after. after.1.items ≡ (call_step self.now state input.happening input.now).1) }
     {
         let now = input.now;
         match (state, input.happening) {
@@ -104,8 +115,8 @@ impl Calls {
         now: u64,
     ) -> Result<(Option<Call>, Vec<CallOut>), AllocError>
         requires { now ≤ 2 ^ 62 }
-        ensures next { IfOk result (λ after. after.0 ≡ after_call_item self.now.seed call id item now) }
-        ensures adds { IfOk result (λ after. after.1.items ≡ given_by_call self.now.seed call id item) }
+        ensures next { IfOk result (λ after. after.0 ≡ (item_taken self.now.seed call id item now).0) }
+        ensures adds { IfOk result (λ after. after.1.items ≡ (item_taken self.now.seed call id item now).1) }
     {
         let tag = made_name(alloc, self.seed, id, 0)?;
         match call.served.item(tag, id, item, now) {
@@ -118,8 +129,8 @@ impl Calls {
 // A call takes a tick.
 fn tick(mut call: Call, now: u64) -> Result<(Option<Call>, Vec<CallOut>), AllocError>
     requires { now ≤ 2 ^ 62 }
-    ensures next { IfOk result (λ after. after.0 ≡ kept_call (with_held call (after_tick (all_held call.served) now))) }
-    ensures adds { IfOk result (λ after. after.1.items ≡ []) }
+    ensures next { IfOk result (λ after. after.0 ≡ (tick_taken call now).0) }
+    ensures adds { IfOk result (λ after. after.1.items ≡ (tick_taken call now).1) }
 {
     match call.served.tick(now) {
         Ok(outs) => Ok((kept(call), outs)),

@@ -21,7 +21,7 @@ use std::marker::Model;
 #[derive(Drop)]
 pub struct CallShard {
     calls: Calls,
-    table: Table<CallId, Call>,
+    table: Table<Calls>,
 }
 
 impl Model for CallShard {

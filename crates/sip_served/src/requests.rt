@@ -2,7 +2,7 @@
 
 ghost use Rattle.std.specs.Prelude.{◌≡◌, ◌<◌, ◌≤◌, ◌^◌, ◌∷◌, ◌++◌, [], None, IfOk, IsTrue, Ok, Err, filter, length, vec_len};
 ghost use Rattle.sip_served.specs.Notices.{request_notice, local_tag_of};
-ghost use Rattle.sip_served.specs.Removal.{after_tick, is_kept_at};
+ghost use Rattle.sip_served.specs.Removal.{after_tick, is_kept_at, next_removal};
 ghost use Rattle.sip_served.specs.Requests.{after_item, given_for_item};
 ghost use Rattle.sip_served.specs.Respond.{after_decision, after_respond, given_by_decision, given_by_respond};
 ghost use Rattle.sip_served.specs.Up.{after_up, given_by_up};
@@ -16,6 +16,7 @@ use crate::refusal::Refusal;
 use crate::respond::{Answerable, answer, decide, note_answer};
 use sip_message::{CallId, Id, Key, Message, Token};
 use sip_text::Text;
+use sip_timers::earlier;
 use sip_transactions::{Kind, Up};
 use std::alloc::{AllocError, Global};
 
@@ -202,6 +203,14 @@ pub(crate) fn without_due(
     held.into_iter()
         .filter(|held| is_kept(held, now))
         .collect(alloc)
+}
+
+/// The first moment, in ms, at which a request is removed, if there is one.
+pub(crate) fn next_removal(held: &[HeldRequest]) -> Option<u64>
+    ensures { result ≡ next_removal held.now }
+{
+    held.iter()
+        .fold(None, |due, request| earlier(due, request.removal))
 }
 
 fn is_kept(held: &HeldRequest, now: u64) -> bool

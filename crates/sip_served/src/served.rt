@@ -4,7 +4,7 @@ ghost use Rattle.std.specs.Prelude.{◌≡◌, ◌≤◌, ◌^◌, [], IfOk, OnE
 
 use crate::held_request::HeldRequest;
 use crate::item::{CallOut, Item};
-use crate::requests::{take_item, without_due};
+use crate::requests::{next_removal, take_item, without_due};
 use sip_message::{Addr, Id, Token};
 use sip_model::ShardFault;
 use std::alloc::{AllocError, Global};
@@ -30,7 +30,7 @@ impl Model for Served {
 }
 
 impl Served {
-    ghost use Rattle.sip_served.specs.Removal.{after_tick};
+    ghost use Rattle.sip_served.specs.Removal.{after_tick, next_removal};
     ghost use Rattle.sip_served.specs.Requests.{after_item, given_for_item};
     ghost use Rattle.sip_served.specs.ServerSide.{all_held};
 
@@ -52,6 +52,16 @@ impl Served {
         match &self.requests {
             Some(requests) => !requests.is_empty(),
             None => false,
+        }
+    }
+
+    /// The first moment, in ms, at which a tick does something, if there is one. Takes no memory.
+    pub fn next_due(&self) -> Option<u64>
+        ensures { result ≡ next_removal (all_held self.now) }
+    {
+        match &self.requests {
+            Some(requests) => next_removal(requests.as_slice()),
+            None => None,
         }
     }
 

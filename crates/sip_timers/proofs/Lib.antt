@@ -1,2 +1,2 @@
-pub mod Earlier
+pub mod DueFirst
 pub mod Moments

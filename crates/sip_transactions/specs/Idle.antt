@@ -4,7 +4,7 @@ use Rattle.std.specs.Prelude.{Option, None, Some}
 use Rattle.sip_message.specs.declared.key.Key.{Key}
 use Rattle.sip_model.specs.Machine.{IsIdle}
 use Rattle.sip_timers.specs.Queue.{is_due}
-use Rattle.sip_timers.proofs.Earlier.{earlier_is_due}
+use Rattle.sip_timers.proofs.DueFirst.{earlier_is_due}
 use Rattle.sip_transactions.specs.declared.life.Life.{Life}
 use Rattle.sip_transactions.specs.declared.trigger.Trigger.{Trigger}
 use Rattle.sip_transactions.specs.declared.trigger.Trigger.TheVariants as on

@@ -2,10 +2,10 @@
 
 ghost use Rattle.std.specs.Prelude.{◌≡◌, ◌≤◌, ◌^◌, ◌<◌, true, false, None};
 ghost use Rattle.sip_timers.specs.Queue.{is_due};
-ghost use Rattle.sip_timers.specs.Earlier.{earlier};
 ghost use Rattle.sip_transactions.specs.Timers.{interval, rearmed, first_due, IsTimely};
 
 use crate::step::{Due, Pace};
+use sip_timers::earlier;
 use std::marker::Model;
 
 /// T1, the first interval, in milliseconds (RFC 3261 section 17.1.1.1).
@@ -121,15 +121,6 @@ fn interval(pace: Pace, fired: u32) -> u64
         Pace::Doubled => T1 << fired,
         Pace::Capped => (T1 << fired).min(T2),
         Pace::Even => T2,
-    }
-}
-
-fn earlier(moment: Option<u64>, other: Option<u64>) -> Option<u64>
-    ensures { result ≡ earlier moment other }
-{
-    match (moment, other) {
-        (None, due) | (due, None) => due,
-        (Some(moment), Some(other)) => Some(moment.min(other)),
     }
 }
 
