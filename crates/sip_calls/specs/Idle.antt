@@ -1,6 +1,6 @@
 -- Where nothing is due of a call, a tick does nothing.
 use Rattle.std.proofs.Common.{◌≡◌, ℕ, Bool, true, false, cond, ◌||◌, List, [], ◌∷◌, length, nat_le, nat_lt, refl, sym, ◌∙◌, ap, arith}
-use Rattle.std.specs.Prelude.{Option, None, Some}
+use Rattle.std.specs.Prelude.{Option, None, Some, if◌then◌else◌}
 use Rattle.std.specs.Option.{option_map_or}
 use Rattle.std.specs.List.{fold, AllByRecursion}
 use Rattle.std.proofs.lemmas.Grind.{common_steps}
@@ -42,6 +42,9 @@ all_kept now (request ∷ held) later =
 due_at_once : (now : ℕ) → is_due now (Some 0) ≡ true
 due_at_once now = grind (arith, common_steps)
 
+something : {X : Type 0} (x : X) (xs : List X) → nat_lt 0 (length (x ∷ xs)) ≡ true
+something x xs = grind (arith, common_steps)
+
 -- a call with these requests, of which there is one
 still_held : (calls : Calls) (now : ℕ) (key : List ℕ) (call : Call) (requests : Option (List HeldRequest)) → call.served.requests ≡ requests
     → is_due now (call_due (record call { served = record call.served { requests = requests } })) ≡ false
@@ -49,8 +52,10 @@ still_held : (calls : Calls) (now : ℕ) (key : List ℕ) (call : Call) (request
 still_held calls now key call None is calm = absurd (true≢false (sym (due_at_once now) ∙ calm))
 still_held calls now key call (Some []) is calm = absurd (true≢false (sym (due_at_once now) ∙ calm))
 still_held calls now key call (Some (request ∷ held)) is calm =
-    let kept : after_tick (request ∷ held) now ≡ request ∷ held = all_kept now (request ∷ held) (all_later now None (request ∷ held) calm).1 in
-    rw kept refl
+    let some : nat_lt 0 (length (request ∷ held)) ≡ true = something request held in
+    let later : is_due now (next_removal (request ∷ held)) ≡ false = ap (λ b. is_due now (if b then next_removal (request ∷ held) else Some 0)) (sym some) ∙ calm in
+    let kept : after_tick (request ∷ held) now ≡ request ∷ held = all_kept now (request ∷ held) (all_later now None (request ∷ held) later).1 in
+    rw kept (rw some refl)
 
 pub ticks_are_idle : (calls : Calls) (now : ℕ) → IsIdle (call_machine calls) call_due now (tick_input now)
 ticks_are_idle calls now key None calm = refl
