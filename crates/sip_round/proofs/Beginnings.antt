@@ -6,7 +6,7 @@ use Rattle.std.specs.List.{flat_map, sum_by}
 use Rattle.std.specs.FinMap as map
 use Rattle.std.specs.declared.cmp.Ordering.{Ordering}
 use Rattle.std.proofs.lemmas.List.Sums.{sum_by-append}
-use Rattle.sip_model.specs.Machine.{Machine, state_from}
+use Rattle.sip_model.specs.Machine.{Machine, next, adds, state_from}
 use Rattle.sip_model.specs.History.{states_after}
 use Rattle.sip_model.specs.Inputs.{Inputs, with_input, added_by, with_tick, added_by_tick, with_items, added_by_items}
 use Rattle.sip_model.proofs.Ordered.{by_bool}
@@ -21,16 +21,16 @@ sum_flat c f (a ∷ rest) none = sum_by-append c (f a) (flat_map f rest) ∙ ap 
 
 module _ {K S I O : Type 0} (cmp : K → K → Ordering) (machine : Machine K S I O) (q : K) (c : O → ℕ) where
   lives_push : (state : Option S) (inputs : List I) (input : I)
-      → lives_from machine q state (inputs ++ input ∷ []) ≡ lives_from machine q state inputs + begins (state_from machine q state inputs) (machine.next q (state_from machine q state inputs) input)
+      → lives_from machine q state (inputs ++ input ∷ []) ≡ lives_from machine q state inputs + begins (state_from machine q state inputs) (next machine q (state_from machine q state inputs) input)
   lives_push state [] input = add-zero _ ∙ sym (zero-add _)
   lives_push state (i ∷ is) input =
-      ap (λ n. begins state (machine.next q state i) + n) (lives_push (machine.next q state i) is input)
-      ∙ sym (plus_assoc (begins state (machine.next q state i)) _ _)
+      ap (λ n. begins state (next machine q state i) + n) (lives_push (next machine q state i) is input)
+      ∙ sym (plus_assoc (begins state (next machine q state i)) _ _)
 
   -- each life of this key counts once, as it begins; what other keys say doesn't count
   pub record CountsLives : Type 0 where
-    pub own : (state : Option S) (input : I) → sum_by c (machine.adds q state input) ≡ begins state (machine.next q state input)
-    pub others : (key : K) → is_at (cmp key) q ≡ false → (state : Option S) (input : I) → sum_by c (machine.adds key state input) ≡ 0
+    pub own : (state : Option S) (input : I) → sum_by c (adds machine q state input) ≡ begins state (next machine q state input)
+    pub others : (key : K) → is_at (cmp key) q ≡ false → (state : Option S) (input : I) → sum_by c (adds machine key state input) ≡ 0
     pub same : (key : K) → is_at (cmp key) q ≡ true → key ≡ q
 
   -- the lives of this key that begin in its inputs
@@ -58,7 +58,7 @@ module _ {K S I O : Type 0} (cmp : K → K → Ordering) (machine : Machine K S 
       ∙ ap (λ n. lives_in inputs + n) (sym (sum_by-append c (added_by cmp machine inputs item.0 item.1) (added_by_items cmp machine (with_input cmp machine inputs item.0 item.1) items)))
 
   -- a tick at which nothing counts
-  pub lives_by_tick : CountsLives → (inputs : Inputs cmp I) (tick : I) → ((key : K) (state : Option S) → sum_by c (machine.adds key state tick) ≡ 0)
+  pub lives_by_tick : CountsLives → (inputs : Inputs cmp I) (tick : I) → ((key : K) (state : Option S) → sum_by c (adds machine key state tick) ≡ 0)
       → (lives_in (with_tick cmp machine inputs tick) ≡ lives_in inputs) × (sum_by c (added_by_tick cmp machine inputs tick) ≡ 0)
   lives_by_tick counts inputs tick silent = (
     own_input counts inputs tick ∙ ap (λ n. lives_in inputs + n) (silent q (states_after machine inputs.history q)) ∙ add-zero _,

@@ -1,15 +1,18 @@
 -- Steps of a phase: by what a shard answers, one after the other, and over lists.
 use Rattle.std.proofs.Common.{◌≡◌, ℕ, List, [], ◌++◌, refl, sym, ◌∙◌, ap, append_assoc}
-use Rattle.std.specs.Prelude.{Result, Ok, Err, OnOk}
+use Rattle.std.specs.Prelude.{None, Result, Ok, Err, OnOk}
 use Rattle.std.specs.List.{flat_map}
 use Rattle.std.proofs.lemmas.List.{append-nil}
 use Rattle.std.specs.declared.cmp.Ordering.{Ordering}
 use Rattle.std.specs.Cmp.{IsTotalOrder}
-use Rattle.sip_model.specs.Machine.{Machine, IsQuiet}
+use Rattle.sip_model.specs.Machine.{Machine, next}
 use Rattle.sip_model.specs.Table.{Held}
 use Rattle.sip_model.specs.History.{AddsInput, AddsInputs}
 use Rattle.sip_calls.specs.declared.calls.Calls.{Calls}
 use Rattle.sip_calls.specs.Call.{call_machine, tick_input}
+use Rattle.sip_message.specs.declared.key.Key.{Key}
+use Rattle.sip_transactions.specs.Machine.{transaction_machine, tick_at}
+use Rattle.sip_transactions.specs.Idle.{ticks_are_idle}
 use Rattle.sip_round.specs.Feeding.{Feeds}
 use Rattle.sip_model.specs.Inputs.{HoldsAfter, with_input, added_by, with_tick, added_by_tick}
 use Rattle.sip_model.proofs.Inputs.{holds_one_more, says_one_more, holds_tick, says_tick}
@@ -51,7 +54,7 @@ module _ {K S I O X Y : Type 0} {cmp : K → K → Ordering} (machine : Machine 
   }
 
   -- one input more of every key
-  pub feeds_tick : (tick : I) → IsQuiet machine tick → (old new : Held K S) (outs : List O) (xs newer_xs : List X) (ys newer_ys : List Y)
+  pub feeds_tick : (tick : I) → ((key : K) → next machine key None tick ≡ None) → (old new : Held K S) (outs : List O) (xs newer_xs : List X) (ys newer_ys : List Y)
       → AddsInputs cmp machine old new tick outs → newer_xs ≡ xs ++ flat_map f outs → newer_ys ≡ ys ++ flat_map g outs
       → Feeds (HoldsAfter cmp machine old) (HoldsAfter cmp machine new) (λ inputs. with_tick cmp machine inputs tick)
       (λ inputs. flat_map f (added_by_tick cmp machine inputs tick)) (λ inputs. flat_map g (added_by_tick cmp machine inputs tick)) xs newer_xs ys newer_ys
@@ -62,5 +65,9 @@ module _ {K S I O X Y : Type 0} {cmp : K → K → Ordering} (machine : Machine 
   }
 
 -- a tick does nothing to a call that isn't held
-pub calls_are_quiet : (calls : Calls) (now : ℕ) → IsQuiet (call_machine calls) (tick_input now)
-calls_are_quiet calls now = record { stays = λ _. refl; silent = λ _. refl }
+pub calls_are_quiet : (calls : Calls) (now : ℕ) → (key : List ℕ) → next (call_machine calls) key None (tick_input now) ≡ None
+calls_are_quiet calls now key = refl
+
+-- nor to a transaction without a life
+pub transactions_are_quiet : (now : ℕ) (key : Key) → next transaction_machine key None (tick_at now) ≡ None
+transactions_are_quiet now key = ap (λ r. r.0) (ticks_are_idle now key None refl)

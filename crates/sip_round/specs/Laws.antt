@@ -6,7 +6,7 @@ use Rattle.sip_files.specs.declared.round.Round.{Round}
 use Rattle.sip_message.specs.Key.{key_cmp}
 use Rattle.sip_message.specs.declared.id.Id.{Id}
 use Rattle.sip_message.specs.declared.key.Key.{Key}
-use Rattle.sip_model.specs.Machine.{Machine}
+use Rattle.sip_model.specs.Machine.{Machine, next}
 use Rattle.sip_round.specs.Answers.{past_of, past_after, items_of_round}
 use Rattle.sip_round.specs.Past.{Past, no_past}
 use Rattle.sip_served.specs.declared.item.Item.{Item}
@@ -24,7 +24,7 @@ begins (Some before) after = 0
 -- how many lives begin in a list of inputs, from a state
 abbrev pub lives_from : {K S I O : Type 0} → Machine K S I O → K → Option S → List I → ℕ
 lives_from machine key state [] = 0
-lives_from machine key state (input ∷ inputs) = begins state (machine.next key state input) + lives_from machine key (machine.next key state input) inputs
+lives_from machine key state (input ∷ inputs) = begins state (next machine key state input) + lives_from machine key (next machine key state input) inputs
 
 -- a request, ACKs aside, that the transaction of this key hands up
 abbrev pub is_request_of : Key → Item → Bool
