@@ -2,5 +2,6 @@ pub mod History
 pub mod Inputs
 pub mod Machine
 pub mod Owned
+pub mod Phase
 pub mod Table
 pub mod Told

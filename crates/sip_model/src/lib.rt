@@ -3,11 +3,16 @@
 #![tactic(auto)]
 
 mod fault;
+mod item;
+mod items;
 mod machine;
 mod one_key;
+mod replies;
 mod table;
 mod ticks;
 
 pub use fault::ShardFault;
+pub use item::Item;
 pub use machine::StateMachine;
+pub use replies::Replies;
 pub use table::Table;

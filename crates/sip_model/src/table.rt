@@ -1,16 +1,21 @@
 //! The table of the held keys.
 
-ghost use Rattle.std.specs.Prelude.{◌≡◌, ℕ, List, Option, Some, None, [], IfOk, OnOk, OnErr, IsTrue, cond, length, true, count_by, is_some, IsErr};
-ghost use Rattle.std.specs.Option.{option_copied};
+ghost use Rattle.std.specs.Prelude.{◌≡◌, ℕ, List, Option, Some, None, [], IfOk, OnOk, OnErr, IsTrue, cond, length, true, count_by, is_some, IsErr, All};
+ghost use Rattle.std.specs.Option.{option_copied, option_map_or};
 ghost use Rattle.std.specs.BTreeMap.{get, is_at, BTreeMap};
 ghost use Rattle.sip_model.specs.Machine.{next, adds};
 ghost use Rattle.sip_model.specs.Table.{AreDues, Held, state_at, state_in, entries_of, Covers, StepsKey, StepsAll};
+ghost use Rattle.sip_model.specs.Phase.{AddsPhase, DealsPhase};
+ghost use Rattle.sip_model.specs.Told.{groups};
 ghost use Rattle.sip_model.specs.History.{AddsInput, AddsInputs};
 
 use crate::fault::ShardFault;
+use crate::item::Item;
 use crate::machine::StateMachine;
+use crate::items::deal_items;
 use crate::one_key::step_key;
-use crate::ticks::{joined, tick_due};
+use crate::replies::Replies;
+use crate::ticks::{joined, tick_due, tick_if};
 use sip_timers::Queue;
 use std::alloc::{AllocError, Global};
 use std::collections::BTreeMap;
@@ -153,5 +158,27 @@ impl<M: StateMachine> Table<M> {
         let outputs = joined(self.alloc, told)?;
         self.live = Some(Live { states, dues });
         Ok(outputs)
+    }
+
+    /// Gives every key the tick of a moment in ms, where there is one, and then each item to its key, in their order.
+    pub fn deal(
+        &mut self,
+        machine: &M,
+        moment: Option<u64>,
+        items: Vec<Item<M::Key, M::Input>>,
+    ) -> Result<Replies<M::Key, M::Output>, ShardFault>
+        requires moment { IsTrue (option_map_or (λ now. M.admits (M.tick now)) moment true) }
+        requires items { All (λ item. IsTrue (M.admits item.input)) items.items }
+        ensures broken { self.old ≡ None → result ≡ Err ShardFault.Broken }
+        ensures only_broken { result ≡ Err ShardFault.Broken → self.old ≡ None }
+        ensures err { OnErr result (self.new ≡ None) }
+        ensures step { IfOk result (λ replies. DealsPhase M.Key.cmp (M.machine machine.now) M.tick self.old self.new (record { moment = moment; items = items.items }) (groups replies.ticks.items) (groups replies.items.items)) }
+        ensures phases { IfOk result (λ replies. AddsPhase M.Key.cmp (M.machine machine.now) M.tick self.old self.new (record { moment = moment; items = items.items }) (groups replies.ticks.items) (groups replies.items.items)) }
+    {
+        let (mut states, mut dues) = self.live.take().ok_or(ShardFault::Broken)?.apart();
+        let ticks = tick_if(self.alloc, machine, &mut states, &mut dues, moment)?;
+        let items = deal_items(self.alloc, machine, &mut states, &mut dues, items)?;
+        self.live = Some(Live { states, dues });
+        Ok(Replies { ticks, items })
     }
 }

@@ -1,10 +1,12 @@
 //! A tick of every key of which something is due.
 
-ghost use Rattle.std.specs.Prelude.{◌≡◌, List, IfOk, OnOk, IsTrue};
+ghost use Rattle.std.specs.Prelude.{◌≡◌, List, IfOk, OnOk, IsTrue, true};
+ghost use Rattle.std.specs.Option.{option_map_or};
 ghost use Rattle.std.specs.List.{flat_map};
 ghost use Rattle.std.specs.BTreeMap.{get};
 ghost use Rattle.sip_model.specs.Machine.{next};
 ghost use Rattle.sip_model.specs.Table.{AreDues, Covers, state_in};
+ghost use Rattle.sip_model.specs.Phase.{ticked, told_tick};
 ghost use Rattle.sip_model.specs.Told.{groups, told_ticks, with_said};
 
 use crate::machine::StateMachine;
@@ -38,6 +40,27 @@ pub(crate) fn tick_due<M: StateMachine>(
         tell(&mut told, key, outputs)?;
     }
     Ok(told)
+}
+
+/// The same where there is a moment; otherwise nothing is said.
+pub(crate) fn tick_if<M: StateMachine>(
+    alloc: Global,
+    machine: &M,
+    states: &mut BTreeMap<M::Key, M::State>,
+    dues: &mut Queue<M::Key>,
+    moment: Option<u64>,
+) -> Result<Vec<(M::Key, Vec<M::Output>)>, AllocError>
+    requires admitted { IsTrue (option_map_or (λ now. M.admits (M.tick now)) moment true) }
+    requires armed { AreDues M.Key.cmp M.due (get M.Key.cmp states.old) dues.old }
+    ensures states { OnOk result ((q : M.Key) → get M.Key.cmp states.new q ≡ ticked M.Key.cmp (M.machine machine.now) M.tick (get M.Key.cmp states.old) moment q) }
+    ensures armed { OnOk result (AreDues M.Key.cmp M.due (get M.Key.cmp states.new) dues.new) }
+    ensures told { IfOk result (λ told. (keys : List M.Key) → Covers M.Key.cmp keys (get M.Key.cmp states.old)
+        → groups told.items ≡ told_tick M.Key.cmp (M.machine machine.now) M.tick (get M.Key.cmp states.old) moment keys) }
+{
+    match moment {
+        None => Ok(Vec::new(alloc)),
+        Some(now) => tick_due(alloc, machine, states, dues, now),
+    }
 }
 
 // What one key says goes behind what was told, where it says something.

@@ -1,0 +1,11 @@
+use Rattle.std.specs.Prelude.{IsTrue}
+use Rattle.std.specs.BTreeMap.{get}
+use Rattle.std.specs.Vec.Iter.{into_iter_items}
+use Rattle.sip_model.specs.Told.{groups}
+use Rattle.sip_model.proofs.ItemsLeft.{ItemsLeft}
+use Rattle.sip_model.proofs.items.deal_items.Given as goal
+
+abbrev pub invariant-loop-place : goal.invariant-loop-place
+invariant-loop-place g l =
+    ItemsLeft g.M.Key.Ord.cmp (g.M.StateMachine.machine l.machine) g.M.StateMachine.due (λ input. IsTrue (g.M.StateMachine.admits input)) (get g.M.Key.Ord.cmp l.fn.states)
+    l.fn.items.items (into_iter_items l.place-iterator) (get g.M.Key.Ord.cmp l.states) l.dues (groups l.told.items)
