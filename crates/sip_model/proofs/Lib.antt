@@ -1,3 +1,5 @@
+pub mod Alone
+pub mod Apart
 pub mod Held
 pub mod History
 pub mod Inputs

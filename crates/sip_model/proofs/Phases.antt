@@ -94,7 +94,7 @@ all_back P [] ys all = all
 all_back P (x ∷ xs) ys all = all_back P xs ys all.1
 
 module _ {K S I O : Type 0} (cmp : K → K → Ordering) (machine : Machine K S I O) (due : S → Option ℕ) (tick : ℕ → I) (idle : (moment : ℕ) → IsIdle machine due moment (tick moment)) where
-  still_none : (q : K) (moment : Option ℕ) → state_from machine q None (map tick (option_to_list moment)) ≡ None
+  pub still_none : (q : K) (moment : Option ℕ) → state_from machine q None (map tick (option_to_list moment)) ≡ None
   still_none q None = refl
   still_none q (Some moment) = ap (λ r. r.0) (idle moment q None refl)
 

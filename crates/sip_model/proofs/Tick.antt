@@ -113,7 +113,7 @@ module _ {K O : Type 0} where
   flat_map-told says [] = refl
   flat_map-told says (k ∷ ks) = ap (λ rest. says k ++ rest) (flat_map-told says ks)
 
-silence : {O : Type 0} (outputs : List O) → speaks outputs ≡ false → outputs ≡ []
+pub silence : {O : Type 0} (outputs : List O) → speaks outputs ≡ false → outputs ≡ []
 silence [] e = refl
 silence (o ∷ os) e = absurd (false≢true (sym e))
 

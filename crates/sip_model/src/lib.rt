@@ -5,6 +5,7 @@
 mod fault;
 mod item;
 mod items;
+mod laws;
 mod machine;
 mod one_key;
 mod replies;
@@ -13,6 +14,7 @@ mod ticks;
 
 pub use fault::ShardFault;
 pub use item::Item;
+pub use laws::laws_of_phases;
 pub use machine::StateMachine;
 pub use replies::Replies;
 pub use table::Table;

@@ -1,77 +1,125 @@
-//! A table at a machine of numbers.
+//! A table at a machine of alarms.
 
-ghost use Rattle.std.specs.Prelude.{◌≡◌, ◌==◌, if◌then◌else◌, IfOk, None, Some, option_to_list, refl};
+ghost use Rattle.std.proofs.Common.{ap};
+ghost use Rattle.std.specs.Prelude.{◌≡◌, ◌==◌, if◌then◌else◌, IfOk, List, [], Option, None, Some, true, option_to_list};
 ghost use Rattle.std.proofs.lemmas.Map.Lookups.{exact_unsigned};
+ghost use Rattle.sip_timers.specs.Queue.{is_due};
+ghost use Rattle.sip_model.specs.Machine.{due_of};
 
-use sip_model::{ShardFault, StateMachine, Table};
+use sip_model::{Item, ShardFault, StateMachine, Table};
 use std::alloc::{AllocError, Global};
 use std::test::Fail;
 
-// A machine of a number for each key: 0 is a tick, 1 ends it, any other number is its next state. It says its state.
-struct Numbers;
+// A machine of one alarm for each key, whose state is the moment at which it rings. A tick from that moment on ends it; any
+// other number than 0 sets it anew, and 0 ends it. It says the moment that it had.
+struct Alarms;
 
-impl StateMachine for Numbers {
+impl StateMachine for Alarms {
     type Key = u32;
 
-    type State = u32;
+    type State = u64;
 
-    type Input = u32;
+    // whether it is a tick, and the moment
+    type Input = (bool, u64);
 
-    type Output = u32;
+    type Output = u64;
 
-    ghost machine = { λ _. record { next = λ key state input. if input == 0 then state else (if input == 1 then None else Some input); adds = λ key state input. option_to_list state } };
+    ghost machine = { λ _. record {
+      step = λ key state input.
+          if input.0
+          then (if is_due input.1 (due_of (λ moment. Some moment) state) then (None, option_to_list state) else (state, []))
+          else ((if input.1 == 0 then None else Some input.1), option_to_list state);
+    } };
 
-    ghost tick = { λ _. 0 };
+    ghost tick = { λ moment. (true, moment) };
 
-    ghost admits = { λ _. Unit {0} };
+    ghost due = { λ moment. Some moment };
 
-    fn tick_at(&self, _moment: u64) -> u32 {
-        0
+    ghost admits = { λ _. true };
+
+    ghost copies = { λ _ _ same. same };
+
+    ghost exact = { exact_unsigned };
+
+    ghost idle = { λ _ moment key state calm. ap (λ b. if b then (None, option_to_list state) else (state, [])) calm };
+
+    fn tick_at(&self, moment: u64) -> (bool, u64) {
+        (true, moment)
+    }
+
+    fn due_of(&self, state: &u64) -> Option<u64> {
+        Some(*state)
     }
 
     fn step(
         &self,
         alloc: Global,
         _key: &u32,
-        state: Option<u32>,
-        input: u32,
-    ) -> Result<(Option<u32>, Vec<u32>), AllocError>
-        ensures next { IfOk result (λ after. after.0 ≡ (if input == 0 then state else (if input == 1 then None else Some input))) }
-        ensures adds { IfOk result (λ after. after.1.items ≡ option_to_list state) }
-    {
+        state: Option<u64>,
+        input: (bool, u64),
+    ) -> Result<(Option<u64>, Vec<u64>), AllocError> {
+        let (is_tick, moment) = input;
         let mut outputs = Vec::new(alloc);
-        if let Some(state) = state {
-            outputs.push(state)?;
+        if is_tick && state.is_none_or(|due| moment < due) {
+            return Ok((state, outputs));
         }
-        let after = match input {
-            0 => state,
-            1 => None,
-            _ => Some(input),
+        if let Some(due) = state {
+            outputs.push(due)?;
+        }
+        let after = if is_tick || moment == 0 {
+            None
+        } else {
+            Some(moment)
         };
         Ok((after, outputs))
     }
-
-    ghost exact = { exact_unsigned };
-
-    ghost quiet = { λ _ _. record { stays = λ _. refl; silent = λ _. refl } };
 }
 
-// Keys are held while they have a state, and a tick goes over them in their order.
+// Keys are held while they have a state, and a tick goes over those that are due in their order.
 #[test]
-fn a_table_of_numbers(rt: HostRuntime) -> Result<(), Fail> {
+fn a_table_of_alarms(rt: HostRuntime) -> Result<(), Fail> {
     let mut table = Table::new(rt.alloc());
-    for (key, number) in [(9, 90), (3, 30), (6, 60)] {
-        let outputs = table.handle(&Numbers, key, number)?;
+    for (key, moment) in [(9, 90), (3, 30), (6, 20), (7, 70)] {
+        let outputs = table.handle(&Alarms, key, (false, moment))?;
         assert!(rt; outputs.is_empty());
     }
-    assert!(rt; table.live() == 3);
-    assert!(rt; table.state(&6).copied() == Some(60));
-    assert!(rt; table.tick(&Numbers, 5)?.as_slice() == [30, 60, 90].as_slice());
-
-    assert!(rt; table.handle(&Numbers, 6, 1)?.as_slice() == [60].as_slice());
+    assert!(rt; table.live() == 4);
+    assert!(rt; table.state(&6).copied() == Some(20));
+    assert!(rt; table.tick(&Alarms, 19)?.is_empty());
+    assert!(rt; table.tick(&Alarms, 30)?.as_slice() == [30, 20].as_slice());
     assert!(rt; table.state(&6).is_none());
-    assert!(rt; table.live() == 2);
-    assert!(rt; table.tick(&Numbers, 6)?.as_slice() == [30, 90].as_slice());
+    assert!(rt; table.handle(&Alarms, 9, (false, 0))?.as_slice() == [90].as_slice());
+    assert!(rt; table.live() == 1);
+    assert!(rt; table.tick(&Alarms, 70)?.as_slice() == [70].as_slice());
+    assert!(rt; table.live() == 0);
+    Ok(())
+}
+
+// A phase: what is due says so first, and then each item adds what it adds, by its place.
+#[test]
+fn a_phase_of_alarms(rt: HostRuntime) -> Result<(), Fail> {
+    let mut table = Table::new(rt.alloc());
+    table.handle(&Alarms, 3, (false, 30))?;
+    table.handle(&Alarms, 6, (false, 60))?;
+    let mut items = Vec::new(rt.alloc());
+    for (place, key, moment) in [(1, 6, 65), (2, 4, 40), (5, 6, 0)] {
+        let input = (false, moment);
+        items.push(Item { place, key, input })?;
+    }
+    let replies = table.deal(&Alarms, Some(60), items)?;
+    assert!(rt; replies.ticks.len() == 2);
+    assert!(rt; replies.ticks[0].0 == 3 && replies.ticks[0].1.as_slice() == [30].as_slice());
+    assert!(rt; replies.ticks[1].0 == 6 && replies.ticks[1].1.as_slice() == [60].as_slice());
+    assert!(rt; replies.items.len() == 3);
+    assert!(rt; replies.items[0].0 == 1 && replies.items[0].1.is_empty());
+    assert!(rt; replies.items[1].0 == 2 && replies.items[1].1.is_empty());
+    assert!(rt; replies.items[2].0 == 5 && replies.items[2].1.as_slice() == [65].as_slice());
+    assert!(rt; table.live() == 1);
+    assert!(rt; table.state(&4).copied() == Some(40));
+
+    let replies = table.deal(&Alarms, None, Vec::new(rt.alloc()))?;
+    assert!(rt; replies.ticks.is_empty() && replies.items.is_empty());
+    assert!(rt; table.live() == 1);
     Ok(())
 }
 
@@ -79,7 +127,7 @@ fn a_table_of_numbers(rt: HostRuntime) -> Result<(), Fail> {
 #[test]
 fn a_table_is_broken_by_what_was_refused(rt: HostRuntime) -> Result<(), Fail> {
     let mut table = Table::new(rt.alloc());
-    table.handle(&Numbers, 3, 30)?;
+    table.handle(&Alarms, 3, (false, 30))?;
     assert!(rt; table.check(Ok(7)) == Ok(7));
     assert!(rt; table.live() == 1);
 
@@ -87,8 +135,8 @@ fn a_table_is_broken_by_what_was_refused(rt: HostRuntime) -> Result<(), Fail> {
     assert!(rt; table.live() == 0);
     assert!(rt; table.state(&3).is_none());
     assert!(rt; table.check(Ok(7)) == Err(ShardFault::Broken));
-    assert!(rt; table.handle(&Numbers, 3, 30) == Err(ShardFault::Broken));
-    assert!(rt; table.tick(&Numbers, 5) == Err(ShardFault::Broken));
+    assert!(rt; table.handle(&Alarms, 3, (false, 30)) == Err(ShardFault::Broken));
+    assert!(rt; table.tick(&Alarms, 5) == Err(ShardFault::Broken));
     Ok(())
 }
 

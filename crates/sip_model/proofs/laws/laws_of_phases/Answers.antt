@@ -1,0 +1,15 @@
+use Rattle.sip_model.proofs.Alone.{in_order, said_alone}
+use Rattle.sip_model.proofs.Apart.{works_apart}
+use Rattle.sip_model.proofs.laws.laws_of_phases.Goals as goal
+
+pub returns-clause-each_key_alone : goal.returns-clause-each_key_alone
+returns-clause-each_key_alone g c = λ phases key.
+    said_alone g.met.M.Key.Ord.total g.met.M.StateMachine.exact (g.M.StateMachine.machine c.args._machine.now) g.M.StateMachine.due g.M.StateMachine.tick (g.met.M.StateMachine.idle c.args._machine.now) key _ phases
+
+pub returns-clause-shards_work_apart : goal.returns-clause-shards_work_apart
+returns-clause-shards_work_apart g c =
+    works_apart g.met.M.Key.Ord.total g.met.M.StateMachine.exact (g.M.StateMachine.machine c.args._machine.now) g.M.StateMachine.due g.M.StateMachine.tick (g.met.M.StateMachine.idle c.args._machine.now)
+
+pub returns-clause-told_in_order : goal.returns-clause-told_in_order
+returns-clause-told_in_order g c =
+    in_order g.met.M.Key.Ord.total g.met.M.StateMachine.exact (g.M.StateMachine.machine c.args._machine.now) g.M.StateMachine.due g.M.StateMachine.tick (g.met.M.StateMachine.idle c.args._machine.now)
