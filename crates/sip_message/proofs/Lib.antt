@@ -1,3 +1,4 @@
 pub mod Copies
 pub mod Tags
 pub mod Stamps
+pub mod Sums

@@ -1,3 +1,4 @@
+pub mod Cut
 pub mod Ip
 pub mod Addr
 pub mod Via

@@ -3,6 +3,7 @@
 
 mod addr;
 mod cseq;
+mod cut;
 mod fault;
 mod header;
 mod id;
@@ -22,6 +23,7 @@ mod writer;
 
 pub use addr::{Addr, ip_text};
 pub use cseq::CSeq;
+pub use cut::{Cut, First, Spread};
 pub use fault::ReadFault;
 pub use header::Header;
 pub use id::Id;

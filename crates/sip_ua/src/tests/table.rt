@@ -41,7 +41,7 @@ impl StateMachine for Alarms {
 
     ghost exact = { exact_unsigned };
 
-    ghost idle = { λ _ moment key state calm. ap (λ b. if b then (None, option_to_list state) else (state, [])) calm };
+    ghost idle = { λ _ moment key state calm. ap (λ b. ((if b then None else state), (if b then option_to_list state else []))) calm };
 
     fn tick_at(&self, moment: u64) -> (bool, u64) {
         (true, moment)
@@ -57,7 +57,10 @@ impl StateMachine for Alarms {
         _key: &u32,
         state: Option<u64>,
         input: (bool, u64),
-    ) -> Result<(Option<u64>, Vec<u64>), AllocError> {
+    ) -> Result<(Option<u64>, Vec<u64>), AllocError>
+        ensures next { IfOk result (λ after. after.0 ≡ (if input.0 then (if is_due input.1 (due_of (λ moment. Some moment) state) then None else state) else (if input.1 == 0 then None else Some input.1))) }
+        ensures adds { IfOk result (λ after. after.1.items ≡ (if input.0 then (if is_due input.1 (due_of (λ moment. Some moment) state) then option_to_list state else []) else option_to_list state)) }
+    {
         let (is_tick, moment) = input;
         let mut outputs = Vec::new(alloc);
         if is_tick && state.is_none_or(|due| moment < due) {
