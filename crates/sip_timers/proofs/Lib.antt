@@ -1,1 +1,4 @@
 pub mod Moments
+pub mod Dues
+pub mod Taking
+pub mod Sorts
