@@ -1,0 +1,79 @@
+-- Lines from posters to a desk: what was posted on each, what was taken from it, and the steps of the rule of a line.
+use Rattle.std.specs.Prelude.{◌≡◌, ℕ, List, [], ◌∷◌, ◌++◌, length, IsSomeAnd, Some, slice_get}
+use Rattle.std.specs.Option.{option_map_or}
+use Rattle.rtrb.specs.Ring.{sent, received, all_sent, producer_capacity, IsPair, IsFinishedOf, Finishes, SameProducer}
+use Rattle.sip_desk.specs.declared.poster.Poster.{Poster}
+use Rattle.sip_desk.specs.declared.ended.Ended.{Ended}
+use Rattle.sip_desk.specs.declared.desk.Desk.{Desk}
+use Rattle.sip_desk.specs.Merge.{part_of}
+
+module _ {E : Type 0} where
+  -- the events for which `post` answered Ok, in order
+  abbrev pub posted : Poster E → List E
+  posted poster = sent poster.ring
+
+  -- how many events the line has room for
+  abbrev pub capacity_of : Poster E → ℕ
+  capacity_of poster = producer_capacity poster.ring
+
+  -- all that was posted on a line that has ended
+  abbrev pub all_posted : Ended E → List E
+  all_posted ended = all_sent ended.ring
+
+  -- how many lines there are; they are numbered from 0 on
+  abbrev pub line_count : Desk E → ℕ
+  line_count desk = length desk.lines.items
+
+  -- the events that were collected from the line of this number, in order
+  abbrev pub taken : Desk E → ℕ → List E
+  taken desk line = option_map_or received (slice_get desk.lines.items line) []
+
+  -- ---- which ends are of one line
+
+  -- the poster is that of a line of the desk
+  abbrev pub IsPosterOf : Desk E → Poster E → Type 0
+  IsPosterOf desk poster = IsSomeAnd (slice_get desk.lines.items poster.line) (λ line. IsPair poster.ring line)
+
+  -- the end is that of a line of the desk
+  abbrev pub IsEndOf : Desk E → Ended E → Type 0
+  IsEndOf desk ended = IsSomeAnd (slice_get desk.lines.items ended.line) (λ line. IsFinishedOf ended.ring line)
+
+  -- the poster is still that of its line
+  abbrev pub SameLine : Poster E → Poster E → Type 0
+  SameLine old new = (new.line ≡ old.line) × SameProducer old.ring new.ring
+
+  -- the end is still that of its line, with what was posted on it
+  abbrev pub SameEnd : Ended E → Ended E → Type 0
+  SameEnd old new = (new.line ≡ old.line) × (all_posted new ≡ all_posted old)
+
+  -- the desk has the same lines, so what was an end of one of them is it still
+  pub record KeepsLines (old new : Desk E) : Type 0 where
+    pub count : line_count new ≡ line_count old
+    pub posters : (poster : Poster E) → IsPosterOf old poster → IsPosterOf new poster
+    pub ends : (ended : Ended E) → IsEndOf old ended → IsEndOf new ended
+
+  -- ---- the steps of a line: made, push, pop, finish
+
+  -- nothing was posted on the lines or taken from them, and the posters are those of the lines, in order
+  pub record IsOpened (desk : Desk E) (posters : List (Poster E)) (lines capacity : ℕ) : Type 0 where
+    pub count : line_count desk ≡ lines
+    pub each : length posters ≡ lines
+    pub untaken : (line : ℕ) → taken desk line ≡ []
+    pub made : (line : ℕ) (poster : Poster E) → slice_get posters line ≡ Some poster
+        → (poster.line ≡ line) × IsPosterOf desk poster × (posted poster ≡ []) × (capacity_of poster ≡ capacity)
+
+  -- the event is the next that was posted
+  abbrev pub Pushes : Poster E → Poster E → E → Type 0
+  Pushes old new event = posted new ≡ posted old ++ event ∷ []
+
+  -- the event is the next that was taken from the line, and no other line changes
+  abbrev pub Pops : Desk E → Desk E → ℕ → E → Type 0
+  Pops old new line event = (other : ℕ) → taken new other ≡ taken old other ++ part_of other ((line, event) ∷ [])
+
+  -- no line changes
+  abbrev pub TakesNothing : Desk E → Desk E → Type 0
+  TakesNothing old new = (line : ℕ) → taken new line ≡ taken old line
+
+  -- what was posted is final, on the same line
+  abbrev pub EndsLine : Poster E → Ended E → Type 0
+  EndsLine poster ended = (ended.line ≡ poster.line) × Finishes poster.ring ended.ring

@@ -1,0 +1,22 @@
+use std::error::Error;
+use std::fmt;
+
+/// Why a line wasn't settled.
+#[derive(Clone, Copy, Debug, PartialEq, Eq)]
+pub enum SettleFault {
+    /// The end is that of another line.
+    WrongLine,
+    /// An event that was posted on the line wasn't collected yet.
+    NotDrained,
+}
+
+impl fmt::Display for SettleFault {
+    fn fmt<W: fmt::Write>(&self, f: &mut fmt::Formatter<W>) -> fmt::Result {
+        match self {
+            SettleFault::WrongLine => write!(f, "the end of another line"),
+            SettleFault::NotDrained => write!(f, "events are left on the line"),
+        }
+    }
+}
+
+impl Error for SettleFault {}
