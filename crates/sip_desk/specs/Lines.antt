@@ -1,7 +1,7 @@
 -- Lines from posters to a desk: what was posted on each, what was taken from it, and the steps of the rule of a line.
 use Rattle.std.specs.Prelude.{◌≡◌, ℕ, List, [], ◌∷◌, ◌++◌, length, IsSomeAnd, Some, slice_get}
 use Rattle.std.specs.Option.{option_map_or}
-use Rattle.rtrb.specs.Ring.{sent, received, all_sent, producer_capacity, IsPair, IsFinishedOf, Finishes, SameProducer}
+use Rattle.rtrb.specs.Ring.{sent, received, all_sent, producer_capacity, IsPair, IsFinishedOf}
 use Rattle.sip_desk.specs.declared.poster.Poster.{Poster}
 use Rattle.sip_desk.specs.declared.ended.Ended.{Ended}
 use Rattle.sip_desk.specs.declared.desk.Desk.{Desk}
@@ -39,8 +39,15 @@ module _ {E : Type 0} where
   IsEndOf desk ended = IsSomeAnd (slice_get desk.lines.items ended.line) (λ line. IsFinishedOf ended.ring line)
 
   -- the poster is still that of its line
-  abbrev pub SameLine : Poster E → Poster E → Type 0
-  SameLine old new = (new.line ≡ old.line) × SameProducer old.ring new.ring
+  pub record SameLine (old new : Poster E) : Type 0 where
+    pub number : new.line ≡ old.line
+    pub capacity : capacity_of new ≡ capacity_of old
+    pub of_desk : (desk : Desk E) → IsPosterOf desk old → IsPosterOf desk new
+
+  -- the end is that of the poster's line
+  pub record IsEndOfLine (poster : Poster E) (ended : Ended E) : Type 0 where
+    pub number : ended.line ≡ poster.line
+    pub of_desk : (desk : Desk E) → IsPosterOf desk poster → IsEndOf desk ended
 
   -- the end is still that of its line, with what was posted on it
   abbrev pub SameEnd : Ended E → Ended E → Type 0
@@ -74,6 +81,6 @@ module _ {E : Type 0} where
   abbrev pub TakesNothing : Desk E → Desk E → Type 0
   TakesNothing old new = (line : ℕ) → taken new line ≡ taken old line
 
-  -- what was posted is final, on the same line
-  abbrev pub EndsLine : Poster E → Ended E → Type 0
-  EndsLine poster ended = (ended.line ≡ poster.line) × Finishes poster.ring ended.ring
+  -- what was posted is final
+  abbrev pub IsFinal : Poster E → Ended E → Type 0
+  IsFinal poster ended = all_posted ended ≡ posted poster

@@ -15,7 +15,7 @@ pub struct Poster<E> {
 
 impl<E: Drop> Poster<E> {
     ghost use Rattle.std.specs.Prelude.{IsOk, OnOk, OnErr, IfOk, IfErr};
-    ghost use Rattle.sip_desk.specs.Lines.{posted, capacity_of, Pushes, SameLine, EndsLine};
+    ghost use Rattle.sip_desk.specs.Lines.{posted, capacity_of, Pushes, SameLine, IsFinal, IsEndOfLine};
 
     /// Puts an event on the line, behind those that are there, or gives it back where the line is full. It takes no
     /// memory and doesn't wait.
@@ -42,7 +42,8 @@ impl<E: Drop> Poster<E> {
     ///
     /// `Unfinished`, where the desk is gone.
     pub fn finish(self) -> Result<Ended<E>, Unfinished>
-        ensures { IfOk result (λ ended. EndsLine self ended) }
+        ensures kept { IfOk result (λ ended. IsFinal self ended) }
+        ensures end { IfOk result (λ ended. IsEndOfLine self ended) }
     {
         let Poster { line, ring } = self;
         let ring = ring.finish().ok_or(Unfinished)?;
