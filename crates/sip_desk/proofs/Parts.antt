@@ -1,13 +1,18 @@
 -- Lemmas on merges: of marked events that are joined or cut.
-use Rattle.std.proofs.Common.{◌≡◌, ℕ, List, [], ◌∷◌, ◌++◌, map, refl, sym, ap, subst, ◌∙◌, append_assoc}
+use Rattle.std.proofs.Common.{◌≡◌, ℕ, ◌+◌, ◌<◌, ◌≤◌, inl, inr, List, [], ◌∷◌, ◌++◌, map, refl, sym, ap, subst, ◌∙◌, append_assoc, arith, length}
 use Rattle.std.specs.Prelude.{filter, ◌==◌}
 use Rattle.std.specs.List.{flat_map}
-use Rattle.std.proofs.lemmas.List.{append-nil, map-append}
+use Rattle.std.proofs.lemmas.Bool.{cases_eq, cases_lt}
+use Rattle.std.proofs.lemmas.List.{append-nil, map-append, length-append}
+use Rattle.rtrb.specs.Ring.{known_items}
+use Rattle.sip_desk.proofs.Rings.{map_or_past}
 use Rattle.std.proofs.lemmas.List.Elements.{filter-append}
 use Rattle.sip_desk.specs.declared.desk.Desk.{Desk}
+use Rattle.sip_desk.specs.declared.ended.Ended.{Ended}
+use Rattle.sip_desk.specs.declared.settle_fault.SettleFault.TheVariants.{NotDrained}
 use Rattle.sip_desk.specs.Merge.{part_of, unmarked, IsMerge, HoldsParts}
-use Rattle.sip_desk.specs.Lines.{taken, Pops, TakesNothing, KeepsLines}
-use Rattle.sip_desk.specs.Collected.{Collects, Gathers}
+use Rattle.sip_desk.specs.Lines.{line_count, taken, seen, all_posted, Gives, Pops, TakesNothing, KeepsLines}
+use Rattle.sip_desk.specs.Collected.{Collects, Gathers, IsDry, Because}
 
 nil_cons : {E : Type 0} (x : E) (xs : List E) → [] ≡ x ∷ xs → ⊥
 nil_cons x xs same = cc
@@ -33,18 +38,30 @@ module _ {E : Type 0} where
     λ line. part_of-append line first.0 then.0 ∙ ap (λ xs. xs ++ part_of line then.0) (first.2 line) ∙ ap (λ ys. parts line ++ ys) (then.2 line),
   )
 
+  gives_then : (first between last : Desk E) (line : ℕ) (some more : List E) → Gives first between line some → Gives between last line more → Gives first last line (some ++ more)
+  gives_then first between last line some more one two =
+      let (rest, is) = one.1 in
+      let (others, are) = two.1 in (
+        two.0 ∙ ap (λ xs. xs ++ more) one.0 ∙ append_assoc (taken first line) some more,
+        (
+          rest ++ others,
+          sym (append_assoc (seen first line) rest others) ∙ ap (λ xs. xs ++ others) is ∙ append_assoc some (seen between line) others
+              ∙ ap (λ xs. some ++ xs) are ∙ sym (append_assoc some more (seen last line)),
+        ),
+      )
+
   pub collects_then : (first between last : Desk E) (some more : List E) → Collects first between some → Collects between last more → Collects first last (some ++ more)
   collects_then first between last some more one two = (
     λ line. one.0 line ++ two.0 line,
     merge_then one.0 two.0 some more one.1 two.1,
-    λ line. two.2 line ∙ ap (λ xs. xs ++ two.0 line) (one.2 line) ∙ append_assoc (taken first line) (one.0 line) (two.0 line),
+    λ line. gives_then first between last line (one.0 line) (two.0 line) (one.2 line) (two.2 line),
   )
 
   collects_none : (old new : Desk E) → TakesNothing old new → Collects old new []
   collects_none old new same = (
     λ line. [],
     ([], refl, λ line. refl),
-    λ line. same line ∙ sym (append-nil (taken old line)),
+    λ line. ((same line).0 ∙ sym (append-nil (taken old line)), (same line).1),
   )
 
   collects_one : (old new : Desk E) (line : ℕ) (event : E) → Pops old new line event → Collects old new (event ∷ [])
@@ -57,7 +74,7 @@ module _ {E : Type 0} where
   -- ---- what a loop gathers
 
   pub gathers_nothing : (desk : Desk E) (events : List E) → Gathers desk desk events events
-  gathers_nothing desk events = ([], sym (append-nil events), collects_none desk desk (λ line. refl))
+  gathers_nothing desk events = ([], sym (append-nil events), collects_none desk desk (λ line. (refl, ([], append-nil (seen desk line)))))
 
   pub gathers_then : (first between last : Desk E) (before middle after : List E) → Gathers first between before middle → Gathers between last middle after → Gathers first last before after
   gathers_then first between last before middle after one two = (
@@ -125,8 +142,40 @@ module _ {E : Type 0} where
   pub holds_taken : (first last : Desk E) (rounds : List (List E)) → ((line : ℕ) → taken first line ≡ []) → Collects first last (flat_map (λ round. round) rounds) → HoldsParts (taken last) rounds
   holds_taken first last rounds untaken collected =
       let held = holds_parts collected.0 rounds collected.1 in
-      (held.0, held.1, λ line. held.2 line ∙ sym (collected.2 line ∙ ap (λ xs. xs ++ collected.0 line) (untaken line)))
+      (held.0, held.1, λ line. held.2 line ∙ sym ((collected.2 line).0 ∙ ap (λ xs. xs ++ collected.0 line) (untaken line)))
 
 -- what was gathered from nothing was collected
 pub collected_all : {E : Type 0} (old new : Desk E) (events : List E) → Gathers old new [] events → Collects old new events
 collected_all old new events gathered = subst (Collects old new) (sym gathered.1) gathered.2
+
+-- ---- lines on which nothing is left that was seen
+
+pub dry_more : {E : Type 0} (old new : Desk E) (line : ℕ) → ((j : ℕ) → j < line → seen old j ≡ []) → ((other : ℕ) → (other ≡ line → ⊥) → seen new other ≡ seen old other) → seen new line ≡ []
+    → (j : ℕ) → j < line + 1 → seen new j ≡ []
+dry_more old new line before others here = λ j below.
+    elim (cases_eq j line) as (λ _. seen new j ≡ []) [
+      | inl same ↦ subst (λ k. seen new k ≡ []) (sym same) here
+      | inr apart ↦ let less : j < line = omega arith in others j apart ∙ before j less
+    ]
+
+pub dry_all : {E : Type 0} (desk : Desk E) (lines : ℕ) → line_count desk ≤ lines → ((j : ℕ) → j < lines → seen desk j ≡ []) → IsDry desk
+dry_all desk lines all before = λ j.
+    elim (cases_lt j lines) as (λ _. seen desk j ≡ []) [
+      | inl below ↦ before j below
+      | inr past ↦ map_or_past known_items desk.lines.items j (omega arith)
+    ]
+
+-- what was left, seen and then collected isn't left again
+pub not_left_again : {E : Type 0} (refused dry : Desk E) (ended : Ended E) (events : List E) → all_posted ended ≡ taken refused ended.line ++ seen refused ended.line
+    → Collects refused dry events → IsDry dry → Because dry ended.line ended NotDrained → ⊥
+not_left_again refused dry ended events all collected none because =
+    let line : ℕ = ended.line in
+    let (same, left, some, again) = because in
+    let (longer, (rest, is)) = collected.2 line in
+    let seen_then : length (seen refused line) + length rest ≡ length (collected.0 line) + length (seen dry line) =
+    sym (length-append (seen refused line) rest) ∙ ap length is ∙ length-append (collected.0 line) (seen dry line) in
+    let nothing : length (seen dry line) ≡ 0 = ap length (none line) in
+    let first : length (all_posted ended) ≡ length (taken refused line) + length (seen refused line) = ap length all ∙ length-append (taken refused line) (seen refused line) in
+    let then_all : length (all_posted ended) ≡ length (taken dry line) + length left = ap length again ∙ length-append (taken dry line) left in
+    let grown : length (taken dry line) ≡ length (taken refused line) + length (collected.0 line) = ap length longer ∙ length-append (taken refused line) (collected.0 line) in
+    absurd (omega arith)

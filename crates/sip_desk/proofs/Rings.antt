@@ -1,11 +1,12 @@
 -- Lemmas on the lines of a desk as a list: what one line's change leaves of the others.
 use Rattle.std.proofs.Common.{◌≡◌, ℕ, zero, suc, ◌+◌, ◌<◌, ◌≤◌, true, false, List, [], ◌∷◌, ◌++◌, ◌⊎◌, inl, inr, Some, None, refl, sym, ap, subst, ◌∙◌, arith, length, get_or, set, IfSome, IfOk, OnErr}
-use Rattle.std.specs.Prelude.{◌==◌, IfNone, IsSomeAnd, slice_get, Result, Ok, Err}
+use Rattle.std.specs.Prelude.{◌==◌, IfNone, IsSomeAnd, slice_get, Result, Ok, Err, IsOk}
 use Rattle.std.specs.Option.{option_map_or}
 use Rattle.std.specs.Result.{result_ok}
-use Rattle.std.proofs.lemmas.Bool.{cases_eq, eq-eqb, ne_eqb}
-use Rattle.std.proofs.lemmas.Option.{same_Some, slice_get-get_or}
+use Rattle.std.proofs.lemmas.Bool.{cases_eq, eq-eqb, ne_eqb, false≢true}
+use Rattle.std.proofs.lemmas.Option.{same_Some, slice_get-get_or, slice_get_past}
 use Rattle.std.proofs.lemmas.List.{append-nil, length-set, length-append, nil_from_length}
+use mathlib.Core.List.{IsPrefix}
 use Rattle.rtrb.specs.Ends.{SameRing}
 use Rattle.std.specs.declared.alloc.Global.{Global}
 use Rattle.rtrb.specs.declared.AnyItems.{AnyItems}
@@ -30,6 +31,13 @@ pub err_part : {T F : Type 0} {P Q : Type 0} → (P → Q) → (r : Result T F) 
 err_part f (Ok x) holds = tt
 err_part f (Err e) holds = f holds
 
+pub err_both : {T F : Type 0} {P Q R : Type 0} → (P → Q → R) → (r : Result T F) → OnErr r P → OnErr r Q → IfNone (result_ok r) R
+err_both f (Ok x) holds also = tt
+err_both f (Err e) holds also = f holds also
+
+pub prefix_of_none : {X : Type 0} (xs ys : List X) → xs ≡ [] → IsPrefix xs ys
+prefix_of_none xs ys none = (ys, ap (λ front. front ++ ys) none)
+
 -- ---- one element of a list is written
 
 pub map_or_set : {X Y : Type 0} (f : X → Y) (d : Y) (xs : List X) (i : ℕ) (y : X) → i < length xs → option_map_or f (slice_get (set xs i y) i) d ≡ f y
@@ -37,7 +45,7 @@ map_or_set f d [] i y below = absurd (omega arith)
 map_or_set f d (x ∷ xs) zero y below = refl
 map_or_set f d (x ∷ xs) (suc i) y below = map_or_set f d xs i y (omega arith)
 
-map_or_set_other : {X Y : Type 0} (f : X → Y) (d : Y) (xs : List X) (i j : ℕ) (y : X) → (i ≡ j → ⊥) → option_map_or f (slice_get (set xs i y) j) d ≡ option_map_or f (slice_get xs j) d
+pub map_or_set_other : {X Y : Type 0} (f : X → Y) (d : Y) (xs : List X) (i j : ℕ) (y : X) → (i ≡ j → ⊥) → option_map_or f (slice_get (set xs i y) j) d ≡ option_map_or f (slice_get xs j) d
 map_or_set_other f d [] i j y apart = refl
 map_or_set_other f d (x ∷ xs) zero zero y apart = absurd (apart refl)
 map_or_set_other f d (x ∷ xs) zero (suc j) y apart = refl
@@ -58,24 +66,55 @@ module _ {X E : Type 0} (f : X → List E) (xs : List X) (i : ℕ) (old new : X)
   at_old : option_map_or f (slice_get xs i) [] ≡ f old
   at_old = ap (λ o. option_map_or f o []) (element_at xs i old below is)
 
-  pub nothing_more : f new ≡ f old → (other : ℕ) → option_map_or f (slice_get (set xs i new) other) [] ≡ option_map_or f (slice_get xs other) []
-  nothing_more same other =
+  map_or_same : f new ≡ f old → (other : ℕ) → option_map_or f (slice_get (set xs i new) other) [] ≡ option_map_or f (slice_get xs other) []
+  map_or_same same other =
       elim (cases_eq i other) as (λ _. option_map_or f (slice_get (set xs i new) other) [] ≡ option_map_or f (slice_get xs other) []) [
         | inl here ↦ subst (λ j. option_map_or f (slice_get (set xs i new) j) [] ≡ option_map_or f (slice_get xs j) []) here (map_or_set f [] xs i new below ∙ same ∙ sym at_old)
         | inr apart ↦ map_or_set_other f [] xs i other new apart
       ]
 
-  pub one_more : (event : E) → f new ≡ f old ++ event ∷ [] → (other : ℕ) → option_map_or f (slice_get (set xs i new) other) [] ≡ option_map_or f (slice_get xs other) [] ++ part_of other ((i, event) ∷ [])
-  one_more event longer other =
-      elim (cases_eq i other) as (λ _. option_map_or f (slice_get (set xs i new) other) [] ≡ option_map_or f (slice_get xs other) [] ++ part_of other ((i, event) ∷ [])) [
+-- ---- what a step leaves of the lines: `f` is what was taken, `h` what was seen
+
+module _ {X E : Type 0} (f h : X → List E) (xs : List X) (i : ℕ) (old new : X) (below : i < length xs) (is : old ≡ get_or xs i old) where
+  pub nothing_more : f new ≡ f old → IsPrefix (h old) (h new) → (other : ℕ)
+      → (option_map_or f (slice_get (set xs i new) other) [] ≡ option_map_or f (slice_get xs other) []) × IsPrefix (option_map_or h (slice_get xs other) []) (option_map_or h (slice_get (set xs i new) other) [])
+  nothing_more same grows other = (
+    map_or_same f xs i old new below is same other,
+    elim (cases_eq i other) as (λ _. IsPrefix (option_map_or h (slice_get xs other) []) (option_map_or h (slice_get (set xs i new) other) [])) [
+      | inl here ↦ subst (λ j. IsPrefix (option_map_or h (slice_get xs j) []) (option_map_or h (slice_get (set xs i new) j) [])) here
+          (subst (λ ys. IsPrefix ys (option_map_or h (slice_get (set xs i new) i) [])) (sym (at_old h xs i old new below is)) (subst (IsPrefix (h old)) (sym (map_or_set h [] xs i new below)) grows))
+      | inr apart ↦ subst (IsPrefix (option_map_or h (slice_get xs other) [])) (sym (map_or_set_other h [] xs i other new apart)) ([], append-nil (option_map_or h (slice_get xs other) []))
+    ],
+  )
+
+  pub one_more : (event : E) → f new ≡ f old ++ event ∷ [] → IsPrefix (h old) (event ∷ h new) → (other : ℕ)
+      → (option_map_or f (slice_get (set xs i new) other) [] ≡ option_map_or f (slice_get xs other) [] ++ part_of other ((i, event) ∷ []))
+      × IsPrefix (option_map_or h (slice_get xs other) []) (part_of other ((i, event) ∷ []) ++ option_map_or h (slice_get (set xs i new) other) [])
+  one_more event longer first other =
+      elim (cases_eq i other) as (λ _. (option_map_or f (slice_get (set xs i new) other) [] ≡ option_map_or f (slice_get xs other) [] ++ part_of other ((i, event) ∷ []))
+      × IsPrefix (option_map_or h (slice_get xs other) []) (part_of other ((i, event) ∷ []) ++ option_map_or h (slice_get (set xs i new) other) [])) [
         | inl here ↦
             let same : (i == i) ≡ true = eq-eqb i i refl in
-            subst (λ j. option_map_or f (slice_get (set xs i new) j) [] ≡ option_map_or f (slice_get xs j) [] ++ part_of j ((i, event) ∷ [])) here
-            (rw same (map_or_set f [] xs i new below ∙ longer ∙ ap (λ front. front ++ event ∷ []) (sym at_old)))
+            subst (λ j. (option_map_or f (slice_get (set xs i new) j) [] ≡ option_map_or f (slice_get xs j) [] ++ part_of j ((i, event) ∷ []))
+            × IsPrefix (option_map_or h (slice_get xs j) []) (part_of j ((i, event) ∷ []) ++ option_map_or h (slice_get (set xs i new) j) [])) here
+            (rw same (
+              map_or_set f [] xs i new below ∙ longer ∙ ap (λ front. front ++ event ∷ []) (sym (at_old f xs i old new below is)),
+              subst (λ ys. IsPrefix ys (event ∷ option_map_or h (slice_get (set xs i new) i) [])) (sym (at_old h xs i old new below is))
+                  (subst (λ ys. IsPrefix (h old) (event ∷ ys)) (sym (map_or_set h [] xs i new below)) first),
+            ))
         | inr apart ↦
             let differ : (i == other) ≡ false = ne_eqb i other apart in
-            rw differ (map_or_set_other f [] xs i other new apart ∙ sym (append-nil (option_map_or f (slice_get xs other) [])))
+            rw differ (
+              map_or_set_other f [] xs i other new apart ∙ sym (append-nil (option_map_or f (slice_get xs other) [])),
+              subst (IsPrefix (option_map_or h (slice_get xs other) [])) (sym (map_or_set_other h [] xs i other new apart)) ([], append-nil (option_map_or h (slice_get xs other) [])),
+            )
       ]
+
+-- an end that may not be empty-handed where it has seen an item had seen none
+pub none_seen : {T F X : Type 0} (items : List X) (r : Result T F) → (0 < length items → IsOk r) → OnErr r (items ≡ [])
+none_seen items (Ok x) sure = tt
+none_seen [] (Err e) sure = refl
+none_seen (y ∷ ys) (Err e) sure = let some : 0 < length (y ∷ ys) = omega arith in absurd (false≢true (sure some))
 
 -- ---- the ends of one ring
 
@@ -171,3 +210,7 @@ pub nothing_left : {X : Type 0} (front back whole : List X) (count : ℕ) → fr
 nothing_left front back whole count is counted none =
     let empty : back ≡ [] = nil_from_length back (omega arith) in
     sym (append-nil front) ∙ sym (ap (λ rest. front ++ rest) empty) ∙ is
+
+-- past the last line there is nothing
+pub map_or_past : {X E : Type 0} (f : X → List E) (xs : List X) (i : ℕ) → length xs ≤ i → option_map_or f (slice_get xs i) [] ≡ []
+map_or_past f xs i past = ap (λ o. option_map_or f o []) (slice_get_past xs i past)

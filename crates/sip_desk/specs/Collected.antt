@@ -1,16 +1,20 @@
 -- What was collected, and why a line isn't settled.
-use Rattle.std.specs.Prelude.{◌≡◌, ◌≢◌, ℕ, ◌<◌, List, ◌++◌, length}
+use Rattle.std.specs.Prelude.{◌≡◌, ◌≢◌, ℕ, ◌<◌, List, [], ◌++◌, length}
 use Rattle.sip_desk.specs.declared.ended.Ended.{Ended}
 use Rattle.sip_desk.specs.declared.desk.Desk.{Desk}
 use Rattle.sip_desk.specs.declared.settle_fault.SettleFault.{SettleFault}
 use Rattle.sip_desk.specs.declared.settle_fault.SettleFault.TheVariants.{WrongLine, NotDrained}
 use Rattle.sip_desk.specs.Merge.{IsMerge}
-use Rattle.sip_desk.specs.Lines.{taken, all_posted}
+use Rattle.sip_desk.specs.Lines.{taken, seen, all_posted, Gives}
 
 module _ {E : Type 0} where
-  -- the events are a merge of parts, of which each line got its own behind what was taken from it before
+  -- the events are a merge of the parts that the lines gave
   abbrev pub Collects : Desk E → Desk E → List E → Type 0
-  Collects old new events = (parts : ℕ → List E) × IsMerge parts events × ((line : ℕ) → taken new line ≡ taken old line ++ parts line)
+  Collects old new events = (parts : ℕ → List E) × IsMerge parts events × ((line : ℕ) → Gives old new line (parts line))
+
+  -- nothing that was seen is left
+  abbrev pub IsDry : Desk E → Type 0
+  IsDry desk = (line : ℕ) → seen desk line ≡ []
 
   -- what was gathered has what was collected behind it
   abbrev pub Gathers : Desk E → Desk E → List E → List E → Type 0

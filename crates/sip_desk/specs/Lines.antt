@@ -1,7 +1,8 @@
 -- Lines from posters to a desk: what was posted on each, what was taken from it, and the steps of the rule of a line.
 use Rattle.std.specs.Prelude.{◌≡◌, ℕ, List, [], ◌∷◌, ◌++◌, length, IsSomeAnd, Some, slice_get}
 use Rattle.std.specs.Option.{option_map_or}
-use Rattle.rtrb.specs.Ring.{sent, received, all_sent, producer_capacity, IsPair, IsFinishedOf}
+use mathlib.Core.List.{IsPrefix}
+use Rattle.rtrb.specs.Ring.{sent, received, known_items, all_sent, producer_capacity, IsPair, IsFinishedOf}
 use Rattle.sip_desk.specs.declared.poster.Poster.{Poster}
 use Rattle.sip_desk.specs.declared.ended.Ended.{Ended}
 use Rattle.sip_desk.specs.declared.desk.Desk.{Desk}
@@ -27,6 +28,10 @@ module _ {E : Type 0} where
   -- the events that were collected from the line of this number, in order
   abbrev pub taken : Desk E → ℕ → List E
   taken desk line = option_map_or received (slice_get desk.lines.items line) []
+
+  -- the events that the desk has seen on the line of this number and not collected yet
+  abbrev pub seen : Desk E → ℕ → List E
+  seen desk line = option_map_or known_items (slice_get desk.lines.items line) []
 
   -- ---- which ends are of one line
 
@@ -73,13 +78,17 @@ module _ {E : Type 0} where
   abbrev pub Pushes : Poster E → Poster E → E → Type 0
   Pushes old new event = posted new ≡ posted old ++ event ∷ []
 
-  -- the event is the next that was taken from the line, and no other line changes
-  abbrev pub Pops : Desk E → Desk E → ℕ → E → Type 0
-  Pops old new line event = (other : ℕ) → taken new other ≡ taken old other ++ part_of other ((line, event) ∷ [])
+  -- the line gives this part: what was seen on it comes first
+  abbrev pub Gives : Desk E → Desk E → ℕ → List E → Type 0
+  Gives old new line part = (taken new line ≡ taken old line ++ part) × IsPrefix (seen old line) (part ++ seen new line)
 
-  -- no line changes
+  -- the event is the next that was taken from the line, and no other line gives one
+  abbrev pub Pops : Desk E → Desk E → ℕ → E → Type 0
+  Pops old new line event = (other : ℕ) → Gives old new other (part_of other ((line, event) ∷ []))
+
+  -- no line gives an event, but more may be seen
   abbrev pub TakesNothing : Desk E → Desk E → Type 0
-  TakesNothing old new = (line : ℕ) → taken new line ≡ taken old line
+  TakesNothing old new = (line : ℕ) → (taken new line ≡ taken old line) × IsPrefix (seen old line) (seen new line)
 
   -- what was posted is final
   abbrev pub IsFinal : Poster E → Ended E → Type 0

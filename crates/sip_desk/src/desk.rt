@@ -1,7 +1,7 @@
-ghost use Rattle.std.specs.Prelude.{◌≡◌, ℕ, ◌+◌, ◌<◌, ◌≤◌, length, IsTrue, IfOk, OnOk, OnErr, IfErr, IfSome, IfNone};
+ghost use Rattle.std.specs.Prelude.{◌≡◌, ◌≢◌, ℕ, ◌<◌, ◌≤◌, [], ◌++◌, length, IsTrue, IsFalse, IfOk, OnOk, OnErr, IfErr, IfSome, IfNone};
 ghost use Rattle.std.specs.Vec.{vec_len, vec_capacity};
-ghost use Rattle.sip_desk.specs.Lines.{line_count, taken, all_posted, IsOpened, IsEndOf, KeepsLines, Pops, TakesNothing, SameEnd};
-ghost use Rattle.sip_desk.specs.Collected.{Collects, Gathers, Because};
+ghost use Rattle.sip_desk.specs.Lines.{line_count, taken, seen, all_posted, IsOpened, IsEndOf, KeepsLines, Pops, TakesNothing, SameEnd};
+ghost use Rattle.sip_desk.specs.Collected.{Collects, Gathers, IsDry, Because};
 
 use crate::{Ended, NoMemory, Poster, SettleFault};
 use rtrb::{Consumer, RingBuffer};
@@ -51,6 +51,7 @@ impl<E: Drop> Desk<E> {
     pub fn collect(&mut self, max: usize) -> Result<Vec<E>, NoMemory>
         ensures merge { IfOk result (λ events. Collects self.old self.new events.items) }
         ensures most { IfOk result (λ events. length events.items ≤ max) }
+        ensures dry { IfOk result (λ events. length events.items < max → IsDry self.new) }
         ensures same { KeepsLines self.old self.new }
         ensures err { OnErr result (self.new ≡ self.old) }
     {
@@ -68,6 +69,7 @@ impl<E: Drop> Desk<E> {
         ensures room { vec_capacity events.new ≡ max }
         ensures most { vec_len events.new ≤ max }
         ensures more { IsTrue result → vec_len events.old < vec_len events.new }
+        ensures dry { IsFalse result → vec_len events.new < max → IsDry self.new }
     {
         let before = events.len();
         for line in 0..self.lines.len() {
@@ -86,6 +88,8 @@ impl<E: Drop> Desk<E> {
         requires { line < line_count self.old }
         ensures some { IfSome result (λ event. Pops self.old self.new line event) }
         ensures none { IfNone result (TakesNothing self.old self.new) }
+        ensures dry { IfNone result (seen self.new line ≡ []) }
+        ensures others { (other : ℕ) → other ≢ line → seen self.new other ≡ seen self.old other }
         ensures same { KeepsLines self.old self.new }
     {
         self.lines[line].pop().ok()
@@ -106,6 +110,8 @@ impl<E: Drop> Desk<E> {
         requires { IsEndOf self.old ended }
         ensures ok { OnOk result ((ended.line ≡ line) × (taken self.new line ≡ all_posted ended)) }
         ensures fault { IfErr result (λ refused. Because self.old line ended refused.0) }
+        ensures left { IfErr result (λ refused. refused.0 ≡ SettleFault.NotDrained
+            → all_posted ended ≡ taken self.new line ++ seen self.new line) }
         ensures back { IfErr result (λ refused. SameEnd ended refused.1 × IsEndOf self.new refused.1) }
         ensures untaken { TakesNothing self.old self.new }
         ensures same { KeepsLines self.old self.new }
@@ -113,9 +119,21 @@ impl<E: Drop> Desk<E> {
         if ended.line != line {
             return Err((SettleFault::WrongLine, ended));
         }
-        if self.lines[line].slots_after(&mut ended.ring) > 0 {
+        if self.count_left(&mut ended) > 0 {
             return Err((SettleFault::NotDrained, ended));
         }
         Ok(())
+    }
+
+    // How many events are left on the line of an end.
+    fn count_left(&mut self, ended: &mut Ended<E>) -> usize
+        requires { IsEndOf self.old ended.old }
+        ensures count { result ≡ length (seen self.new ended.old.line) }
+        ensures all { all_posted ended.old ≡ taken self.new ended.old.line ++ seen self.new ended.old.line }
+        ensures end { SameEnd ended.old ended.new × IsEndOf self.new ended.new }
+        ensures untaken { TakesNothing self.old self.new }
+        ensures same { KeepsLines self.old self.new }
+    {
+        self.lines[ended.line].slots_after(&mut ended.ring)
     }
 }

@@ -1,6 +1,6 @@
-use Rattle.std.proofs.Common.{◌≡◌, ◌≤◌}
+use Rattle.std.proofs.Common.{◌≡◌, ℕ, ◌<◌, ◌≤◌, []}
 use Rattle.std.specs.Vec.{vec_len, vec_capacity}
-use Rattle.sip_desk.specs.Lines.{KeepsLines}
+use Rattle.sip_desk.specs.Lines.{seen, KeepsLines}
 use Rattle.sip_desk.specs.Collected.{Gathers}
 use Rattle.sip_desk.proofs.desk.Desk.pass.Given as goal
 
@@ -10,3 +10,5 @@ invariant-loop-line g l =
     × KeepsLines l.initial.self l.self
     × (vec_capacity l.events ≡ l.max)
     × (vec_len l.events ≤ l.max)
+    × (l.before ≤ vec_len l.events)
+    × (vec_len l.events ≤ l.before → (j : ℕ) → j < l.line → seen l.self j ≡ [])

@@ -1,5 +1,5 @@
 use Rattle.sip_desk.proofs.Parts.{holds_parts, collects_then, holds_taken}
-use Rattle.sip_desk.proofs.merges.merges_in_rounds.Goals as goal
+use Rattle.sip_desk.proofs.laws.merges_in_rounds.Goals as goal
 
 pub returns-clause-cut : goal.returns-clause-cut
 returns-clause-cut g c = holds_parts
