@@ -1,3 +1,5 @@
+//! The desk: it opens lines, collects what was posted on them, and settles those that have ended.
+
 ghost use Rattle.std.specs.Prelude.{◌≡◌, ◌≢◌, ℕ, ◌<◌, ◌≤◌, [], ◌++◌, length, IsTrue, IsFalse, IfOk, OnOk, OnErr, IfErr, IfSome, IfNone};
 ghost use Rattle.std.specs.Vec.{vec_len, vec_capacity};
 ghost use Rattle.sip_desk.specs.Lines.{line_count, taken, seen, all_posted, IsOpened, IsEndOf, KeepsLines, Pops, TakesNothing, SameEnd};

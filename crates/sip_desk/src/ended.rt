@@ -1,3 +1,5 @@
+//! What is left of the posting end of a line, or that nothing is.
+
 use rtrb::Finished;
 use std::error::Error;
 use std::fmt;

@@ -1,3 +1,5 @@
+//! Laws on what was collected and settled.
+
 ghost use Rattle.std.specs.Prelude.{◌≡◌, ℕ, List, [], ◌++◌};
 ghost use Rattle.std.specs.List.{flat_map};
 ghost use Rattle.sip_desk.specs.declared.desk.Desk.{Desk};

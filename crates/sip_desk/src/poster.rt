@@ -1,3 +1,5 @@
+//! The posting end of a line.
+
 ghost use Rattle.std.specs.Prelude.{◌≡◌, ◌+◌, ◌<◌, ◌≤◌, length};
 ghost use Rattle.rtrb.specs.Ring.{sent, known_free, producer_capacity};
 

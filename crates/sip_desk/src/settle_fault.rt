@@ -1,3 +1,5 @@
+//! Why a line isn't settled.
+
 use std::error::Error;
 use std::fmt;
 

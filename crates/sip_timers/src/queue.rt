@@ -1,3 +1,5 @@
+//! A queue of timers: a map from keys to due moments, and an index from the moments to their keys.
+
 ghost use Rattle.std.specs.Prelude.{◌≡◌, ◌≢◌, ℕ, ◌<◌, ◌≤◌, [], Some, None, All, min, nat_le, length, if◌then◌else◌, OnOk, OnErr, IfOk, IfSome, IfNone};
 ghost use Rattle.std.specs.List.{reduce, list_any, take_while};
 ghost use Rattle.std.specs.BTreeMap.{is_at, insert_entry, IsOrdered};
