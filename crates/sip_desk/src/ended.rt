@@ -16,6 +16,10 @@ pub struct Ended<E> {
 pub struct Unfinished;
 
 impl fmt::Display for Unfinished {
+    ghost use Rattle.std.specs.Prelude.{Some, codes};
+
+    ghost output = { λ _. Some (codes "the desk is gone") };
+
     fn fmt<W: fmt::Write>(&self, f: &mut fmt::Formatter<W>) -> fmt::Result {
         write!(f, "the desk is gone")
     }

@@ -13,6 +13,11 @@ pub enum SettleFault {
 }
 
 impl fmt::Display for SettleFault {
+    ghost use Rattle.std.specs.Prelude.{Some};
+    ghost use Rattle.sip_desk.specs.FaultText.{fault_text};
+
+    ghost output = { λ fault. Some (fault_text fault) };
+
     fn fmt<W: fmt::Write>(&self, f: &mut fmt::Formatter<W>) -> fmt::Result {
         match self {
             SettleFault::WrongLine => write!(f, "the end of another line"),
