@@ -17,8 +17,8 @@ pub struct Desk<E> {
     lines: Vec<Consumer<E>>,
 }
 
-/// A desk, and a poster for each of its lines, in the order of their numbers from 0 on. Each line has room for
-/// `capacity` events.
+/// A desk, and a poster for each of its lines, in the order of their numbers from 0 on. Each line
+/// has room for `capacity` events.
 ///
 /// # Errors
 ///
@@ -44,8 +44,8 @@ pub fn open<E: Drop>(
 }
 
 impl<E: Drop> Desk<E> {
-    /// Takes one event of each line, in the order of the lines, again and again, until there are `max` or none is
-    /// found. It doesn't wait.
+    /// Takes one event of each line, in the order of the lines, again and again, until there are
+    /// `max` or none is found. It doesn't wait.
     ///
     /// # Errors
     ///
@@ -101,9 +101,9 @@ impl<E: Drop> Desk<E> {
     ///
     /// # Errors
     ///
-    /// The end comes back and all is as it was, first that fits: `WrongLine`, where it isn't the end of the line of
-    /// this number, also where there is no such line; `NotDrained`, where an event that was posted on the line wasn't
-    /// collected.
+    /// The end comes back and all is as it was, the first that fits: `WrongLine`, where it isn't the
+    /// end of the line of this number, also where there is no such line; `NotDrained`, where an
+    /// event that was posted on the line wasn't collected.
     pub fn settle(
         &mut self,
         line: usize,
@@ -114,7 +114,8 @@ impl<E: Drop> Desk<E> {
         ensures fault { IfErr result (λ refused. Because self.old line ended refused.0) }
         ensures left { IfErr result (λ refused. refused.0 ≡ SettleFault.NotDrained
             → all_posted ended ≡ taken self.new line ++ seen self.new line) }
-        ensures back { IfErr result (λ refused. SameEnd ended refused.1 × IsEndOf self.new refused.1) }
+        ensures back { IfErr result (λ refused. SameEnd ended refused.1
+            × IsEndOf self.new refused.1) }
         ensures untaken { TakesNothing self.old self.new }
         ensures same { KeepsLines self.old self.new }
     {
@@ -131,7 +132,8 @@ impl<E: Drop> Desk<E> {
     fn count_left(&mut self, ended: &mut Ended<E>) -> usize
         requires { IsEndOf self.old ended.old }
         ensures count { result ≡ length (seen self.new ended.old.line) }
-        ensures all { all_posted ended.old ≡ taken self.new ended.old.line ++ seen self.new ended.old.line }
+        ensures all { all_posted ended.old
+            ≡ taken self.new ended.old.line ++ seen self.new ended.old.line }
         ensures end { SameEnd ended.old ended.new × IsEndOf self.new ended.new }
         ensures untaken { TakesNothing self.old self.new }
         ensures same { KeepsLines self.old self.new }

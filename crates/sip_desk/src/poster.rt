@@ -19,8 +19,8 @@ impl<E: Drop> Poster<E> {
     ghost use Rattle.std.specs.Prelude.{IsOk, OnOk, OnErr, IfOk, IfErr};
     ghost use Rattle.sip_desk.specs.Lines.{posted, capacity_of, Pushes, SameLine, IsFinal, IsEndOfLine};
 
-    /// Puts an event on the line, behind those that are there, or gives it back where the line is full. It takes no
-    /// memory and doesn't wait.
+    /// Puts an event on the line, behind those that are there, or gives it back where the line is
+    /// full. It takes no memory and doesn't wait.
     ///
     /// # Errors
     ///

@@ -33,7 +33,8 @@ impl<K: Ord + Clone> Model for Queue<K> {
 
     ghost view = { λ q. q.moments.entries };
 
-    ghost invariant = { λ q. IsOrdered K.cmp q.moments × IsIndexOf K.cmp q.moments.entries q.dues.keys };
+    ghost invariant = { λ q. IsOrdered K.cmp q.moments
+        × IsIndexOf K.cmp q.moments.entries q.dues.keys };
 }
 
 impl<K: Ord + Clone + Drop> Queue<K> {
@@ -165,7 +166,8 @@ fn count_due<K: Ord>(dues: &BTreeSet<(u64, K)>, now: u64) -> usize
 fn take_first<K: Ord + Drop>(moments: &mut BTreeMap<K, u64>, dues: &mut BTreeSet<(u64, K)>) -> K
     requires index { IsIndexOf K.cmp moments.old.entries dues.old.keys }
     requires some { 0 < length dues.old.keys }
-    ensures first { TakesFirst K.cmp moments.old.entries dues.old.keys result moments.new.entries dues.new.keys }
+    ensures first { TakesFirst K.cmp moments.old.entries dues.old.keys
+        result moments.new.entries dues.new.keys }
     ensures index { IsIndexOf K.cmp moments.new.entries dues.new.keys }
     ensures ordered { IsOrdered K.cmp moments.new }
 {
