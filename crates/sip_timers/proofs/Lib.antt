@@ -1,2 +1,5 @@
 pub mod DueFirst
 pub mod Moments
+pub mod Dues
+pub mod Taking
+pub mod Sorts

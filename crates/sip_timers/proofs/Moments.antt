@@ -1,5 +1,6 @@
 -- Lemmas on the entries of a queue: the earliest moment, and what `take_due` gives and leaves.
-use Rattle.std.proofs.Common.{◌≡◌, ℕ, suc, ◌≤◌, ◌<◌, ◌++◌, Bool, true, false, cond, List, [], ◌∷◌, ◌⊎◌, inl, inr, Option, Some, None, refl, sym, ap, subst, append_assoc, All, ◌∙◌, arith, min, filter, nat_le, nat_lt, IfSome, is_some}
+use Rattle.std.proofs.Common.{◌≡◌, ℕ, suc, ◌≤◌, Bool, true, false, cond, List, [], ◌∷◌, ◌⊎◌, inl, inr, Option, Some, None, refl, sym, ap, ◌∙◌, arith, min, filter, nat_le, nat_lt, IfSome, is_some}
+use Rattle.std.specs.Prelude.{IfNone}
 use Rattle.std.specs.List.{reduce, fold, list_any, slice_get, AllByRecursion}
 use Rattle.std.specs.List.Sorted.{IsStrictlySortedBy}
 use Rattle.std.specs.Cmp.{IsTotalOrder, eq_by_cmp_equiv}
@@ -7,12 +8,11 @@ use Rattle.std.specs.BTreeMap.{is_at}
 use Rattle.std.specs.Map.{lookup, keys_of, values_of}
 use Rattle.std.specs.declared.cmp.Ordering.{Ordering}
 use Rattle.std.specs.declared.cmp.Ordering.TheVariants.{Less}
-use Rattle.std.proofs.lemmas.Bool.{cases_lt, le-leb, lt-leb}
-use Rattle.std.proofs.lemmas.List.Elements.{All-head, All-tail}
+use Rattle.std.proofs.lemmas.Bool.{cases_lt}
 use Rattle.std.proofs.lemmas.Map.Keys.{IsDistinct-from_sorted}
 use Rattle.std.proofs.lemmas.Map.Entries.{option_filter, lookup-filter-values, lookup_from_place}
 use Rattle.std.proofs.lemmas.Map.Made.{is_some-lookup}
-use Rattle.sip_timers.specs.Queue.{moment, is_due, if_later, due_keys, later, IsClonedAlike}
+use Rattle.sip_timers.specs.Queue.{moment, is_due, if_later, due_keys, later}
 
 -- ---- the earliest moment
 
@@ -36,6 +36,11 @@ none_before cmp (e ∷ es) = λ q.
       | true ↦ fold_min-le_first e.1 (values_of es)
       | false ↦ fold_min-le_lookup (is_at (cmp q)) e.1 es
     ]
+
+-- where there is no earliest moment, no key has one
+pub none_armed : {K : Type 0} (cmp : K → K → Ordering) (es : List (K × ℕ)) → IfNone (reduce min (values_of es)) ((q : K) → moment cmp es q ≡ None)
+none_armed cmp [] = λ q. refl
+none_armed cmp (e ∷ es) = tt
 
 min_cases : (a b : ℕ) → (min a b ≡ a) ⊎ (min a b ≡ b)
 min_cases a b = elim (cases_lt a b) as (λ _. (min a b ≡ a) ⊎ (min a b ≡ b)) [ inl lt ↦ inl (omega arith) | inr ge ↦ inr (omega arith) ]
@@ -85,35 +90,6 @@ given {K} {cmp} o now es sorted q =
     sym (is_some-lookup (is_at (cmp q)) (filter (λ e. nat_le e.1 now) es))
     ∙ ap is_some (lookup-filter-values (eq_by_cmp_equiv o) (λ due. nat_le due now) q es (IsDistinct-from_sorted cmp (keys_of es) sorted))
     ∙ is_due-is now (moment cmp es q)
-
--- ---- a walk over the entries that gathers the keys that are due, of which s are left
-
--- what was gathered, and what the entries that are left have to give, is what is wanted
-abbrev pub Walks : {K : Type 0} → (K → K → Type 0) → ℕ → List K → List K → List (K × ℕ) → Type 0
-Walks is_clone now wanted keys s = (keys ++ due_keys now s ≡ wanted) × All (λ e. IsClonedAlike is_clone e.0) s
-
-module _ {K : Type 0} (is_clone : K → K → Type 0) (now : ℕ) (wanted keys : List K) (k : K) (m : ℕ) (t : List (K × ℕ)) where
-  due_passed : now < m → Walks is_clone now wanted keys ((k, m) ∷ t) → Walks is_clone now wanted keys t
-  due_passed lt so_far = (
-    ap (λ b. keys ++ keys_of (cond b ((k, m) ∷ filter (λ e. nat_le e.1 now) t) (filter (λ e. nat_le e.1 now) t))) (sym (lt-leb m now lt)) ∙ so_far.0,
-    All-tail (λ e. IsClonedAlike is_clone e.0) (k, m) t so_far.1,
-  )
-
-  due_taken : m ≤ now → (copy : K) → is_clone k copy → Walks is_clone now wanted keys ((k, m) ∷ t) → Walks is_clone now wanted (keys ++ copy ∷ []) t
-  due_taken le copy cloned so_far = (
-    ap (λ x. (keys ++ x ∷ []) ++ due_keys now t) (All-head (λ e. IsClonedAlike is_clone e.0) (k, m) t so_far.1 copy cloned)
-        ∙ append_assoc keys (k ∷ []) (due_keys now t)
-        ∙ ap (λ b. keys ++ keys_of (cond b ((k, m) ∷ filter (λ e. nat_le e.1 now) t) (filter (λ e. nat_le e.1 now) t))) (sym (le-leb m now le))
-        ∙ so_far.0,
-    All-tail (λ e. IsClonedAlike is_clone e.0) (k, m) t so_far.1,
-  )
-
-  pub walk_passed : (s : List (K × ℕ)) → s ≡ (k, m) ∷ t → now < m → Walks is_clone now wanted keys s → Walks is_clone now wanted keys t
-  walk_passed s first lt so_far = due_passed lt (subst (λ (x : List (K × ℕ)). Walks is_clone now wanted keys x) first so_far)
-
-  pub walk_taken : (s : List (K × ℕ)) → s ≡ (k, m) ∷ t → m ≤ now → (copy : K) → is_clone k copy → (more : List K) → more ≡ keys ++ copy ∷ [] → Walks is_clone now wanted keys s → Walks is_clone now wanted more t
-  walk_taken s first le copy cloned more pushed so_far =
-      subst (λ (x : List K). Walks is_clone now wanted x t) (sym pushed) (due_taken le copy cloned (subst (λ (x : List (K × ℕ)). Walks is_clone now wanted keys x) first so_far))
 
 -- ---- the keys given are in order
 

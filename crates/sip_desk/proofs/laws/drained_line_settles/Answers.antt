@@ -1,0 +1,5 @@
+use Rattle.sip_desk.proofs.Parts.{not_left_again}
+use Rattle.sip_desk.proofs.laws.drained_line_settles.Goals as goal
+
+pub returns : goal.returns
+returns g c = not_left_again

@@ -1,0 +1,4 @@
+pub mod FaultText
+pub mod Merge
+pub mod Lines
+pub mod Collected

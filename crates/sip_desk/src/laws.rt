@@ -1,0 +1,33 @@
+//! Laws on what was collected and settled.
+
+ghost use Rattle.std.specs.Prelude.{◌≡◌, ℕ, List, [], ◌++◌};
+ghost use Rattle.std.specs.List.{flat_map};
+ghost use Rattle.sip_desk.specs.declared.desk.Desk.{Desk};
+ghost use Rattle.sip_desk.specs.declared.ended.Ended.{Ended};
+ghost use Rattle.sip_desk.specs.declared.settle_fault.SettleFault.TheVariants.{NotDrained};
+ghost use Rattle.sip_desk.specs.Merge.{IsMerge, HoldsParts};
+ghost use Rattle.sip_desk.specs.Lines.{taken, seen, all_posted};
+ghost use Rattle.sip_desk.specs.Collected.{Collects, IsDry, Because};
+
+/// Laws: a merge of parts that is cut into rounds holds each part whole and in order; what is
+/// collected twice in turn is collected at once; and where nothing was taken before, the rounds into
+/// which all that was collected is cut hold what was taken from each line, in order and each event
+/// once.
+pub fn merges_in_rounds<E>()
+    ensures cut { (parts : ℕ → List E) (rounds : List (List E))
+        → IsMerge parts (flat_map (λ round. round) rounds) → HoldsParts parts rounds }
+    ensures in_turn { (first between last : Desk E) (some more : List E)
+        → Collects first between some → Collects between last more
+        → Collects first last (some ++ more) }
+    ensures from_the_opening { (first last : Desk E) (rounds : List (List E))
+        → ((line : ℕ) → taken first line ≡ [])
+        → Collects first last (flat_map (λ round. round) rounds) → HoldsParts (taken last) rounds }
+{}
+
+/// Law: where an end wasn't settled since events were left, and then so much is collected that
+/// nothing which was seen is left, it isn't refused for events that are left again.
+pub fn drained_line_settles<E>()
+    ensures { (refused dry : Desk E) (ended : Ended E) (events : List E)
+        → all_posted ended ≡ taken refused ended.line ++ seen refused ended.line
+        → Collects refused dry events → IsDry dry → ¬ Because dry ended.line ended NotDrained }
+{}

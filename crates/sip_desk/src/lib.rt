@@ -1,0 +1,16 @@
+//! Lines that bring events from other threads to one desk, without waiting.
+#![tactic(auto)]
+
+mod desk;
+mod ended;
+mod laws;
+mod no_memory;
+mod poster;
+mod settle_fault;
+
+pub use desk::{Desk, open};
+pub use ended::{Ended, Unfinished};
+pub use laws::{drained_line_settles, merges_in_rounds};
+pub use no_memory::NoMemory;
+pub use poster::Poster;
+pub use settle_fault::SettleFault;

@@ -1,0 +1,33 @@
+-- The index of a timer queue: each armed key beside its moment, in any order.
+use Rattle.std.specs.Prelude.{◌≡◌, ℕ, Bool, false, List, ◌∷◌, Option, None, Some, ◌==◌}
+use Rattle.std.specs.Ordering.{is_eq, ordering_then, nat_cmp}
+use Rattle.std.specs.BTreeMap.{is_at}
+use Rattle.std.specs.Map.{lookup_key, remove_entry}
+use Rattle.std.specs.List.{list_any}
+use Rattle.std.specs.declared.cmp.Ordering.{Ordering}
+use Rattle.sip_timers.specs.Queue.{moment}
+
+-- moments beside keys are in the order of the moments, and those of one moment in the order of the keys
+abbrev pub due_cmp : {K : Type 0} → (K → K → Ordering) → ℕ × K → ℕ × K → Ordering
+due_cmp cmp a b = ordering_then (nat_cmp a.0 b.0) (cmp a.1 b.1)
+
+-- whether the index has the key at the moment
+abbrev pub is_due_at : {K : Type 0} → (K → K → Ordering) → List (ℕ × K) → ℕ → K → Bool
+is_due_at cmp dues at key = list_any (λ due. is_eq (ordering_then (nat_cmp at due.0) (cmp key due.1))) dues
+
+-- whether there is a moment and it is this one
+abbrev pub is_moment : ℕ → Option ℕ → Bool
+is_moment at None = false
+is_moment at (Some due) = at == due
+
+-- the index has each armed key at its moment, and nothing else
+abbrev pub IsIndexOf : {K : Type 0} → (K → K → Ordering) → List (K × ℕ) → List (ℕ × K) → Type 0
+IsIndexOf {K} cmp entries dues = (at : ℕ) (key : K) → is_due_at cmp dues at key ≡ is_moment at (moment cmp entries key)
+
+-- the first of the index leaves it and the queue, which gives its own key
+abbrev pub TakesFirst : {K : Type 0} → (K → K → Ordering) → List (K × ℕ) → List (ℕ × K) → K → List (K × ℕ) → List (ℕ × K) → Type 0
+TakesFirst {K} cmp entries dues key left rest = (due : ℕ × K)
+    × (dues ≡ due ∷ rest)
+    × (lookup_key (is_at (cmp due.1)) entries ≡ Some key)
+    × (moment cmp entries due.1 ≡ Some due.0)
+    × (left ≡ remove_entry (is_at (cmp due.1)) entries)

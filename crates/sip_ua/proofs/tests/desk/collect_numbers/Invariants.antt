@@ -1,0 +1,5 @@
+use Rattle.sip_desk.specs.Lines.{KeepsLines}
+use Rattle.sip_ua.proofs.tests.desk.collect_numbers.Given as goal
+
+abbrev pub invariant-loop : goal.invariant-loop
+invariant-loop l = KeepsLines l.initial.desk l.desk

@@ -1,0 +1,5 @@
+use Rattle.sip_desk.specs.Lines.{SameLine}
+use Rattle.sip_ua.proofs.tests.desk.post_numbers.Given as goal
+
+abbrev pub invariant-loop : goal.invariant-loop
+invariant-loop l = SameLine l.initial.poster l.poster
