@@ -8,7 +8,7 @@ use Rattle.std.proofs.lemmas.Bool.{true≢false}
 use Rattle.sip_model.specs.Machine.{IsIdle}
 use Rattle.sip_timers.specs.Queue.{is_due}
 use Rattle.sip_timers.specs.Earlier.{earlier}
-use Rattle.sip_timers.proofs.DueFirst.{earlier_is_due}
+use Rattle.sip_timers.proofs.DueFirst.{neither_due}
 use Rattle.sip_served.specs.declared.held_request.HeldRequest.{HeldRequest}
 use Rattle.sip_served.specs.Removal.{after_tick, is_kept_at, next_removal}
 use Rattle.sip_served.specs.ServerSide.{ServerSide, all_held}
@@ -16,17 +16,13 @@ use Rattle.sip_calls.specs.declared.call.Call.{Call}
 use Rattle.sip_calls.specs.declared.calls.Calls.{Calls}
 use Rattle.sip_calls.specs.Call.{call_due, call_machine, tick_input, with_held}
 
-neither : (a b : Bool) → (a || b) ≡ false → (a ≡ false) × (b ≡ false)
-neither true b e = absurd (true≢false e)
-neither false b e = (refl, e)
-
 -- where the first of the removals isn't due, none is
 all_later : (now : ℕ) (due : Option ℕ) (held : List HeldRequest) → is_due now (fold (λ due request. earlier due request.removal) due held) ≡ false
     → (is_due now due ≡ false) × AllByRecursion (λ request. is_due now request.removal ≡ false) held
 all_later now due [] calm = (calm, tt)
 all_later now due (request ∷ held) calm =
     let rest = all_later now (earlier due request.removal) held calm in
-    let both = neither (is_due now due) (is_due now request.removal) (sym (earlier_is_due now due request.removal) ∙ rest.0) in
+    let both = neither_due now due request.removal rest.0 in
     (both.0, (both.1, rest.1))
 
 -- then every request is kept

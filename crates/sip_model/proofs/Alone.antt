@@ -1,23 +1,22 @@
 -- What phases say of a key is what that key's own inputs add, and what they say is in order.
 use Rattle.std.proofs.Common.{◌≡◌, ℕ, Bool, true, false, cond, ◌&&◌, ◌||◌, List, [], ◌∷◌, ◌++◌, map, refl, sym, ◌∙◌, ap, subst, append_assoc, append-nil}
-use Rattle.std.specs.Prelude.{Option, None, Some, IsSome, filter, option_to_list}
+use Rattle.std.specs.Prelude.{Option, None, Some, filter, option_to_list}
 use Rattle.std.specs.declared.cmp.Ordering.{Ordering}
 use Rattle.std.specs.declared.cmp.Ordering.TheVariants.{Less}
 use Rattle.std.specs.Cmp.{IsTotalOrder}
 use Rattle.std.specs.BTreeMap.{is_at}
-use Rattle.std.specs.List.{flat_map, list_any, AllByRecursion}
+use Rattle.std.specs.List.{flat_map, AllByRecursion}
 use Rattle.std.specs.List.Sorted.{IsStrictlySortedBy}
-use Rattle.std.proofs.lemmas.Bool.{false≢true}
 use Rattle.std.proofs.lemmas.Grind.{flat_map-append}
 use Rattle.std.proofs.lemmas.Map.Lookups.{CmpEqualImpliesEq}
 use Rattle.sip_model.specs.declared.item.Item.{Item}
 use Rattle.sip_model.specs.Machine.{Machine, IsIdle, next, adds, state_from, state_after, outputs_from}
 use Rattle.sip_model.specs.Table.{Covers}
 use Rattle.sip_model.specs.Told.{speaks, told_ticks}
-use Rattle.sip_model.specs.Phase.{Phase, Told, inputs_of, own_inputs, history, keys_of_phases, stepped, told_items, ticked, told_tick, states_after, told_next}
+use Rattle.sip_model.specs.Phase.{Phase, inputs_of, own_inputs, history, keys_of_phases, stepped, told_items, ticked, told_tick, states_after, told_next}
 use Rattle.sip_model.specs.Laws.{InOrder, said_by, said_from}
 use Rattle.sip_model.proofs.Ordered.{by_bool, exact_at, is_at_back, is_at_itself, ordered_nil, same_filtered}
-use Rattle.sip_model.proofs.Tick.{silence}
+use Rattle.sip_model.proofs.Tick.{has_state, silence}
 use Rattle.sip_model.proofs.Phases.{state_from-append, phases_cover}
 use Rattle.sip_model.proofs.Apart.{filter_map_both, both_parts}
 
@@ -79,15 +78,11 @@ module _ {K S I O : Type 0} {cmp : K → K → Ordering} (total : IsTotalOrder c
       ∙ ap (map group) (same_filtered total exact (λ k. is_at (cmp q) k && says k) keys (q ∷ []) covers.ordered (one_sorted cmp q)
       (λ k passes.
       let both = both_parts (is_at (cmp q) k) (says k) passes in
-      covers.each k (has_state moment k (states k) both.1) ∙ sym (ap (λ b. b || false) (is_at_back total q k true both.0)))))
+      covers.each k (has_state machine due moment (tick moment) (idle moment) k (states k) both.1) ∙ sym (ap (λ b. b || false) (is_at_back total q k true both.0)))))
       ∙ ap (λ b. flat_map (λ (said : K × List O). said.1) (map group (cond (b && says q) (q ∷ []) []))) (is_at_itself total q)
       ∙ by_bool (says q)
       (λ on. ap (λ b. flat_map (λ (said : K × List O). said.1) (map group (cond b (q ∷ []) []))) on ∙ append-nil (adds machine q (states q) (tick moment)))
       (λ off. ap (λ b. flat_map (λ (said : K × List O). said.1) (map group (cond b (q ∷ []) []))) off ∙ sym (silence (adds machine q (states q) (tick moment)) off))
-    where
-      has_state : (moment : ℕ) (k : K) (state : Option S) → speaks (adds machine k state (tick moment)) ≡ true → IsSome state
-      has_state moment k None said = absurd (false≢true (sym (ap (λ r. speaks r.1) (idle moment k None refl)) ∙ said))
-      has_state moment k (Some s) said = refl
 
   said_to_tick : (q : K) (states : K → Option S) (moment : Option ℕ) (keys : List K) → Covers cmp keys states
       → flat_map (λ said. said.1) (filter (λ said. is_at (cmp q) said.0) (told_tick cmp machine tick states moment keys)) ≡ outputs_from machine q (states q) (map tick (option_to_list moment))

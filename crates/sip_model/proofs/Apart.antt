@@ -1,20 +1,19 @@
 -- A shard that is given the items of the keys that it owns says what those keys say.
-use Rattle.std.proofs.Common.{◌≡◌, ℕ, Bool, true, false, cond, ◌&&◌, ◌||◌, List, [], ◌∷◌, ◌++◌, map, refl, sym, ◌∙◌, ap, subst, append-nil}
+use Rattle.std.proofs.Common.{◌≡◌, ℕ, Bool, true, false, cond, ◌&&◌, List, [], ◌∷◌, ◌++◌, map, refl, sym, ◌∙◌, ap, subst, append-nil}
 use Rattle.std.specs.Prelude.{Option, None, Some, is_some, IsSome, filter, option_to_list}
 use Rattle.std.specs.declared.cmp.Ordering.{Ordering}
 use Rattle.std.specs.Cmp.{IsTotalOrder}
 use Rattle.std.specs.BTreeMap.{is_at}
-use Rattle.std.specs.List.{flat_map, list_any}
-use Rattle.std.specs.List.Sorted.{IsStrictlySortedBy}
-use Rattle.std.proofs.lemmas.Bool.{false≢true, true≢false}
+use Rattle.std.proofs.lemmas.Bool.{false≢true}
 use Rattle.std.proofs.lemmas.Map.Lookups.{CmpEqualImpliesEq}
 use Rattle.sip_model.specs.declared.item.Item.{Item}
 use Rattle.sip_model.specs.Machine.{Machine, IsIdle, next, adds, state_from, state_after}
 use Rattle.sip_model.specs.Table.{Covers}
 use Rattle.sip_model.specs.Told.{speaks, told_ticks}
-use Rattle.sip_model.specs.Phase.{Phase, Told, inputs_of, own_inputs, history, keys_of_phases, stepped, states_then, told_items, ticked, told_tick, states_after, told_next}
+use Rattle.sip_model.specs.Phase.{Phase, Told, inputs_of, own_inputs, history, keys_of_phases, stepped, told_items, ticked, told_tick, states_after, told_next}
 use Rattle.sip_model.specs.Laws.{owned_phase, owned_told}
 use Rattle.sip_model.proofs.Ordered.{by_bool, exact_at, same_filtered}
+use Rattle.sip_model.proofs.Tick.{has_state}
 use Rattle.sip_model.proofs.Phases.{state_from-append, still_none, phases_cover}
 
 -- ---- lists
@@ -135,10 +134,6 @@ module _ {K S I O : Type 0} {cmp : K → K → Ordering} (total : IsTotalOrder c
       ∙ items_apart (stepped cmp machine states item) items
       ∙ sym (ap (λ b. cond b (((item.place, item.key), adds machine item.key (states item.key) item.input) ∷ rest) rest) other))
 
-  has_state : (moment : ℕ) (q : K) (state : Option S) → speaks (adds machine q state (tick moment)) ≡ true → IsSome state
-  has_state moment q None said = absurd (false≢true (sym (ap (λ r. speaks r.1) (idle moment q None refl)) ∙ said))
-  has_state moment q (Some s) said = refl
-
   ticks_apart : (states : K → Option S) (moment : ℕ) (part whole : List K) → Covers cmp part (restricted owns states) → Covers cmp whole states
       → told_ticks machine (restricted owns states) (tick moment) part ≡ filter (λ said. owns said.0) (told_ticks machine states (tick moment) whole)
   ticks_apart states moment part whole covers_part covers_whole =
@@ -153,7 +148,7 @@ module _ {K S I O : Type 0} {cmp : K → K → Ordering} (total : IsTotalOrder c
       ∙ ap (map own_group) (same_filtered total exact (λ k. owns k && says k) part whole covers_part.ordered covers_whole.ordered
       (λ q passes.
       let both = both_parts (owns q) (says q) passes in
-      let some : IsSome (states q) = has_state moment q (states q) both.1 in
+      let some : IsSome (states q) = has_state machine due moment (tick moment) (idle moment) q (states q) both.1 in
       covers_part.each q (ap (λ b. is_some (cond b (states q) None)) both.0 ∙ some) ∙ sym (covers_whole.each q some)))
       ∙ map_filter_same own_group group (λ k. owns k && says k) (λ k passes. ap (λ b. (k, adds machine k (cond b (states k) None) (tick moment))) (both_parts (owns k) (says k) passes).0) whole
       ∙ sym (filter_map_both group says (λ said. owns said.0) whole)

@@ -1,9 +1,9 @@
 -- Items, each given to its key in turn: what has been dealt, and what is left.
-use Rattle.std.proofs.Common.{◌≡◌, ℕ, List, [], ◌∷◌, ◌++◌, map, refl, sym, ◌∙◌, ap, subst, append_assoc, append-nil, All}
+use Rattle.std.proofs.Common.{◌≡◌, ℕ, List, [], ◌∷◌, ◌++◌, map, refl, sym, ◌∙◌, ap, append_assoc, All}
 use Rattle.std.specs.Prelude.{Option, cond}
 use Rattle.std.specs.declared.cmp.Ordering.{Ordering}
 use Rattle.std.specs.BTreeMap.{is_at}
-use Rattle.std.proofs.lemmas.List.Elements.{All-head, All-tail}
+use Rattle.std.proofs.lemmas.List.Elements.{All-tail}
 use Rattle.sip_model.specs.declared.item.Item.{Item}
 use Rattle.sip_timers.specs.Queue.{moment}
 use Rattle.sip_model.specs.Machine.{Machine, next, adds, due_of}

@@ -1,20 +1,20 @@
 -- Phases: from the steps of a table to the own inputs of each key.
-use Rattle.std.proofs.Common.{◌≡◌, ℕ, Bool, true, false, cond, ◌||◌, List, [], ◌∷◌, ◌++◌, map, refl, sym, ◌∙◌, ap, subst, append_assoc, append-nil}
+use Rattle.std.proofs.Common.{◌≡◌, ℕ, Bool, true, false, cond, List, [], ◌∷◌, ◌++◌, map, refl, sym, ◌∙◌, ap, subst, append-nil}
 use Rattle.std.specs.Prelude.{Option, None, Some, is_some, IsSome, filter, option_to_list}
 use Rattle.std.specs.declared.cmp.Ordering.{Ordering}
 use Rattle.std.specs.Cmp.{IsTotalOrder}
 use Rattle.std.specs.BTreeMap.{is_at}
-use Rattle.std.specs.List.{flat_map, fold, list_any, AllByRecursion}
+use Rattle.std.specs.List.{flat_map, list_any, AllByRecursion}
 use Rattle.std.specs.FinMap as finite
 use Rattle.std.specs.FinSet.{FinSet}
 use Rattle.std.proofs.lemmas.Bool.{false≢true}
 use Rattle.std.proofs.lemmas.Grind.{flat_map-append}
 use Rattle.std.proofs.lemmas.Map.Lookups.{CmpEqualImpliesEq}
 use Rattle.sip_model.specs.declared.item.Item.{Item}
-use Rattle.sip_model.specs.Machine.{Machine, IsIdle, next, adds, state_from, state_after}
+use Rattle.sip_model.specs.Machine.{Machine, IsIdle, next, state_from, state_after}
 use Rattle.sip_model.specs.Table.{Held, Covers, state_at, state_in}
 use Rattle.sip_model.specs.Phase.{Phase, by_place, told_items, told_tick, DealsPhase, AddsPhase, inputs_of, own_inputs, history, named_by, keys_of_phases, stepped, states_then, ticked, states_after, HoldsAfter}
-use Rattle.sip_model.proofs.Ordered.{by_bool, exact_at, is_at_back}
+use Rattle.sip_model.proofs.Ordered.{by_bool, exact_at}
 use Rattle.sip_model.proofs.Inputs.{keys_in_order, named_before, named_now}
 
 module _ {K S I O : Type 0} (machine : Machine K S I O) where

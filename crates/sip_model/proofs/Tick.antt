@@ -1,11 +1,11 @@
 -- A tick of the keys of which something is due: what has been said so far, and what is left.
-use Rattle.std.proofs.Common.{◌≡◌, ℕ, Bool, true, false, cond, ◌||◌, List, [], ◌∷◌, ◌++◌, map, refl, sym, ◌∙◌, ap, subst, append_assoc, arith}
-use Rattle.std.specs.Prelude.{Option, None, Some, is_some, IsSome, filter}
+use Rattle.std.proofs.Common.{◌≡◌, ℕ, Bool, true, false, cond, ◌||◌, List, [], ◌∷◌, ◌++◌, map, refl, sym, ◌∙◌, ap, append_assoc, arith}
+use Rattle.std.specs.Prelude.{Option, None, Some, IsSome, filter}
 use Rattle.std.specs.declared.cmp.Ordering.{Ordering}
 use Rattle.std.specs.declared.vec.Vec.{Vec}
 use Rattle.std.specs.Cmp.{IsTotalOrder}
 use Rattle.std.specs.BTreeMap.{is_at}
-use Rattle.std.specs.List.{list_any, flat_map, AllByRecursion}
+use Rattle.std.specs.List.{list_any, flat_map}
 use Rattle.std.specs.List.Sorted.{IsStrictlySortedBy}
 use Rattle.std.proofs.lemmas.Map.Keys.{sorted_head, sorted_tail}
 use Rattle.std.proofs.lemmas.Map.Lookups.{CmpEqualImpliesEq}
@@ -15,7 +15,7 @@ use Rattle.sip_timers.specs.Queue.{moment, is_due, if_later}
 use Rattle.sip_model.specs.Machine.{Machine, IsIdle, next, adds, due_of}
 use Rattle.sip_model.specs.Table.{AreDues, Covers}
 use Rattle.sip_model.specs.Told.{speaks, groups, told_ticks, with_said}
-use Rattle.sip_model.proofs.Ordered.{by_bool, by_ordering, is_at_back, is_at_itself, none_below, exact_at, flat_map-filter, same_filtered}
+use Rattle.sip_model.proofs.Ordered.{by_bool, is_at_back, is_at_itself, none_below, exact_at, flat_map-filter, same_filtered}
 
 -- a tick over `all` that has `rest` left: the states and the due moments now, and what was told
 pub record TickLeft {K S I O : Type 0} (cmp : K → K → Ordering) (machine : Machine K S I O) (due : S → Option ℕ) (input : I) (old : K → Option S) (all rest : List K)
@@ -25,6 +25,12 @@ pub record TickLeft {K S I O : Type 0} (cmp : K → K → Ordering) (machine : M
   pub done : (q : K) → list_any (is_at (cmp q)) rest ≡ false → states q ≡ next machine q (old q) input
   pub armed : (q : K) → list_any (is_at (cmp q)) rest ≡ false → moment cmp dues q ≡ due_of due (states q)
   pub said : told ++ told_ticks machine old input rest ≡ told_ticks machine old input all
+
+-- what says something to a tick has a state
+pub has_state : {K S I O : Type 0} (machine : Machine K S I O) (due : S → Option ℕ) (now : ℕ) (input : I) → IsIdle machine due now input
+    → (q : K) (state : Option S) → speaks (adds machine q state input) ≡ true → IsSome state
+has_state machine due now input idle q None said = absurd (false≢true (sym (ap (λ r. speaks r.1) (idle q None refl)) ∙ said))
+has_state machine due now input idle q (Some s) said = refl
 
 later_kept : (now : ℕ) (o : Option ℕ) → is_due now o ≡ false → if_later now o ≡ o
 later_kept now None e = refl
@@ -83,13 +89,6 @@ module _ {K S I O : Type 0} {cmp : K → K → Ordering} (total : IsTotalOrder c
         said = told_first old told k rest outputs (says ∙ ap (λ s. adds machine k s given) here ∙ ap (adds machine k (old k)) same_input) ∙ left.said;
       }
 
-  silent : (now : ℕ) → IsIdle machine due now input → (q : K) (state : Option S) → is_due now (due_of due state) ≡ false → speaks (adds machine q state input) ≡ false
-  silent now idle q state calm = ap (λ r. speaks r.1) (idle q state calm)
-
-  speaks_if_some : (now : ℕ) → IsIdle machine due now input → (q : K) (state : Option S) → speaks (adds machine q state input) ≡ true → IsSome state
-  speaks_if_some now idle q None said = absurd (false≢true (sym (silent now idle q None refl) ∙ said))
-  speaks_if_some now idle q (Some s) said = refl
-
   -- the keys that are due tell what any keys tell among which are all that are held
   pub told_by_due : (now : ℕ) → IsIdle machine due now input → (old : K → Option S) (dues : List (K × ℕ)) (keys : List K) → AreDues cmp due old dues → IsStrictlySortedBy cmp keys
       → ((q : K) → list_any (is_at (cmp q)) keys ≡ is_due now (moment cmp dues q)) → (held : List K) → Covers cmp held old
@@ -99,8 +98,8 @@ module _ {K S I O : Type 0} {cmp : K → K → Ordering} (total : IsTotalOrder c
       (same_filtered total exact (λ q. speaks (adds machine q (old q) input)) keys held ordered covers.ordered
       (λ q said.
       by_bool (is_due now (due_of due (old q)))
-      (λ is. given q ∙ ap (is_due now) (are q) ∙ is ∙ sym (covers.each q (speaks_if_some now idle q (old q) said)))
-      (λ not. absurd (false≢true (sym (silent now idle q (old q) not) ∙ said)))))
+      (λ is. given q ∙ ap (is_due now) (are q) ∙ is ∙ sym (covers.each q (has_state machine due now input idle q (old q) said)))
+      (λ not. absurd (false≢true (sym (ap (λ r. speaks r.1) (idle q (old q) not)) ∙ said)))))
 
 -- ---- all that was told, joined
 

@@ -4,7 +4,7 @@ use Rattle.std.specs.Prelude.{Option, None, Some}
 use Rattle.sip_message.specs.declared.key.Key.{Key}
 use Rattle.sip_model.specs.Machine.{IsIdle}
 use Rattle.sip_timers.specs.Queue.{is_due}
-use Rattle.sip_timers.proofs.DueFirst.{earlier_is_due}
+use Rattle.sip_timers.proofs.DueFirst.{neither_due}
 use Rattle.sip_transactions.specs.declared.life.Life.{Life}
 use Rattle.sip_transactions.specs.declared.trigger.Trigger.{Trigger}
 use Rattle.sip_transactions.specs.declared.trigger.Trigger.TheVariants as on
@@ -13,10 +13,6 @@ use Rattle.sip_transactions.specs.Life.{stepped, stepped_by, step_for}
 use Rattle.sip_transactions.specs.Input.{due_of}
 use Rattle.sip_transactions.specs.Machine.{transaction_machine, tick_at, life_due}
 
-neither : (a b : Bool) → (a || b) ≡ false → (a ≡ false) × (b ≡ false)
-neither true b e = absurd cc
-neither false b e = (refl, e)
-
 nothing_due : (now : ℕ) (ending repeat : Option ℕ) → is_due now ending ≡ false → is_due now repeat ≡ false → due_of now ending repeat ≡ None
 nothing_due now ending repeat no_end no_repeat = rw no_end (rw no_repeat refl)
 
@@ -24,5 +20,5 @@ pub ticks_are_idle : (now : ℕ) → IsIdle transaction_machine life_due now (ti
 unfolding stepped step_for
 ticks_are_idle now key None calm = refl
 ticks_are_idle now key (Some life) calm =
-    let none = neither (is_due now life.timers.ending) (is_due now life.timers.repeat) (sym (earlier_is_due now life.timers.ending life.timers.repeat) ∙ calm) in
+    let none = neither_due now life.timers.ending life.timers.repeat calm in
     rw (nothing_due now life.timers.ending life.timers.repeat none.0 none.1) refl

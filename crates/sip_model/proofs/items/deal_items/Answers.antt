@@ -3,7 +3,6 @@ use Rattle.std.specs.Prelude.{IsTrue}
 use Rattle.std.proofs.lemmas.List.{map-append}
 use Rattle.std.specs.BTreeMap.{get}
 use Rattle.std.specs.Vec.Iter.{into_iter_items}
-use Rattle.sip_model.specs.declared.item.Item.{Item}
 use Rattle.sip_model.specs.Told.{groups}
 use Rattle.sip_model.proofs.ItemsLeft.{ItemsLeft, items_left_more}
 use Rattle.sip_model.proofs.items.deal_items.Goals as goal

@@ -1,11 +1,11 @@
-use Rattle.std.proofs.Common.{◌≡◌, List, [], ◌∷◌, ◌++◌, subst, sym, ap, ◌∙◌, append-nil}
+use Rattle.std.proofs.Common.{◌≡◌, [], ◌∷◌, subst, sym, ap, ◌∙◌, append-nil}
 use Rattle.std.proofs.lemmas.List.{nil_from_length}
 use Rattle.std.specs.BTreeMap.{get, is_at}
 use Rattle.std.specs.List.{list_any}
 use Rattle.std.specs.List.Sorted.{IsStrictlySortedBy}
 use Rattle.std.specs.Vec.Iter.{into_iter_items}
 use Rattle.sip_timers.specs.Queue.{due_keys}
-use Rattle.sip_model.specs.Told.{groups, told_ticks}
+use Rattle.sip_model.specs.Told.{groups}
 use Rattle.sip_model.proofs.Tick.{TickLeft, tick_left_more, told_by_due}
 use Rattle.sip_model.proofs.ticks.tick_due.Goals as goal
 

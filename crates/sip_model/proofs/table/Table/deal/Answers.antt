@@ -1,6 +1,6 @@
-use Rattle.std.proofs.Common.{◌≡◌, rules, refl, sym, ◌∙◌, ap, subst, Some, List}
-use Rattle.sip_model.specs.Phase.{Phase, AddsPhase, DealsPhase}
-use Rattle.sip_model.specs.Table.{Held, state_at}
+use Rattle.std.proofs.Common.{◌≡◌, rules, sym, subst, Some}
+use Rattle.sip_model.specs.Phase.{Phase, DealsPhase}
+use Rattle.sip_model.specs.Table.{Held}
 use Rattle.sip_model.specs.Told.{groups}
 use Rattle.sip_model.proofs.Phases.{deals_phase, adds_phase}
 use Rattle.sip_model.proofs.table.Table.deal.Goals as goal

@@ -1,6 +1,5 @@
-use Rattle.std.proofs.Common.{◌≡◌, rules, refl, sym, ◌∙◌, ap, subst, Some, List}
-use Rattle.sip_model.specs.Machine.{next}
-use Rattle.sip_model.specs.Table.{Covers, Held, StepsAll, state_at}
+use Rattle.std.proofs.Common.{◌≡◌, rules, refl, sym, subst, Some}
+use Rattle.sip_model.specs.Table.{Held, StepsAll, state_at}
 use Rattle.sip_model.proofs.History.{adds_inputs}
 use Rattle.sip_model.proofs.Tick.{joined_told}
 use Rattle.sip_model.proofs.table.Table.tick.Goals as goal
