@@ -141,8 +141,8 @@ module _ {K S I O : Type 0} {cmp : K → K → Ordering} (total : IsTotalOrder c
       let group : K → K × List O = λ k. (k, adds machine k (states k) (tick moment)) in
       let own_group : K → K × List O = λ k. (k, adds machine k (restricted owns states k) (tick moment)) in
       let tests : (k : K) → speaks (adds machine k (restricted owns states k) (tick moment)) ≡ (owns k && says k) = λ k. by_bool (owns k)
-          (λ own. ap (λ b. speaks (adds machine k (cond b (states k) None) (tick moment))) own ∙ sym (ap (λ b. b && says k) own))
-          (λ foreign. ap (λ b. speaks (adds machine k (cond b (states k) None) (tick moment))) foreign ∙ ap (λ r. speaks r.1) (idle moment k None refl) ∙ sym (ap (λ b. b && says k) foreign)) in
+      (λ own. ap (λ b. speaks (adds machine k (cond b (states k) None) (tick moment))) own ∙ sym (ap (λ b. b && says k) own))
+      (λ foreign. ap (λ b. speaks (adds machine k (cond b (states k) None) (tick moment))) foreign ∙ ap (λ r. speaks r.1) (idle moment k None refl) ∙ sym (ap (λ b. b && says k) foreign)) in
       let same_tests : (λ (k : K). speaks (adds machine k (restricted owns states k) (tick moment))) ≡ (λ k. owns k && says k) = λ i k. tests k i in
       ap (λ p. map own_group (filter p part)) same_tests
       ∙ ap (map own_group) (same_filtered total exact (λ k. owns k && says k) part whole covers_part.ordered covers_whole.ordered

@@ -4,6 +4,7 @@ pub mod Held
 pub mod History
 pub mod Inputs
 pub mod ItemsLeft
+pub mod Merged
 pub mod Ordered
 pub mod Phases
 pub mod Owned

@@ -157,9 +157,6 @@ module _ {K : Type 0} {cmp : K → K → Ordering} (total : IsTotalOrder cmp) (e
   abbrev among : K → List K → Bool
   among q ks = list_any (is_at (cmp q)) ks
 
-  
-  
-
   -- a key that doesn't pass may be left out
   without_first : (p : K → Bool) (k : K) (ks ys : List K) → p k ≡ false → ((q : K) → p q ≡ true → among q (k ∷ ks) ≡ among q ys) → (q : K) → p q ≡ true → among q ks ≡ among q ys
   without_first p k ks ys off same q passes =

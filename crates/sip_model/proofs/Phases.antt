@@ -76,10 +76,12 @@ module _ {K I : Type 0} {cmp : K → K → Ordering} (total : IsTotalOrder cmp) 
   -- no item is of a key that isn't named
   unnamed : (named : FinSet cmp) (items : List (Item K I)) (q : K) → among q (named_by named items) ≡ false → AllByRecursion (λ item. is_at (cmp item.key) q ≡ false) items
   unnamed named [] q absent = tt
-  unnamed named (item ∷ items) q absent =
-      (by_bool (is_at (cmp item.key) q)
-      (λ hit. absurd (false≢true (sym absent ∙ still_named (finite.insert named item.key tt) items q (named_now total named item.key q hit))))
-      (λ miss. miss), unnamed (finite.insert named item.key tt) items q absent)
+  unnamed named (item ∷ items) q absent = (
+    by_bool (is_at (cmp item.key) q)
+        (λ hit. absurd (false≢true (sym absent ∙ still_named (finite.insert named item.key tt) items q (named_now total named item.key q hit))))
+        (λ miss. miss),
+    unnamed (finite.insert named item.key tt) items q absent,
+  )
 
 none_of : {K I : Type 0} (cmp : K → K → Ordering) (items : List (Item K I)) (q : K) → AllByRecursion (λ item. is_at (cmp item.key) q ≡ false) items → inputs_of cmp items q ≡ []
 none_of cmp [] q all = refl

@@ -56,6 +56,7 @@ module _ {K S I O : Type 0} {cmp : K → K → Ordering} (total : IsTotalOrder c
     where
       group : K → K × List O
       group q = (q, adds machine q (old q) input)
+
       by_speech : (b : Bool) → cond b (group k ∷ []) [] ++ told_ticks machine old input rest ≡ map group (cond b (k ∷ filter (λ q. speaks (adds machine q (old q) input)) rest) (filter (λ q. speaks (adds machine q (old q) input)) rest))
       by_speech true = refl
       by_speech false = refl

@@ -1,5 +1,7 @@
 -- What machines say: each key's outputs beside the key.
-use Rattle.std.specs.Prelude.{Bool, true, false, cond, List, [], ◌∷◌, ◌++◌, Option, map, filter}
+use Rattle.std.specs.Prelude.{◌≡◌, Bool, true, false, cond, List, [], ◌∷◌, ◌++◌, Option, map, filter}
+use Rattle.std.specs.List.Sorted.{IsPermutation, IsStrictlySortedBy}
+use Rattle.std.specs.declared.cmp.Ordering.{Ordering}
 use Rattle.std.specs.declared.vec.Vec.{Vec}
 use Rattle.sip_model.specs.Machine.{Machine, adds}
 
@@ -20,3 +22,7 @@ groups told = map (λ group. (group.0, group.1.items)) told
 abbrev pub told_ticks : {K S I O : Type 0} → Machine K S I O → (K → Option S) → I → List K → List (K × List O)
 told_ticks machine states tick keys =
     map (λ key. (key, adds machine key (states key) tick)) (filter (λ key. speaks (adds machine key (states key) tick)) keys)
+
+-- the one list in the order of its labels, which differ, that has these groups
+abbrev pub Sorts : {L O : Type 0} → (L → L → Ordering) → List (L × List O) → List (L × List O) → Type 0
+Sorts {L} {O} cmp told sorted = (all : List (L × List O)) → IsStrictlySortedBy cmp (map (λ group. group.0) all) → IsPermutation told all → sorted ≡ all

@@ -11,8 +11,8 @@ ghost use Rattle.sip_model.specs.History.{AddsInput, AddsInputs};
 
 use crate::fault::ShardFault;
 use crate::item::Item;
-use crate::machine::StateMachine;
 use crate::items::deal_items;
+use crate::machine::StateMachine;
 use crate::one_key::step_key;
 use crate::replies::Replies;
 use crate::ticks::{joined, tick_due, tick_if};

@@ -6,7 +6,7 @@ ghost use Rattle.std.proofs.lemmas.Map.Lookups.{exact_unsigned};
 ghost use Rattle.sip_timers.specs.Queue.{is_due};
 ghost use Rattle.sip_model.specs.Machine.{due_of};
 
-use sip_model::{Item, ShardFault, StateMachine, Table};
+use sip_model::{Item, ShardFault, StateMachine, Table, by_label};
 use std::alloc::{AllocError, Global};
 use std::test::Fail;
 
@@ -123,6 +123,21 @@ fn a_phase_of_alarms(rt: HostRuntime) -> Result<(), Fail> {
     let replies = table.deal(&Alarms, None, Vec::new(rt.alloc()))?;
     assert!(rt; replies.ticks.is_empty() && replies.items.is_empty());
     assert!(rt; table.live() == 1);
+    Ok(())
+}
+
+#[test]
+fn groups_in_the_order_of_their_labels(rt: HostRuntime) -> Result<(), Fail> {
+    let mut told = Vec::new(rt.alloc());
+    for (label, output) in [(5, 1), (2, 7), (9, 3)] {
+        let outputs: Vec<u64> = [output].to_vec(rt.alloc())?;
+        told.push((label, outputs))?;
+    }
+    let sorted = by_label(told);
+    assert!(rt; sorted.len() == 3);
+    assert!(rt; sorted[0].0 == 2 && sorted[0].1.as_slice() == [7].as_slice());
+    assert!(rt; sorted[1].0 == 5 && sorted[1].1.as_slice() == [1].as_slice());
+    assert!(rt; sorted[2].0 == 9 && sorted[2].1.as_slice() == [3].as_slice());
     Ok(())
 }
 

@@ -1,0 +1,12 @@
+use Rattle.std.proofs.Common.{rules}
+use Rattle.std.specs.Ordering.{is_lt}
+use Rattle.std.proofs.lemmas.List.MinMax.{ranks_by}
+use Rattle.sip_model.proofs.Merged.{compares, merged}
+use Rattle.sip_model.proofs.merge.by_label.Goals as goal
+
+pub returns : goal.returns
+returns g c = λ all rises same.
+    merged g.met.L.Ord.total c.args.told.items c.sort_unstable_by.new.self.items all
+    (c.sort_unstable_by.ensures.sorted (λ one other. is_lt (g.L.Ord.cmp one.0 other.0)) (ranks_by g.met.L.Ord.total (λ group. group.0))
+    (compares _ _ _ (λ a r after called. search rules)))
+    c.sort_unstable_by.ensures.permutation rises same
