@@ -1,0 +1,4 @@
+pub mod UriTexts
+pub mod Tags
+pub mod Requests
+pub mod Lives
