@@ -1,9 +1,9 @@
 -- Why a dialog refuses a call: the first reason that fits, in this order. Want of memory comes last.
-use Rattle.std.specs.Prelude.{ℕ, Bool, false, ◌&&◌, nat_le, List, Option, Some, None, Result, Ok, Err, if◌then◌else◌}
+use Rattle.std.specs.Prelude.{ℕ, Bool, false, ◌&&◌, nat_le, List, Option, Some, None, Result, Ok, Err, unwrap_or, if◌then◌else◌}
 use Rattle.std.specs.Option.{option_map_or}
 use Rattle.sip_dialog.specs.declared.dialog.Dialog.{Dialog}
 use Rattle.sip_dialog.specs.declared.fault.DialogFault.{DialogFault}
-use Rattle.sip_dialog.specs.declared.fault.DialogFault.TheVariants.{SequenceUsedUp, NotConfirmed, Ended, StrictRoute, OutOfOrder}
+use Rattle.sip_dialog.specs.declared.fault.DialogFault.TheVariants.{SequenceUsedUp, NotConfirmed, Ended, StrictRoute, OutOfOrder, NoMemory}
 use Rattle.sip_dialog.specs.Dialog.{is_ended, is_early}
 use Rattle.sip_dialog.specs.Request.{is_invite}
 use Rattle.sip_dialog.specs.Route.{is_strict}
@@ -37,6 +37,10 @@ accept_fault dialog number =
     if is_ended dialog.state then Some Ended
     else (if is_out_of_order dialog.remote_cseq number then Some OutOfOrder
     else None)
+
+-- want of memory is told where no reason fits
+abbrev pub or_no_memory : Option DialogFault → DialogFault
+or_no_memory fault = unwrap_or fault NoMemory
 
 abbrev pub ok_unless : Option DialogFault → Result (Unit {0}) DialogFault
 ok_unless None = Ok tt

@@ -20,6 +20,9 @@ question_mark = 63
 abbrev pub is_at_sign : ℕ → Bool
 is_at_sign b = b == 64
 
+abbrev pub is_semicolon : ℕ → Bool
+is_semicolon b = b == semicolon
+
 -- the text up to the first such byte, or all of it where there is none
 abbrev pub before : ℕ → List ℕ → List ℕ
 before byte text = option_map_or (λ p. p.0) (cut_at byte text) text
@@ -41,7 +44,7 @@ host_part uri = option_map (before question_mark) (after_userinfo uri)
 
 -- the parameters, which follow the first `;` behind the host and stand between further ones
 abbrev pub uri_parameters : List ℕ → List (List ℕ)
-uri_parameters part = option_map_or (λ p. slice_split (λ b. b == semicolon) p.1) (cut_at semicolon part) []
+uri_parameters part = option_map_or (λ p. slice_split is_semicolon p.1) (cut_at semicolon part) []
 
 -- the parameter `lr`, in any case of the letters, with or without a value
 unfoldable pub is_lr : List ℕ → Bool

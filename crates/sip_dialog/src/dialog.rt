@@ -1,9 +1,9 @@
 //! Dialogs (RFC 3261, section 12).
-ghost use Rattle.std.specs.Prelude.{◌≡◌, ◌++◌, ◌∷◌, [], List, IfErr, OnErr, OnOk, None, unwrap_or};
+ghost use Rattle.std.specs.Prelude.{◌≡◌, ◌++◌, ◌∷◌, [], List, IfErr, OnErr, OnOk, None};
 ghost use Rattle.std.specs.Option.{option_copied};
-ghost use Rattle.sip_dialog.specs.Fault as reason;
-ghost use Rattle.sip_dialog.specs.Life as life_of;
-ghost use Rattle.sip_dialog.specs.Opening as opening;
+ghost use Rattle.sip_dialog.specs.Fault.{accept_fault, ended_fault, ok_unless, or_no_memory};
+ghost use Rattle.sip_dialog.specs.Life.{Happening, Accepts, Refreshes, Confirms, Ends, dialog_after};
+ghost use Rattle.sip_dialog.specs.Opening.{Opening};
 ghost use Rattle.sip_dialog.specs.Step as step;
 
 use crate::endpoint::Endpoint;
@@ -32,8 +32,8 @@ pub enum DialogState {
     Ended,
 }
 
-/// A dialog: a relationship of two user agents that lasts for some time, in which requests are numbered and routed (RFC 3261,
-/// section 12).
+/// A dialog: a relationship of two user agents that lasts for some time, in which requests are
+/// numbered and routed (RFC 3261, section 12).
 ///
 /// Contracts read it from its opening and the list of what happened in it.
 pub struct Dialog {
@@ -50,24 +50,26 @@ pub struct Dialog {
 }
 
 impl Dialog {
-    /// Takes the number of a request that the peer sent in the dialog (RFC 3261, section 12.2.2). Takes no memory.
+    /// Takes the number of a request that the peer sent in the dialog (RFC 3261, section 12.2.2).
+    /// Takes no memory.
     ///
     /// # Errors
     ///
-    /// `Ended`, or `OutOfOrder` where the number isn't above the remote CSeq. The dialog stays as it was then.
+    /// `Ended`, or `OutOfOrder` where the number isn't above the remote CSeq. The dialog stays as
+    /// it was then.
     pub fn accept(&mut self, cseq: u32) -> Result<(), DialogFault>
-        ensures answer { result ≡ reason.ok_unless (reason.accept_fault self.old cseq) }
+        ensures answer { result ≡ ok_unless (accept_fault self.old cseq) }
         ensures ok { OnOk result (self.new ≡ step.with_accepted self.old cseq) }
         ensures err { OnErr result (self.new ≡ self.old) }
-        ensures life { (start : opening.Opening) (life : List life_of.Happening)
-            → self.old ≡ life_of.dialog_after start life
-            → OnOk result (self.new ≡ life_of.dialog_after start (life ++ life_of.Accepts cseq ∷ [])) }
+        ensures life { (start : Opening) (life : List Happening)
+            → self.old ≡ dialog_after start life
+            → OnOk result (self.new ≡ dialog_after start (life ++ Accepts cseq ∷ [])) }
     {
         self.accept_step(cseq)
     }
 
     fn accept_step(&mut self, cseq: u32) -> Result<(), DialogFault>
-        ensures answer { result ≡ reason.ok_unless (reason.accept_fault self.old cseq) }
+        ensures answer { result ≡ ok_unless (accept_fault self.old cseq) }
         ensures ok { OnOk result (self.new ≡ step.with_accepted self.old cseq) }
         ensures err { OnErr result (self.new ≡ self.old) }
     {
@@ -81,7 +83,7 @@ impl Dialog {
 
     // An ended dialog is refused.
     fn check_open(&self) -> Result<(), DialogFault>
-        ensures { result ≡ reason.ok_unless (reason.ended_fault self.now) }
+        ensures { result ≡ ok_unless (ended_fault self.now) }
     {
         match self.state {
             DialogState::Ended => Err(DialogFault::Ended),
@@ -89,24 +91,25 @@ impl Dialog {
         }
     }
 
-    /// Makes this URI the target, as a re-INVITE with a Contact and its 2xx do (RFC 3261, section 12.2). Takes no memory.
+    /// Makes this URI the target, as a re-INVITE with a Contact and its 2xx do (RFC 3261, section
+    /// 12.2). Takes no memory.
     ///
     /// # Errors
     ///
     /// `Ended`. The dialog stays as it was then.
     pub fn refresh(&mut self, uri: Uri) -> Result<(), DialogFault>
-        ensures answer { result ≡ reason.ok_unless (reason.ended_fault self.old) }
+        ensures answer { result ≡ ok_unless (ended_fault self.old) }
         ensures ok { OnOk result (self.new ≡ step.with_target self.old uri) }
         ensures err { OnErr result (self.new ≡ self.old) }
-        ensures life { (start : opening.Opening) (life : List life_of.Happening)
-            → self.old ≡ life_of.dialog_after start life
-            → OnOk result (self.new ≡ life_of.dialog_after start (life ++ life_of.Refreshes uri ∷ [])) }
+        ensures life { (start : Opening) (life : List Happening)
+            → self.old ≡ dialog_after start life
+            → OnOk result (self.new ≡ dialog_after start (life ++ Refreshes uri ∷ [])) }
     {
         self.refresh_step(uri)
     }
 
     fn refresh_step(&mut self, uri: Uri) -> Result<(), DialogFault>
-        ensures answer { result ≡ reason.ok_unless (reason.ended_fault self.old) }
+        ensures answer { result ≡ ok_unless (ended_fault self.old) }
         ensures ok { OnOk result (self.new ≡ step.with_target self.old uri) }
         ensures err { OnErr result (self.new ≡ self.old) }
     {
@@ -115,27 +118,28 @@ impl Dialog {
         Ok(())
     }
 
-    /// Confirms the dialog by a 2xx response (RFC 3261, sections 12.1 and 13.2.2.4). At the callee the state alone changes; at the
-    /// caller the routes are read anew from the response, and the target where it has a Contact. The numbers go on.
+    /// Confirms the dialog by a 2xx response (RFC 3261, sections 12.1 and 13.2.2.4). At the callee
+    /// the state alone changes; at the caller the routes are read anew from the response, and the
+    /// target where it has a Contact. The numbers go on.
     ///
     /// # Errors
     ///
     /// `Ended` and `NoMemory`, in this order. The dialog stays as it was then.
     pub fn confirm(&mut self, response: &Message) -> Result<(), DialogFault>
-        ensures open { OnOk result (reason.ended_fault self.old ≡ None) }
-        ensures fault { IfErr result (λ fault. fault ≡ unwrap_or (reason.ended_fault self.old) DialogFault.NoMemory) }
+        ensures open { OnOk result (ended_fault self.old ≡ None) }
+        ensures fault { IfErr result (λ fault. fault ≡ or_no_memory (ended_fault self.old)) }
         ensures ok { OnOk result (self.new ≡ step.confirmed_by self.old response.now) }
         ensures err { OnErr result (self.new ≡ self.old) }
-        ensures life { (start : opening.Opening) (life : List life_of.Happening)
-            → self.old ≡ life_of.dialog_after start life
-            → OnOk result (self.new ≡ life_of.dialog_after start (life ++ life_of.Confirms response.now ∷ [])) }
+        ensures life { (start : Opening) (life : List Happening)
+            → self.old ≡ dialog_after start life
+            → OnOk result (self.new ≡ dialog_after start (life ++ Confirms response.now ∷ [])) }
     {
         self.confirm_step(response)
     }
 
     fn confirm_step(&mut self, response: &Message) -> Result<(), DialogFault>
-        ensures open { OnOk result (reason.ended_fault self.old ≡ None) }
-        ensures fault { IfErr result (λ fault. fault ≡ unwrap_or (reason.ended_fault self.old) DialogFault.NoMemory) }
+        ensures open { OnOk result (ended_fault self.old ≡ None) }
+        ensures fault { IfErr result (λ fault. fault ≡ or_no_memory (ended_fault self.old)) }
         ensures ok { OnOk result (self.new ≡ step.confirmed_by self.old response.now) }
         ensures err { OnErr result (self.new ≡ self.old) }
     {
@@ -164,9 +168,9 @@ impl Dialog {
     /// Ends the dialog. A second end does nothing. Takes no memory.
     pub fn end(&mut self)
         ensures after { self.new ≡ step.ended_now self.old }
-        ensures life { (start : opening.Opening) (life : List life_of.Happening)
-            → self.old ≡ life_of.dialog_after start life
-            → self.new ≡ life_of.dialog_after start (life ++ life_of.Ends ∷ []) }
+        ensures life { (start : Opening) (life : List Happening)
+            → self.old ≡ dialog_after start life
+            → self.new ≡ dialog_after start (life ++ Ends ∷ []) }
     {
         self.end_step();
     }
@@ -225,7 +229,8 @@ impl Dialog {
         self.route_set.as_slice()
     }
 
-    /// The CSeq of the last request that was made in it, or of the one that it began with at the caller; 0 where there was none.
+    /// The CSeq of the last request that was made in it, or of the one that it began with at the
+    /// caller; 0 where there was none.
     pub fn local_cseq(&self) -> u32
         ensures { result ≡ self.now.local_cseq }
     {

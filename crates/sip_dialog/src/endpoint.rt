@@ -8,7 +8,8 @@ use sip_parts::{Token, Uri};
 use sip_text::Text;
 use std::alloc::{AllocError, Global};
 
-/// One end of a dialog: its URI, and its tag as it was spelled when the dialog was made, if it had one.
+/// One end of a dialog: its URI, and its tag as it was spelled when the dialog was made, if it had
+/// one.
 pub struct Endpoint {
     pub uri: Uri,
     pub tag: Option<Token>,

@@ -9,7 +9,8 @@ use thiserror::Error;
 /// Why a dialog refused a call. It stays as it was then.
 #[derive(Clone, Copy, Debug, PartialEq, Eq, Error)]
 pub enum DialogFault {
-    /// The local CSeq is 2^31 - 1 or above, and a CSeq is to be below 2^31 (RFC 3261, section 8.1.1.5).
+    /// The local CSeq is 2^31 - 1 or above, and a CSeq is to be below 2^31 (RFC 3261, section
+    /// 8.1.1.5).
     #[error("the sequence numbers are used up")]
     SequenceUsedUp,
     /// The dialog is early, and an INVITE or an ACK was asked for.
@@ -18,7 +19,8 @@ pub enum DialogFault {
     /// The dialog has ended.
     #[error("the dialog has ended")]
     Ended,
-    /// The first route is a strict router: its URI has no parameter `lr` (RFC 3261, section 19.1.1).
+    /// The first route is a strict router: its URI has no parameter `lr` (RFC 3261, section
+    /// 19.1.1).
     #[error("the first route is a strict router")]
     StrictRoute,
     /// The number isn't above the remote CSeq.

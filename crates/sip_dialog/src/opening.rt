@@ -1,8 +1,9 @@
 //! How a dialog begins (RFC 3261, section 12.1).
 ghost use Rattle.std.specs.Prelude.{◌≡◌, [], IfOk, reverse};
 ghost use Rattle.std.specs.Option.{option_copied};
+ghost use Rattle.sip_dialog.specs.Life.{dialog_after};
+ghost use Rattle.sip_dialog.specs.Opening.{ByRequest, ByResponse};
 ghost use Rattle.sip_dialog.specs.Opening as opening;
-ghost use Rattle.sip_dialog.specs.Life as life_of;
 
 use crate::dialog::{Dialog, DialogState, Side};
 use crate::endpoint::Endpoint;
@@ -15,16 +16,19 @@ use std::alloc::{AllocError, Global};
 const FIRST_FINAL: u16 = 200;
 
 impl Dialog {
-    /// The dialog that an answer of this status to the request makes at the callee; `tag` is the tag that the answer has in To
-    /// (RFC 3261, section 12.1.1). A provisional status makes an early dialog.
+    /// The dialog that an answer of this status to the request makes at the callee; `tag` is the
+    /// tag that the answer has in To (RFC 3261, section 12.1.1). A provisional status makes an
+    /// early dialog.
     pub fn from_request(
         alloc: Global,
         request: &Message,
         tag: Token,
         status: StatusCode,
     ) -> Result<Dialog, AllocError>
-        ensures value { IfOk result (λ dialog. dialog ≡ opening.opened_by_request request.now tag status) }
-        ensures life { IfOk result (λ dialog. dialog ≡ life_of.dialog_after (opening.ByRequest request.now tag status) []) }
+        ensures value { IfOk result (λ dialog. dialog
+            ≡ opening.opened_by_request request.now tag status) }
+        ensures life { IfOk result (λ dialog. dialog
+            ≡ dialog_after (ByRequest request.now tag status) []) }
     {
         opened_by_request(alloc, request, tag, status)
     }
@@ -35,8 +39,10 @@ impl Dialog {
         request: &Message,
         response: &Message,
     ) -> Result<Dialog, AllocError>
-        ensures value { IfOk result (λ dialog. dialog ≡ opening.opened_by_response request.now response.now) }
-        ensures life { IfOk result (λ dialog. dialog ≡ life_of.dialog_after (opening.ByResponse request.now response.now) []) }
+        ensures value { IfOk result (λ dialog. dialog
+            ≡ opening.opened_by_response request.now response.now) }
+        ensures life { IfOk result (λ dialog. dialog
+            ≡ dialog_after (ByResponse request.now response.now) []) }
     {
         opened_by_response(alloc, request, response)
     }
@@ -141,7 +147,8 @@ pub(crate) fn target_of(uri: &Uri) -> Result<RequestUri, AllocError>
 
 /// The URI of the request line, or that of To in a message that has none.
 fn request_uri(request: &Message) -> Result<RequestUri, AllocError>
-    ensures { IfOk result (λ uri. uri ≡ opening.request_uri_or request.now.to.uri request.now.start) }
+    ensures { IfOk result (λ uri. uri
+        ≡ opening.request_uri_or request.now.to.uri request.now.start) }
 {
     match &request.start {
         StartLine::Request { uri } => uri.clone(),

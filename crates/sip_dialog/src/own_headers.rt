@@ -1,4 +1,5 @@
-//! The headers of a made request that have one's own address (RFC 3261, sections 8.1.1.7 and 8.1.1.8).
+//! The headers of a made request that have one's own address (RFC 3261, sections 8.1.1.7 and
+//! 8.1.1.8).
 ghost use Rattle.std.specs.Prelude.{◌≡◌, ◌∷◌, ◌++◌, [], IfOk, OnOk, IsTrue, codes};
 ghost use Rattle.sip_message.specs.Addr.{addr_text};
 ghost use Rattle.sip_message.specs.Ip.{ip_text};
@@ -52,7 +53,6 @@ pub(crate) fn contacts_of(
     Ok(contacts)
 }
 
-#[tactic(auto, unfolding(sip_text::specs::Token::is_token, sip_text::specs::Character::is_token_byte))]
 fn token_of(alloc: Global, word: &[u8]) -> Result<Token, AllocError>
     requires { IsTrue (is_token word.now) }
     ensures { IfOk result (λ token. token ≡ word.now) }

@@ -1,10 +1,10 @@
 //! The requests that are made in a dialog (RFC 3261, sections 8.1.1 and 12.2.1.1).
-ghost use Rattle.std.specs.Prelude.{◌≡◌, ◌+◌, ◌++◌, ◌∷◌, [], List, IfErr, IfOk, OnErr, OnOk, None, unwrap_or};
-ghost use Rattle.sip_dialog.specs.Fault as reason;
-ghost use Rattle.sip_dialog.specs.Life as life_of;
-ghost use Rattle.sip_dialog.specs.Opening as opening;
-ghost use Rattle.sip_dialog.specs.Request as request;
-ghost use Rattle.sip_dialog.specs.Step as step;
+ghost use Rattle.std.specs.Prelude.{◌≡◌, ◌+◌, ◌++◌, ◌∷◌, [], List, IfErr, IfOk, OnErr, OnOk, None};
+ghost use Rattle.sip_dialog.specs.Fault.{request_fault, ack_fault, or_no_memory};
+ghost use Rattle.sip_dialog.specs.Life.{Happening, Requests, Acknowledges, dialog_after};
+ghost use Rattle.sip_dialog.specs.Opening.{Opening};
+ghost use Rattle.sip_dialog.specs.Request.{request_in, bare_request_in, ack_in};
+ghost use Rattle.sip_dialog.specs.Step.{with_next_number};
 
 use crate::branch::Branch;
 use crate::dialog::{Dialog, DialogState};
@@ -22,13 +22,13 @@ const LAST_CSEQ: u32 = 2_147_483_647;
 const MAX_FORWARDS: u32 = 70;
 
 impl Dialog {
-    /// The next request of this method, with this body: it takes the next local CSeq. It is sent from the address `local`, and a
-    /// body that isn't empty is SDP (RFC 3261, section 12.2.1.1).
+    /// The next request of this method, with this body: it takes the next local CSeq. It is sent
+    /// from the address `local`, and a body that isn't empty is SDP (RFC 3261, section 12.2.1.1).
     ///
     /// # Errors
     ///
-    /// `Ended`, `NotConfirmed` for an INVITE in an early dialog, `StrictRoute`, `SequenceUsedUp` and `NoMemory`, the first of them
-    /// that fits. The dialog stays as it was then.
+    /// `Ended`, `NotConfirmed` for an INVITE in an early dialog, `StrictRoute`, `SequenceUsedUp`
+    /// and `NoMemory`, the first of them that fits. The dialog stays as it was then.
     pub fn next_request(
         &mut self,
         method: Token,
@@ -36,14 +36,16 @@ impl Dialog {
         branch: Branch,
         local: Addr,
     ) -> Result<Message, DialogFault>
-        ensures made { IfOk result (λ message. message ≡ request.request_in self.old method (self.old.local_cseq + 1) body branch local) }
-        ensures open { OnOk result (reason.request_fault self.old method ≡ None) }
-        ensures fault { IfErr result (λ fault. fault ≡ unwrap_or (reason.request_fault self.old method) DialogFault.NoMemory) }
-        ensures ok { OnOk result (self.new ≡ step.with_next_number self.old) }
+        ensures made { IfOk result (λ message. message
+            ≡ request_in self.old method (self.old.local_cseq + 1) body branch local) }
+        ensures open { OnOk result (request_fault self.old method ≡ None) }
+        ensures fault { IfErr result (λ fault. fault
+            ≡ or_no_memory (request_fault self.old method)) }
+        ensures ok { OnOk result (self.new ≡ with_next_number self.old) }
         ensures err { OnErr result (self.new ≡ self.old) }
-        ensures life { (start : opening.Opening) (life : List life_of.Happening)
-            → self.old ≡ life_of.dialog_after start life
-            → OnOk result (self.new ≡ life_of.dialog_after start (life ++ life_of.Requests method ∷ [])) }
+        ensures life { (start : Opening) (life : List Happening)
+            → self.old ≡ dialog_after start life
+            → OnOk result (self.new ≡ dialog_after start (life ++ Requests method ∷ [])) }
     {
         self.next_request_step(method, body, branch, local)
     }
@@ -55,10 +57,12 @@ impl Dialog {
         branch: Branch,
         local: Addr,
     ) -> Result<Message, DialogFault>
-        ensures made { IfOk result (λ message. message ≡ request.request_in self.old method (self.old.local_cseq + 1) body branch local) }
-        ensures open { OnOk result (reason.request_fault self.old method ≡ None) }
-        ensures fault { IfErr result (λ fault. fault ≡ unwrap_or (reason.request_fault self.old method) DialogFault.NoMemory) }
-        ensures ok { OnOk result (self.new ≡ step.with_next_number self.old) }
+        ensures made { IfOk result (λ message. message
+            ≡ request_in self.old method (self.old.local_cseq + 1) body branch local) }
+        ensures open { OnOk result (request_fault self.old method ≡ None) }
+        ensures fault { IfErr result (λ fault. fault
+            ≡ or_no_memory (request_fault self.old method)) }
+        ensures ok { OnOk result (self.new ≡ with_next_number self.old) }
         ensures err { OnErr result (self.new ≡ self.old) }
     {
         if let Some(fault) = self.request_fault(&method) {
@@ -72,7 +76,7 @@ impl Dialog {
 
     // Why no request of this method can be made.
     fn request_fault(&self, method: &Token) -> Option<DialogFault>
-        ensures { result ≡ reason.request_fault self.now method.now }
+        ensures { result ≡ request_fault self.now method.now }
     {
         if self.state == DialogState::Ended {
             Some(DialogFault::Ended)
@@ -87,8 +91,8 @@ impl Dialog {
         }
     }
 
-    /// The ACK of the INVITE of this CSeq number, which takes no number of its own (RFC 3261, section 13.2.2.4). It is sent from
-    /// the address `local`, and a body that isn't empty is SDP.
+    /// The ACK of the INVITE of this CSeq number, which takes no number of its own (RFC 3261,
+    /// section 13.2.2.4). It is sent from the address `local`, and a body that isn't empty is SDP.
     ///
     /// # Errors
     ///
@@ -100,12 +104,12 @@ impl Dialog {
         branch: Branch,
         local: Addr,
     ) -> Result<Message, DialogFault>
-        ensures made { IfOk result (λ message. message ≡ request.ack_in self.now cseq body branch local) }
-        ensures open { OnOk result (reason.ack_fault self.now ≡ None) }
-        ensures fault { IfErr result (λ fault. fault ≡ unwrap_or (reason.ack_fault self.now) DialogFault.NoMemory) }
-        ensures life { (start : opening.Opening) (life : List life_of.Happening)
-            → self.now ≡ life_of.dialog_after start life
-            → self.now ≡ life_of.dialog_after start (life ++ life_of.Acknowledges cseq ∷ []) }
+        ensures made { IfOk result (λ message. message ≡ ack_in self.now cseq body branch local) }
+        ensures open { OnOk result (ack_fault self.now ≡ None) }
+        ensures fault { IfErr result (λ fault. fault ≡ or_no_memory (ack_fault self.now)) }
+        ensures life { (start : Opening) (life : List Happening)
+            → self.now ≡ dialog_after start life
+            → self.now ≡ dialog_after start (life ++ Acknowledges cseq ∷ []) }
     {
         self.ack_step(cseq, body, branch, local)
     }
@@ -117,9 +121,9 @@ impl Dialog {
         branch: Branch,
         local: Addr,
     ) -> Result<Message, DialogFault>
-        ensures made { IfOk result (λ message. message ≡ request.ack_in self.now cseq body branch local) }
-        ensures open { OnOk result (reason.ack_fault self.now ≡ None) }
-        ensures fault { IfErr result (λ fault. fault ≡ unwrap_or (reason.ack_fault self.now) DialogFault.NoMemory) }
+        ensures made { IfOk result (λ message. message ≡ ack_in self.now cseq body branch local) }
+        ensures open { OnOk result (ack_fault self.now ≡ None) }
+        ensures fault { IfErr result (λ fault. fault ≡ or_no_memory (ack_fault self.now)) }
     {
         if let Some(fault) = self.ack_fault() {
             return Err(fault);
@@ -130,7 +134,7 @@ impl Dialog {
 
     // Why no ACK can be made.
     fn ack_fault(&self) -> Option<DialogFault>
-        ensures { result ≡ reason.ack_fault self.now }
+        ensures { result ≡ ack_fault self.now }
     {
         match self.state {
             DialogState::Ended => Some(DialogFault::Ended),
@@ -149,7 +153,8 @@ impl Dialog {
         branch: Branch,
         local: Addr,
     ) -> Result<Message, AllocError>
-        ensures { IfOk result (λ message. message ≡ request.request_in self.now method number body branch local) }
+        ensures { IfOk result (λ message. message
+            ≡ request_in self.now method number body branch local) }
     {
         let message = self.bare_request(method, number, branch, local)?;
         message.with_body(self.alloc, body)
@@ -163,7 +168,8 @@ impl Dialog {
         branch: Branch,
         local: Addr,
     ) -> Result<Message, AllocError>
-        ensures { IfOk result (λ message. message ≡ request.bare_request_in self.now method number branch local) }
+        ensures { IfOk result (λ message. message
+            ≡ bare_request_in self.now method number branch local) }
     {
         let uri = self.target.clone()?;
         let vias = own_via(self.alloc, local, branch)?;

@@ -1,5 +1,5 @@
 //! The parts of a URI that routing looks at (RFC 3261, section 19.1.1).
-ghost use Rattle.std.specs.Prelude.{◌≡◌, ◌==◌};
+ghost use Rattle.std.specs.Prelude.{◌≡◌};
 ghost use Rattle.std.specs.List.{list_any, slice_split};
 ghost use Rattle.std.specs.Option.{option_copied};
 ghost use Rattle.sip_dialog.specs.UriText as uri_text;
@@ -7,7 +7,8 @@ ghost use Rattle.sip_dialog.specs.UriText as uri_text;
 use memchr::memrchr;
 use sip_text::{cut, token_eq};
 
-/// Whether the URI is that of a loose router: whether it has the parameter `lr` behind its host. Takes no memory.
+/// Whether the URI is that of a loose router: whether it has the parameter `lr` behind its host.
+/// Takes no memory.
 #[tactic(auto, unfolding(crate::specs::UriText::is_loose))]
 pub(crate) fn is_loose(uri: &[u8]) -> bool
     ensures { result ≡ uri_text.is_loose uri.now }
@@ -63,7 +64,8 @@ fn has_lr(part: &[u8]) -> bool
 }
 
 fn any_is_lr(parameters: &[u8]) -> bool
-    ensures { result ≡ list_any uri_text.is_lr (slice_split (λ b. b == uri_text.semicolon) parameters.now) }
+    ensures { result
+        ≡ list_any uri_text.is_lr (slice_split uri_text.is_semicolon parameters.now) }
 {
     parameters
         .split(|byte| *byte == b';')
