@@ -2,3 +2,5 @@ pub mod UriTexts
 pub mod Tags
 pub mod Requests
 pub mod Lives
+pub mod Numerals
+pub mod Addresses

@@ -19,7 +19,7 @@ use Rattle.sip_dialog.specs.Request.{via_of}
 use Rattle.sip_message.proofs.Stamps.{all_digits-decimal, run_from_all}
 
 -- a test that digits pass
-abbrev PassesDigits : (ℕ → Bool) → Type 0
+abbrev pub PassesDigits : (ℕ → Bool) → Type 0
 PassesDigits test = (b : ℕ) → is_ascii_digit b ≡ true → test b ≡ true
 
 both : (test : ℕ → Bool) (xs ys : List ℕ) → list_all test xs ≡ true → list_all test ys ≡ true → list_all test (xs ++ ys) ≡ true
@@ -28,7 +28,7 @@ both test xs ys p q = list_all-append test xs ys ∙ both_true _ _ p q
 number : (test : ℕ → Bool) → PassesDigits test → (n : ℕ) → n < 2 ^ 64 → list_all test (decimal n) ≡ true
 number test digits n fits = all_weaker is_ascii_digit test digits (decimal n) (all_digits-decimal n fits)
 
-ip_passes : (test : ℕ → Bool) → PassesDigits test → list_all test (codes ".") ≡ true → (ip : List ℕ) → slice_index ip 0 < 256 → slice_index ip 1 < 256 → slice_index ip 2 < 256 → slice_index ip 3 < 256 → list_all test (ip_text ip) ≡ true
+pub ip_passes : (test : ℕ → Bool) → PassesDigits test → list_all test (codes ".") ≡ true → (ip : List ℕ) → slice_index ip 0 < 256 → slice_index ip 1 < 256 → slice_index ip 2 < 256 → slice_index ip 3 < 256 → list_all test (ip_text ip) ≡ true
 ip_passes test digits dot ip p q r s =
     both test _ _ (both test _ _ (both test _ _ (both test _ _ (both test _ _ (both test _ _ (number test digits _ (omega arith)) dot) (number test digits _ (omega arith))) dot) (number test digits _ (omega arith))) dot) (number test digits _ (omega arith))
 

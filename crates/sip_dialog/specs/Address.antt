@@ -1,10 +1,13 @@
--- An address in a text: an IPv4 address as four decimal numbers with dots between them (RFC 3261, section 25.1), and a port.
-use Rattle.std.specs.Prelude.{ℕ, Bool, true, false, ◌==◌, nat_le, List, [], ◌∷◌, Option, Some, None, Result, Ok, Err, option_and_then, if◌then◌else◌}
-use Rattle.std.specs.Option.{option_map}
+-- An address in a text: an IPv4 address as four decimal numbers with dots between them (RFC 3261,
+-- section 25.1), and a port.
+use Rattle.std.specs.Prelude.{◌≡◌, ◌<◌, ◌^◌, ◌⊎◌, ℕ, nat_lt, length, IsTrue, Bool, true, false, ◌==◌, nat_le, List, [], ◌∷◌, Option, Some, None, Result, Ok, Err, option_and_then, if◌then◌else◌}
+use Rattle.std.specs.List.{list_all}
 use Rattle.sip_text.specs.Cut.{cut_at}
 use Rattle.sip_text.specs.Number.{number_of}
 use Rattle.sip_text.specs.declared.fault.TextFault.{TextFault}
 use Rattle.sip_message.specs.declared.addr.Addr.{Addr}
+use Rattle.sip_message.specs.Addr.{addr_text}
+use Rattle.sip_message.specs.Ip.{ip_text}
 use Rattle.sip_dialog.specs.UriText.{colon}
 
 infixl 10 ◌>>=◌
@@ -28,21 +31,34 @@ at_most most (Err fault) = None
 unfoldable pub number_at : ℕ → List ℕ → Option ℕ
 number_at most text = if has_leading_zero text then None else at_most most (number_of text)
 
+-- a number up to 255 and a dot, and then what is read from the text behind
+abbrev pub octet_before_dot : {A : Type 0} → List ℕ → (ℕ → List ℕ → Option A) → Option A
+octet_before_dot text next = cut_at dot text >>= λ p. number_at 255 p.0 >>= λ octet. next octet p.1
+
 -- four numbers up to 255 with dots between them
 unfoldable pub ip_at : List ℕ → Option (List ℕ)
 ip_at text =
-    cut_at dot text >>= λ p. number_at 255 p.0
-    >>= λ a. cut_at dot p.1
-    >>= λ q. number_at 255 q.0
-    >>= λ b. cut_at dot q.1
-    >>= λ r. number_at 255 r.0
-    >>= λ c. number_at 255 r.1
-    >>= λ d. Some (a ∷ b ∷ c ∷ d ∷ [])
+    octet_before_dot text λ a rest. octet_before_dot rest λ b rest. octet_before_dot rest λ c rest.
+    number_at 255 rest >>= λ d. Some (a ∷ b ∷ c ∷ d ∷ [])
 
 -- an IPv4 address, and behind a `:` a port; without one it is 5060
 abbrev pub address_in : List ℕ → Option (List ℕ × List ℕ) → Option Addr
 address_in text None = ip_at text >>= λ ip. Some record { ip = ip; port = 5060 }
-address_in text (Some (host, port)) = ip_at host >>= λ ip. number_at 65535 port >>= λ number. Some record { ip = ip; port = number }
+address_in text (Some (host, port)) =
+    ip_at host >>= λ ip. number_at 65535 port >>= λ number. Some record { ip = ip; port = number }
 
 unfoldable pub address_at : List ℕ → Option Addr
 address_at text = address_in text (cut_at colon text)
+
+-- four numbers below 256
+abbrev pub IsIp : List ℕ → Type 0
+IsIp ip = (length ip ≡ 4) × IsTrue (list_all (λ b. nat_lt b 256) ip)
+
+-- such an IP address, and a port below 2 ^ 16
+abbrev pub IsAddr : Addr → Type 0
+IsAddr address = IsIp address.ip × (address.port < 2 ^ 16)
+
+-- `a.b.c.d:port`, or `a.b.c.d` where the port is 5060
+abbrev pub IsTextOf : Addr → List ℕ → Type 0
+IsTextOf address text =
+    (text ≡ addr_text address) ⊎ ((address.port ≡ 5060) × (text ≡ ip_text address.ip))

@@ -1,4 +1,5 @@
--- Why a dialog refuses a call: the first reason that fits, in this order. Want of memory comes last.
+-- Why a dialog refuses a call: the first reason that fits, in this order. Want of memory comes
+-- last.
 use Rattle.std.specs.Prelude.{ℕ, Bool, false, ◌&&◌, nat_le, List, Option, Some, None, Result, Ok, Err, unwrap_or, if◌then◌else◌}
 use Rattle.std.specs.Option.{option_map_or}
 use Rattle.sip_dialog.specs.declared.dialog.Dialog.{Dialog}

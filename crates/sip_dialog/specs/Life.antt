@@ -72,7 +72,8 @@ routes_by Caller routes (Confirms response) = reverse response.record_routes
 routes_by Callee routes (Confirms response) = routes
 routes_by side routes Ends = routes
 
--- the target: the last URI that was given, or at the caller the last Contact of a response that confirmed it
+-- the target: the last URI that was given, or at the caller the last Contact of a response that
+-- confirmed it
 abbrev pub target_by : Side → List ℕ → Happening → List ℕ
 target_by side target (Requests method) = target
 target_by side target (Acknowledges number) = target
@@ -84,10 +85,12 @@ target_by side target Ends = target
 
 -- it ends for good
 abbrev pub state_after : DialogState → List Happening → DialogState
-state_after state life = if list_any is_ending life then Ended else (if list_any is_confirming life then Confirmed else state)
+state_after state life =
+    if list_any is_ending life then Ended
+    else (if list_any is_confirming life then Confirmed else state)
 
--- The dialog of an opening after all that happened. The local CSeq is that of the opening and the count of requests that took a
--- number; the remote CSeq is the greatest accepted.
+-- The dialog of an opening after all that happened. The local CSeq is that of the opening and the
+-- count of requests that took a number; the remote CSeq is the greatest accepted.
 abbrev pub dialog_after : Opening → List Happening → Dialog
 dialog_after opening life = record (opened opening) {
   state = state_after (opened opening).state life;

@@ -1,5 +1,5 @@
--- How a dialog begins (RFC 3261, sections 12.1.1 and 12.1.2): at the callee by an INVITE that it answers, at the caller by an answer
--- to its INVITE.
+-- How a dialog begins (RFC 3261, sections 12.1.1 and 12.1.2): at the callee by an INVITE that it
+-- answers, at the caller by an answer to its INVITE.
 use Rattle.std.specs.Prelude.{ℕ, nat_lt, List, Option, Some, None, reverse, unwrap_or, if◌then◌else◌}
 use Rattle.std.specs.List.{slice_get}
 use Rattle.std.specs.Option.{option_map}
@@ -51,7 +51,8 @@ opened_by_request request tag status = record {
   remote_cseq = Some request.cseq.number;
 }
 
--- at the caller: the routes reversed, the number of its request sent, and none of the peer taken yet
+-- at the caller: the routes reversed, the number of its request sent, and none of the peer taken
+-- yet
 abbrev pub opened_by_response : Message → Message → Dialog
 opened_by_response request response = record {
   alloc = record { memory = record { seal = tt } };

@@ -15,7 +15,9 @@ use Rattle.sip_dialog.specs.declared.dialog.Dialog.{Dialog}
 
 -- `;rport;branch=..`
 abbrev pub via_parameters : List ℕ → List Parameter
-via_parameters branch = (record { name = codes "rport"; value = None }) ∷ (record { name = codes "branch"; value = Some branch }) ∷ []
+via_parameters branch =
+    (record { name = codes "rport"; value = None })
+    ∷ (record { name = codes "branch"; value = Some branch }) ∷ []
 
 -- `SIP/2.0/UDP local;rport;branch=..`
 abbrev pub via_of : Addr → List ℕ → Via
@@ -60,7 +62,8 @@ bare_request_in dialog method number branch local = record {
 
 -- the same with this body
 abbrev pub request_in : Dialog → List ℕ → ℕ → List ℕ → List ℕ → Addr → Message
-request_in dialog method number body branch local = with_body_of (bare_request_in dialog method number branch local) body
+request_in dialog method number body branch local =
+    with_body_of (bare_request_in dialog method number branch local) body
 
 -- the ACK of the INVITE of this number
 abbrev pub ack_in : Dialog → ℕ → List ℕ → List ℕ → Addr → Message

@@ -1,4 +1,5 @@
--- The parts of a URI that routing looks at (RFC 3261, section 19.1.1): `scheme:userinfo@host:port;parameters?headers`.
+-- The parts of a URI that routing looks at (RFC 3261, section 19.1.1):
+-- `scheme:userinfo@host:port;parameters?headers`.
 use Rattle.std.specs.Prelude.{ℕ, Bool, false, ◌==◌, List, [], Option, Some, codes, if◌then◌else◌}
 use Rattle.std.specs.List.{list_any, after_last, slice_split}
 use Rattle.std.specs.Option.{option_map, option_map_or}
@@ -31,8 +32,8 @@ before byte text = option_map_or (λ p. p.0) (cut_at byte text) text
 abbrev pub after_scheme : List ℕ → Option (List ℕ)
 after_scheme uri = option_map (λ p. p.1) (cut_at colon uri)
 
--- What begins with the host: it follows the last `@` of the URI, or where there is none the `:` of the scheme. A URI with neither
--- has no host.
+-- What begins with the host: it follows the last `@` of the URI, or where there is none the `:` of
+-- the scheme. A URI with neither has no host.
 unfoldable pub after_userinfo : List ℕ → Option (List ℕ)
 after_userinfo uri =
     if list_any is_at_sign uri then Some (after_last is_at_sign uri)
