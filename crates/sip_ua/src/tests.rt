@@ -1,5 +1,6 @@
 //! Runs of the whole program over memory.
 
+mod dialog;
 mod files;
 mod plain_fold;
 mod reading;
