@@ -1,6 +1,7 @@
 //! Runs of the whole program over memory.
 
 mod desk;
+mod dialog;
 mod files;
 mod plain_fold;
 mod reading;

@@ -1,0 +1,5 @@
+use Rattle.sip_parts.proofs.Bytes.{and_left, token_is_value}
+use Rattle.sip_dialog.proofs.branch.Branch.into_value.Goals as goal
+
+pub from_text-requires : goal.from_text-requires
+from_text-requires c = rw c.into_text.ensures.value (token_is_value _ c.into_text.ensures.rule)

@@ -1,0 +1,11 @@
+pub mod Branch
+pub mod Endpoint
+pub mod UriText
+pub mod Address
+pub mod Dialog
+pub mod Opening
+pub mod Request
+pub mod Route
+pub mod Fault
+pub mod Step
+pub mod Life

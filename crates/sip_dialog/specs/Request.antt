@@ -1,0 +1,70 @@
+-- The requests that are made in a dialog (RFC 3261, sections 8.1.1 and 12.2.1.1).
+use Rattle.std.specs.Prelude.{ℕ, Bool, List, [], ◌∷◌, ◌++◌, Option, Some, None, codes, if◌then◌else◌}
+use Rattle.std.specs.Str.{bytes_eq}
+use Rattle.sip_parts.specs.declared.parameter.Parameter.{Parameter}
+use Rattle.sip_message.specs.declared.addr.Addr.{Addr}
+use Rattle.sip_message.specs.declared.message.Message.{Message}
+use Rattle.sip_message.specs.declared.name_addr.NameAddr.{NameAddr}
+use Rattle.sip_message.specs.declared.start_line.StartLine.TheVariants.{Request}
+use Rattle.sip_message.specs.declared.via.Via.{Via}
+use Rattle.sip_message.specs.Addr.{addr_text}
+use Rattle.sip_message.specs.Ip.{ip_text}
+use Rattle.sip_message.specs.Message.{with_body_of}
+use Rattle.sip_message.specs.Party.{party_of}
+use Rattle.sip_dialog.specs.declared.dialog.Dialog.{Dialog}
+
+-- `;rport;branch=..`
+abbrev pub via_parameters : List ℕ → List Parameter
+via_parameters branch =
+    (record { name = codes "rport"; value = None })
+    ∷ (record { name = codes "branch"; value = Some branch }) ∷ []
+
+-- `SIP/2.0/UDP local;rport;branch=..`
+abbrev pub via_of : Addr → List ℕ → Via
+via_of local branch = record {
+  transport = codes "UDP";
+  host = ip_text local.ip;
+  port = Some local.port;
+  parameters = via_parameters branch;
+}
+
+-- `<sip:local>`
+abbrev pub contact_of : Addr → NameAddr
+contact_of local = record { display = []; uri = codes "sip:" ++ addr_text local; parameters = [] }
+
+-- a request that wants a confirmed dialog, and that has a Contact
+abbrev pub is_invite : List ℕ → Bool
+is_invite method = bytes_eq method (codes "INVITE")
+
+unfoldable pub contacts_of : List ℕ → Addr → List NameAddr
+contacts_of method local = if is_invite method then contact_of local ∷ [] else []
+
+-- the request of this method and number, without a body
+abbrev pub bare_request_in : Dialog → List ℕ → ℕ → List ℕ → Addr → Message
+bare_request_in dialog method number branch local = record {
+  start = Request dialog.target;
+  vias = via_of local branch ∷ [];
+  max_forwards = Some 70;
+  from = party_of dialog.local.uri dialog.local.tag;
+  to = party_of dialog.remote.uri dialog.remote.tag;
+  call_id = dialog.call_id;
+  cseq = record { number = number; method = method };
+  contacts = contacts_of method local;
+  record_routes = [];
+  routes = dialog.route_set;
+  require = [];
+  supported = [];
+  rseq = None;
+  rack = None;
+  others = [];
+  body = [];
+}
+
+-- the same with this body
+abbrev pub request_in : Dialog → List ℕ → ℕ → List ℕ → List ℕ → Addr → Message
+request_in dialog method number body branch local =
+    with_body_of (bare_request_in dialog method number branch local) body
+
+-- the ACK of the INVITE of this number
+abbrev pub ack_in : Dialog → ℕ → List ℕ → List ℕ → Addr → Message
+ack_in dialog number body branch local = request_in dialog (codes "ACK") number body branch local

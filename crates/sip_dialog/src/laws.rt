@@ -1,0 +1,12 @@
+//! Laws of the definitions. Each is proved by its contract alone, and calling one does nothing.
+ghost use Rattle.std.specs.Prelude.{◌≡◌, List, ℕ, Some};
+ghost use Rattle.sip_message.specs.declared.addr.Addr.{Addr};
+ghost use Rattle.sip_dialog.specs.Address.{address_at, IsAddr, IsTextOf};
+
+/// An address is read from its own texts, and from no other.
+pub fn an_address_has_its_own_texts()
+    ensures read { (address : Addr) (text : List ℕ) → IsAddr address → IsTextOf address text
+        → address_at text ≡ Some address }
+    ensures only { (address : Addr) (text : List ℕ) → address_at text ≡ Some address
+        → IsAddr address × IsTextOf address text }
+{}

@@ -1,0 +1,133 @@
+//! The headers of a made request that have one's own address (RFC 3261, sections 8.1.1.7 and
+//! 8.1.1.8).
+ghost use Rattle.std.specs.Prelude.{◌≡◌, ◌∷◌, ◌++◌, [], IfOk, OnOk, IsTrue, codes};
+ghost use Rattle.sip_message.specs.Addr.{addr_text};
+ghost use Rattle.sip_message.specs.Ip.{ip_text};
+ghost use Rattle.sip_text.specs.Token.{is_token};
+ghost use Rattle.sip_dialog.specs.Branch.{is_branch};
+ghost use Rattle.sip_dialog.specs.Request as request;
+
+use crate::branch::Branch;
+use sip_message::{Addr, NameAddr, Via, Vias, ip_text};
+use sip_parts::{DisplayText, Host, Parameter, Token, Uri};
+use sip_text::{Series, Text, decimal};
+use std::alloc::{AllocError, Global};
+
+/// Whether the method is INVITE. Methods are compared byte by byte.
+pub(crate) fn is_invite(method: &Token) -> bool
+    ensures { result ≡ request.is_invite method.now }
+{
+    method.as_slice() == b"INVITE".as_slice()
+}
+
+/// The Via of a made request, which asks for `rport` (RFC 3581, section 3).
+pub(crate) fn own_via(alloc: Global, local: Addr, branch: Branch) -> Result<Vias, AllocError>
+    ensures { IfOk result (λ vias. vias ≡ request.via_of local branch ∷ []) }
+{
+    let transport = udp(alloc)?;
+    let host = own_host(alloc, local)?;
+    let parameters = via_parameters(alloc, branch)?;
+    let mut vias = Vec::new(alloc);
+    vias.push(Via {
+        transport,
+        host,
+        port: Some(local.port),
+        parameters,
+    })?;
+    Ok(Vias::from_series(Series::from_vec(vias)))
+}
+
+/// The Contact of a made INVITE, and none in any other request.
+#[tactic(auto, unfolding(crate::specs::Request::contacts_of))]
+pub(crate) fn contacts_of(
+    alloc: Global,
+    method: &Token,
+    local: Addr,
+) -> Result<Series<NameAddr>, AllocError>
+    ensures { IfOk result (λ contacts. contacts ≡ request.contacts_of method.now local) }
+{
+    let mut contacts = Series::new(alloc);
+    if is_invite(method) {
+        contacts.push(own_contact(alloc, local)?)?;
+    }
+    Ok(contacts)
+}
+
+fn token_of(alloc: Global, word: &[u8]) -> Result<Token, AllocError>
+    requires { IsTrue (is_token word.now) }
+    ensures { IfOk result (λ token. token ≡ word.now) }
+{
+    Ok(Token::from_text(Text::copy_of(alloc, word)?))
+}
+
+/// The method ACK.
+#[tactic(auto, unfolding(sip_text::specs::Token::is_token, sip_text::specs::Character::is_token_byte))]
+pub(crate) fn ack(alloc: Global) -> Result<Token, AllocError>
+    ensures { IfOk result (λ token. token ≡ codes "ACK") }
+{
+    token_of(alloc, b"ACK")
+}
+
+#[tactic(auto, unfolding(sip_text::specs::Token::is_token, sip_text::specs::Character::is_token_byte))]
+fn udp(alloc: Global) -> Result<Token, AllocError>
+    ensures { IfOk result (λ token. token ≡ codes "UDP") }
+{
+    token_of(alloc, b"UDP")
+}
+
+fn own_host(alloc: Global, local: Addr) -> Result<Host, AllocError>
+    ensures { IfOk result (λ host. host ≡ ip_text local.ip) }
+{
+    let [_a, _b, _c, _d] = local.ip;
+    Ok(Host::from_text(Text::copy_of(alloc, &ip_text(local.ip))?))
+}
+
+#[tactic(auto, unfolding(sip_text::specs::Token::is_token, sip_text::specs::Character::is_token_byte))]
+fn via_parameters(alloc: Global, branch: Branch) -> Result<Series<Parameter>, AllocError>
+    ensures value { IfOk result (λ made. made ≡ request.via_parameters branch) }
+    ensures rule { OnOk result (IsTrue (is_branch branch)) }
+{
+    let rport = Parameter {
+        name: token_of(alloc, b"rport")?,
+        value: None,
+    };
+    let branch = Parameter {
+        name: token_of(alloc, b"branch")?,
+        value: Some(branch.into_value()),
+    };
+    let mut parameters = Vec::new(alloc);
+    parameters.push(rport)?;
+    parameters.push(branch)?;
+    Ok(Series::from_vec(parameters))
+}
+
+fn own_contact(alloc: Global, local: Addr) -> Result<NameAddr, AllocError>
+    ensures { IfOk result (λ contact. contact ≡ request.contact_of local) }
+{
+    let uri = own_uri(alloc, local)?;
+    let display = no_display(alloc);
+    let parameters = Series::new(alloc);
+    Ok(NameAddr {
+        display,
+        uri,
+        parameters,
+    })
+}
+
+#[tactic(auto, unfolding(sip_parts::specs::DisplayText::is_display_text, sip_parts::specs::Quoted::is_quoted))]
+fn no_display(alloc: Global) -> DisplayText
+    ensures { result ≡ [] }
+{
+    DisplayText::from_text(Text::from_vec(Vec::new(alloc)))
+}
+
+fn own_uri(alloc: Global, local: Addr) -> Result<Uri, AllocError>
+    ensures { IfOk result (λ uri. uri ≡ codes "sip:" ++ addr_text local) }
+{
+    let [_a, _b, _c, _d] = local.ip;
+    let mut text = Text::copy_of(alloc, b"sip:")?;
+    text.extend_from_slice(&ip_text(local.ip))?;
+    text.extend_from_slice(b":")?;
+    text.extend_from_slice(&decimal(u64::from(local.port)))?;
+    Ok(Uri::from_text(text))
+}
