@@ -1,5 +1,5 @@
 -- What one happening more does to the dialog that is read from its opening and all that happened.
-use Rattle.std.proofs.Common.{◌≡◌, ℕ, ◌+◌, ◌≤◌, ◌<◌, nat_le, max, ◌||◌, ◌&&◌, Bool, true, false, cond, List, [], ◌∷◌, ◌++◌, Option, Some, None, Result, Ok, Err, IfErr, OnOk, unwrap_or, refl, sym, ap, ◌∙◌, arith, add-zero, append-nil}
+use Rattle.std.proofs.Common.{◌≡◌, ℕ, ◌+◌, nat_le, max, ◌||◌, Bool, true, false, cond, List, [], ◌∷◌, ◌++◌, Option, Some, None, Result, Ok, Err, OnOk, refl, sym, ap, ◌∙◌, arith, add-zero, append-nil}
 use Rattle.std.specs.Prelude.{count_by, fold}
 use Rattle.std.specs.List.{list_any, filter_map, cons_option}
 use Rattle.std.proofs.Math.Bool.{or-false}
@@ -11,7 +11,7 @@ use Rattle.sip_message.specs.declared.message.Message.{Message}
 use Rattle.sip_message.specs.declared.name_addr.NameAddr.{NameAddr}
 use Rattle.sip_dialog.specs.declared.dialog.Dialog.{Dialog}
 use Rattle.sip_dialog.specs.declared.dialog.DialogState.{DialogState}
-use Rattle.sip_dialog.specs.declared.dialog.DialogState.TheVariants.{Early, Confirmed, Ended}
+use Rattle.sip_dialog.specs.declared.dialog.DialogState.TheVariants.{Confirmed, Ended}
 use Rattle.sip_dialog.specs.declared.dialog.Side.{Side}
 use Rattle.sip_dialog.specs.declared.dialog.Side.TheVariants.{Caller, Callee}
 use Rattle.sip_dialog.specs.declared.fault.DialogFault.{DialogFault}
@@ -20,7 +20,7 @@ use Rattle.sip_dialog.specs.Dialog.{is_ended}
 use Rattle.sip_dialog.specs.Fault.{ok_unless, accept_fault, ended_fault, is_out_of_order}
 use Rattle.sip_dialog.specs.Life.{Happening, Requests, Acknowledges, Accepts, Refreshes, Confirms, Ends, takes_number, accepted_number, is_confirming, is_ending, greater, routes_by, target_by, state_after, dialog_after}
 use Rattle.sip_dialog.specs.Opening.{Opening, opened}
-use Rattle.sip_dialog.specs.Step.{with_next_number, with_accepted, with_target, routed_by, confirmed_at, confirmed_by, ended_now}
+use Rattle.sip_dialog.specs.Step.{with_next_number, with_accepted, with_target, confirmed_at, confirmed_by, ended_now}
 
 any_kept : {X : Type 0} (p : X → Bool) (xs : List X) (x : X) → p x ≡ false → list_any p (xs ++ x ∷ []) ≡ list_any p xs
 any_kept p xs x fails = list_any-append p xs (x ∷ []) ∙ ap (λ b. list_any p xs || (b || false)) fails ∙ or-false (list_any p xs)

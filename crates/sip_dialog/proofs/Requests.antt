@@ -5,18 +5,16 @@ use Rattle.std.specs.Char.{is_ascii_digit}
 use Rattle.std.proofs.lemmas.List.Folds.{list_all-append}
 use Rattle.std.proofs.lemmas.Fmt.{decimal_nonempty}
 use Rattle.std.proofs.lemmas.Bool.{eqb-true, true≢false}
-use Rattle.sip_text.specs.Token.{is_run}
 use Rattle.sip_parts.specs.Host.{is_host, is_host_byte}
 use Rattle.sip_parts.specs.Uri.{is_uri, is_uri_byte}
 use Rattle.sip_parts.proofs.Bytes.{both_true, none_of, all_weaker, and_left, and_right}
 use Rattle.sip_message.specs.declared.addr.Addr.{Addr}
-use Rattle.sip_message.specs.Addr.{addr_text}
 use Rattle.sip_message.specs.Ip.{ip_text}
 use Rattle.sip_parts.specs.Parameters.{value_named}
 use Rattle.sip_message.specs.Via.{are_vias}
 use Rattle.sip_dialog.specs.Branch.{is_branch}
 use Rattle.sip_dialog.specs.Request.{via_of}
-use Rattle.sip_message.proofs.Stamps.{all_digits-decimal, run_from_all}
+use Rattle.sip_message.proofs.Stamps.{all_digits-decimal}
 
 -- a test that digits pass
 abbrev pub PassesDigits : (ℕ → Bool) → Type 0

@@ -1,5 +1,5 @@
 -- A tag that isn't empty is a token.
-use Rattle.std.proofs.Common.{◌≡◌, ℕ, ◌+◌, Bool, true, false, List, [], ◌∷◌, length, Option, Some, None, refl, arith, IsTrue, codes}
+use Rattle.std.proofs.Common.{◌≡◌, ℕ, true, false, List, length, Option, Some, None, IsTrue, codes}
 use Rattle.std.specs.Prelude.{◌==◌}
 use Rattle.sip_text.specs.Token.{is_token}
 use Rattle.sip_parts.specs.declared.parameter.Parameter.{Parameter}

@@ -1,6 +1,6 @@
 -- An address in a text: an IPv4 address as four decimal numbers with dots between them (RFC 3261,
 -- section 25.1), and a port.
-use Rattle.std.specs.Prelude.{◌≡◌, ◌<◌, ◌^◌, ◌⊎◌, ℕ, nat_lt, length, IsTrue, Bool, true, false, ◌==◌, nat_le, List, [], ◌∷◌, Option, Some, None, Result, Ok, Err, option_and_then, if◌then◌else◌}
+use Rattle.std.specs.Prelude.{◌≡◌, ◌<◌, ◌^◌, ◌⊎◌, ℕ, nat_lt, length, IsTrue, Bool, false, ◌==◌, nat_le, List, [], ◌∷◌, Option, Some, None, Result, Ok, Err, option_and_then, if◌then◌else◌}
 use Rattle.std.specs.List.{list_all}
 use Rattle.sip_text.specs.Cut.{cut_at}
 use Rattle.sip_text.specs.Number.{number_of}

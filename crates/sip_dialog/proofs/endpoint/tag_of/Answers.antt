@@ -1,4 +1,4 @@
-use Rattle.std.proofs.Common.{◌≡◌, sym, ap, ◌∙◌, length}
+use Rattle.std.proofs.Common.{sym, ap, ◌∙◌, length}
 use Rattle.std.specs.Prelude.{◌==◌}
 use Rattle.sip_dialog.proofs.Tags.{tag_is_token}
 use Rattle.sip_dialog.proofs.endpoint.tag_of.Goals as goal

@@ -1,4 +1,4 @@
-use Rattle.std.proofs.Common.{◌≡◌, sym, ◌∙◌}
+use Rattle.std.proofs.Common.{sym, ◌∙◌}
 use Rattle.sip_dialog.proofs.UriTexts.{without_at_sign, at_the_last}
 use Rattle.sip_dialog.proofs.uri_text.after_userinfo.Goals as goal
 

@@ -1,4 +1,4 @@
-use Rattle.sip_parts.proofs.Bytes.{and_left, token_is_value}
+use Rattle.sip_parts.proofs.Bytes.{token_is_value}
 use Rattle.sip_dialog.proofs.branch.Branch.into_value.Goals as goal
 
 pub from_text-requires : goal.from_text-requires
