@@ -6,6 +6,8 @@ pub mod Inputs
 pub mod ItemsLeft
 pub mod Merged
 pub mod Ordered
+pub mod Parts
 pub mod Phases
 pub mod Owned
+pub mod Shards
 pub mod Tick

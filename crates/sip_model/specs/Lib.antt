@@ -4,5 +4,6 @@ pub mod Laws
 pub mod Machine
 pub mod Owned
 pub mod Phase
+pub mod Shards
 pub mod Table
 pub mod Told

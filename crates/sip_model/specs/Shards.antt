@@ -1,0 +1,46 @@
+-- Several tables, each of the keys that its number owns, in one phase.
+use Rattle.std.specs.Prelude.{◌≡◌, ◌<◌, ℕ, zero, suc, nat_eq, Bool, List, [], ◌∷◌, ◌++◌, length, map}
+use Rattle.std.specs.declared.cmp.Ordering.{Ordering}
+use Rattle.std.specs.Ordering.{nat_cmp}
+use Rattle.std.specs.List.{flat_map}
+use Rattle.std.specs.List.Sorted.{IsStrictlySortedBy}
+use Rattle.sip_model.specs.Machine.{Machine}
+use Rattle.sip_model.specs.Table.{Held}
+use Rattle.sip_model.specs.Told.{Sorts}
+use Rattle.sip_model.specs.Phase.{Phase, AddsPhase, HoldsAfter, by_place, told_next}
+use Rattle.sip_model.specs.Laws.{owned_phase}
+
+-- the shard of this number owns the key
+abbrev pub is_owned : {K : Type 0} → (K → ℕ) → ℕ → K → Bool
+is_owned owner number key = nat_eq (owner key) number
+
+-- the table of one shard before and after a phase, and what it told
+pub record Dealt (K S O : Type 0) : Type 0 where
+  pub before : Held K S
+  pub after : Held K S
+  pub ticks : List (K × List O)
+  pub items : List (ℕ × List O)
+
+module _ {K S I O : Type 0} (cmp : K → K → Ordering) (machine : Machine K S I O) (tick : ℕ → I) (owner : K → ℕ) where
+  -- tables whose numbers go up from this one hold what phases left of the keys that each owns
+  abbrev pub HoldFrom : ℕ → List (Held K S) → List (Phase K I) → Type 0
+  HoldFrom number [] phases = Unit {0}
+  HoldFrom number (table ∷ tables) phases = HoldsAfter cmp machine tick table (map (owned_phase (is_owned owner number)) phases) × HoldFrom (suc number) tables phases
+
+  -- shards whose numbers go up from this one, each given its part of a phase
+  abbrev pub AllDealt : Phase K I → ℕ → List (Dealt K S O) → Type 0
+  AllDealt phase number [] = Unit {0}
+  AllDealt phase number (dealt ∷ rest) =
+      AddsPhase cmp machine tick dealt.before dealt.after (owned_phase (is_owned owner number) phase) dealt.ticks dealt.items × AllDealt phase (suc number) rest
+
+module _ {K S I O : Type 0} (cmp : K → K → Ordering) (machine : Machine K S I O) (tick : ℕ → I) where
+  -- after a phase of all shards they hold what it left, and what they told, joined and brought into the order of keys and of places, is what all tell
+  pub record TellAll (owner : K → ℕ) (phases : List (Phase K I)) (phase : Phase K I) (all : List (Dealt K S O)) : Type 0 where
+    pub holds : HoldFrom cmp machine tick owner zero (map (λ dealt. dealt.after) all) (phases ++ phase ∷ [])
+    pub ticks : (ticks : List (K × List O)) → Sorts cmp (flat_map (λ dealt. dealt.ticks) all) ticks → ticks ≡ (told_next cmp machine tick phases phase).ticks
+    pub items : (items : List (ℕ × List O)) → Sorts nat_cmp (flat_map (λ dealt. dealt.items) all) items → items ≡ map by_place (told_next cmp machine tick phases phase).items
+
+  -- whatever shard owns each key, where there is a shard for each, and places rise
+  abbrev pub ShardsTellAll : Type 0
+  ShardsTellAll = (owner : K → ℕ) (phases : List (Phase K I)) (phase : Phase K I) (all : List (Dealt K S O)) → ((key : K) → owner key < length all) → IsStrictlySortedBy nat_cmp (map (λ item. item.place) phase.items)
+      → AllDealt cmp machine tick owner phase zero all → HoldFrom cmp machine tick owner zero (map (λ dealt. dealt.before) all) phases → TellAll owner phases phase all
