@@ -1,8 +1,6 @@
 pub mod Word
 pub mod Uri
 pub mod Host
-pub mod Quoted
-pub mod ParameterValue
 pub mod DisplayText
 pub mod PartyDisplay
 pub mod HeaderValue

@@ -7,3 +7,4 @@ pub mod ReadForms
 pub mod Loops
 pub mod ParameterForms
 pub mod QuotedStrings
+pub mod LineParts

@@ -1,9 +1,9 @@
 -- A text passes the test of quoted strings where it is a quote, units, and a quote.
-use Rattle.std.proofs.Common.{◌≡◌, ℕ, Bool, true, false, cond, not, eqb, ◌||◌, IsTrue, List, [], ◌∷◌, ◌++◌, refl, sym, ap, subst, ◌∙◌, append_assoc}
+use Rattle.std.proofs.Common.{◌≡◌, ℕ, Bool, true, false, cond, eqb, ◌||◌, IsTrue, List, [], ◌∷◌, ◌++◌, refl, sym, ap, ◌∙◌, append_assoc}
 use Rattle.std.specs.List.{AllByRecursion, concat}
 use Rattle.std.proofs.lemmas.Bool.{eqb-true, not-true, or_parts, or_from, not_from_false}
 use Rattle.sip_text.specs.Character.{is_line_byte}
-use Rattle.sip_text.specs.Quoted.{is_plain_byte, IsUnit, IsQuoted, is_nothing, ends_in_quote, is_quoted}
+use Rattle.sip_text.specs.Quoted.{IsUnit, IsQuoted, is_nothing, ends_in_quote, is_quoted}
 
 -- units and a quote
 pub record Closes (text : List ℕ) : Type 0 where

@@ -1,14 +1,14 @@
 -- What is read from left to right is what stands in the form, for each way to make a form.
-use Rattle.std.proofs.Common.{◌≡◌, ℕ, Bool, true, false, cond, List, [], ◌∷◌, ◌⊎◌, inl, inr, Option, Some, None, refl, sym, ap, subst, ◌∙◌}
+use Rattle.std.proofs.Common.{◌≡◌, ℕ, Bool, true, false, cond, List, [], ◌∷◌, inl, inr, Option, Some, None, refl, sym, ap, subst, ◌∙◌}
 use Rattle.std.specs.Prelude.{option_and_then}
 use Rattle.std.specs.List.{AllZip}
 use Rattle.std.specs.Option.{option_map}
 use Rattle.std.proofs.lemmas.Option.{same_Some, none-some}
-use Rattle.sip_text.specs.Forms.{Passing, passing, Always, always, Of, reading_of, Guarded, guarded, Checked, checked, Told, told, Both, both, OnCut, by_cut, on_cut, Split, each, split}
-use Rattle.sip_text.specs.Separator.{IsCut, IsWhole, IsSplit, cut_from, split_from}
+use Rattle.sip_text.specs.Forms.{Passing, passing, Always, always, Never, never, OrEmpty, or_empty, Behind, behind, Of, reading_of, Guarded, guarded, Checked, checked, Told, told, Both, both, OnCut, by_cut, on_cut, Split, each, split}
+use Rattle.sip_text.specs.Separator.{cut_from, split_from}
 use Rattle.sip_text.specs.declared.separator.Separator.{Separator}
 use Rattle.sip_text.specs.declared.separator.Place.TheVariants.{Plain}
-use Rattle.sip_text.proofs.Separators.{and_then_some, mapped, by_option, cut_takes, cut_again, whole_takes, whole_again}
+use Rattle.sip_text.proofs.Separators.{and_then_some, mapped, cut_takes, cut_again, whole_takes, whole_again}
 use Rattle.sip_text.proofs.Splits.{splits, split_again}
 
 -- f finds the one x that stands in P to a, where there is one
@@ -39,6 +39,20 @@ always_reads value = record {
   takes = λ a x e. sym (same_Some value x e);
   again = λ a x p. ap (λ y. Some y) (sym p);
 }
+
+pub never_reads : {A X : Type 0} → Reads A X never Never
+never_reads = record { takes = λ a x e. absurd (none-some x e); again = λ a x p. absurd p }
+
+pub or_empty_reads : {X : Type 0} {f : List ℕ → Option (List X)} {P : List X → List ℕ → Type 0} → Reads (List ℕ) (List X) f P → Reads (List ℕ) (List X) (or_empty f) (OrEmpty P)
+or_empty_reads {X} {f} {P} reads = record { takes = takes; again = again }
+  where
+    takes : (text : List ℕ) (xs : List X) → or_empty f text ≡ Some xs → OrEmpty P xs text
+    takes [] xs e = sym (same_Some [] xs e)
+    takes (b ∷ bs) xs e = reads.takes (b ∷ bs) xs e
+
+    again : (text : List ℕ) (xs : List X) → OrEmpty P xs text → or_empty f text ≡ Some xs
+    again [] xs p = ap (λ (ys : List X). Some ys) (sym p)
+    again (b ∷ bs) xs p = reads.again (b ∷ bs) xs p
 
 pub of_reads : {A B X : Type 0} {g : B → Option X} {P : X → B → Type 0} (f : A → B) → Reads B X g P → Reads A X (reading_of g f) (Of P f)
 of_reads f reads = record { takes = λ a x e. reads.takes (f a) x e; again = λ a x p. reads.again (f a) x p }
@@ -72,6 +86,12 @@ told_reads {f = f} to reads = record {
 }
 
 -- ---- two texts, and a text that is cut
+
+pub behind_reads : {X : Type 0} {f : List ℕ → Option X} {P : X → List ℕ → Type 0} (test : List ℕ → Bool) → Reads (List ℕ) X f P → Reads (List ℕ × List ℕ) X (behind test f) (Behind test P)
+behind_reads {f = f} test reads = record {
+  takes = λ parts x e. let both = if_some (test parts.0) (f parts.1) x e in (both.0, reads.takes parts.1 x both.1);
+  again = λ parts x p. ap (λ b. cond b (f parts.1) None) p.0 ∙ reads.again parts.1 x p.1;
+}
 
 pub both_reads : {A B X Y : Type 0} {f : A → Option X} {P : X → A → Type 0} {g : B → Option Y} {Q : Y → B → Type 0} → Reads A X f P → Reads B Y g Q → Reads (A × B) (X × Y) (both f g) (Both P Q)
 both_reads {A} {B} {X} {Y} {f} {P} {g} {Q} one two = record { takes = takes; again = again }

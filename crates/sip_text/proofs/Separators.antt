@@ -1,12 +1,12 @@
 -- Cutting at a separator from left to right gives the cut.
-use Rattle.std.proofs.Common.{◌≡◌, ℕ, zero, suc, ◌+◌, ◌<◌, ◌≤◌, Bool, true, false, cond, eqb, ◌||◌, List, [], ◌∷◌, ◌++◌, length, take, drop, get_or, Option, Some, None, refl, sym, ap, subst, ◌∙◌, arith}
+use Rattle.std.proofs.Common.{◌≡◌, ℕ, zero, suc, ◌+◌, ◌<◌, Bool, true, false, eqb, List, [], ◌∷◌, ◌++◌, length, take, drop, get_or, Option, Some, None, refl, sym, ap, subst, ◌∙◌, arith}
 use Rattle.memchr.specs.Find.{Nowhere}
 use Rattle.std.specs.Prelude.{option_and_then}
 use Rattle.std.specs.Option.{option_map}
-use Rattle.std.proofs.lemmas.Option.{same_Some, none-some}
+use Rattle.std.proofs.lemmas.Option.{same_Some}
 use Rattle.std.proofs.lemmas.Bool.{or_parts}
 use Rattle.std.proofs.lemmas.List.{take_more, get_or-take, length-take-le}
-use Rattle.sip_text.specs.Separator.{after, after_bracket, separates, opens, step, next_place, place_after, by_place, cut_from, IsCutFrom, IsWholeFrom}
+use Rattle.sip_text.specs.Separator.{separates, opens, step, next_place, place_after, by_place, cut_from, IsCutFrom, IsWholeFrom}
 use Rattle.sip_text.specs.declared.separator.Separator.{Separator}
 use Rattle.sip_text.specs.declared.separator.Separator.TheVariants.{Byte, Blank, Colon}
 use Rattle.sip_text.specs.declared.separator.Place.{Place}

@@ -1,9 +1,9 @@
 -- A text split at a separator that counts.
-use Rattle.std.proofs.Common.{◌≡◌, ℕ, List, [], ◌∷◌, ◌++◌, Option, Some, None, refl, sym, ap, ◌∙◌}
+use Rattle.std.proofs.Common.{◌≡◌, ℕ, List, [], ◌∷◌, Option, Some, None, refl, ap, ◌∙◌}
 use Rattle.std.specs.Prelude.{option_and_then}
 use Rattle.std.specs.Option.{option_map}
 use Rattle.std.specs.List.{onto_first}
-use Rattle.sip_text.specs.Separator.{next_place, place_after, by_place, by_piece, cut_from, split_from, IsCutFrom, IsWholeFrom, IsSplitFrom}
+use Rattle.sip_text.specs.Separator.{next_place, place_after, by_place, by_piece, cut_from, split_from, IsSplitFrom}
 use Rattle.sip_text.specs.declared.separator.Separator.{Separator}
 use Rattle.sip_text.specs.declared.separator.Place.{Place}
 use Rattle.sip_text.specs.declared.separator.Place.TheVariants.{Plain}
@@ -41,14 +41,12 @@ one_more at place b bs (piece ∷ pieces) stops split =
 
 longer_first : (at : Separator) (place next : Place) (b : ℕ) (bs : List ℕ) (pieces : List (List ℕ)) → next_place at place b ≡ Some next → IsSplitFrom at next pieces bs → IsSplitFrom at place (onto_first b pieces) (b ∷ bs)
 longer_first at place next b bs [] is split = absurd split
-longer_first at place next b bs (piece ∷ []) is split =
-    (
-      ap (λ (xs : List ℕ). b ∷ xs) split.0,
-      record { last = split.1.last; none = ap (option_and_then (λ p. place_after at p piece)) is ∙ split.1.none },
-    )
+longer_first at place next b bs (piece ∷ []) is split = (
+  ap (λ (xs : List ℕ). b ∷ xs) split.0,
+  record { last = split.1.last; none = ap (option_and_then (λ p. place_after at p piece)) is ∙ split.1.none },
+)
 longer_first at place next b bs (piece ∷ (more ∷ pieces)) is split =
-    let cut = split.1 in
-    (
+    let cut = split.1 in (
       split.0,
       record {
         byte = cut.byte;

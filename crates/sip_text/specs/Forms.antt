@@ -23,6 +23,22 @@ Always value x a = x ≡ value
 abbrev pub always : {A X : Type 0} → X → A → Option X
 always value a = Some value
 
+-- no value
+abbrev pub Never : {A X : Type 0} → X → A → Type 0
+Never x a = ⊥
+
+abbrev pub never : {A X : Type 0} → A → Option X
+never a = None
+
+-- no values of an empty text, otherwise those of the form
+abbrev pub OrEmpty : {X : Type 0} → (List X → List ℕ → Type 0) → List X → List ℕ → Type 0
+OrEmpty P xs [] = xs ≡ []
+OrEmpty P xs (b ∷ bs) = P xs (b ∷ bs)
+
+abbrev pub or_empty : {X : Type 0} → (List ℕ → Option (List X)) → List ℕ → Option (List X)
+or_empty f [] = Some []
+or_empty f (b ∷ bs) = f (b ∷ bs)
+
 -- the form of what a function makes of it
 abbrev pub Of : {A B X : Type 0} → (X → B → Type 0) → (A → B) → X → A → Type 0
 Of P f x a = P x (f a)
@@ -52,6 +68,13 @@ abbrev pub told : {A X Y : Type 0} → (X → Y) → (A → Option X) → A → 
 told to f a = option_map to (f a)
 
 -- ---- two texts, and a text that is cut
+
+-- the form of the second, where the first passes the test
+abbrev pub Behind : {X : Type 0} → (List ℕ → Bool) → (X → List ℕ → Type 0) → X → List ℕ × List ℕ → Type 0
+Behind test P x parts = IsTrue (test parts.0) × P x parts.1
+
+abbrev pub behind : {X : Type 0} → (List ℕ → Bool) → (List ℕ → Option X) → List ℕ × List ℕ → Option X
+behind test f parts = if test parts.0 then f parts.1 else None
 
 -- a form of each of two
 abbrev pub Both : {A B X Y : Type 0} → (X → A → Type 0) → (Y → B → Type 0) → X × Y → A × B → Type 0

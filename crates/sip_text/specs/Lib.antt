@@ -10,3 +10,5 @@ pub mod Quoted
 pub mod Parameter
 pub mod OpenQuote
 pub mod Pieces
+pub mod Lines
+pub mod Unfolded

@@ -2,7 +2,7 @@
 use Rattle.std.specs.Prelude.{ℕ, Bool, true, false, List, fold}
 use Rattle.sip_text.specs.Separator.{after}
 use Rattle.sip_text.specs.declared.separator.Place.{Place}
-use Rattle.sip_text.specs.declared.separator.Place.TheVariants.{Plain, Quoted, Escaped, Bracketed}
+use Rattle.sip_text.specs.declared.separator.Place.TheVariants.{Plain, Quoted, Escaped}
 
 abbrev pub is_in_quotes : Place → Bool
 is_in_quotes Quoted = true

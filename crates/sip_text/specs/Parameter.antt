@@ -1,12 +1,12 @@
 -- Parameters as text (RFC 3261, sections 7.3.1 and 25.1): each a semicolon, a token, and optionally `=` and a value, with
 -- white space allowed round both marks.
-use Rattle.std.specs.Prelude.{ℕ, Bool, not, ◌||◌, List, [], ◌∷◌, Option, Some, None, codes}
+use Rattle.std.specs.Prelude.{ℕ, Bool, not, ◌||◌, List, [], Option, Some, None, codes}
 use Rattle.std.specs.List.{list_all}
 use Rattle.sip_text.specs.Character.{is_among, is_blank}
 use Rattle.sip_text.specs.Token.{is_run, is_token}
 use Rattle.sip_text.specs.Trimmed.{trimmed}
 use Rattle.sip_text.specs.Quoted.{is_quoted}
-use Rattle.sip_text.specs.Forms.{Passing, passing, Always, always, Of, reading_of, Guarded, guarded, Told, told, Both, both, OnCut, on_cut, Split, split}
+use Rattle.sip_text.specs.Forms.{Passing, passing, Always, always, Of, reading_of, Guarded, guarded, Behind, behind, Told, told, Both, both, OnCut, on_cut, Split, split}
 use Rattle.sip_text.specs.declared.separator.Separator.TheVariants.{Byte}
 
 -- ---- names and values
@@ -52,18 +52,12 @@ IsParameter parameter text = OnCut (Byte 61) (Told with_value (Both Name Value))
 abbrev pub parameter_from : List ℕ → Option (List ℕ × Option (List ℕ))
 parameter_from text = on_cut (Byte 61) (told with_value (both name_from value_from)) (told without_value name_from) text
 
-abbrev pub before_is_blank : List ℕ × List ℕ → Bool
-before_is_blank parts = is_blanks parts.0
-
-abbrev pub behind : List ℕ × List ℕ → List ℕ
-behind parts = parts.1
-
 -- nothing, or what stands in this form behind a semicolon, once or more; white space before the first
 abbrev pub Parameters : {X : Type 0} → (X → List ℕ → Type 0) → List X → List ℕ → Type 0
-Parameters P xs text = OnCut (Byte 59) (Guarded before_is_blank (Of (Split (Byte 59) P) behind)) (Guarded is_blanks (Always [])) xs text
+Parameters P xs text = OnCut (Byte 59) (Behind is_blanks (Split (Byte 59) P)) (Guarded is_blanks (Always [])) xs text
 
 abbrev pub parameters_from : {X : Type 0} → (List ℕ → Option X) → List ℕ → Option (List X)
-parameters_from f text = on_cut (Byte 59) (guarded before_is_blank (reading_of (split (Byte 59) f) behind)) (guarded is_blanks (always [])) text
+parameters_from f text = on_cut (Byte 59) (behind is_blanks (split (Byte 59) f)) (guarded is_blanks (always [])) text
 
 abbrev pub AreParameters : List (List ℕ × Option (List ℕ)) → List ℕ → Type 0
 AreParameters parameters text = Parameters IsParameter parameters text

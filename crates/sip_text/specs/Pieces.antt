@@ -2,7 +2,7 @@
 use Rattle.std.specs.Prelude.{◌≡◌, ℕ, true, false, List, map, Option}
 use Rattle.std.specs.Option.{option_copied}
 use Rattle.std.specs.Borrow.{Bor}
-use Rattle.sip_text.specs.Forms.{Always, always, Of, reading_of, Split, split}
+use Rattle.sip_text.specs.Forms.{Split}
 use Rattle.sip_text.specs.OpenQuote.{has_open_quote}
 use Rattle.sip_text.specs.Parameter.{AreParameters}
 use Rattle.sip_text.specs.Trimmed.{trimmed}

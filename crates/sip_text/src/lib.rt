@@ -3,6 +3,7 @@
 
 mod character;
 mod fault;
+mod folding;
 mod laws;
 mod line;
 mod number;
@@ -19,10 +20,13 @@ mod values;
 
 pub use character::{is_blank, is_line_byte, is_token_byte};
 pub use fault::TextFault;
+pub use folding::{begins_blank, lines, unfold};
 pub use laws::{one_cut, one_list_of_parameters, one_split, quoted_strings};
 pub use line::next_line;
 pub use number::{decimal, number_u32};
-pub use parameters::{ParameterText, is_blanks, is_parameter_value, is_value_word, parameter_in, params};
+pub use parameters::{
+    ParameterText, is_blanks, is_parameter_value, is_value_word, parameter_in, params,
+};
 pub use pieces::{cut, cut_blank};
 pub use quoted::is_quoted;
 pub use separator::{Place, Separator};

@@ -1,11 +1,12 @@
 //! Parameters as text (RFC 3261, section 7.3.1).
-ghost use Rattle.std.specs.Prelude.{◌≡◌, false, IfErr, IfOk, map};
+ghost use Rattle.std.specs.Prelude.{◌≡◌, false, IfErr, IfOk, IfSome, IsTrue, map};
 ghost use Rattle.std.specs.List.{list_all};
 ghost use Rattle.std.specs.Option.{option_copied, option_map};
 ghost use Rattle.sip_text.specs.Character as character;
 ghost use Rattle.sip_text.specs.Forms.{split};
 ghost use Rattle.sip_text.specs.Parameter as parameter;
 ghost use Rattle.sip_text.specs.Pieces as pieces;
+ghost use Rattle.sip_text.specs.Token.{is_token};
 ghost use Rattle.sip_text.specs.declared.separator.Separator.TheVariants as separator;
 
 use crate::character::is_blank;
@@ -79,7 +80,9 @@ fn each_parameter(alloc: Global, text: &[u8]) -> Result<Option<Vec<ParameterText
 
 /// A name, or a name, `=` and a value, with white space round each. None where the text isn't one.
 pub fn parameter_in(text: &[u8]) -> Option<ParameterText<'_>>
-    ensures { option_map pieces.parameter_now result ≡ parameter.parameter_from text.now }
+    ensures exact { option_map pieces.parameter_now result ≡ parameter.parameter_from text.now }
+    ensures name { IfSome result (λ p. IsTrue (is_token p.name.now)) }
+    ensures value { IfSome result (λ p. IfSome p.value (λ v. IsTrue (parameter.is_parameter_value v.now))) }
 {
     match Separator::Byte(b'=').cut(text) {
         None => Some(ParameterText {
@@ -94,14 +97,16 @@ pub fn parameter_in(text: &[u8]) -> Option<ParameterText<'_>>
 }
 
 fn name_in(text: &[u8]) -> Option<&[u8]>
-    ensures { option_copied result ≡ parameter.name_from text.now }
+    ensures exact { option_copied result ≡ parameter.name_from text.now }
+    ensures rule { IfSome result (λ name. IsTrue (is_token name.now)) }
 {
     let name = trimmed(text);
     if is_token(name) { Some(name) } else { None }
 }
 
 fn value_in(text: &[u8]) -> Option<&[u8]>
-    ensures { option_copied result ≡ parameter.value_from text.now }
+    ensures exact { option_copied result ≡ parameter.value_from text.now }
+    ensures rule { IfSome result (λ value. IsTrue (parameter.is_parameter_value value.now)) }
 {
     let value = trimmed(text);
     if is_parameter_value(value) {

@@ -1,6 +1,5 @@
-use Rattle.std.proofs.Common.{ℕ, List, Option, Some, None, ◌≡◌, MatchOption, refl}
+use Rattle.std.proofs.Common.{MatchOption}
 use Rattle.sip_text.specs.Separator.{cut_from, IsCut, IsWhole}
-use Rattle.sip_text.specs.declared.separator.Separator.{Separator}
 use Rattle.sip_text.specs.declared.separator.Place.TheVariants.{Plain}
 use Rattle.sip_text.proofs.Separators.{by_option, cut_takes, cut_again, whole_takes}
 use Rattle.sip_text.proofs.laws.one_cut.Goals as goal

@@ -1,4 +1,4 @@
-use Rattle.std.proofs.Common.{◌≡◌, ◌++◌, ◌∷◌, [], map, sym, ap, ◌∙◌}
+use Rattle.std.proofs.Common.{◌≡◌, ◌++◌, ◌∷◌, [], sym}
 use Rattle.std.proofs.lemmas.List.{map_push}
 use Rattle.sip_text.specs.Pieces.{all_now}
 use Rattle.sip_text.specs.Trimmed.{trimmed}
