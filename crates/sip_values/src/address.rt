@@ -64,10 +64,7 @@ fn display_in(alloc: Global, text: &[u8]) -> Result<Option<DisplayText>, AllocEr
 }
 
 /// Behind `<`: a URI, `>` and parameters.
-pub(crate) fn bracketed_in(
-    alloc: Global,
-    text: &[u8],
-) -> Result<Option<Target>, AllocError>
+pub(crate) fn bracketed_in(alloc: Global, text: &[u8]) -> Result<Option<Target>, AllocError>
     ensures { IfOk result (λ made. made ≡ values.bracketed_from text.now) }
 {
     let Some((uri, rest)) = Separator::Byte(b'>').cut(text) else {
@@ -83,10 +80,7 @@ pub(crate) fn bracketed_in(
 }
 
 /// A URI alone, and parameters.
-pub(crate) fn bare_in(
-    alloc: Global,
-    text: &[u8],
-) -> Result<Option<Target>, AllocError>
+pub(crate) fn bare_in(alloc: Global, text: &[u8]) -> Result<Option<Target>, AllocError>
     ensures { IfOk result (λ made. made ≡ values.bare_from text.now) }
 {
     let Some((uri, rest)) = Separator::Byte(b';').cut(text) else {

@@ -2,6 +2,7 @@
 #![tactic(auto)]
 
 mod address;
+mod laws;
 mod numeral;
 mod parameter;
 mod party;
@@ -12,7 +13,11 @@ mod via;
 mod word;
 
 pub use address::AddressRow;
-pub use numeral::{Numeral, NumberRow};
+pub use laws::{
+    one_cseq, one_list_of_addresses, one_list_of_tokens, one_list_of_vias, one_number, one_party,
+    one_rack,
+};
+pub use numeral::{NumberRow, Numeral};
 pub use parameter::ParameterRow;
 pub use party::PartyRow;
 pub use row::{Row, split_of};

@@ -64,10 +64,12 @@ impl Row for RAckRow {
         let Some(rseq) = numeral_in(rseq, u32::MAX) else {
             return Ok(None);
         };
-        let Some(CSeqDraft {
-            number: cseq,
-            method,
-        }) = CSeqRow::read(alloc, trimmed(rest))?
+        let Some(
+            CSeqDraft {
+                number: cseq,
+                method,
+            },
+        ) = CSeqRow::read(alloc, trimmed(rest))?
         else {
             return Ok(None);
         };
