@@ -9,3 +9,4 @@ pub mod HeaderName
 pub mod OtherName
 pub mod Parameters
 pub mod Tag
+pub mod HeaderEntry

@@ -3,6 +3,7 @@
 
 mod call_id;
 mod display_text;
+mod header_entry;
 mod header_name;
 mod header_value;
 mod host;
@@ -21,6 +22,7 @@ mod word;
 
 pub use call_id::CallId;
 pub use display_text::{DisplayText, is_display_text};
+pub use header_entry::{HeaderEntry, HeaderKind};
 pub use header_name::HeaderName;
 pub use header_value::{HeaderValue, has_no_line_byte};
 pub use host::{Host, is_host};

@@ -4,7 +4,7 @@ ghost use Rattle.sip_parts.specs.DisplayText as rule;
 ghost use Rattle.sip_values.specs.Address as values;
 
 use crate::parameter::{parameters_behind, parameters_between};
-use crate::row::Row;
+use crate::row::{Row, split_of};
 use sip_message::NameAddr;
 use sip_parts::{DisplayText, Parameter, Uri, is_display_text, is_uri};
 use sip_text::{Separator, Series, Text, trimmed};
@@ -29,6 +29,21 @@ impl Row for AddressRow {
             uri,
             parameters,
         }))
+    }
+}
+
+/// The addresses of a line of a Contact, a Route or a Record-Route.
+pub struct AddressListRow;
+
+impl Row for AddressListRow {
+    ghost use Rattle.sip_values.specs.Address.{name_addrs_from};
+
+    type Value = Series<NameAddr>;
+
+    ghost reads = { name_addrs_from };
+
+    fn read(alloc: Global, text: &[u8]) -> Result<Option<Series<NameAddr>>, AllocError> {
+        split_of::<AddressRow>(alloc, Separator::Byte(b','), text)
     }
 }
 

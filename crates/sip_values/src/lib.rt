@@ -12,7 +12,7 @@ mod token_list;
 mod via;
 mod word;
 
-pub use address::AddressRow;
+pub use address::{AddressListRow, AddressRow};
 pub use laws::{
     one_cseq, one_list_of_addresses, one_list_of_tokens, one_list_of_vias, one_number, one_party,
     one_rack,

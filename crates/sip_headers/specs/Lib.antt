@@ -1,0 +1,5 @@
+pub mod Slot
+pub mod HeaderLine
+pub mod Draft
+pub mod Section
+pub mod Columns

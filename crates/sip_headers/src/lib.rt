@@ -1,0 +1,12 @@
+//! The header lines of a message, gathered by header (RFC 3261, section 7.3).
+#![tactic(auto)]
+
+mod draft;
+mod header_line;
+mod laws;
+mod slot;
+
+pub use draft::Draft;
+pub use header_line::{LineClass, class_of};
+pub use laws::what_is_gathered;
+pub use slot::{Slot, meet, meet_list};
