@@ -3,3 +3,5 @@ pub mod HeaderLine
 pub mod Draft
 pub mod Section
 pub mod Columns
+pub mod Folding
+pub mod Whole

@@ -8,14 +8,13 @@ use sip_message::{Header, NameAddr, Party};
 use sip_parts::{CallId, HeaderName, HeaderValue, OtherName, Token};
 use sip_text::{Series, Text, token_eq};
 use sip_values::{
-    AddressListRow, CSeqDraft, CSeqRow, CallIdRow, NumberRow, Numeral, PartyRow, RAckDraft, RAckRow,
-    TokenListRow, ViaDraft, ViaListRow,
+    AddressListRow, CSeqDraft, CSeqRow, CallIdRow, NumberRow, Numeral, PartyRow, RAckDraft,
+    RAckRow, TokenListRow, ViaDraft, ViaListRow,
 };
 use std::alloc::{AllocError, Global};
 
 /// What the header lines of a message say, as far as they were met. A list is None where one of its lines isn't in the
 /// header's form.
-#[derive(Drop)]
 pub struct Draft {
     /// A line is no header line.
     pub is_bad: bool,
@@ -34,6 +33,29 @@ pub struct Draft {
     pub rack: Slot<RAckDraft>,
     pub content_length: Slot<Numeral>,
     pub others: Option<Series<Header>>,
+}
+
+impl Drop for Draft {
+    fn drop(self) {
+        let Draft {
+            is_bad: _,
+            vias: _,
+            max_forwards: _,
+            from: _,
+            to: _,
+            call_id: _,
+            cseq: _,
+            contacts: _,
+            record_routes: _,
+            routes: _,
+            require: _,
+            supported: _,
+            rseq: _,
+            rack: _,
+            content_length: _,
+            others: _,
+        } = self;
+    }
 }
 
 impl Draft {
@@ -96,9 +118,17 @@ impl Draft {
             HeaderName::RecordRoute => {
                 meet_list::<NameAddr, AddressListRow>(alloc, &mut self.record_routes, text)
             }
-            HeaderName::Route => meet_list::<NameAddr, AddressListRow>(alloc, &mut self.routes, text),
+            HeaderName::Route => meet_list::<NameAddr, AddressListRow>(
+                alloc,
+                &mut self.routes,
+                text,
+            ),
             HeaderName::Require => meet_list::<Token, TokenListRow>(alloc, &mut self.require, text),
-            HeaderName::Supported => meet_list::<Token, TokenListRow>(alloc, &mut self.supported, text),
+            HeaderName::Supported => meet_list::<Token, TokenListRow>(
+                alloc,
+                &mut self.supported,
+                text,
+            ),
             HeaderName::RSeq => meet::<NumberRow>(alloc, &mut self.rseq, text),
             HeaderName::RAck => meet::<RAckRow>(alloc, &mut self.rack, text),
             HeaderName::ContentLength => meet::<NumberRow>(alloc, &mut self.content_length, text),

@@ -2,11 +2,13 @@
 #![tactic(auto)]
 
 mod draft;
+mod folding;
 mod header_line;
 mod laws;
 mod slot;
 
 pub use draft::Draft;
+pub use folding::{Whole, gather, whole_line};
 pub use header_line::{LineClass, class_of};
 pub use laws::what_is_gathered;
 pub use slot::{Slot, meet, meet_list};

@@ -33,11 +33,11 @@ entry RSeq = row (codes "RSeq") [] AtMostOnce
 entry RAck = row (codes "RAck") [] AtMostOnce
 entry ContentLength = row (codes "Content-Length") (codes "l") AtMostOnce
 
--- all headers, in the order in which they are written
+-- all headers, in the order in which one that is missing or repeated is looked for; then the lists
 abbrev pub headers : List HeaderName
 headers =
-    Via ∷ MaxForwards ∷ From ∷ To ∷ CallId ∷ CSeq ∷ Contact ∷ RecordRoute ∷ Route ∷ Require ∷ Supported ∷ RSeq ∷ RAck
-    ∷ ContentLength ∷ []
+    Via ∷ From ∷ To ∷ CallId ∷ CSeq ∷ MaxForwards ∷ ContentLength ∷ RSeq ∷ RAck ∷ Contact ∷ RecordRoute ∷ Route ∷ Require
+    ∷ Supported ∷ []
 
 abbrev pub entry_now : HeaderEntry → Entry
 entry_now e = record { name = e.name.now; compact = e.compact.now; kind = e.kind }

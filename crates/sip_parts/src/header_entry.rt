@@ -29,22 +29,22 @@ pub struct HeaderEntry {
 }
 
 impl HeaderName {
-    /// All of them, in the order in which they are written.
+    /// All of them, in the order in which one that is missing or repeated is looked for; then the lists.
     pub const ALL: [HeaderName; 14] = [
         HeaderName::Via,
-        HeaderName::MaxForwards,
         HeaderName::From,
         HeaderName::To,
         HeaderName::CallId,
         HeaderName::CSeq,
+        HeaderName::MaxForwards,
+        HeaderName::ContentLength,
+        HeaderName::RSeq,
+        HeaderName::RAck,
         HeaderName::Contact,
         HeaderName::RecordRoute,
         HeaderName::Route,
         HeaderName::Require,
         HeaderName::Supported,
-        HeaderName::RSeq,
-        HeaderName::RAck,
-        HeaderName::ContentLength,
     ];
 
     /// Its line of the table.
