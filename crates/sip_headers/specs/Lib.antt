@@ -5,3 +5,4 @@ pub mod Section
 pub mod Columns
 pub mod Folding
 pub mod Whole
+pub mod Presence

@@ -45,6 +45,10 @@ abbrev pub before_others : Class → List (List ℕ × List ℕ) → List (List 
 before_others (other name value) others = (name, value) ∷ others
 before_others class others = others
 
+abbrev pub has_no_values : List (List ℕ) → Bool
+has_no_values [] = true
+has_no_values (value ∷ values) = false
+
 -- the names and values of the headers that stay as they stand
 abbrev pub others_of : List (List ℕ) → List (List ℕ × List ℕ)
 others_of [] = []
