@@ -1,5 +1,5 @@
 -- Lines are read one after the other, with those that go on with them.
-use Rattle.std.proofs.Common.{◌≡◌, ℕ, Bool, true, false, cond, eqb, ◌&&◌, List, [], ◌∷◌, ◌++◌, length, take, Option, Some, None, fold, refl, sym, ap, subst, ◌∙◌, arith}
+use Rattle.std.proofs.Common.{◌≡◌, ℕ, Bool, true, false, cond, eqb, ◌&&◌, List, [], ◌∷◌, ◌++◌, length, take, Option, Some, None, fold, refl, sym, ap, ◌∙◌, arith}
 use Rattle.std.specs.List.{list_all, slice_split, onto_first, join_with_byte}
 use Rattle.std.specs.Option.{option_map}
 use Rattle.std.specs.Str.Lines.{strip_carriage_return}
@@ -12,8 +12,8 @@ use Rattle.sip_text.specs.Line.{line_at}
 use Rattle.sip_text.specs.Trimmed.{trimmed_end}
 use Rattle.sip_text.specs.Unfolded.{begins_blank, joined}
 use Rattle.sip_text.proofs.Separators.{mapped}
-use Rattle.sip_headers.specs.Draft.{with_line, no_draft, draft_of}
-use Rattle.sip_headers.specs.Folding.{Section, with_line_of, section_from, section_at, folded_onto, whole_lines, whole_section, onto_section, behind_line, gathered_at}
+use Rattle.sip_headers.specs.Draft.{with_line}
+use Rattle.sip_headers.specs.Folding.{Section, with_line_of, section_from, section_at, whole_section, onto_section, behind_line}
 use Rattle.sip_headers.specs.declared.draft.Draft.{Draft}
 
 -- ---- the lines of a text

@@ -1,5 +1,5 @@
 -- The header lines of a message, by header (RFC 3261, section 7.3).
-use Rattle.std.specs.Prelude.{ℕ, ◌^◌, true, false, List, [], ◌∷◌, Option, Some, None, ◌&&◌, codes, fold, if◌then◌else◌}
+use Rattle.std.specs.Prelude.{ℕ, ◌^◌, true, false, List, [], ◌∷◌, Option, Some, None, codes, fold, if◌then◌else◌}
 use Rattle.std.specs.Str.{str_eq_ignore_ascii_case}
 use Rattle.sip_parts.specs.HeaderValue.{is_header_value}
 use Rattle.sip_parts.specs.OtherName.{is_other_name}

@@ -1,5 +1,5 @@
 -- Headers that are missing, or stand in a message more often than they may (RFC 3261, sections 7.3.1 and 8.1.1).
-use Rattle.std.specs.Prelude.{◌≡◌, ◌<◌, ℕ, Bool, true, false, ◌&&◌, ◌||◌, List, [], ◌∷◌, Option, Some, None, find, is_none, length}
+use Rattle.std.specs.Prelude.{Bool, true, false, ◌&&◌, ◌||◌, List, [], ◌∷◌, Option, Some, None, find, is_none}
 use Rattle.std.specs.List.{list_any}
 use Rattle.sip_parts.specs.HeaderEntry.{entry, headers, is_needed}
 use Rattle.sip_parts.specs.declared.header_name.HeaderName.{HeaderName}

@@ -1,16 +1,14 @@
 -- What the header lines of a message say together (RFC 3261, section 7.3): the values of each header, in order.
-use Rattle.std.specs.Prelude.{◌≡◌, ◌^◌, ℕ, Bool, true, false, List, [], ◌∷◌, Option, Some, None, if◌then◌else◌}
-use Rattle.std.specs.List.{AllByRecursion}
+use Rattle.std.specs.Prelude.{◌≡◌, ◌^◌, ℕ, Bool, true, false, List, [], ◌∷◌, Option, find, length, nat_lt, ◌&&◌, if◌then◌else◌}
+use Rattle.sip_parts.specs.HeaderEntry.{entry, headers, is_needed, is_single}
 use Rattle.sip_parts.specs.declared.header_name.HeaderName.{HeaderName}
 use Rattle.sip_parts.specs.declared.header_name.HeaderName.TheVariants as name
-use Rattle.sip_message.specs.declared.header.Header.{Header}
 use Rattle.sip_values.specs.Address.{AreNameAddrs, IsPartyText}
 use Rattle.sip_values.specs.Numeral.{IsNumeral}
 use Rattle.sip_values.specs.Sequence.{AreTokens, IsCallId, IsCSeqText, IsRAckText}
 use Rattle.sip_values.specs.ViaValue.{AreVias}
-use Rattle.sip_headers.specs.Draft.{other_from}
 use Rattle.sip_headers.specs.HeaderLine.{Class, bad, known, other, class_from}
-use Rattle.sip_headers.specs.Slot.{IsSlot, IsList, list_from}
+use Rattle.sip_headers.specs.Slot.{IsSlot, IsList}
 use Rattle.sip_headers.specs.declared.draft.Draft.{Draft}
 
 abbrev pub is_same : HeaderName → HeaderName → Bool
@@ -62,6 +60,14 @@ is_bad_class class rest = rest
 abbrev pub has_bad_line : List (List ℕ) → Bool
 has_bad_line [] = false
 has_bad_line (line ∷ lines) = is_bad_class (class_from line) (has_bad_line lines)
+
+-- the first header of the table that each message has and that has no value
+abbrev pub missing_in : List (List ℕ) → Option HeaderName
+missing_in lines = find (λ header. is_needed (entry header).kind && has_no_values (values header lines)) headers
+
+-- the first header of the table that has two values and may have one
+abbrev pub repeated_in : List (List ℕ) → Option HeaderName
+repeated_in lines = find (λ header. is_single (entry header).kind && nat_lt 1 (length (values header lines))) headers
 
 -- The draft says of each header what its values are.
 pub record IsDraftOf (d : Draft) (lines : List (List ℕ)) : Type 0 where

@@ -13,8 +13,8 @@ use sip_values::{
 };
 use std::alloc::{AllocError, Global};
 
-/// What the header lines of a message say, as far as they were met. A list is None where one of its lines isn't in the
-/// header's form.
+/// What the header lines of a message say, as far as they were met. A list is None where one of its
+/// lines isn't in the header's form.
 pub struct Draft {
     /// A line is no header line.
     pub is_bad: bool,

@@ -101,7 +101,8 @@ impl Draft {
     }
 
     fn has_unfit_value(&self) -> bool
-        ensures { result ≡ list_any (λ header. presence.is_unfit (presence.presence_of self.now header)) table.headers }
+        ensures { result ≡ list_any
+            (λ header. presence.is_unfit (presence.presence_of self.now header)) table.headers }
     {
         HeaderName::ALL
             .iter()

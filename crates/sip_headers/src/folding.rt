@@ -40,7 +40,8 @@ impl Whole<'_> {
 
     /// The line with one space where it goes on.
     fn joined(self, alloc: Global, more: &[u8]) -> Result<Vec<u8>, AllocError>
-        ensures { IfOk result (λ whole. whole.items ≡ folds.joined (whole_now self.entry) more.now) }
+        ensures { IfOk result (λ whole. whole.items
+            ≡ folds.joined (whole_now self.entry) more.now) }
     {
         let mut whole = match self {
             Whole::Plain(line) => Vec::from_slice(alloc, trimmed_end(line))?,
@@ -58,7 +59,10 @@ pub fn whole_line<'a>(
     line: &'a [u8],
     text: &'a [u8],
 ) -> Result<(Whole<'a>, &'a [u8]), AllocError>
-    ensures whole { IfOk result (λ found. folding.onto_section line.now (folding.section_at text.now) ≡ folding.behind_line (whole_now found.0) (folding.whole_section (folding.section_at found.1.now))) }
+    ensures whole { IfOk result
+        (λ found. folding.onto_section line.now (folding.section_at text.now)
+        ≡ folding.behind_line (whole_now found.0) (folding.whole_section (folding.section_at
+        found.1.now))) }
     ensures shorter { IfOk result (λ found. length found.1.now ≤ length text.now) }
 {
     let mut whole = Whole::Plain(line);
@@ -81,9 +85,11 @@ fn without_blank_end(mut line: Vec<u8>) -> Vec<u8>
     line
 }
 
-/// What the header lines say, and the text behind the empty line that ends them. None without an empty line.
+/// What the header lines say, and the text behind the empty line that ends them. None without an
+/// empty line.
 pub fn gather(alloc: Global, text: &[u8]) -> Result<Option<(Draft, &[u8])>, AllocError>
-    ensures { IfOk result (λ found. option_map (λ g. (g.0, g.1.now)) found ≡ folding.gathered_at text.now) }
+    ensures { IfOk result (λ found. option_map (λ g. (g.0, g.1.now)) found
+        ≡ folding.gathered_at text.now) }
 {
     let mut draft = Draft::new(alloc);
     let mut rest = text;

@@ -32,7 +32,8 @@ impl Row for ParameterRow {
 fn owned(alloc: Global, text: ParameterText<'_>) -> Result<Parameter, AllocError>
     requires name { IsTrue (is_token text.name.now) }
     requires value { ForSome text.value (λ v. IsTrue (is_parameter_value v.now)) }
-    ensures { IfOk result (λ parameter. parameter ≡ values.parameter_of (parameter_now text.entry)) }
+    ensures { IfOk result (λ parameter. parameter
+        ≡ values.parameter_of (parameter_now text.entry)) }
 {
     let name = Token::from_text(Text::copy_of(alloc, text.name)?);
     let Some(value) = text.value else {

@@ -1,4 +1,4 @@
-use Rattle.std.proofs.Common.{◌≡◌, sym, ◌∙◌}
+use Rattle.std.proofs.Common.{sym, ◌∙◌}
 use Rattle.sip_headers.specs.Whole.{whole_now}
 use Rattle.sip_headers.proofs.Folds.{section_ends, section_goes_on, section_stops, is_empty_text, is_full_text}
 use Rattle.sip_headers.proofs.folding.gather.Goals as goal

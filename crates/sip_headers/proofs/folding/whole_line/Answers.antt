@@ -1,5 +1,4 @@
-use Rattle.std.proofs.Common.{◌≡◌, sym, ◌∙◌, arith}
-use Rattle.sip_headers.specs.Folding.{onto_section, section_at}
+use Rattle.std.proofs.Common.{sym, ◌∙◌, arith}
 use Rattle.sip_headers.specs.Whole.{whole_now}
 use Rattle.sip_headers.proofs.Folds.{goes_on, ends_here, ends_unended}
 use Rattle.sip_headers.proofs.folding.whole_line.Goals as goal

@@ -1,4 +1,3 @@
-use Rattle.std.proofs.Common.{◌≡◌}
 use Rattle.sip_headers.proofs.Folds.{kept_front}
 use Rattle.sip_headers.proofs.folding.without_blank_end.Goals as goal
 
