@@ -12,8 +12,8 @@ use Rattle.std.proofs.lemmas.Fmt.{digits_decimal, decimal_nonempty}
 use Rattle.sip_text.specs.Token.{is_run}
 use Rattle.sip_parts.specs.declared.parameter.Parameter.{Parameter}
 use Rattle.sip_message.specs.declared.via.Via.{Via}
-use Rattle.sip_parts.specs.ParameterValue.{is_value_byte, is_value_word, is_parameter_value}
-use Rattle.sip_parts.specs.Quoted.{is_quoted}
+use Rattle.sip_text.specs.Parameter.{is_value_byte, is_value_word, is_parameter_value}
+use Rattle.sip_text.specs.Quoted.{is_quoted}
 use Rattle.sip_message.specs.Ip.{ip_text}
 use Rattle.sip_parts.specs.Parameters.{parameter_named, value_named, value_or_nothing}
 use Rattle.sip_message.specs.Via.{branch_of, has_cookie, are_vias}

@@ -1,6 +1,6 @@
 //! Addresses of the network.
 ghost use Rattle.std.specs.Prelude.{◌≡◌, ◌≤◌, ◌+◌, ◌++◌, decimal, IsTrue, Some};
-ghost use Rattle.sip_parts.specs.ParameterValue.{is_parameter_value};
+ghost use Rattle.sip_text.specs.Parameter.{is_parameter_value};
 ghost use Rattle.arrayvec.specs.ArrayVec.{array_vec_len};
 ghost use Rattle.sip_message.specs.Addr.{addr_text};
 ghost use Rattle.sip_message.specs.Ip.{ip_text};

@@ -6,8 +6,8 @@ use Rattle.sip_text.specs.Character.{is_among, is_token_byte}
 use Rattle.sip_text.specs.Token.{is_run, is_token}
 use Rattle.sip_parts.specs.Word.{is_word_byte, is_word}
 use Rattle.sip_parts.specs.Uri.{is_uri_byte, is_uri}
-use Rattle.sip_parts.specs.ParameterValue.{is_value_byte, is_value_word, is_parameter_value}
-use Rattle.sip_parts.specs.Quoted.{is_quoted}
+use Rattle.sip_text.specs.Parameter.{is_value_byte, is_value_word, is_parameter_value}
+use Rattle.sip_text.specs.Quoted.{is_quoted}
 
 pub and_left : (a b : Bool) → (a && b) ≡ true → a ≡ true
 and_left true b h = refl

@@ -2,7 +2,7 @@
 use Rattle.std.specs.Prelude.{ℕ, Bool, not, ◌&&◌, ◌||◌, List, codes}
 use Rattle.std.specs.List.{list_all}
 use Rattle.sip_text.specs.Character.{is_among}
-use Rattle.sip_parts.specs.Quoted.{is_quoted}
+use Rattle.sip_text.specs.Quoted.{is_quoted}
 use Rattle.sip_parts.specs.HeaderValue.{has_no_blank_ends}
 
 unfoldable pub is_display_text_byte : ℕ → Bool

@@ -3,7 +3,7 @@ use Rattle.std.specs.Prelude.{ℕ, Bool, ◌||◌, List, [], ◌∷◌, codes}
 use Rattle.std.specs.List.{list_any}
 use Rattle.std.specs.Str.{str_eq_ignore_ascii_case}
 use Rattle.sip_parts.specs.declared.header_name.HeaderName.{HeaderName}
-use Rattle.sip_parts.specs.declared.header_name.HeaderName.TheVariants.{Via, From, To, CallId, CSeq, MaxForwards, ContentLength, RSeq, RAck}
+use Rattle.sip_parts.specs.declared.header_name.HeaderName.TheVariants.{Via, From, To, CallId, CSeq, MaxForwards, ContentLength, RSeq, RAck, Contact, RecordRoute, Route, Require, Supported}
 
 -- the long name, as it is written
 abbrev pub header_name : HeaderName → List ℕ
@@ -16,6 +16,11 @@ header_name MaxForwards = codes "Max-Forwards"
 header_name ContentLength = codes "Content-Length"
 header_name RSeq = codes "RSeq"
 header_name RAck = codes "RAck"
+header_name Contact = codes "Contact"
+header_name RecordRoute = codes "Record-Route"
+header_name Route = codes "Route"
+header_name Require = codes "Require"
+header_name Supported = codes "Supported"
 
 -- two names of headers are the same without regard to case
 abbrev pub is_same_name : List ℕ → List ℕ → Bool

@@ -1,8 +1,6 @@
 pub mod Word
 pub mod Uri
 pub mod Host
-pub mod Quoted
-pub mod ParameterValue
 pub mod DisplayText
 pub mod PartyDisplay
 pub mod HeaderValue
@@ -11,3 +9,4 @@ pub mod HeaderName
 pub mod OtherName
 pub mod Parameters
 pub mod Tag
+pub mod HeaderEntry

@@ -1,5 +1,5 @@
 //! The display text of an address (RFC 3261, section 20.10).
-ghost use Rattle.std.specs.Prelude.{◌≡◌, IsTrue, nat_eq};
+ghost use Rattle.std.specs.Prelude.{◌≡◌, IsTrue, nat_eq, []};
 ghost use Rattle.std.specs.Option.{SomeIff};
 ghost use Rattle.std.specs.Cmp.{partial_equiv_from_equiv};
 ghost use Rattle.std.specs.Cmp.Lexicographic.{pointwise, nat_list_eq_equiv};
@@ -7,9 +7,8 @@ ghost use Rattle.sip_parts.specs.DisplayText as rule;
 ghost use Rattle.std.specs.List.{list_all};
 
 use crate::header_value::has_no_blank_ends;
-use crate::quoted::is_quoted;
-use sip_text::Text;
-use std::alloc::AllocError;
+use sip_text::{Text, is_quoted};
+use std::alloc::{AllocError, Global};
 use std::marker::Model;
 
 /// The display text of an address in a list: empty, a quoted string, or a text without `<`, `>`, `"`,
@@ -30,6 +29,16 @@ impl Model for DisplayText {
 }
 
 impl DisplayText {
+    /// The empty display text. Takes no memory.
+    #[tactic(auto, unfolding(crate::specs::DisplayText::is_display_text, sip_text::specs::Quoted::is_quoted))]
+    pub fn nothing(alloc: Global) -> DisplayText
+        ensures { result ≡ [] }
+    {
+        DisplayText {
+            text: Text::from_vec(Vec::new(alloc)),
+        }
+    }
+
     /// The display text that the text is, or None where it isn't one.
     pub fn new(text: Text) -> Option<DisplayText>
         ensures { SomeIff result (IsTrue (rule.is_display_text text)) text }
@@ -98,7 +107,7 @@ impl Eq for DisplayText {
 
 /// Whether the text is such a display text.
 #[tactic(auto, unfolding(crate::specs::DisplayText::is_display_text))]
-fn is_display_text(text: &[u8]) -> bool
+pub fn is_display_text(text: &[u8]) -> bool
     ensures { result ≡ rule.is_display_text text.now }
 {
     is_quoted(text) || (has_no_blank_ends(text) && each_is_display_text_byte(text))

@@ -16,6 +16,11 @@ pub enum HeaderName {
     ContentLength,
     RSeq,
     RAck,
+    Contact,
+    RecordRoute,
+    Route,
+    Require,
+    Supported,
 }
 
 impl HeaderName {
@@ -33,6 +38,11 @@ impl HeaderName {
             HeaderName::ContentLength => "Content-Length",
             HeaderName::RSeq => "RSeq",
             HeaderName::RAck => "RAck",
+            HeaderName::Contact => "Contact",
+            HeaderName::RecordRoute => "Record-Route",
+            HeaderName::Route => "Route",
+            HeaderName::Require => "Require",
+            HeaderName::Supported => "Supported",
         }
     }
 }

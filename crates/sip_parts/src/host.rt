@@ -95,7 +95,7 @@ impl Eq for Host {
 
 /// Whether the text is a host.
 #[tactic(auto, unfolding(crate::specs::Host::is_host))]
-pub(crate) fn is_host(text: &[u8]) -> bool
+pub fn is_host(text: &[u8]) -> bool
     ensures { result ≡ rule.is_host text.now }
 {
     match text {

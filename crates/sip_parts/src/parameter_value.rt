@@ -3,11 +3,9 @@ ghost use Rattle.std.specs.Prelude.{◌≡◌, IsTrue, nat_eq};
 ghost use Rattle.std.specs.Option.{SomeIff};
 ghost use Rattle.std.specs.Cmp.{partial_equiv_from_equiv};
 ghost use Rattle.std.specs.Cmp.Lexicographic.{pointwise, nat_list_eq_equiv};
-ghost use Rattle.sip_parts.specs.ParameterValue as rule;
-ghost use Rattle.std.specs.List.{list_all};
+ghost use Rattle.sip_text.specs.Parameter as rule;
 
-use crate::quoted::is_quoted;
-use sip_text::Text;
+use sip_text::{Text, is_parameter_value};
 use std::alloc::AllocError;
 use std::marker::Model;
 
@@ -18,7 +16,7 @@ pub struct ParameterValue {
 
 impl Model for ParameterValue {
     ghost use Rattle.std.specs.Prelude.{ℕ, List, IsTrue};
-    ghost use Rattle.sip_parts.specs.ParameterValue as rule;
+    ghost use Rattle.sip_text.specs.Parameter as rule;
 
     ghost Value = { List ℕ };
 
@@ -92,39 +90,4 @@ impl PartialEq for ParameterValue {
 
 impl Eq for ParameterValue {
     ghost laws = { nat_list_eq_equiv };
-}
-
-/// Whether the text is a parameter's value.
-#[tactic(auto, unfolding(crate::specs::ParameterValue::is_parameter_value))]
-pub(crate) fn is_parameter_value(text: &[u8]) -> bool
-    ensures { result ≡ rule.is_parameter_value text.now }
-{
-    is_quoted(text) || is_value_word(text)
-}
-
-/// Whether the text is a value without quotes.
-#[tactic(auto, unfolding(crate::specs::ParameterValue::is_value_word))]
-pub fn is_value_word(text: &[u8]) -> bool
-    ensures { result ≡ rule.is_value_word text.now }
-{
-    match text {
-        [] => false,
-        [_, ..] => each_is_value_byte(text),
-    }
-}
-
-fn each_is_value_byte(text: &[u8]) -> bool
-    ensures { result ≡ list_all rule.is_value_byte text.now }
-{
-    text.iter().all(|byte| is_value_byte(*byte))
-}
-
-#[tactic(auto, unfolding(crate::specs::ParameterValue::is_value_byte))]
-pub(crate) fn is_value_byte(byte: u8) -> bool
-    ensures { result ≡ rule.is_value_byte byte }
-{
-    !matches!(
-        byte,
-        b' ' | b'\t' | b'\r' | b'\n' | b';' | b',' | b'<' | b'>' | b'"'
-    )
 }

@@ -7,8 +7,7 @@ ghost use Rattle.sip_parts.specs.PartyDisplay as rule;
 ghost use Rattle.std.specs.List.{list_all};
 
 use crate::header_value::has_no_blank_ends;
-use crate::quoted::is_quoted;
-use sip_text::Text;
+use sip_text::{Text, is_quoted};
 use std::alloc::{AllocError, Global};
 use std::marker::Model;
 
@@ -31,7 +30,7 @@ impl Model for PartyDisplay {
 
 impl PartyDisplay {
     /// The empty display text. Takes no memory.
-    #[tactic(auto, unfolding(crate::specs::PartyDisplay::is_party_display, crate::specs::Quoted::is_quoted))]
+    #[tactic(auto, unfolding(crate::specs::PartyDisplay::is_party_display, sip_text::specs::Quoted::is_quoted))]
     pub fn nothing(alloc: Global) -> PartyDisplay
         ensures { result ≡ [] }
     {
@@ -108,7 +107,7 @@ impl Eq for PartyDisplay {
 
 /// Whether the text is such a display text.
 #[tactic(auto, unfolding(crate::specs::PartyDisplay::is_party_display))]
-fn is_party_display(text: &[u8]) -> bool
+pub fn is_party_display(text: &[u8]) -> bool
     ensures { result ≡ rule.is_party_display text.now }
 {
     is_quoted(text) || (has_no_blank_ends(text) && each_is_party_display_byte(text))

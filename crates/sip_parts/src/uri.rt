@@ -95,7 +95,7 @@ impl Eq for Uri {
 
 /// Whether the text is a URI.
 #[tactic(auto, unfolding(crate::specs::Uri::is_uri))]
-pub(crate) fn is_uri(text: &[u8]) -> bool
+pub fn is_uri(text: &[u8]) -> bool
     ensures { result ≡ rule.is_uri text.now }
 {
     match text {

@@ -8,7 +8,7 @@ use Rattle.std.proofs.lemmas.Slice.Eq.{bytes_eq-Decides}
 use Rattle.sip_text.specs.Character.{is_blank, is_token_byte}
 use Rattle.sip_text.specs.Token.{is_run, is_token}
 use Rattle.sip_parts.specs.Host.{is_host_byte, is_bracket_byte}
-use Rattle.sip_parts.specs.ParameterValue.{is_value_byte, is_value_word}
+use Rattle.sip_text.specs.Parameter.{is_value_byte, is_value_word}
 use Rattle.sip_parts.specs.Uri.{is_uri_byte, is_uri}
 use Rattle.sip_parts.specs.Word.{is_word_byte, is_word}
 use Rattle.sip_reader.specs.Lines.{has_no}

@@ -7,7 +7,7 @@ use Rattle.std.proofs.lemmas.List.Folds.{list_all-append}
 use Rattle.std.proofs.lemmas.Option.{same_Some}
 use Rattle.sip_text.specs.Cut.{cut_at}
 use Rattle.sip_text.specs.Token.{is_token}
-use Rattle.sip_parts.specs.ParameterValue.{is_value_word}
+use Rattle.sip_text.specs.Parameter.{is_value_word}
 use Rattle.sip_parts.specs.declared.parameter.Parameter.{Parameter}
 use Rattle.sip_reader.specs.Lines.{has_no}
 use Rattle.sip_reader.specs.Reading.{◌>>=◌, each, name_and_value, parameter_with, parameter_at, parameters_at, parameters_after}

@@ -16,7 +16,7 @@ use Rattle.sip_text.specs.Token.{is_run, is_token}
 use Rattle.sip_text.specs.Trimmed.{trimmed, trimmed_end}
 use Rattle.sip_parts.specs.HeaderValue.{has_no_blank_ends, has_no_line_byte, is_header_value}
 use Rattle.sip_parts.specs.Host.{is_host_byte, is_bracket_byte}
-use Rattle.sip_parts.specs.ParameterValue.{is_value_byte, is_value_word}
+use Rattle.sip_text.specs.Parameter.{is_value_byte, is_value_word}
 use Rattle.sip_parts.specs.Uri.{is_uri_byte, is_uri}
 use Rattle.sip_parts.specs.Word.{is_word_byte, is_word}
 use Rattle.sip_reader.specs.Lines.{has_no}

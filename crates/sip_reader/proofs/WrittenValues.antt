@@ -14,7 +14,7 @@ use Rattle.sip_parts.specs.HeaderName.{is_same_name, is_long_name, is_compact_na
 use Rattle.sip_parts.specs.HeaderValue.{has_no_line_byte}
 use Rattle.sip_parts.specs.Host.{is_host}
 use Rattle.sip_parts.specs.OtherName.{is_other_name}
-use Rattle.sip_parts.specs.ParameterValue.{is_value_word}
+use Rattle.sip_text.specs.Parameter.{is_value_word}
 use Rattle.sip_parts.specs.declared.parameter.Parameter.{Parameter}
 use Rattle.sip_message.specs.Written.{value_text, parameter_text, parameters_text, port_text, via_text, display_part, address_text, cseq_text}
 use Rattle.sip_message.specs.declared.cseq.CSeq.{CSeq}

@@ -30,6 +30,11 @@ is_named header.ContentLength name = is_same_name name (codes "Content-Length")
 is_named header.MaxForwards name = false
 is_named header.RSeq name = false
 is_named header.RAck name = false
+is_named header.Contact name = false
+is_named header.RecordRoute name = false
+is_named header.Route name = false
+is_named header.Require name = false
+is_named header.Supported name = false
 
 -- three compact names stand for the long ones of headers that stay as they stand
 unfoldable pub long_name : List ℕ → List ℕ

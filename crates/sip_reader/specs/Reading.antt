@@ -20,7 +20,7 @@ use Rattle.sip_parts.specs.OtherName.{is_other_name}
 use Rattle.sip_parts.specs.Word.{is_word}
 use Rattle.sip_parts.specs.Uri.{is_uri}
 use Rattle.sip_parts.specs.Host.{is_host}
-use Rattle.sip_parts.specs.ParameterValue.{is_value_word}
+use Rattle.sip_text.specs.Parameter.{is_value_word}
 use Rattle.sip_parts.specs.Tag.{has_good_tag}
 use Rattle.sip_reader.specs.HeaderLine.{long_name}
 use Rattle.sip_reader.specs.Values.{is_port_word}

@@ -5,7 +5,7 @@ use Rattle.sip_text.specs.Token.{is_token}
 use Rattle.sip_parts.specs.HeaderValue.{is_header_value}
 use Rattle.sip_parts.specs.Host.{is_host}
 use Rattle.sip_parts.specs.OtherName.{is_other_name}
-use Rattle.sip_parts.specs.ParameterValue.{is_parameter_value, is_value_word}
+use Rattle.sip_text.specs.Parameter.{is_parameter_value, is_value_word}
 use Rattle.sip_parts.specs.PartyDisplay.{is_party_display}
 use Rattle.sip_parts.specs.Reason.{is_reason}
 use Rattle.sip_parts.specs.Tag.{has_good_tag}

@@ -5,7 +5,7 @@ use Rattle.std.specs.Str.{str_eq_ignore_ascii_case}
 use Rattle.sip_text.specs.Character.{is_blank, is_among}
 use Rattle.sip_text.specs.Token.{is_run, is_token}
 use Rattle.sip_parts.specs.Host.{is_host}
-use Rattle.sip_parts.specs.ParameterValue.{is_value_word}
+use Rattle.sip_text.specs.Parameter.{is_value_word}
 use Rattle.sip_parts.specs.Tag.{has_good_tag}
 use Rattle.sip_parts.specs.Uri.{is_uri}
 use Rattle.sip_parts.specs.Word.{is_word}

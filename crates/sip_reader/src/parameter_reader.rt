@@ -1,11 +1,11 @@
 //! Parameters as text, read (RFC 3261, section 7.3.1).
 ghost use Rattle.std.specs.Prelude.{◌≡◌, IfOk, IsTrue, Some, None};
 ghost use Rattle.std.specs.Option.{SomeIff};
-ghost use Rattle.sip_parts.specs.ParameterValue.{is_value_word};
+ghost use Rattle.sip_text.specs.Parameter.{is_value_word};
 ghost use Rattle.sip_reader.specs.Reading as reading;
 
-use sip_parts::{Parameter, ParameterValue, Token, is_value_word};
-use sip_text::{Series, Text, cut};
+use sip_parts::{Parameter, ParameterValue, Token};
+use sip_text::{Series, Text, cut, is_value_word};
 use std::alloc::{AllocError, Global};
 
 /// Nothing, or a semicolon and parameters.
@@ -82,7 +82,7 @@ fn name_with_value(
 }
 
 /// The value, where it is one without quotes.
-#[tactic(auto, unfolding(sip_parts::specs::ParameterValue::is_parameter_value), using(sip_parts::proofs::Bytes::or_right))]
+#[tactic(auto, unfolding(sip_text::specs::Parameter::is_parameter_value), using(sip_parts::proofs::Bytes::or_right))]
 fn word_value(alloc: Global, value: &[u8]) -> Result<Option<ParameterValue>, AllocError>
     ensures { IfOk result (λ made. SomeIff made (IsTrue (is_value_word value.now)) value.now) }
 {

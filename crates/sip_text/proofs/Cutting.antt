@@ -1,6 +1,6 @@
 -- The first place of a byte cuts the text there.
-use Rattle.std.proofs.Common.{◌≡◌, ℕ, zero, suc, ◌<◌, Bool, true, false, eqb, List, [], ◌∷◌, length, take, drop, get_or, Some, None, refl, arith}
-use Rattle.memchr.specs.Find.{Nowhere, is_byte}
+use Rattle.std.proofs.Common.{◌≡◌, ℕ, zero, suc, ◌<◌, Bool, true, false, List, [], ◌∷◌, length, take, drop, get_or, Some, None, refl, arith}
+use Rattle.memchr.specs.Find.{Nowhere}
 use Rattle.sip_text.specs.Cut.{cut_where}
 
 not_true : (b : Bool) → (b ≡ true → ⊥) → b ≡ false

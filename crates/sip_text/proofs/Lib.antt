@@ -1,3 +1,10 @@
 pub mod Cutting
 pub mod Digits
 pub mod Ends
+pub mod Separators
+pub mod Splits
+pub mod ReadForms
+pub mod Loops
+pub mod ParameterForms
+pub mod QuotedStrings
+pub mod LineParts

@@ -4,3 +4,11 @@ pub mod Number
 pub mod Cut
 pub mod Line
 pub mod Trimmed
+pub mod Separator
+pub mod Forms
+pub mod Quoted
+pub mod Parameter
+pub mod OpenQuote
+pub mod Pieces
+pub mod Lines
+pub mod Unfolded

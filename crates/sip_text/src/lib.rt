@@ -3,20 +3,35 @@
 
 mod character;
 mod fault;
+mod folding;
+mod laws;
 mod line;
 mod number;
+mod open_quote;
+mod parameters;
 mod pieces;
+mod quoted;
+mod separator;
 mod series;
 mod text;
 mod token;
 mod trim;
+mod values;
 
 pub use character::{is_blank, is_line_byte, is_token_byte};
 pub use fault::TextFault;
+pub use folding::{begins_blank, lines, unfold};
+pub use laws::{one_cut, one_list_of_parameters, one_split, quoted_strings};
 pub use line::next_line;
 pub use number::{decimal, number_u32};
+pub use parameters::{
+    ParameterText, is_blanks, is_parameter_value, is_value_word, parameter_in, params,
+};
 pub use pieces::{cut, cut_blank};
+pub use quoted::is_quoted;
+pub use separator::{Place, Separator};
 pub use series::Series;
 pub use text::Text;
 pub use token::{is_token, token_eq};
 pub use trim::{trimmed, trimmed_end, trimmed_start};
+pub use values::split_values;

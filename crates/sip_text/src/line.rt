@@ -16,7 +16,7 @@ pub fn next_line(text: &[u8]) -> Option<(&[u8], &[u8])>
     Some((without_carriage_return(line), after))
 }
 
-fn without_carriage_return(line: &[u8]) -> &[u8]
+pub(crate) fn without_carriage_return(line: &[u8]) -> &[u8]
     ensures { result.now ≡ std_lines.strip_carriage_return line.now }
 {
     match line {

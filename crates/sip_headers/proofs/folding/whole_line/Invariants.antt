@@ -1,0 +1,13 @@
+use Rattle.std.proofs.Common.{◌≡◌, ◌≤◌, length}
+use Rattle.sip_headers.specs.Folding.{onto_section, section_at}
+use Rattle.sip_headers.specs.Whole.{whole_now}
+use Rattle.sip_headers.proofs.folding.whole_line.Given as goal
+
+abbrev pub invariant-loop-more : goal.invariant-loop-more
+invariant-loop-more l = record {
+  same : onto_section (whole_now l.whole) (section_at l.rest) ≡ onto_section l.line (section_at l.text);
+  shorter : length l.rest ≤ length l.text;
+}
+
+abbrev pub decreases-loop-more : goal.decreases-loop-more
+decreases-loop-more l = length l.rest

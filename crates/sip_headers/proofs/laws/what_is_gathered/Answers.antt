@@ -1,0 +1,5 @@
+use Rattle.sip_headers.proofs.Drafts.{is_draft}
+use Rattle.sip_headers.proofs.laws.what_is_gathered.Goals as goal
+
+pub returns : goal.returns
+returns c lines = is_draft lines

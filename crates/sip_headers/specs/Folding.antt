@@ -1,0 +1,51 @@
+-- The lines of a header section (RFC 3261, section 7), and folded lines (section 7.3.1).
+use Rattle.std.specs.Prelude.{ℕ, List, [], ◌∷◌, Option, Some, None, ◌==◌, if◌then◌else◌}
+use Rattle.std.specs.Option.{option_map}
+use Rattle.std.specs.List.{slice_split, join_with_byte}
+use Rattle.std.specs.Str.Lines.{strip_carriage_return}
+use Rattle.sip_text.specs.Unfolded.{begins_blank, joined}
+use Rattle.sip_headers.specs.Draft.{draft_of}
+use Rattle.sip_headers.specs.declared.draft.Draft.{Draft}
+
+-- lines, and the text that follows the empty line after them
+abbrev pub Section : Type 0
+Section = List (List ℕ) × List ℕ
+
+abbrev pub with_line_of : List ℕ → List ℕ → Option Section → Option Section
+with_line_of [] rest more = Some ([], rest)
+with_line_of (b ∷ bs) rest more = option_map (λ s. ((b ∷ bs) ∷ s.0, s.1)) more
+
+-- the same, of a text that is split at each LF
+abbrev pub section_from : List (List ℕ) → Option Section
+section_from [] = None
+section_from (last ∷ []) = None
+section_from (part ∷ (next ∷ parts)) =
+    with_line_of (strip_carriage_return part) (join_with_byte 10 (next ∷ parts)) (section_from (next ∷ parts))
+
+-- the lines up to the first empty one; nothing where there is no empty line
+abbrev pub section_at : List ℕ → Option Section
+section_at text = section_from (slice_split (λ b. b == 10) text)
+
+-- a line, and those that follow: one that begins with a space or tab goes on with the line before it
+abbrev pub folded_onto : List ℕ → List (List ℕ) → List (List ℕ)
+folded_onto line [] = line ∷ []
+folded_onto line (next ∷ lines) =
+    if begins_blank next then folded_onto (joined line next) lines else line ∷ folded_onto next lines
+
+abbrev pub whole_lines : List (List ℕ) → List (List ℕ)
+whole_lines [] = []
+whole_lines (line ∷ lines) = folded_onto line lines
+
+-- the lines without folds
+abbrev pub whole_section : Option Section → Option Section
+whole_section section = option_map (λ s. (whole_lines s.0, s.1)) section
+
+abbrev pub onto_section : List ℕ → Option Section → Option Section
+onto_section line section = option_map (λ s. (folded_onto line s.0, s.1)) section
+
+abbrev pub behind_line : List ℕ → Option Section → Option Section
+behind_line line section = option_map (λ s. (line ∷ s.0, s.1)) section
+
+-- what the header lines of a text say, and what follows the empty line
+abbrev pub gathered_at : List ℕ → Option (Draft × List ℕ)
+gathered_at text = option_map (λ s. (draft_of s.0, s.1)) (whole_section (section_at text))

@@ -1,0 +1,52 @@
+-- Header lines (RFC 3261, sections 7.3.1 and 7.3.3).
+use Rattle.std.specs.Prelude.{ℕ, List, Option, Some, None}
+use Rattle.sip_text.specs.Forms.{Passing, passing, Never, never, Of, reading_of, Told, told, Both, both, OnCut, on_cut}
+use Rattle.sip_text.specs.Token.{is_token}
+use Rattle.sip_text.specs.Trimmed.{trimmed, trimmed_end}
+use Rattle.sip_text.specs.declared.separator.Separator.TheVariants.{Byte}
+use Rattle.sip_parts.specs.HeaderEntry.{header_named}
+use Rattle.sip_parts.specs.HeaderValue.{has_no_line_byte}
+use Rattle.sip_parts.specs.declared.header_name.HeaderName.{HeaderName}
+use Rattle.sip_headers.specs.declared.header_line.LineClass.{LineClass}
+use Rattle.sip_headers.specs.declared.header_line.LineClass.TheVariants as declared
+
+-- ---- one line
+
+-- a token, and white space behind it
+abbrev pub NameText : List ℕ → List ℕ → Type 0
+NameText name text = Of (Passing is_token) trimmed_end name text
+
+-- a text without CR and LF, and white space round it
+abbrev pub ValueText : List ℕ → List ℕ → Type 0
+ValueText value text = Told trimmed (Passing has_no_line_byte) value text
+
+-- a name, a colon, and a value
+abbrev pub IsHeaderLine : List ℕ × List ℕ → List ℕ → Type 0
+IsHeaderLine parts line = OnCut (Byte 58) (Both NameText ValueText) Never parts line
+
+abbrev pub line_from : List ℕ → Option (List ℕ × List ℕ)
+line_from line =
+    on_cut (Byte 58) (both (reading_of (passing is_token) trimmed_end) (told trimmed (passing has_no_line_byte))) never line
+
+-- ---- what it is
+
+pub data Class : Type 0 where
+  bad : Class
+  known : HeaderName → List ℕ → Class
+  other : List ℕ → List ℕ → Class
+
+abbrev pub class_by_name : List ℕ → List ℕ → Option HeaderName → Class
+class_by_name name value None = other name value
+class_by_name name value (Some header) = known header value
+
+abbrev pub class_by_parts : Option (List ℕ × List ℕ) → Class
+class_by_parts None = bad
+class_by_parts (Some parts) = class_by_name parts.0 parts.1 (header_named parts.0)
+
+abbrev pub class_from : List ℕ → Class
+class_from line = class_by_parts (line_from line)
+
+abbrev pub class_now : LineClass → Class
+class_now declared.Bad = bad
+class_now (declared.Known header value) = known header value.now
+class_now (declared.Other name value) = other name.now value.now

@@ -1,0 +1,176 @@
+//! All header lines of a message, by header.
+ghost use Rattle.std.specs.Prelude.{◌≡◌, IfOk, OnOk};
+ghost use Rattle.sip_headers.specs.Draft as drafts;
+
+use crate::header_line::{LineClass, class_of};
+use crate::slot::{Slot, listed, meet, meet_list};
+use sip_message::{Header, NameAddr, Party};
+use sip_parts::{CallId, HeaderName, HeaderValue, OtherName, Token};
+use sip_text::{Series, Text, token_eq};
+use sip_values::{
+    AddressListRow, CSeqDraft, CSeqRow, CallIdRow, NumberRow, Numeral, PartyRow, RAckDraft,
+    RAckRow, TokenListRow, ViaDraft, ViaListRow,
+};
+use std::alloc::{AllocError, Global};
+
+/// What the header lines of a message say, as far as they were met. A list is None where one of its
+/// lines isn't in the header's form.
+pub struct Draft {
+    /// A line is no header line.
+    pub is_bad: bool,
+    pub vias: Option<Series<ViaDraft>>,
+    pub max_forwards: Slot<Numeral>,
+    pub from: Slot<Party>,
+    pub to: Slot<Party>,
+    pub call_id: Slot<CallId>,
+    pub cseq: Slot<CSeqDraft>,
+    pub contacts: Option<Series<NameAddr>>,
+    pub record_routes: Option<Series<NameAddr>>,
+    pub routes: Option<Series<NameAddr>>,
+    pub require: Option<Series<Token>>,
+    pub supported: Option<Series<Token>>,
+    pub rseq: Slot<Numeral>,
+    pub rack: Slot<RAckDraft>,
+    pub content_length: Slot<Numeral>,
+    pub others: Option<Series<Header>>,
+}
+
+impl Drop for Draft {
+    fn drop(self) {
+        let Draft {
+            is_bad: _,
+            vias: _,
+            max_forwards: _,
+            from: _,
+            to: _,
+            call_id: _,
+            cseq: _,
+            contacts: _,
+            record_routes: _,
+            routes: _,
+            require: _,
+            supported: _,
+            rseq: _,
+            rack: _,
+            content_length: _,
+            others: _,
+        } = self;
+    }
+}
+
+impl Draft {
+    /// No line. Takes no memory.
+    pub fn new(alloc: Global) -> Draft
+        ensures { result ≡ drafts.no_draft }
+    {
+        Draft {
+            is_bad: false,
+            vias: Some(Series::new(alloc)),
+            max_forwards: Slot::Absent,
+            from: Slot::Absent,
+            to: Slot::Absent,
+            call_id: Slot::Absent,
+            cseq: Slot::Absent,
+            contacts: Some(Series::new(alloc)),
+            record_routes: Some(Series::new(alloc)),
+            routes: Some(Series::new(alloc)),
+            require: Some(Series::new(alloc)),
+            supported: Some(Series::new(alloc)),
+            rseq: Slot::Absent,
+            rack: Slot::Absent,
+            content_length: Slot::Absent,
+            others: Some(Series::new(alloc)),
+        }
+    }
+
+    /// Adds what one more line says.
+    pub fn add(&mut self, alloc: Global, line: &[u8]) -> Result<(), AllocError>
+        ensures { OnOk result (self.new ≡ drafts.with_line self.old line.now) }
+    {
+        match class_of(line) {
+            LineClass::Bad => {
+                self.is_bad = true;
+                Ok(())
+            }
+            LineClass::Known(header, value) => self.add_value(alloc, header, value),
+            LineClass::Other(name, value) => self.add_other(alloc, name, value),
+        }
+    }
+
+    fn add_value(
+        &mut self,
+        alloc: Global,
+        header: HeaderName,
+        text: &[u8],
+    ) -> Result<(), AllocError>
+        ensures { OnOk result (self.new ≡ drafts.with_value self.old header text.now) }
+    {
+        match header {
+            HeaderName::Via => meet_list::<ViaDraft, ViaListRow>(alloc, &mut self.vias, text),
+            HeaderName::MaxForwards => meet::<NumberRow>(alloc, &mut self.max_forwards, text),
+            HeaderName::From => meet::<PartyRow>(alloc, &mut self.from, text),
+            HeaderName::To => meet::<PartyRow>(alloc, &mut self.to, text),
+            HeaderName::CallId => meet::<CallIdRow>(alloc, &mut self.call_id, text),
+            HeaderName::CSeq => meet::<CSeqRow>(alloc, &mut self.cseq, text),
+            HeaderName::Contact => {
+                meet_list::<NameAddr, AddressListRow>(alloc, &mut self.contacts, text)
+            }
+            HeaderName::RecordRoute => {
+                meet_list::<NameAddr, AddressListRow>(alloc, &mut self.record_routes, text)
+            }
+            HeaderName::Route => meet_list::<NameAddr, AddressListRow>(
+                alloc,
+                &mut self.routes,
+                text,
+            ),
+            HeaderName::Require => meet_list::<Token, TokenListRow>(alloc, &mut self.require, text),
+            HeaderName::Supported => meet_list::<Token, TokenListRow>(
+                alloc,
+                &mut self.supported,
+                text,
+            ),
+            HeaderName::RSeq => meet::<NumberRow>(alloc, &mut self.rseq, text),
+            HeaderName::RAck => meet::<RAckRow>(alloc, &mut self.rack, text),
+            HeaderName::ContentLength => meet::<NumberRow>(alloc, &mut self.content_length, text),
+        }
+    }
+
+    fn add_other(&mut self, alloc: Global, name: &[u8], value: &[u8]) -> Result<(), AllocError>
+        ensures { OnOk result (self.new ≡ drafts.with_other self.old name.now value.now) }
+    {
+        let header = other_in(alloc, name, value)?;
+        self.others = listed(self.others.take(), header)?;
+        Ok(())
+    }
+}
+
+/// A list of the one header.
+fn other_in(alloc: Global, name: &[u8], value: &[u8]) -> Result<Option<Series<Header>>, AllocError>
+    ensures { IfOk result (λ made. made ≡ drafts.other_from name.now value.now) }
+{
+    let Some(name) = OtherName::new(Text::copy_of(alloc, long_name(name))?) else {
+        return Ok(None);
+    };
+    let Some(value) = HeaderValue::new(Text::copy_of(alloc, value)?) else {
+        return Ok(None);
+    };
+    let mut one = Series::new(alloc);
+    one.push(Header { name, value })?;
+    Ok(Some(one))
+}
+
+/// The long name where the name is one of three compact names.
+#[tactic(auto, unfolding(crate::specs::Draft::long_name))]
+fn long_name(name: &[u8]) -> &[u8]
+    ensures { result.now ≡ drafts.long_name name.now }
+{
+    if token_eq(name, b"c") {
+        b"Content-Type"
+    } else if token_eq(name, b"s") {
+        b"Subject"
+    } else if token_eq(name, b"e") {
+        b"Content-Encoding"
+    } else {
+        name
+    }
+}

@@ -1,0 +1,138 @@
+//! Headers that are missing, or stand in a message more often than they may.
+ghost use Rattle.std.specs.Prelude.{◌≡◌, find, ◌&&◌};
+ghost use Rattle.std.specs.List.{list_any};
+ghost use Rattle.sip_parts.specs.HeaderEntry as table;
+ghost use Rattle.sip_headers.specs.Presence as presence;
+
+use crate::draft::Draft;
+use crate::slot::Slot;
+use sip_parts::{HeaderKind, HeaderName};
+use sip_text::Series;
+
+/// How often a header's lines were met.
+#[derive(Clone, Copy, Debug, PartialEq, Eq)]
+pub enum Presence {
+    /// Not yet.
+    Nowhere,
+    /// Once, or as often as a list's lines may stand.
+    Fitting,
+    /// Twice or more.
+    Repeated,
+    /// A line isn't in the header's form.
+    Unfit,
+}
+
+impl Presence {
+    fn is_nowhere(self) -> bool
+        ensures { result ≡ presence.is_nowhere self }
+    {
+        matches!(self, Presence::Nowhere)
+    }
+
+    fn is_repeated(self) -> bool
+        ensures { result ≡ presence.is_repeated self }
+    {
+        matches!(self, Presence::Repeated)
+    }
+
+    fn is_unfit(self) -> bool
+        ensures { result ≡ presence.is_unfit self }
+    {
+        matches!(self, Presence::Unfit)
+    }
+}
+
+impl<T> Slot<T> {
+    fn presence(&self) -> Presence
+        ensures { result ≡ presence.slot_presence self.now }
+    {
+        match self {
+            Slot::Absent => Presence::Nowhere,
+            Slot::Once(_) => Presence::Fitting,
+            Slot::Twice => Presence::Repeated,
+            Slot::Bad => Presence::Unfit,
+        }
+    }
+}
+
+fn list_presence<T>(list: &Option<Series<T>>) -> Presence
+    ensures { result ≡ presence.list_presence list.now }
+{
+    match list {
+        None => Presence::Unfit,
+        Some(values) => {
+            if values.is_empty() {
+                Presence::Nowhere
+            } else {
+                Presence::Fitting
+            }
+        }
+    }
+}
+
+impl Draft {
+    /// How often the header's lines were met.
+    pub fn presence(&self, header: HeaderName) -> Presence
+        ensures { result ≡ presence.presence_of self.now header }
+    {
+        match header {
+            HeaderName::Via => list_presence(&self.vias),
+            HeaderName::From => self.from.presence(),
+            HeaderName::To => self.to.presence(),
+            HeaderName::CallId => self.call_id.presence(),
+            HeaderName::CSeq => self.cseq.presence(),
+            HeaderName::MaxForwards => self.max_forwards.presence(),
+            HeaderName::ContentLength => self.content_length.presence(),
+            HeaderName::RSeq => self.rseq.presence(),
+            HeaderName::RAck => self.rack.presence(),
+            HeaderName::Contact => list_presence(&self.contacts),
+            HeaderName::RecordRoute => list_presence(&self.record_routes),
+            HeaderName::Route => list_presence(&self.routes),
+            HeaderName::Require => list_presence(&self.require),
+            HeaderName::Supported => list_presence(&self.supported),
+        }
+    }
+
+    /// Whether a line is no header line, or a value isn't in its header's form.
+    pub fn has_bad_header(&self) -> bool
+        ensures { result ≡ presence.has_bad_header self.now }
+    {
+        self.is_bad || self.others.is_none() || self.has_unfit_value()
+    }
+
+    fn has_unfit_value(&self) -> bool
+        ensures { result ≡ list_any
+            (λ header. presence.is_unfit (presence.presence_of self.now header)) table.headers }
+    {
+        HeaderName::ALL
+            .iter()
+            .any(|header| self.presence(*header).is_unfit())
+    }
+
+    /// The first header that each message has and that isn't there.
+    pub fn missing(&self) -> Option<HeaderName>
+        ensures { result ≡ presence.missing self.now }
+    {
+        HeaderName::ALL.iter().copied().find(|header| is_needed(*header)
+            && self.presence(*header).is_nowhere())
+    }
+
+    /// The first header that stands at most once and is there twice.
+    pub fn repeated(&self) -> Option<HeaderName>
+        ensures { result ≡ presence.repeated self.now }
+    {
+        HeaderName::ALL
+            .iter()
+            .copied()
+            .find(|header| self.presence(*header).is_repeated())
+    }
+}
+
+fn is_needed(header: HeaderName) -> bool
+    ensures { result ≡ table.is_needed (table.entry header).kind }
+{
+    match header.entry().kind {
+        HeaderKind::Once | HeaderKind::NeededList => true,
+        HeaderKind::AtMostOnce | HeaderKind::List => false,
+    }
+}

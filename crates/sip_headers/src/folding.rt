@@ -1,0 +1,105 @@
+//! Lines without their folds (RFC 3261, section 7.3.1), gathered up to the empty line.
+ghost use Rattle.std.specs.Prelude.{◌≡◌, ◌≤◌, IfOk, length};
+ghost use Rattle.std.specs.Option.{option_map};
+ghost use Rattle.sip_text.specs.Trimmed as trims;
+ghost use Rattle.sip_text.specs.Unfolded as folds;
+ghost use Rattle.sip_headers.specs.Folding as folding;
+ghost use Rattle.sip_headers.specs.Whole.{whole_now};
+
+use crate::draft::Draft;
+use sip_text::{begins_blank, next_line, trimmed_end, trimmed_start};
+use std::alloc::{AllocError, Global};
+
+/// A line without folds. Nothing is copied where it had none.
+pub enum Whole<'a> {
+    /// It stands in the text as it is.
+    Plain(&'a [u8]),
+    /// It was put together.
+    Folded(Vec<u8>),
+}
+
+impl Drop for Whole<'_> {
+    fn drop(self) {
+        match self {
+            Whole::Plain(_) => {}
+            Whole::Folded(_) => {}
+        }
+    }
+}
+
+impl Whole<'_> {
+    /// Its bytes.
+    pub fn as_slice(&self) -> &[u8]
+        ensures { result.now ≡ whole_now self.now }
+    {
+        match self {
+            Whole::Plain(line) => line,
+            Whole::Folded(line) => line.as_slice(),
+        }
+    }
+
+    /// The line with one space where it goes on.
+    fn joined(self, alloc: Global, more: &[u8]) -> Result<Vec<u8>, AllocError>
+        ensures { IfOk result (λ whole. whole.items
+            ≡ folds.joined (whole_now self.entry) more.now) }
+    {
+        let mut whole = match self {
+            Whole::Plain(line) => Vec::from_slice(alloc, trimmed_end(line))?,
+            Whole::Folded(line) => without_blank_end(line),
+        };
+        whole.push(b' ')?;
+        whole.extend_from_slice(trimmed_start(more))?;
+        Ok(whole)
+    }
+}
+
+/// The line with those lines of the text that go on with it, and the text behind them.
+pub fn whole_line<'a>(
+    alloc: Global,
+    line: &'a [u8],
+    text: &'a [u8],
+) -> Result<(Whole<'a>, &'a [u8]), AllocError>
+    ensures whole { IfOk result
+        (λ found. folding.onto_section line.now (folding.section_at text.now)
+        ≡ folding.behind_line (whole_now found.0) (folding.whole_section (folding.section_at
+        found.1.now))) }
+    ensures shorter { IfOk result (λ found. length found.1.now ≤ length text.now) }
+{
+    let mut whole = Whole::Plain(line);
+    let mut rest = text;
+    while let Some((more, after)) = next_line(rest) {
+        if !begins_blank(more) {
+            break;
+        }
+        whole = Whole::Folded(whole.joined(alloc, more)?);
+        rest = after;
+    }
+    Ok((whole, rest))
+}
+
+fn without_blank_end(mut line: Vec<u8>) -> Vec<u8>
+    ensures { result.items ≡ trims.trimmed_end line.items }
+{
+    let kept = trimmed_end(line.as_slice()).len();
+    line.truncate(kept);
+    line
+}
+
+/// What the header lines say, and the text behind the empty line that ends them. None without an
+/// empty line.
+pub fn gather(alloc: Global, text: &[u8]) -> Result<Option<(Draft, &[u8])>, AllocError>
+    ensures { IfOk result (λ found. option_map (λ g. (g.0, g.1.now)) found
+        ≡ folding.gathered_at text.now) }
+{
+    let mut draft = Draft::new(alloc);
+    let mut rest = text;
+    while let Some((line, after)) = next_line(rest) {
+        if line.is_empty() {
+            return Ok(Some((draft, after)));
+        }
+        let (whole, after) = whole_line(alloc, line, after)?;
+        draft.add(alloc, whole.as_slice())?;
+        rest = after;
+    }
+    Ok(None)
+}

@@ -1,0 +1,16 @@
+//! The header lines of a message, gathered by header (RFC 3261, section 7.3).
+#![tactic(auto)]
+
+mod draft;
+mod faults;
+mod folding;
+mod header_line;
+mod laws;
+mod slot;
+
+pub use draft::Draft;
+pub use faults::Presence;
+pub use folding::{Whole, gather, whole_line};
+pub use header_line::{LineClass, class_of};
+pub use laws::{what_is_gathered, what_is_missing, what_is_repeated};
+pub use slot::{Slot, meet, meet_list};

@@ -1,0 +1,82 @@
+//! What was met of a header so far.
+ghost use Rattle.std.specs.Prelude.{◌≡◌, ◌++◌, IfOk, OnOk};
+ghost use Rattle.sip_headers.specs.Slot as slots;
+
+use sip_text::Series;
+use sip_values::Row;
+use std::alloc::{AllocError, Global};
+use std::mem;
+
+/// The value of a header that stands at most once, as far as its lines were met.
+#[derive(Drop)]
+pub enum Slot<T> {
+    /// No line yet.
+    Absent,
+    /// One line.
+    Once(T),
+    /// Two lines or more.
+    Twice,
+    /// A line whose value isn't in the header's form.
+    Bad,
+}
+
+impl<T: Drop> Slot<T> {
+    /// One more line, and its value where it is in the form.
+    fn met(self, value: Option<T>) -> Slot<T>
+        ensures { result ≡ slots.met self value }
+    {
+        match (self, value) {
+            (Slot::Bad, _) | (_, None) => Slot::Bad,
+            (Slot::Absent, Some(value)) => Slot::Once(value),
+            (Slot::Once(_), Some(_)) | (Slot::Twice, Some(_)) => Slot::Twice,
+        }
+    }
+}
+
+/// Reads one more line of a header that stands at most once.
+pub fn meet<R: Row>(alloc: Global, slot: &mut Slot<R::Value>, text: &[u8]) -> Result<(), AllocError>
+    ensures { OnOk result (slot.new ≡ slots.met slot.old (R.reads text.now)) }
+{
+    let value = R::read(alloc, text)?;
+    let before = mem::replace(slot, Slot::Absent);
+    *slot = before.met(value);
+    Ok(())
+}
+
+/// Reads one more line of a list. None where a line isn't in the form.
+pub fn meet_list<T: Drop, R: Row<Value = Series<T>>>(
+    alloc: Global,
+    values: &mut Option<Series<T>>,
+    text: &[u8],
+) -> Result<(), AllocError>
+    ensures { OnOk result (values.new ≡ slots.listed values.old (R.reads text.now)) }
+{
+    let more = R::read(alloc, text)?;
+    *values = listed(values.take(), more)?;
+    Ok(())
+}
+
+/// Both lists, or None where one of them is None.
+pub(crate) fn listed<T: Drop>(
+    before: Option<Series<T>>,
+    more: Option<Series<T>>,
+) -> Result<Option<Series<T>>, AllocError>
+    ensures { IfOk result (λ all. all ≡ slots.listed before more) }
+{
+    let Some(before) = before else {
+        return Ok(None);
+    };
+    let Some(more) = more else {
+        return Ok(None);
+    };
+    Ok(Some(joined(before, more)?))
+}
+
+fn joined<T: Drop>(before: Series<T>, more: Series<T>) -> Result<Series<T>, AllocError>
+    ensures { IfOk result (λ all. all ≡ before ++ more) }
+{
+    let mut all = before.into_vec();
+    let mut more = more.into_vec();
+    all.append(&mut more)?;
+    Ok(Series::from_vec(all))
+}

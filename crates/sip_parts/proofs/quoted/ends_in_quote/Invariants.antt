@@ -1,9 +1,0 @@
-use Rattle.std.proofs.Common.{◌≡◌, false, length}
-use Rattle.sip_parts.specs.Quoted as quoted
-use Rattle.sip_parts.proofs.quoted.ends_in_quote.Given as goal
-
-abbrev pub invariant-loop-rest : goal.invariant-loop-rest
-invariant-loop-rest l = quoted.ends_in_quote l.escaped l.rest ≡ quoted.ends_in_quote false l.text
-
-abbrev pub decreases-loop-rest : goal.decreases-loop-rest
-decreases-loop-rest l = length l.rest

@@ -1,0 +1,67 @@
+-- The one table of the headers that are read into fields of their own (RFC 3261, sections 7.3.3 and 20; RFC 3262, section 7).
+use Rattle.std.specs.Prelude.{ℕ, Bool, true, false, ◌||◌, List, [], ◌∷◌, Option, codes, find}
+use Rattle.std.specs.List.{filter}
+use Rattle.std.specs.Str.{str_eq_ignore_ascii_case}
+use Rattle.sip_parts.specs.declared.header_entry.HeaderEntry.{HeaderEntry}
+use Rattle.sip_parts.specs.declared.header_entry.HeaderKind.{HeaderKind}
+use Rattle.sip_parts.specs.declared.header_entry.HeaderKind.TheVariants.{Once, AtMostOnce, List as Listed, NeededList}
+use Rattle.sip_parts.specs.declared.header_name.HeaderName.{HeaderName}
+use Rattle.sip_parts.specs.declared.header_name.HeaderName.TheVariants.{Via, From, To, CallId, CSeq, MaxForwards, ContentLength, RSeq, RAck, Contact, RecordRoute, Route, Require, Supported}
+
+-- a long name, a compact name, which is empty where there is none, and how often the header's lines may stand in a message
+pub record Entry : Type 0 where
+  pub name : List ℕ
+  pub compact : List ℕ
+  pub kind : HeaderKind
+
+abbrev row : List ℕ → List ℕ → HeaderKind → Entry
+row name compact kind = record { name = name; compact = compact; kind = kind }
+
+abbrev pub entry : HeaderName → Entry
+entry Via = row (codes "Via") (codes "v") NeededList
+entry MaxForwards = row (codes "Max-Forwards") [] AtMostOnce
+entry From = row (codes "From") (codes "f") Once
+entry To = row (codes "To") (codes "t") Once
+entry CallId = row (codes "Call-ID") (codes "i") Once
+entry CSeq = row (codes "CSeq") [] Once
+entry Contact = row (codes "Contact") (codes "m") Listed
+entry RecordRoute = row (codes "Record-Route") [] Listed
+entry Route = row (codes "Route") [] Listed
+entry Require = row (codes "Require") [] Listed
+entry Supported = row (codes "Supported") (codes "k") Listed
+entry RSeq = row (codes "RSeq") [] AtMostOnce
+entry RAck = row (codes "RAck") [] AtMostOnce
+entry ContentLength = row (codes "Content-Length") (codes "l") AtMostOnce
+
+-- all headers, in the order in which one that is missing or repeated is looked for; then the lists
+abbrev pub headers : List HeaderName
+headers =
+    Via ∷ From ∷ To ∷ CallId ∷ CSeq ∷ MaxForwards ∷ ContentLength ∷ RSeq ∷ RAck ∷ Contact ∷ RecordRoute ∷ Route ∷ Require
+    ∷ Supported ∷ []
+
+abbrev pub entry_now : HeaderEntry → Entry
+entry_now e = record { name = e.name.now; compact = e.compact.now; kind = e.kind }
+
+-- the name is the header's long or its compact name, in any case of the letters
+unfoldable pub is_named : HeaderName → List ℕ → Bool
+is_named header name =
+    str_eq_ignore_ascii_case name (entry header).name || str_eq_ignore_ascii_case name (entry header).compact
+
+-- the header of this name
+abbrev pub header_named : List ℕ → Option HeaderName
+header_named name = find (λ header. is_named header name) headers
+
+-- the message isn't one without it
+abbrev pub is_needed : HeaderKind → Bool
+is_needed Once = true
+is_needed NeededList = true
+is_needed kind = false
+
+-- it stands at most once
+abbrev pub is_single : HeaderKind → Bool
+is_single Once = true
+is_single AtMostOnce = true
+is_single kind = false
+
+abbrev pub headers_where : (HeaderKind → Bool) → List HeaderName
+headers_where test = filter (λ header. test (entry header).kind) headers

@@ -1,0 +1,33 @@
+//! Quoted strings without their end.
+ghost use Rattle.std.specs.Prelude.{◌≡◌, fold};
+ghost use Rattle.sip_text.specs.OpenQuote as quotes;
+ghost use Rattle.sip_text.specs.Separator as separators;
+ghost use Rattle.sip_text.specs.declared.separator.Place.TheVariants as place;
+
+use crate::separator::Place;
+
+/// Whether the text ends within quotes.
+#[tactic(auto, unfolding(crate::specs::OpenQuote::has_open_quote))]
+pub(crate) fn has_open_quote(text: &[u8]) -> bool
+    ensures { result ≡ quotes.has_open_quote text.now }
+{
+    place_at_end(text).is_in_quotes()
+}
+
+fn place_at_end(text: &[u8]) -> Place
+    ensures { result ≡ fold separators.after place.Plain text.now }
+{
+    text.iter()
+        .fold(Place::Plain, |place, byte| place.after(*byte))
+}
+
+impl Place {
+    fn is_in_quotes(self) -> bool
+        ensures { result ≡ quotes.is_in_quotes self }
+    {
+        match self {
+            Place::Quoted | Place::Escaped => true,
+            Place::Plain | Place::Bracketed => false,
+        }
+    }
+}

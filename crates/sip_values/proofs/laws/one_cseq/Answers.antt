@@ -1,0 +1,5 @@
+use Rattle.sip_values.proofs.Rows.{cseq_reads}
+use Rattle.sip_values.proofs.laws.one_cseq.Goals as goal
+
+pub returns : goal.returns
+returns c text x = let reads = cseq_reads in (reads.takes text x, reads.again text x)

@@ -1,0 +1,5 @@
+use Rattle.sip_values.proofs.Rows.{tokens_reads}
+use Rattle.sip_values.proofs.laws.one_list_of_tokens.Goals as goal
+
+pub returns : goal.returns
+returns c text x = let reads = tokens_reads in (reads.takes text x, reads.again text x)

@@ -1,0 +1,5 @@
+use Rattle.sip_values.proofs.Rows.{party_reads}
+use Rattle.sip_values.proofs.laws.one_party.Goals as goal
+
+pub returns : goal.returns
+returns c text x = let reads = party_reads in (reads.takes text x, reads.again text x)

@@ -1,0 +1,93 @@
+-- Addresses: From and To, Contact, Route and Record-Route (RFC 3261, sections 20.10, 20.20, 20.30, 20.34 and 20.39).
+use Rattle.std.specs.Prelude.{ℕ, Bool, List, [], Option}
+use Rattle.sip_text.specs.Forms.{Passing, passing, Never, never, Of, reading_of, Checked, checked, Told, told, Both, both, OnCut, on_cut, Split, split}
+use Rattle.sip_text.specs.Trimmed.{trimmed}
+use Rattle.sip_text.specs.declared.separator.Separator.TheVariants.{Byte}
+use Rattle.sip_parts.specs.DisplayText.{is_display_text}
+use Rattle.sip_parts.specs.PartyDisplay.{is_party_display}
+use Rattle.sip_parts.specs.Tag.{has_good_tag}
+use Rattle.sip_parts.specs.Uri.{is_uri}
+use Rattle.sip_parts.specs.declared.parameter.Parameter.{Parameter}
+use Rattle.sip_message.specs.declared.name_addr.NameAddr.{NameAddr}
+use Rattle.sip_message.specs.declared.party.Party.{Party}
+use Rattle.sip_values.specs.ParameterValues.{ManyParameters, many_parameters, AllParameters, all_parameters}
+
+-- a URI and parameters
+abbrev pub Target : Type 0
+Target = List ℕ × List Parameter
+
+-- ---- the parts
+
+abbrev pub UriText : List ℕ → List ℕ → Type 0
+UriText uri text = Of (Passing is_uri) trimmed uri text
+
+abbrev pub uri_from : List ℕ → Option (List ℕ)
+uri_from text = reading_of (passing is_uri) trimmed text
+
+-- behind `<`: a URI, `>` and parameters
+abbrev pub Bracketed : Target → List ℕ → Type 0
+Bracketed target text = OnCut (Byte 62) (Both UriText AllParameters) Never target text
+
+abbrev pub bracketed_from : List ℕ → Option Target
+bracketed_from text = on_cut (Byte 62) (both uri_from all_parameters) never text
+
+abbrev pub without_parameters : List ℕ → Target
+without_parameters uri = (uri, [])
+
+-- A URI alone, and parameters. All that stands behind the first semicolon belongs to the header.
+abbrev pub Bare : Target → List ℕ → Type 0
+Bare target text = OnCut (Byte 59) (Both UriText ManyParameters) (Told without_parameters UriText) target text
+
+abbrev pub bare_from : List ℕ → Option Target
+bare_from text = on_cut (Byte 59) (both uri_from many_parameters) (told without_parameters uri_from) text
+
+abbrev pub Display : (List ℕ → Bool) → List ℕ → List ℕ → Type 0
+Display is_display display text = Of (Passing is_display) trimmed display text
+
+abbrev pub display_from : (List ℕ → Bool) → List ℕ → Option (List ℕ)
+display_from is_display text = reading_of (passing is_display) trimmed text
+
+abbrev pub without_display : Target → List ℕ × Target
+without_display target = ([], target)
+
+-- a display text, `<`, a URI, `>` and parameters; or a URI alone and parameters
+abbrev pub Address : (List ℕ → Bool) → List ℕ × Target → List ℕ → Type 0
+Address is_display address text =
+    OnCut (Byte 60) (Both (Display is_display) Bracketed) (Told without_display Bare) address text
+
+abbrev pub address_from : (List ℕ → Bool) → List ℕ → Option (List ℕ × Target)
+address_from is_display text =
+    on_cut (Byte 60) (both (display_from is_display) bracketed_from) (told without_display bare_from) text
+
+-- ---- From and To
+
+abbrev pub party_of : List ℕ × Target → Party
+party_of address = record { display = address.0; uri = address.1.0; parameters = address.1.1 }
+
+-- the first parameter `tag`, where there is one, has a token
+abbrev pub has_address_tag : List ℕ × Target → Bool
+has_address_tag address = has_good_tag address.1.1
+
+abbrev pub IsPartyText : Party → List ℕ → Type 0
+IsPartyText party text = Told party_of (Checked has_address_tag (Address is_party_display)) party text
+
+abbrev pub party_from : List ℕ → Option Party
+party_from text = told party_of (checked has_address_tag (address_from is_party_display)) text
+
+-- ---- Contact, Route and Record-Route
+
+abbrev pub name_addr_of : List ℕ × Target → NameAddr
+name_addr_of address = record { display = address.0; uri = address.1.0; parameters = address.1.1 }
+
+abbrev pub IsNameAddr : NameAddr → List ℕ → Type 0
+IsNameAddr address text = Told name_addr_of (Address is_display_text) address text
+
+abbrev pub name_addr_from : List ℕ → Option NameAddr
+name_addr_from text = told name_addr_of (address_from is_display_text) text
+
+-- split at commas outside quotes and angle brackets
+abbrev pub AreNameAddrs : List NameAddr → List ℕ → Type 0
+AreNameAddrs addresses text = Split (Byte 44) IsNameAddr addresses text
+
+abbrev pub name_addrs_from : List ℕ → Option (List NameAddr)
+name_addrs_from text = split (Byte 44) name_addr_from text

@@ -1,0 +1,5 @@
+pub mod Numeral
+pub mod ParameterValues
+pub mod Address
+pub mod ViaValue
+pub mod Sequence

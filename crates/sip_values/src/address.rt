@@ -1,0 +1,124 @@
+//! Addresses: a display text, a URI and parameters (RFC 3261, section 20.10).
+ghost use Rattle.std.specs.Prelude.{◌≡◌, IfOk};
+ghost use Rattle.sip_parts.specs.DisplayText as rule;
+ghost use Rattle.sip_values.specs.Address as values;
+
+use crate::parameter::{parameters_behind, parameters_between};
+use crate::row::{Row, split_of};
+use sip_message::NameAddr;
+use sip_parts::{DisplayText, Parameter, Uri, is_display_text, is_uri};
+use sip_text::{Separator, Series, Text, trimmed};
+use std::alloc::{AllocError, Global};
+
+/// One address of a Contact, a Route or a Record-Route.
+pub struct AddressRow;
+
+impl Row for AddressRow {
+    ghost use Rattle.sip_values.specs.Address.{name_addr_from};
+
+    type Value = NameAddr;
+
+    ghost reads = { name_addr_from };
+
+    fn read(alloc: Global, text: &[u8]) -> Result<Option<NameAddr>, AllocError> {
+        let Some((display, (uri, parameters))) = address_in(alloc, text)? else {
+            return Ok(None);
+        };
+        Ok(Some(NameAddr {
+            display,
+            uri,
+            parameters,
+        }))
+    }
+}
+
+/// The addresses of a line of a Contact, a Route or a Record-Route.
+pub struct AddressListRow;
+
+impl Row for AddressListRow {
+    ghost use Rattle.sip_values.specs.Address.{name_addrs_from};
+
+    type Value = Series<NameAddr>;
+
+    ghost reads = { name_addrs_from };
+
+    fn read(alloc: Global, text: &[u8]) -> Result<Option<Series<NameAddr>>, AllocError> {
+        split_of::<AddressRow>(alloc, Separator::Byte(b','), text)
+    }
+}
+
+/// A URI and parameters.
+pub(crate) type Target = (Uri, Series<Parameter>);
+
+fn address_in(alloc: Global, text: &[u8]) -> Result<Option<(DisplayText, Target)>, AllocError>
+    ensures { IfOk result (λ made. made ≡ values.address_from rule.is_display_text text.now) }
+{
+    let Some((display, rest)) = Separator::Byte(b'<').cut(text) else {
+        let Some(target) = bare_in(alloc, text)? else {
+            return Ok(None);
+        };
+        return Ok(Some((DisplayText::nothing(alloc), target)));
+    };
+    let Some(display) = display_in(alloc, display)? else {
+        return Ok(None);
+    };
+    let Some(target) = bracketed_in(alloc, rest)? else {
+        return Ok(None);
+    };
+    Ok(Some((display, target)))
+}
+
+fn display_in(alloc: Global, text: &[u8]) -> Result<Option<DisplayText>, AllocError>
+    ensures { IfOk result (λ made. made ≡ values.display_from rule.is_display_text text.now) }
+{
+    let display = trimmed(text);
+    if !is_display_text(display) {
+        return Ok(None);
+    }
+    Ok(Some(DisplayText::from_text(Text::copy_of(alloc, display)?)))
+}
+
+/// Behind `<`: a URI, `>` and parameters.
+pub(crate) fn bracketed_in(alloc: Global, text: &[u8]) -> Result<Option<Target>, AllocError>
+    ensures { IfOk result (λ made. made ≡ values.bracketed_from text.now) }
+{
+    let Some((uri, rest)) = Separator::Byte(b'>').cut(text) else {
+        return Ok(None);
+    };
+    let Some(uri) = uri_in(alloc, uri)? else {
+        return Ok(None);
+    };
+    let Some(parameters) = parameters_behind(alloc, rest)? else {
+        return Ok(None);
+    };
+    Ok(Some((uri, parameters)))
+}
+
+/// A URI alone, and parameters.
+pub(crate) fn bare_in(alloc: Global, text: &[u8]) -> Result<Option<Target>, AllocError>
+    ensures { IfOk result (λ made. made ≡ values.bare_from text.now) }
+{
+    let Some((uri, rest)) = Separator::Byte(b';').cut(text) else {
+        let Some(uri) = uri_in(alloc, text)? else {
+            return Ok(None);
+        };
+        return Ok(Some((uri, Series::new(alloc))));
+    };
+    let Some(uri) = uri_in(alloc, uri)? else {
+        return Ok(None);
+    };
+    let Some(parameters) = parameters_between(alloc, rest)? else {
+        return Ok(None);
+    };
+    Ok(Some((uri, parameters)))
+}
+
+fn uri_in(alloc: Global, text: &[u8]) -> Result<Option<Uri>, AllocError>
+    ensures { IfOk result (λ made. made ≡ values.uri_from text.now) }
+{
+    let uri = trimmed(text);
+    if !is_uri(uri) {
+        return Ok(None);
+    }
+    Ok(Some(Uri::from_text(Text::copy_of(alloc, uri)?)))
+}

@@ -1,0 +1,44 @@
+//! How the value of a header is read.
+ghost use Rattle.std.specs.Prelude.{◌≡◌, IfOk};
+ghost use Rattle.sip_text.specs.Forms.{split};
+
+use sip_text::{Separator, Series};
+use std::alloc::{AllocError, Global};
+
+/// A form of text, and the value that a text in this form has.
+pub trait Row {
+    ghost use Rattle.std.specs.Prelude.{ℕ, List, Option};
+
+    /// What a text in this form stands for.
+    type Value: Drop;
+
+    ghost reads: { List ℕ → Option Self.Value };
+
+    /// The value, or None where the text isn't in this form.
+    fn read(alloc: Global, text: &[u8]) -> Result<Option<Self::Value>, AllocError>
+        ensures { IfOk result (λ made. made ≡ reads text.now) };
+}
+
+/// The values of the pieces between separators, or None where a piece isn't in the form.
+pub fn split_of<R: Row>(
+    alloc: Global,
+    separator: Separator,
+    text: &[u8],
+) -> Result<Option<Series<R::Value>>, AllocError>
+    ensures { IfOk result (λ made. made ≡ split separator R.reads text.now) }
+{
+    let mut values = Series::new(alloc);
+    let mut rest = text;
+    while let Some((piece, after)) = separator.cut(rest) {
+        let Some(value) = R::read(alloc, piece)? else {
+            return Ok(None);
+        };
+        values.push(value)?;
+        rest = after;
+    }
+    let Some(last) = R::read(alloc, rest)? else {
+        return Ok(None);
+    };
+    values.push(last)?;
+    Ok(Some(values))
+}

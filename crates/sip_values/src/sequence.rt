@@ -1,0 +1,89 @@
+//! CSeq and RAck (RFC 3261, section 20.16; RFC 3262, section 7.2).
+ghost use Rattle.std.specs.Prelude.{◌≡◌, IfOk};
+ghost use Rattle.sip_values.specs.Sequence as values;
+
+use crate::numeral::{Numeral, numeral_in};
+use crate::row::Row;
+use sip_parts::Token;
+use sip_text::{Separator, Text, is_token, trimmed};
+use std::alloc::{AllocError, Global};
+
+/// A CSeq, whose number may be none.
+#[derive(Drop)]
+pub struct CSeqDraft {
+    pub number: Numeral,
+    pub method: Token,
+}
+
+/// A RAck, whose numbers may be none.
+#[derive(Drop)]
+pub struct RAckDraft {
+    pub rseq: Numeral,
+    pub cseq: Numeral,
+    pub method: Token,
+}
+
+/// A number, white space and a method.
+pub struct CSeqRow;
+
+impl Row for CSeqRow {
+    ghost use Rattle.sip_values.specs.Sequence.{cseq_from};
+
+    type Value = CSeqDraft;
+
+    ghost reads = { cseq_from };
+
+    fn read(alloc: Global, text: &[u8]) -> Result<Option<CSeqDraft>, AllocError> {
+        let Some((number, rest)) = Separator::Blank.cut(text) else {
+            return Ok(None);
+        };
+        let Some(number) = numeral_in(number, u32::MAX) else {
+            return Ok(None);
+        };
+        let Some(method) = token_in(alloc, rest)? else {
+            return Ok(None);
+        };
+        Ok(Some(CSeqDraft { number, method }))
+    }
+}
+
+/// Two numbers and a method, with white space between them.
+pub struct RAckRow;
+
+impl Row for RAckRow {
+    ghost use Rattle.sip_values.specs.Sequence.{rack_from};
+
+    type Value = RAckDraft;
+
+    ghost reads = { rack_from };
+
+    fn read(alloc: Global, text: &[u8]) -> Result<Option<RAckDraft>, AllocError> {
+        let Some((rseq, rest)) = Separator::Blank.cut(text) else {
+            return Ok(None);
+        };
+        let Some(rseq) = numeral_in(rseq, u32::MAX) else {
+            return Ok(None);
+        };
+        let Some(
+            CSeqDraft {
+                number: cseq,
+                method,
+            },
+        ) = CSeqRow::read(alloc, trimmed(rest))?
+        else {
+            return Ok(None);
+        };
+        Ok(Some(RAckDraft { rseq, cseq, method }))
+    }
+}
+
+/// A token, with white space round it.
+pub(crate) fn token_in(alloc: Global, text: &[u8]) -> Result<Option<Token>, AllocError>
+    ensures { IfOk result (λ made. made ≡ values.token_from text.now) }
+{
+    let token = trimmed(text);
+    if !is_token(token) {
+        return Ok(None);
+    }
+    Ok(Some(Token::from_text(Text::copy_of(alloc, token)?)))
+}
