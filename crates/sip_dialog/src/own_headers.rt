@@ -114,7 +114,7 @@ fn own_contact(alloc: Global, local: Addr) -> Result<NameAddr, AllocError>
     })
 }
 
-#[tactic(auto, unfolding(sip_parts::specs::DisplayText::is_display_text, sip_parts::specs::Quoted::is_quoted))]
+#[tactic(auto, unfolding(sip_parts::specs::DisplayText::is_display_text, sip_text::specs::Quoted::is_quoted))]
 fn no_display(alloc: Global) -> DisplayText
     ensures { result ≡ [] }
 {
