@@ -1,3 +1,4 @@
+pub mod Alarms
 pub mod EventsStatus
 pub mod RoundStatus
 pub mod Status

@@ -10,6 +10,7 @@ mod rounds;
 mod table;
 mod timers;
 mod transactions;
+mod values;
 mod workers;
 
 use crate::program::ua;

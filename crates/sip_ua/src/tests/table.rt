@@ -1,10 +1,8 @@
 //! A table at a machine of alarms.
 
-ghost use Rattle.std.proofs.Common.{ap};
-ghost use Rattle.std.specs.Prelude.{◌≡◌, ◌==◌, if◌then◌else◌, IfOk, List, [], Option, None, Some, true, option_to_list};
+ghost use Rattle.std.specs.Prelude.{◌≡◌, IfOk, Some, true};
 ghost use Rattle.std.proofs.lemmas.Map.Lookups.{exact_unsigned};
-ghost use Rattle.sip_timers.specs.Queue.{is_due};
-ghost use Rattle.sip_model.specs.Machine.{due_of};
+ghost use Rattle.sip_ua.specs.Alarms.{alarm_machine, alarm_step, alarms_are_idle};
 
 use sip_model::{Item, ShardFault, StateMachine, Table, by_label};
 use std::alloc::{AllocError, Global};
@@ -24,12 +22,7 @@ impl StateMachine for Alarms {
 
     type Output = u64;
 
-    ghost machine = { λ _. record {
-      step = λ key state input.
-          if input.0
-          then (if is_due input.1 (due_of (λ moment. Some moment) state) then (None, option_to_list state) else (state, []))
-          else ((if input.1 == 0 then None else Some input.1), option_to_list state);
-    } };
+    ghost machine = { λ _. alarm_machine };
 
     ghost tick = { λ moment. (true, moment) };
 
@@ -41,7 +34,7 @@ impl StateMachine for Alarms {
 
     ghost exact = { exact_unsigned };
 
-    ghost idle = { λ _ moment key state calm. ap (λ b. ((if b then None else state), (if b then option_to_list state else []))) calm };
+    ghost idle = { λ _ moment. alarms_are_idle moment };
 
     fn tick_at(&self, moment: u64) -> (bool, u64) {
         (true, moment)
@@ -58,8 +51,8 @@ impl StateMachine for Alarms {
         state: Option<u64>,
         input: (bool, u64),
     ) -> Result<(Option<u64>, Vec<u64>), AllocError>
-        ensures next { IfOk result (λ after. after.0 ≡ (if input.0 then (if is_due input.1 (due_of (λ moment. Some moment) state) then None else state) else (if input.1 == 0 then None else Some input.1))) }
-        ensures adds { IfOk result (λ after. after.1.items ≡ (if input.0 then (if is_due input.1 (due_of (λ moment. Some moment) state) then option_to_list state else []) else option_to_list state)) }
+        ensures next { IfOk result (λ after. after.0 ≡ (alarm_step state input).0) }
+        ensures adds { IfOk result (λ after. after.1.items ≡ (alarm_step state input).1) }
     {
         let (is_tick, moment) = input;
         let mut outputs = Vec::new(alloc);
