@@ -9,5 +9,6 @@ pub mod Written
 pub mod TopVia
 pub mod MessageKey
 pub mod Response
+pub mod Ack
 pub mod Source
 pub mod Fault

@@ -1,6 +1,7 @@
 //! SIP messages: their types, their writing, responses, the stamp of their source, and the keys of their transactions.
 #![tactic(auto)]
 
+mod ack;
 mod addr;
 mod cseq;
 mod cut;
@@ -21,6 +22,7 @@ mod via;
 mod vias;
 mod writer;
 
+pub use ack::ack_for;
 pub use addr::{Addr, ip_text};
 pub use cseq::CSeq;
 pub use cut::{Cut, First, Spread};

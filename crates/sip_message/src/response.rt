@@ -36,9 +36,9 @@ pub fn response_to(
     Ok(bare(alloc, start, vias, from, to, call_id, cseq))
 }
 
-// A message with no header but these and without a body.
+/// A message with no header but these and without a body.
 #[tactic(auto, unfolding(crate::specs::Response::bare))]
-fn bare(
+pub(crate) fn bare(
     alloc: Global,
     start: StartLine,
     vias: Vias,

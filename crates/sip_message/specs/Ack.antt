@@ -1,0 +1,18 @@
+-- The ACK of a response of 300 to 699 (RFC 3261, section 17.1.1.3).
+use Rattle.std.specs.Prelude.{ℕ, List, Some, codes, take}
+use Rattle.sip_message.specs.declared.ack.TheConstants.{MAX_FORWARDS}
+use Rattle.sip_message.specs.declared.cseq.CSeq.{CSeq}
+use Rattle.sip_message.specs.declared.message.Message.{Message}
+use Rattle.sip_message.specs.Response.{bare}
+
+-- the request's number, with the method ACK
+abbrev pub ack_cseq : CSeq → CSeq
+ack_cseq cseq = record { number = cseq.number; method = codes "ACK" }
+
+-- Request-URI, From, Call-ID, CSeq number and Route of the request, its top Via alone, and the To of the response
+abbrev pub ack_of : Message → Message → Message
+ack_of request response =
+    record (bare request.start (take 1 request.vias) request.from response.to request.call_id (ack_cseq request.cseq)) {
+      max_forwards = Some MAX_FORWARDS;
+      routes = request.routes;
+    }
