@@ -26,7 +26,7 @@ use Rattle.sip_transactions.specs.declared.step.Handed.{Handed}
 use Rattle.sip_transactions.specs.declared.step.Handed.TheVariants as up
 use Rattle.sip_transactions.specs.declared.trigger.Trigger.{Trigger}
 use Rattle.sip_transactions.specs.Rows.{rows_of}
-use Rattle.sip_transactions.specs.Input.{role_of, trigger_of, arrival_of}
+use Rattle.sip_transactions.specs.Input.{role_of, trigger_of, arrival_of, arrived_in}
 use Rattle.sip_transactions.specs.Output.{outputs_of, handed_out, sent_bytes, send_out}
 use Rattle.sip_transactions.specs.Life.{stepped, acted_if, begun, life_after, last_of, entered}
 use Rattle.sip_transactions.specs.Machine.{transaction_machine}
@@ -57,27 +57,21 @@ sends_none : (id : Id) (key : Key) (life : Life) (o : Option (List ℕ)) → lis
 sends_none id key life None = refl
 sends_none id key life (Some bytes) = refl
 
-handed_other : (id : Id) (key : Key) (life : Life) (handed : Handed) (input : Input) → same_id id life.id ≡ false → list_any (carries id) (option_to_list (handed_out key life handed input)) ≡ false
+handed_other : (id : Id) (key : Key) (life : Life) (handed : Handed) (arrived : Option (Message × Addr)) → same_id id life.id ≡ false → list_any (carries id) (option_to_list (handed_out key life handed arrived)) ≡ false
 unfolding handed_out
-handed_other id key life up.Nothing input other = refl
-handed_other id key life up.Message Tick other = refl
-handed_other id key life up.Message (Receive i message reply_to) other = or_none _ false other refl
-handed_other id key life up.Message (Start i call_id message to) other = refl
-handed_other id key life up.Message (Answer i message) other = refl
-handed_other id key life up.Message (Failed i) other = refl
-handed_other id key life up.Timeout input other = or_none _ false other refl
-handed_other id key life up.Failed input other = or_none _ false other refl
-handed_other id key life up.NoTransaction Tick other = refl
-handed_other id key life up.NoTransaction (Receive i message reply_to) other = refl
-handed_other id key life up.NoTransaction (Start i call_id message to) other = refl
-handed_other id key life up.NoTransaction (Answer i message) other = refl
-handed_other id key life up.NoTransaction (Failed i) other = refl
+handed_other id key life up.Nothing arrived other = refl
+handed_other id key life up.Message None other = refl
+handed_other id key life up.Message (Some came) other = or_none _ false other refl
+handed_other id key life up.Timeout arrived other = or_none _ false other refl
+handed_other id key life up.Failed arrived other = or_none _ false other refl
+handed_other id key life up.NoTransaction arrived other = refl
 
-said_other : (id : Id) (key : Key) (life : Life) (step : Step) (input : Input) → list_any (carries id) (option_to_list (handed_out key life step.handed input)) ≡ false → list_any (carries id) (outputs_of key life step input) ≡ false
+said_other : (id : Id) (key : Key) (life : Life) (step : Step) (made : Option (List ℕ)) (arrived : Option (Message × Addr))
+    → list_any (carries id) (option_to_list (handed_out key life step.handed arrived)) ≡ false → list_any (carries id) (outputs_of key life step made arrived) ≡ false
 unfolding outputs_of
-said_other id key life step input handed =
-    list_any-append (carries id) (option_to_list (handed_out key life step.handed input)) (option_to_list (option_map (send_out key life.to) (sent_bytes life step.sent input)))
-    ∙ or_none _ _ handed (sends_none id key life (sent_bytes life step.sent input))
+said_other id key life step made arrived handed =
+    list_any-append (carries id) (option_to_list (handed_out key life step.handed arrived)) (option_to_list (option_map (send_out key life.to) (sent_bytes life.last step.sent made)))
+    ∙ or_none _ _ handed (sends_none id key life (sent_bytes life.last step.sent made))
 
 id-last_of : (bytes : Option (List ℕ)) (life : Life) → (last_of bytes life).id ≡ life.id
 id-last_of None life = refl
@@ -94,27 +88,23 @@ life_other id life step now bytes other = entered_other id step.next _ (ap (same
 
 acted_other : (id : Id) (key : Key) (now : ℕ) (input : Input) (life : Life) (step : Step) → same_id id life.id ≡ false → Other id (acted_if key now input (Some life) step)
 acted_other id key now input life step other = record {
-  life = life_other id life step now (sent_bytes life step.sent input) other;
-  said = said_other id key life step input (handed_other id key life step.handed input other);
+  life = life_other id life step now _ other;
+  said = said_other id key life step _ (arrived_in input) (handed_other id key life step.handed (arrived_in input) other);
 }
 
 -- a response without a life: nothing is handed up, and nothing begins
-not_handed : (id : Id) (key : Key) (life : Life) (handed : Handed) (input : Input) → not (is_message handed || is_report handed) ≡ true → list_any (carries id) (option_to_list (handed_out key life handed input)) ≡ false
+not_handed : (id : Id) (key : Key) (life : Life) (handed : Handed) (arrived : Option (Message × Addr)) → not (is_message handed || is_report handed) ≡ true → list_any (carries id) (option_to_list (handed_out key life handed arrived)) ≡ false
 unfolding handed_out
-not_handed id key life up.Nothing input quiet = refl
-not_handed id key life up.Message input quiet = absurd (false≢true quiet)
-not_handed id key life up.Timeout input quiet = absurd (false≢true quiet)
-not_handed id key life up.Failed input quiet = absurd (false≢true quiet)
-not_handed id key life up.NoTransaction Tick quiet = refl
-not_handed id key life up.NoTransaction (Receive i message reply_to) quiet = refl
-not_handed id key life up.NoTransaction (Start i call_id message to) quiet = refl
-not_handed id key life up.NoTransaction (Answer i message) quiet = refl
-not_handed id key life up.NoTransaction (Failed i) quiet = refl
+not_handed id key life up.Nothing arrived quiet = refl
+not_handed id key life up.Message arrived quiet = absurd (false≢true quiet)
+not_handed id key life up.Timeout arrived quiet = absurd (false≢true quiet)
+not_handed id key life up.Failed arrived quiet = absurd (false≢true quiet)
+not_handed id key life up.NoTransaction arrived quiet = refl
 
 response_other : (id : Id) (key : Key) (now : ℕ) (input : Input) (life : Life) (step : Step) → (is_ended step.next && not (is_message step.handed || is_report step.handed)) ≡ true → Other id (acted_if key now input (Some life) step)
 response_other id key now input life step quiet = record {
-  life = subst (OtherLife id) (sym (life_after-ended life step now (sent_bytes life step.sent input) (and-left (is_ended step.next) _ quiet))) tt;
-  said = said_other id key life step input (not_handed id key life step.handed input (and-right (is_ended step.next) _ quiet));
+  life = subst (OtherLife id) (sym (life_after-ended life step now _ (and-left (is_ended step.next) _ quiet))) tt;
+  said = said_other id key life step _ (arrived_in input) (not_handed id key life step.handed (arrived_in input) (and-right (is_ended step.next) _ quiet));
 }
 
 -- a message that came without a life
@@ -124,7 +114,7 @@ receive_other id key now i message reply_to (start.Request uri) step life named 
 receive_other id key now i message reply_to (start.Response status reason) step life named is other passed = response_other id key now (Receive i message reply_to) life step passed
 
 begun_other : (id : Id) (key : Key) (now : ℕ) (input : Input) (step : Step) (trigger : Trigger) → trigger_of None now input ≡ Some trigger → response_needs_life None trigger step ≡ true → OtherName id (naming_id input)
-    → Other id (acted_if key now input (begun input) step)
+    → Other id (acted_if key now input (begun (role_of key) input) step)
 unfolding begun
 begun_other id key now Tick step trigger triggered passed other = record { life = tt; said = refl }
 begun_other id key now (Answer i message) step trigger triggered passed other = record { life = tt; said = refl }
@@ -179,10 +169,10 @@ receive_names : (key : Key) (now : ℕ) (i : Id) (message : Message) (reply_to :
     → IsSome (acted_if key now (Receive i message reply_to) (Some life) step).0 → arrival_id line i ≡ Some i
 receive_names key now i message reply_to (start.Request uri) step life passed goes_on = refl
 receive_names key now i message reply_to (start.Response status reason) step life passed goes_on =
-    absurd (false≢true (sym (ap is_some (life_after-ended life step now (sent_bytes life step.sent (Receive i message reply_to)) (and-left (is_ended step.next) _ passed))) ∙ goes_on))
+    absurd (false≢true (sym (ap is_some (life_after-ended life step now _ (and-left (is_ended step.next) _ passed))) ∙ goes_on))
 
 begun_names : (key : Key) (now : ℕ) (input : Input) (step : Step) (trigger : Trigger) → trigger_of None now input ≡ Some trigger → response_needs_life None trigger step ≡ true
-    → IsSome (acted_if key now input (begun input) step).0 → naming_id input ≡ id_of input
+    → IsSome (acted_if key now input (begun (role_of key) input) step).0 → naming_id input ≡ id_of input
 unfolding begun
 begun_names key now Tick step trigger triggered passed goes_on = refl
 begun_names key now (Answer i message) step trigger triggered passed goes_on = absurd (false≢true goes_on)

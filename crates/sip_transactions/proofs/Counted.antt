@@ -2,7 +2,9 @@
 use Rattle.std.proofs.Common.{◌≡◌, ℕ, Bool, true, ◌&&◌, ◌||◌, List, ◌++◌, refl, sym, ◌∙◌, ap}
 use Rattle.std.specs.Prelude.{not, Option, None, Some, is_none, option_map, option_to_list}
 use Rattle.std.specs.List.{AllByRecursion}
+use Rattle.sip_message.specs.declared.addr.Addr.{Addr}
 use Rattle.sip_message.specs.declared.key.Key.{Key}
+use Rattle.sip_message.specs.declared.message.Message.{Message}
 use Rattle.sip_transactions.specs.declared.input.Input.{Input}
 use Rattle.sip_transactions.specs.declared.input.Input.TheVariants.{Tick, Receive, Start, Answer, Failed}
 use Rattle.sip_transactions.specs.declared.input.Timed.{Timed}
@@ -18,11 +20,11 @@ use Rattle.sip_transactions.specs.declared.step.Next.{Next}
 use Rattle.sip_transactions.specs.declared.step.Next.TheVariants.{Same, Ended, Become}
 use Rattle.sip_transactions.specs.declared.step.Step.{Step}
 use Rattle.sip_transactions.specs.declared.trigger.Trigger.{Trigger}
-use Rattle.sip_transactions.specs.Input.{role_of, trigger_of}
+use Rattle.sip_transactions.specs.Input.{role_of, trigger_of, arrived_in}
 use Rattle.sip_transactions.specs.Laws.{requests_in}
 use Rattle.sip_transactions.specs.Life.{stepped, acted_if, begun, life_of, life_after, entered}
 use Rattle.sip_transactions.specs.Machine.{tick_at}
-use Rattle.sip_transactions.specs.Output.{handed_out, outputs_of, send_out, sent_bytes}
+use Rattle.sip_transactions.specs.Output.{handed_out, outputs_of, send_out}
 use Rattle.sip_transactions.specs.Rows.{rows_of}
 use Rattle.sip_transactions.proofs.LawSteps.{by_step, is_request, is_ended, is_message, requests-outputs}
 use Rattle.sip_transactions.proofs.OneRequest.{later_once}
@@ -42,33 +44,26 @@ before_sends : (key : Key) (o : Option Out) (sends : List Out) → AllByRecursio
 before_sends key None sends first rest = rest
 before_sends key (Some x) sends first rest = (first.0, rest)
 
-handed_has : (key : Key) (life : Life) (handed : Handed) (input : Input) → AllByRecursion (HasKey key) (option_to_list (handed_out key life handed input))
+handed_has : (key : Key) (life : Life) (handed : Handed) (arrived : Option (Message × Addr)) → AllByRecursion (HasKey key) (option_to_list (handed_out key life handed arrived))
 unfolding handed_out
-handed_has key life up.Nothing input = tt
-handed_has key life up.Timeout input = (refl, tt)
-handed_has key life up.Failed input = (refl, tt)
-handed_has key life up.Message Tick = tt
-handed_has key life up.Message (Receive id message reply_to) = (refl, tt)
-handed_has key life up.Message (Start id call_id message to) = tt
-handed_has key life up.Message (Answer id message) = tt
-handed_has key life up.Message (Failed id) = tt
-handed_has key life up.NoTransaction Tick = tt
-handed_has key life up.NoTransaction (Receive id message reply_to) = (tt, tt)
-handed_has key life up.NoTransaction (Start id call_id message to) = tt
-handed_has key life up.NoTransaction (Answer id message) = tt
-handed_has key life up.NoTransaction (Failed id) = tt
+handed_has key life up.Nothing arrived = tt
+handed_has key life up.Timeout arrived = (refl, tt)
+handed_has key life up.Failed arrived = (refl, tt)
+handed_has key life up.Message None = tt
+handed_has key life up.Message (Some came) = (refl, tt)
+handed_has key life up.NoTransaction arrived = (tt, tt)
 
 row_has : (key : Key) (now : ℕ) (input : Input) (held : Option Life) (step : Step) → AllByRecursion (HasKey key) (acted_if key now input held step).1
 unfolding outputs_of
 row_has key now input None step = tt
-row_has key now input (Some life) step = before_sends key (handed_out key life step.handed input) _ (handed_has key life step.handed input) (sends_have key life (sent_bytes life step.sent input))
+row_has key now input (Some life) step = before_sends key (handed_out key life step.handed (arrived_in input)) _ (handed_has key life step.handed (arrived_in input)) (sends_have key life _)
 
 pub all_have_key : (key : Key) (held : Option Life) (timed : Timed) → AllByRecursion (HasKey key) (stepped key held timed).1
 all_have_key key held timed =
-    by_step (λ after. AllByRecursion (HasKey key) after.1) key held timed tt (λ step row. row_has key timed.moment timed.input (life_of held timed.input) step)
+    by_step (λ after. AllByRecursion (HasKey key) after.1) key held timed tt (λ step row. row_has key timed.moment timed.input (life_of (role_of key) held timed.input) step)
 
 -- ---- a tick hands up no request
-tick_handed : (key : Key) (life : Life) (handed : Handed) → requests_in (option_to_list (handed_out key life handed Tick)) ≡ 0
+tick_handed : (key : Key) (life : Life) (handed : Handed) → requests_in (option_to_list (handed_out key life handed None)) ≡ 0
 unfolding handed_out
 tick_handed key life up.Nothing = refl
 tick_handed key life up.Message = refl
@@ -78,11 +73,11 @@ tick_handed key life up.NoTransaction = refl
 
 tick_row : (key : Key) (now : ℕ) (held : Option Life) (step : Step) → requests_in (acted_if key now Tick held step).1 ≡ 0
 tick_row key now None step = refl
-tick_row key now (Some life) step = requests-outputs key life step Tick ∙ tick_handed key life step.handed
+tick_row key now (Some life) step = requests-outputs key life step _ None ∙ tick_handed key life step.handed
 
 pub tick_silent : (key : Key) (held : Option Life) (now : ℕ) → requests_in (stepped key held (tick_at now)).1 ≡ 0
 tick_silent key held now =
-    by_step (λ after. requests_in after.1 ≡ 0) key held (tick_at now) refl (λ step row. tick_row key now (life_of held Tick) step)
+    by_step (λ after. requests_in after.1 ≡ 0) key held (tick_at now) refl (λ step row. tick_row key now (life_of (role_of key) held Tick) step)
 
 -- ---- a request that begins no life isn't handed up
 abbrev handed_up_as_begun : Option State → Trigger → Step → Bool
@@ -107,16 +102,16 @@ left_over : (e x : Bool) → e ≡ true → (not e || x) ≡ true → x ≡ true
 left_over e x ended passed = sym (ap (λ b. not b || x) ended) ∙ passed
 
 none_row : (key : Key) (now : ℕ) (input : Input) (step : Step) (trigger : Trigger) → trigger_of None now input ≡ Some trigger → handed_up_as_begun None trigger step ≡ true
-    → (acted_if key now input (begun input) step).0 ≡ None → requests_in (acted_if key now input (begun input) step).1 ≡ 0
+    → (acted_if key now input (begun (role_of key) input) step).0 ≡ None → requests_in (acted_if key now input (begun (role_of key) input) step).1 ≡ 0
 unfolding begun
 none_row key now Tick step trigger triggered passed none = refl
 none_row key now (Answer id message) step trigger triggered passed none = refl
 none_row key now (Failed id) step trigger triggered passed none = refl
 none_row key now (Start id call_id message to) step trigger triggered passed none =
-    requests-outputs key _ step (Start id call_id message to)
+    requests-outputs key _ step _ _
     ∙ later_once key _ step.handed now (Start id call_id message to) trigger triggered (left_over (is_ended step.next) _ (ended_after _ step now _ none) passed)
 none_row key now (Receive id message reply_to) step trigger triggered passed none =
-    requests-outputs key _ step (Receive id message reply_to)
+    requests-outputs key _ step _ _
     ∙ later_once key _ step.handed now (Receive id message reply_to) trigger triggered (left_over (is_ended step.next) _ (ended_after _ step now _ none) passed)
 
 pub none_silent : (key : Key) (timed : Timed) → (stepped key None timed).0 ≡ None → requests_in (stepped key None timed).1 ≡ 0

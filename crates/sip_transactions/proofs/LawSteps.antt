@@ -5,14 +5,15 @@ use Rattle.std.specs.List.{AllByRecursion}
 use Rattle.std.proofs.lemmas.Bool.{false≢true}
 use Rattle.std.proofs.lemmas.Option.{option_and_then_some}
 use Rattle.std.proofs.lemmas.List.Sums.{sum_by-append}
+use Rattle.sip_message.specs.declared.addr.Addr.{Addr}
 use Rattle.sip_message.specs.declared.id.Id.{Id}
 use Rattle.sip_message.specs.declared.key.Key.{Key}
 use Rattle.sip_message.specs.declared.key.Key.TheVariants as key
+use Rattle.sip_message.specs.declared.message.Message.{Message}
 use Rattle.sip_message.specs.declared.start_line.StartLine.{StartLine}
 use Rattle.sip_message.specs.declared.start_line.StartLine.TheVariants as start
 use Rattle.sip_transactions.specs.declared.input.Command.{Command}
 use Rattle.sip_transactions.specs.declared.input.Command.TheVariants as command
-use Rattle.sip_transactions.specs.declared.input.Input.{Input}
 use Rattle.sip_transactions.specs.declared.input.Timed.{Timed}
 use Rattle.sip_transactions.specs.declared.life.Life.{Life}
 use Rattle.sip_transactions.specs.declared.output.Out.{Out}
@@ -27,8 +28,8 @@ use Rattle.sip_transactions.specs.declared.step.Handed.TheVariants as up
 use Rattle.sip_transactions.specs.declared.trigger.Trigger.{Trigger}
 use Rattle.sip_transactions.specs.declared.trigger.Trigger.TheVariants as on
 use Rattle.sip_transactions.specs.Rows.{row_of, rows_of}
-use Rattle.sip_transactions.specs.Input.{role_of, trigger_of, is_method, answer_of, class_of}
-use Rattle.sip_transactions.specs.Output.{outputs_of, handed_out, sent_bytes, send_out}
+use Rattle.sip_transactions.specs.Input.{role_of, trigger_of, is_method, answer_of, class_of, arrived_in, message_in}
+use Rattle.sip_transactions.specs.Output.{outputs_of, handed_out, sent_bytes, made_bytes, send_out}
 use Rattle.sip_transactions.specs.Life.{stepped, step_for, stepped_by, acted_if, life_of}
 use Rattle.sip_transactions.specs.Laws.{IsSend, CommandsOnlySend, IsServer, is_request_up, requests_in}
 use Rattle.sip_transactions.specs.Shard.{order}
@@ -51,7 +52,7 @@ by_option G None none some = none refl
 by_option G (Some x) none some = some x refl
 
 -- an input does nothing, or what its row says
-pub by_step : (G : Option Life × List Out → Type 0) (key : Key) (held : Option Life) (timed : Timed) → G (held, []) → ((step : Step) → RowFor key held timed step → G (acted_if key timed.moment timed.input (life_of held timed.input) step)) → G (stepped key held timed)
+pub by_step : (G : Option Life × List Out → Type 0) (key : Key) (held : Option Life) (timed : Timed) → G (held, []) → ((step : Step) → RowFor key held timed step → G (acted_if key timed.moment timed.input (life_of (role_of key) held timed.input) step)) → G (stepped key held timed)
 unfolding stepped
 by_step G key held timed nothing acts =
     by_option (λ o. G (stepped_by key held timed.moment timed.input o)) (step_for key held timed.moment timed.input) (λ none. nothing) (λ step found. acts step (row_for key held timed step found))
@@ -106,9 +107,17 @@ is_report up.Timeout = true
 is_report up.Failed = true
 is_report up.NoTransaction = false
 
+-- handed up or dropped, but for a message that came
+abbrev is_told : Handed → Bool
+is_told up.Nothing = false
+is_told up.Message = false
+is_told up.Timeout = true
+is_told up.Failed = true
+is_told up.NoTransaction = true
+
 -- a command reports nothing
 abbrev orders_report_nothing : Option State → Trigger → Step → Bool
-orders_report_nothing s t step = not (is_order t) || not (is_report step.handed)
+orders_report_nothing s t step = not (is_order t) || not (is_told step.handed)
 
 -- what begins a life of a server is a request, and is handed up
 abbrev pub begins_by_request : Option State → Trigger → Step → Bool
@@ -158,33 +167,36 @@ counts_none : (life : Life) (key : Key) (o : Option (List ℕ)) → requests_in 
 counts_none life key None = refl
 counts_none life key (Some bytes) = refl
 
-pub requests-outputs : (key : Key) (life : Life) (step : Step) (input : Input) → requests_in (outputs_of key life step input) ≡ requests_in (option_to_list (handed_out key life step.handed input))
+pub requests-outputs : (key : Key) (life : Life) (step : Step) (made : Option (List ℕ)) (arrived : Option (Message × Addr))
+    → requests_in (outputs_of key life step made arrived) ≡ requests_in (option_to_list (handed_out key life step.handed arrived))
 unfolding outputs_of
-requests-outputs key life step input =
-    sum_by-append (λ o. cond (is_request_up o) 1 0) (option_to_list (handed_out key life step.handed input)) (option_to_list (option_map (send_out key life.to) (sent_bytes life step.sent input)))
-    ∙ ap (λ n. requests_in (option_to_list (handed_out key life step.handed input)) + n) (counts_none life key (sent_bytes life step.sent input)) ∙ add-zero _
+requests-outputs key life step made arrived =
+    sum_by-append (λ o. cond (is_request_up o) 1 0) (option_to_list (handed_out key life step.handed arrived)) (option_to_list (option_map (send_out key life.to) (sent_bytes life.last step.sent made)))
+    ∙ ap (λ n. requests_in (option_to_list (handed_out key life step.handed arrived)) + n) (counts_none life key (sent_bytes life.last step.sent made)) ∙ add-zero _
 
 -- ---- a command only sends
 sends_only : (key : Key) (life : Life) (o : Option (List ℕ)) → AllByRecursion IsSend (option_to_list (option_map (send_out key life.to) o))
 sends_only key life None = tt
 sends_only key life (Some bytes) = (tt, tt)
 
-order_handed : (key : Key) (life : Life) (handed : Handed) (id : Id) (command : Command) (now : ℕ) → not (is_report handed) ≡ true → handed_out key life handed (order id command now).input ≡ None
+order_handed : (key : Key) (life : Life) (handed : Handed) → not (is_told handed) ≡ true → handed_out key life handed None ≡ None
 unfolding handed_out
-order_handed key life up.Nothing id command now quiet = refl
-order_handed key life up.Message id (command.Start k call_id message to) now quiet = refl
-order_handed key life up.Message id (command.Answer k message) now quiet = refl
-order_handed key life up.Timeout id command now quiet = absurd (false≢true quiet)
-order_handed key life up.Failed id command now quiet = absurd (false≢true quiet)
-order_handed key life up.NoTransaction id (command.Start k call_id message to) now quiet = refl
-order_handed key life up.NoTransaction id (command.Answer k message) now quiet = refl
+order_handed key life up.Nothing quiet = refl
+order_handed key life up.Message quiet = refl
+order_handed key life up.Timeout quiet = absurd (false≢true quiet)
+order_handed key life up.Failed quiet = absurd (false≢true quiet)
+order_handed key life up.NoTransaction quiet = absurd (false≢true quiet)
 
-order_outputs : (key : Key) (life : Life) (step : Step) (id : Id) (command : Command) (now : ℕ) → not (is_report step.handed) ≡ true → AllByRecursion IsSend (outputs_of key life step (order id command now).input)
+-- nothing came by a command
+arrived-order : (id : Id) (command : Command) (now : ℕ) → arrived_in (order id command now).input ≡ None
+arrived-order id (command.Start k call_id message to) now = refl
+arrived-order id (command.Answer k message) now = refl
+
+order_outputs : (key : Key) (life : Life) (step : Step) (made : Option (List ℕ)) → not (is_told step.handed) ≡ true → AllByRecursion IsSend (outputs_of key life step made None)
 unfolding outputs_of
-order_outputs key life step id command now quiet =
-    let input = (order id command now).input in
-    subst (λ o. AllByRecursion IsSend (option_to_list o ++ option_to_list (option_map (send_out key life.to) (sent_bytes life step.sent input)))) (sym (order_handed key life step.handed id command now quiet))
-    (sends_only key life (sent_bytes life step.sent input))
+order_outputs key life step made quiet =
+    subst (λ o. AllByRecursion IsSend (option_to_list o ++ option_to_list (option_map (send_out key life.to) (sent_bytes life.last step.sent made)))) (sym (order_handed key life step.handed quiet))
+    (sends_only key life (sent_bytes life.last step.sent made))
 
 answer_is_order : (line : StartLine) (trigger : Trigger) → answer_of line ≡ Some trigger → is_order trigger ≡ true
 answer_is_order (start.Request uri) trigger e = cc
@@ -198,10 +210,12 @@ moment-order : (id : Id) (command : Command) (now : ℕ) → (order id command n
 moment-order id (command.Start k call_id message to) now = refl
 moment-order id (command.Answer k message) now = refl
 
-orders_send : (key : Key) (life : Option Life) (step : Step) (id : Id) (command : Command) (now moment : ℕ) → not (is_report step.handed) ≡ true
+orders_send : (key : Key) (life : Option Life) (step : Step) (id : Id) (command : Command) (now moment : ℕ) → not (is_told step.handed) ≡ true
     → AllByRecursion IsSend (acted_if key moment (order id command now).input life step).1
 orders_send key None step id command now moment quiet = tt
-orders_send key (Some life) step id command now moment quiet = order_outputs key life step id command now quiet
+orders_send key (Some life) step id command now moment quiet =
+    subst (λ a. AllByRecursion IsSend (outputs_of key life step (made_bytes life.request step.sent (message_in (order id command now).input)) a)) (sym (arrived-order id command now))
+    (order_outputs key life step _ quiet)
 
 pub commands_only_send : CommandsOnlySend
 commands_only_send key held id command now =
@@ -209,5 +223,5 @@ commands_only_send key held id command now =
     (λ step row.
     let ordered : is_order row.trigger ≡ true = is_order_trigger held id command now row.trigger (subst (λ m. trigger_of held m (order id command now).input ≡ Some row.trigger) (moment-order id command now) row.triggered) in
     let passed : orders_report_nothing (option_map (λ life. life.state) held) row.trigger step ≡ true = row_passes orders_report_nothing (rows_of (role_of key)) (orders_in_tables (role_of key)) _ row.trigger step row.row in
-    let quiet : not (is_report step.handed) ≡ true = sym (ap (λ b. not b || not (is_report step.handed)) ordered) ∙ passed in
-    orders_send key (life_of held (order id command now).input) step id command now (order id command now).moment quiet)
+    let quiet : not (is_told step.handed) ≡ true = sym (ap (λ b. not b || not (is_told step.handed)) ordered) ∙ passed in
+    orders_send key (life_of (role_of key) held (order id command now).input) step id command now (order id command now).moment quiet)

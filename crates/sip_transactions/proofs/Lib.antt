@@ -4,3 +4,5 @@ pub mod LawSteps
 pub mod OneRequest
 pub mod Pace
 pub mod RowFacts
+pub mod Passing
+pub mod FewSends

@@ -3,7 +3,6 @@ use Rattle.std.proofs.Common.{◌≡◌, ℕ, ◌+◌, true, cond, ◌&&◌, ◌
 use Rattle.std.specs.Prelude.{not, Option, None, Some, IsSome, is_some, option_to_list, codes}
 use Rattle.std.proofs.lemmas.Bool.{false≢true}
 use Rattle.std.proofs.lemmas.List.Sums.{sum_by-append}
-use Rattle.sip_message.specs.declared.id.Id.{Id}
 use Rattle.sip_message.specs.declared.addr.Addr.{Addr}
 use Rattle.sip_message.specs.declared.key.Key.{Key}
 use Rattle.sip_message.specs.declared.message.Message.{Message}
@@ -24,7 +23,7 @@ use Rattle.sip_transactions.specs.declared.step.Handed.TheVariants as up
 use Rattle.sip_transactions.specs.declared.trigger.Trigger.{Trigger}
 use Rattle.sip_transactions.specs.declared.trigger.Trigger.TheVariants as on
 use Rattle.sip_transactions.specs.Rows.{rows_of}
-use Rattle.sip_transactions.specs.Input.{role_of, trigger_of, is_method, arrival_of}
+use Rattle.sip_transactions.specs.Input.{role_of, trigger_of, is_method, arrival_of, arrived_in}
 use Rattle.sip_transactions.specs.Output.{handed_out, kind_of, up_out}
 use Rattle.sip_transactions.specs.Life.{stepped, acted_if, begun, life_after, entered}
 use Rattle.sip_transactions.specs.Machine.{transaction_machine}
@@ -46,18 +45,18 @@ none_is_none : {T : Type 0} (o : Option T) → o ≡ None → IsSome o → ⊥
 none_is_none o none some = false≢true (sym (ap is_some none) ∙ some)
 
 -- a request that came is handed up as one
-up_request : (key : Key) (life : Life) (handed : Handed) (id : Id) (message : Message) (reply_to : Addr) (line : StartLine) → message.start ≡ line → is_message handed ≡ true → is_request (arrival_of line message.cseq.method) ≡ true
-    → requests_in (option_to_list (handed_out key life handed (Receive id message reply_to))) ≡ 1
+up_request : (key : Key) (life : Life) (handed : Handed) (message : Message) (reply_to : Addr) (line : StartLine) → message.start ≡ line → is_message handed ≡ true → is_request (arrival_of line message.cseq.method) ≡ true
+    → requests_in (option_to_list (handed_out key life handed (Some (message, reply_to)))) ≡ 1
 unfolding handed_out
-up_request key life up.Nothing id message reply_to line is handed request = absurd (false≢true handed)
-up_request key life up.Message id message reply_to (start.Request uri) is handed request =
+up_request key life up.Nothing message reply_to line is handed request = absurd (false≢true handed)
+up_request key life up.Message message reply_to (start.Request uri) is handed request =
     by_test (is_method message.cseq.method (codes "ACK"))
     (λ ack. absurd (not_both _ request (ap (λ b. is_request (cond b on.Ack on.Request)) ack)))
     (λ other. ap (λ l. requests_in (option_to_list (Some (up_out key life (kind_of l message reply_to))))) is ∙ ap (λ b. requests_in (option_to_list (Some (up_out key life (cond b (kind.Ack message) (kind.Request message reply_to)))))) other)
-up_request key life up.Message id message reply_to (start.Response status reason) is handed request = absurd (false≢true request)
-up_request key life up.Timeout id message reply_to line is handed request = absurd (false≢true handed)
-up_request key life up.Failed id message reply_to line is handed request = absurd (false≢true handed)
-up_request key life up.NoTransaction id message reply_to line is handed request = absurd (false≢true handed)
+up_request key life up.Message message reply_to (start.Response status reason) is handed request = absurd (false≢true request)
+up_request key life up.Timeout message reply_to line is handed request = absurd (false≢true handed)
+up_request key life up.Failed message reply_to line is handed request = absurd (false≢true handed)
+up_request key life up.NoTransaction message reply_to line is handed request = absurd (false≢true handed)
 
 -- what goes on isn't ended, so it was begun by a request
 begun_by_request : (life : Life) (step : Step) (now : ℕ) (bytes : Option (List ℕ)) (trigger : Trigger) → (is_ended step.next || (is_message step.handed && is_request trigger)) ≡ true → IsSome (life_after life step now bytes)
@@ -70,7 +69,7 @@ begun_by_request life step now bytes trigger passed goes_on =
 
 -- the first input of a life
 begins_once : (key : Key) (now : ℕ) (input : Input) (step : Step) (trigger : Trigger) → trigger_of None now input ≡ Some trigger → (is_ended step.next || (is_message step.handed && is_request trigger)) ≡ true
-    → IsSome (acted_if key now input (begun input) step).0 → requests_in (acted_if key now input (begun input) step).1 ≡ 1
+    → IsSome (acted_if key now input (begun (role_of key) input) step).0 → requests_in (acted_if key now input (begun (role_of key) input) step).1 ≡ 1
 unfolding begun
 begins_once key now Tick step trigger triggered passed goes_on = absurd (false≢true goes_on)
 begins_once key now (Answer id message) step trigger triggered passed goes_on = absurd (false≢true goes_on)
@@ -82,8 +81,8 @@ begins_once key now (Start id call_id message to) step trigger triggered passed 
 begins_once key now (Receive id message reply_to) step trigger triggered passed goes_on =
     let same : arrival_of message.start message.cseq.method ≡ trigger = cc in
     let request : (is_message step.handed && is_request trigger) ≡ true = begun_by_request _ step now _ trigger passed goes_on in
-    requests-outputs key _ step (Receive id message reply_to)
-    ∙ up_request key _ step.handed id message reply_to message.start refl (and-left (is_message step.handed) (is_request trigger) request) (ap is_request same ∙ and-right (is_message step.handed) (is_request trigger) request)
+    requests-outputs key _ step _ _
+    ∙ up_request key _ step.handed message reply_to message.start refl (and-left (is_message step.handed) (is_request trigger) request) (ap is_request same ∙ and-right (is_message step.handed) (is_request trigger) request)
 
 pub first_once : (key : Key) → IsServer key → (first : Timed) → IsSome (stepped key None first).0 → requests_in (stepped key None first).1 ≡ 1
 first_once key server first =
@@ -101,16 +100,12 @@ later_receive key life message reply_to (start.Request uri) is other =
     (λ plain. absurd (false≢true (sym (ap (λ b. not (is_request (cond b on.Ack on.Request))) plain) ∙ other)))
 
 pub later_once : (key : Key) (life : Life) (handed : Handed) (now : ℕ) (input : Input) (trigger : Trigger) → trigger_of (Some life) now input ≡ Some trigger → not (is_message handed && is_request trigger) ≡ true
-    → requests_in (option_to_list (handed_out key life handed input)) ≡ 0
+    → requests_in (option_to_list (handed_out key life handed (arrived_in input))) ≡ 0
 unfolding handed_out
 later_once key life up.Nothing now input trigger triggered passed = refl
 later_once key life up.Timeout now input trigger triggered passed = refl
 later_once key life up.Failed now input trigger triggered passed = refl
-later_once key life up.NoTransaction now Tick trigger triggered passed = refl
-later_once key life up.NoTransaction now (Receive id message reply_to) trigger triggered passed = refl
-later_once key life up.NoTransaction now (Start id call_id message to) trigger triggered passed = refl
-later_once key life up.NoTransaction now (Answer id message) trigger triggered passed = refl
-later_once key life up.NoTransaction now (Failed id) trigger triggered passed = refl
+later_once key life up.NoTransaction now input trigger triggered passed = refl
 later_once key life up.Message now Tick trigger triggered passed = refl
 later_once key life up.Message now (Start id call_id message to) trigger triggered passed = refl
 later_once key life up.Message now (Answer id message) trigger triggered passed = refl
@@ -122,7 +117,7 @@ later_once key life up.Message now (Receive id message reply_to) trigger trigger
 pub held_silent : (key : Key) (life : Life) (timed : Timed) → requests_in (stepped key (Some life) timed).1 ≡ 0
 held_silent key life timed =
     by_step (λ after. requests_in after.1 ≡ 0) key (Some life) timed refl
-    (λ step row. requests-outputs key life step timed.input
+    (λ step row. requests-outputs key life step _ _
     ∙ later_once key life step.handed timed.moment timed.input row.trigger row.triggered (row_passes later_not_handed_up (rows_of (role_of key)) (later_in_tables (role_of key)) (Some life.state) row.trigger step row.row))
 
 rest_silent : (key : Key) (state : Option Life) (inputs : List Timed) → IsWithinLife transaction_machine key state inputs → requests_in (outputs_from transaction_machine key state inputs) ≡ 0

@@ -1,15 +1,10 @@
 -- Where nothing is due of a life, a tick does nothing.
-use Rattle.std.proofs.Common.{◌≡◌, ℕ, Bool, true, false, cond, ◌||◌, refl, sym, ◌∙◌, ap}
+use Rattle.std.proofs.Common.{◌≡◌, ℕ, false, refl}
 use Rattle.std.specs.Prelude.{Option, None, Some}
-use Rattle.sip_message.specs.declared.key.Key.{Key}
 use Rattle.sip_model.specs.Machine.{IsIdle}
 use Rattle.sip_timers.specs.Queue.{is_due}
 use Rattle.sip_timers.proofs.DueFirst.{neither_due}
-use Rattle.sip_transactions.specs.declared.life.Life.{Life}
-use Rattle.sip_transactions.specs.declared.trigger.Trigger.{Trigger}
-use Rattle.sip_transactions.specs.declared.trigger.Trigger.TheVariants as on
-use Rattle.sip_transactions.specs.declared.step.Step.{Step}
-use Rattle.sip_transactions.specs.Life.{stepped, stepped_by, step_for}
+use Rattle.sip_transactions.specs.Life.{stepped, step_for}
 use Rattle.sip_transactions.specs.Input.{due_of}
 use Rattle.sip_transactions.specs.Machine.{transaction_machine, tick_at, life_due}
 

@@ -1,8 +1,10 @@
 -- What an input is to a transaction: its table and its trigger.
 use Rattle.std.specs.Prelude.{ℕ, Bool, ◌==◌, nat_lt, nat_eq, if◌then◌else◌, List, codes, Option, None, Some}
 use Rattle.std.specs.Cmp.Lexicographic.{pointwise}
+use Rattle.sip_message.specs.declared.addr.Addr.{Addr}
 use Rattle.sip_message.specs.declared.key.Key.{Key}
 use Rattle.sip_message.specs.declared.key.Key.TheVariants as key
+use Rattle.sip_message.specs.declared.message.Message.{Message}
 use Rattle.sip_message.specs.declared.start_line.StartLine.{StartLine}
 use Rattle.sip_message.specs.declared.start_line.StartLine.TheVariants as start
 use Rattle.sip_transactions.specs.declared.state.Role.{Role}
@@ -28,6 +30,22 @@ role_of (key.Server branch sent_by method) = if is_method method (codes "INVITE"
 -- the class of a status code
 abbrev pub class_of : ℕ → Class
 class_of code = if code == 100 then Trying else if nat_lt code 200 then Provisional else if nat_lt code 300 then Success else Failure
+
+-- the message that came or that the user gave
+abbrev pub message_in : Input → Option Message
+message_in Tick = None
+message_in (Receive id message reply_to) = Some message
+message_in (Start id call_id message to) = Some message
+message_in (Answer id message) = Some message
+message_in (Failed id) = None
+
+-- the message that came, and where a response to it goes
+abbrev pub arrived_in : Input → Option (Message × Addr)
+arrived_in Tick = None
+arrived_in (Receive id message reply_to) = Some (message, reply_to)
+arrived_in (Start id call_id message to) = None
+arrived_in (Answer id message) = None
+arrived_in (Failed id) = None
 
 -- a message that came, by its start line and its method
 abbrev pub arrival_of : StartLine → List ℕ → Trigger

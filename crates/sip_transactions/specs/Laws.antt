@@ -1,12 +1,17 @@
 -- What holds of every transaction, over any list of its inputs.
-use Rattle.std.specs.Prelude.{◌≡◌, ℕ, ◌==◌, ◌≤◌, ◌&&◌, Bool, true, false, List, [], ◌∷◌, ◌++◌, Option, None, Some, count_by, filter_map}
+use Rattle.std.specs.Prelude.{◌≡◌, ℕ, ◌+◌, ◌==◌, ◌≤◌, ◌&&◌, Bool, true, false, List, [], ◌∷◌, ◌++◌, Option, None, Some, count_by, filter_map}
 use Rattle.std.specs.List.{AllByRecursion, list_any, IsDistinct}
+use Rattle.std.specs.Str.{bytes_eq}
 use Rattle.sip_message.specs.declared.id.Id.{Id}
 use Rattle.sip_message.specs.declared.key.Key.{Key}
 use Rattle.sip_message.specs.declared.key.Key.TheVariants as key
 use Rattle.sip_message.specs.declared.start_line.StartLine.{StartLine}
 use Rattle.sip_message.specs.declared.start_line.StartLine.TheVariants as start
+use Rattle.sip_message.specs.declared.addr.Addr.{Addr}
+use Rattle.sip_message.specs.declared.message.Message.{Message}
 use Rattle.sip_message.specs.Key.{key_cmp}
+use Rattle.sip_message.specs.Message.{is_request_message}
+use Rattle.sip_message.specs.Written.{written}
 use Rattle.sip_model.specs.Inputs.{Inputs}
 use Rattle.sip_model.specs.Machine.{adds, state_after, outputs_from, IsLife}
 use Rattle.sip_model.specs.Owned.{owned, told_by}
@@ -20,8 +25,10 @@ use Rattle.sip_transactions.specs.declared.output.Kind.TheVariants as kind
 use Rattle.sip_transactions.specs.declared.output.Out.{Out}
 use Rattle.sip_transactions.specs.declared.output.Out.TheVariants as out
 use Rattle.sip_transactions.specs.declared.state.Role.{Role}
+use Rattle.sip_transactions.specs.declared.state.Role.TheVariants.{InviteClient, Client, InviteServer, Server}
 use Rattle.sip_transactions.specs.declared.state.State.{State}
 use Rattle.sip_transactions.specs.declared.trigger.Trigger.{Trigger}
+use Rattle.sip_transactions.specs.Input.{role_of}
 use Rattle.sip_transactions.specs.Machine.{transaction_machine}
 use Rattle.sip_transactions.specs.Rows.{fits, rows_of}
 use Rattle.sip_transactions.specs.Shard.{order}
@@ -106,3 +113,30 @@ NothingAfterTheEnd = (key : Key) (before : List Timed) (first : Timed) (rest aft
 abbrev pub ShardsWorkApart : Type 0
 ShardsWorkApart = (owns : Key → Bool) (part whole : Inputs key_cmp Timed) (items : List (Key × Timed)) → ((key : Key) → owns key ≡ true → part.history key ≡ whole.history key)
     → told_by key_cmp transaction_machine part (owned owns items) ≡ owned owns (told_by key_cmp transaction_machine whole items)
+
+-- ---- how often a client sends its request
+
+-- A life of a client of an INVITE sends it at most 7 times: timer A fires at most 6 times before timer B does. Another sends its
+-- request at most 11 times: timer E fires at most 10 times before timer F does (RFC 3261, sections 17.1.1.2 and 17.1.2.2).
+abbrev pub most_repeats : Role → ℕ
+most_repeats InviteClient = 6
+most_repeats Client = 10
+most_repeats InviteServer = 0
+most_repeats Server = 0
+
+-- something sent of these bytes
+abbrev pub is_send_of : List ℕ → Out → Bool
+is_send_of bytes (out.Up up) = false
+is_send_of bytes (out.Send key to sent) = bytes_eq sent bytes
+is_send_of bytes (out.Dropped place reason) = false
+
+abbrev pub sends_of : List ℕ → List Out → ℕ
+sends_of bytes outs = count_by (is_send_of bytes) outs
+
+-- a life that is begun by a start with a request of its key's method sends that request so often at most
+abbrev pub FewSends : Type 0
+FewSends = (branch method : List ℕ) (before : List Timed) (now : ℕ) (id : Id) (call_id : List ℕ) (request : Message) (to : Addr) (rest : List Timed)
+    → IsLife transaction_machine (key.Client branch method) before (record { moment = now; input = Start id call_id request to }) rest
+    → is_request_message request ≡ true → request.cseq.method ≡ method
+    → sends_of (written request) (outputs_from transaction_machine (key.Client branch method) None ((record { moment = now; input = Start id call_id request to }) ∷ rest))
+    ≤ 1 + most_repeats (role_of (key.Client branch method))

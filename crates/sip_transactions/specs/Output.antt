@@ -1,13 +1,13 @@
--- What a row hands up and sends.
-use Rattle.std.specs.Prelude.{ℕ, if◌then◌else◌, List, ◌++◌, codes, Option, None, Some, option_map, option_to_list}
+-- What a row says: what it hands up or drops, and then what it sends.
+use Rattle.std.specs.Prelude.{ℕ, if◌then◌else◌, List, ◌++◌, codes, Option, None, Some, option_map, option_and_then, option_to_list}
 use Rattle.sip_message.specs.declared.addr.Addr.{Addr}
 use Rattle.sip_message.specs.declared.key.Key.{Key}
 use Rattle.sip_message.specs.declared.message.Message.{Message}
 use Rattle.sip_message.specs.declared.start_line.StartLine.{StartLine}
 use Rattle.sip_message.specs.declared.start_line.StartLine.TheVariants as start
+use Rattle.sip_message.specs.Ack.{ack_of}
+use Rattle.sip_message.specs.Response.{response_of}
 use Rattle.sip_message.specs.Written.{written}
-use Rattle.sip_transactions.specs.declared.input.Input.{Input}
-use Rattle.sip_transactions.specs.declared.input.Input.TheVariants.{Tick, Receive, Start, Answer, Failed}
 use Rattle.sip_transactions.specs.declared.life.Life.{Life}
 use Rattle.sip_transactions.specs.declared.output.Kind.{Kind}
 use Rattle.sip_transactions.specs.declared.output.Kind.TheVariants as kind
@@ -21,56 +21,59 @@ use Rattle.sip_transactions.specs.declared.step.Sent.{Sent}
 use Rattle.sip_transactions.specs.declared.step.Sent.TheVariants as send
 use Rattle.sip_transactions.specs.Input.{is_method}
 
+-- ---- what a row hands up
+
 -- a message that came, as it is handed up
 abbrev pub kind_of : StartLine → Message → Addr → Kind
 kind_of (start.Request uri) message reply_to = if is_method message.cseq.method (codes "ACK") then kind.Ack message else kind.Request message reply_to
 kind_of (start.Response status reason) message reply_to = kind.Response message
 
+-- under the id and the Call-ID of the life
 abbrev pub up_out : Key → Life → Kind → Out
 up_out key life kind = out.Up (record { key = key; id = life.id; call_id = life.call_id; kind = kind })
 
--- the message that came, handed up
-abbrev pub message_out : Key → Life → Input → Option Out
-message_out key life (Receive id message reply_to) = Some (up_out key life (kind_of message.start message reply_to))
-message_out key life Tick = None
-message_out key life (Start id call_id message to) = None
-message_out key life (Answer id message) = None
-message_out key life (Failed id) = None
+abbrev pub arrived_out : Key → Life → Message × Addr → Out
+arrived_out key life arrived = up_out key life (kind_of arrived.0.start arrived.0 arrived.1)
 
--- the message that came, dropped
-abbrev pub drop_out : Input → Option Out
-drop_out (Receive id message reply_to) = Some (out.Dropped id.place reason.NoTransaction)
-drop_out Tick = None
-drop_out (Start id call_id message to) = None
-drop_out (Answer id message) = None
-drop_out (Failed id) = None
+-- what a row hands up: the message that came, or a report; or that it drops the message that came
+unfoldable pub handed_out : Key → Life → Handed → Option (Message × Addr) → Option Out
+handed_out key life up.Nothing arrived = None
+handed_out key life up.Message arrived = option_map (arrived_out key life) arrived
+handed_out key life up.Timeout arrived = Some (up_out key life kind.Timeout)
+handed_out key life up.Failed arrived = Some (up_out key life kind.Failed)
+handed_out key life up.NoTransaction arrived = Some (out.Dropped life.id.place reason.NoTransaction)
 
--- what a row hands up, under the id and the Call-ID of the life, or drops
-unfoldable pub handed_out : Key → Life → Handed → Input → Option Out
-handed_out key life up.Nothing input = None
-handed_out key life up.Message input = message_out key life input
-handed_out key life up.Timeout input = Some (up_out key life kind.Timeout)
-handed_out key life up.Failed input = Some (up_out key life kind.Failed)
-handed_out key life up.NoTransaction input = drop_out input
+-- ---- what a row sends
 
--- the message that the user gave, in bytes
-abbrev pub given_bytes : Input → Option (List ℕ)
-given_bytes (Start id call_id message to) = Some (written message)
-given_bytes (Answer id message) = Some (written message)
-given_bytes Tick = None
-given_bytes (Receive id message reply_to) = None
-given_bytes (Failed id) = None
+-- 100 Trying, which gets no tag (RFC 3261, sections 8.2.6.1 and 17.2.1)
+abbrev pub trying_of : Message → Message
+trying_of request = response_of request 100 (codes "Trying") (codes "")
 
--- the bytes that a row sends
-unfoldable pub sent_bytes : Life → Sent → Input → Option (List ℕ)
-sent_bytes life send.Nothing input = None
-sent_bytes life send.Given input = given_bytes input
-sent_bytes life send.Latest input = life.last
+-- the message that a row makes of a message that came or that the user gave, and of the request that the life keeps
+unfoldable pub made_of : Option Message → Sent → Message → Option Message
+made_of request send.Nothing message = None
+made_of request send.Given message = Some message
+made_of request send.Latest message = None
+made_of request send.Trying message = Some (trying_of message)
+made_of request send.Ack message = option_map (λ request. ack_of request message) request
+
+-- its bytes
+abbrev pub made_bytes : Option Message → Sent → Option Message → Option (List ℕ)
+made_bytes request sent message = option_map written (option_and_then (made_of request sent) message)
+
+-- the bytes that a row sends: what it made, or what was sent last
+abbrev pub sent_bytes : Option (List ℕ) → Sent → Option (List ℕ) → Option (List ℕ)
+sent_bytes last send.Nothing made = made
+sent_bytes last send.Given made = made
+sent_bytes last send.Latest made = last
+sent_bytes last send.Trying made = made
+sent_bytes last send.Ack made = made
 
 abbrev pub send_out : Key → Addr → List ℕ → Out
 send_out key to bytes = out.Send key to bytes
 
--- what a row says: what it hands up, and then what it sends
-unfoldable pub outputs_of : Key → Life → Step → Input → List Out
-outputs_of key life step input =
-    option_to_list (handed_out key life step.handed input) ++ option_to_list (option_map (send_out key life.to) (sent_bytes life step.sent input))
+-- ---- both
+
+unfoldable pub outputs_of : Key → Life → Step → Option (List ℕ) → Option (Message × Addr) → List Out
+outputs_of key life step made arrived =
+    option_to_list (handed_out key life step.handed arrived) ++ option_to_list (option_map (send_out key life.to) (sent_bytes life.last step.sent made))

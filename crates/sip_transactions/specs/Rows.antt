@@ -1,25 +1,147 @@
--- The tables of the four machines as lists of rows (RFC 3261 section 17, RFC 6026 section 7).
-use Rattle.std.specs.Prelude.{ℕ, Bool, ◌==◌, ◌&&◌, ◌+◌, List, [], ◌∷◌, Option, None, Some, option_map, find}
+-- The tables of the four machines, a line for each row (RFC 3261, sections 17.1 and 17.2, and RFC 6026, section 7).
+-- A timer's letter stands beside each row that sets it (+) or in which it fires (!). T1, T2 and T4 are those of RFC 3261,
+-- section 17, and LIFETIME is 64 times T1, in ms.
+use Rattle.std.specs.Prelude.{ℕ, Bool, ◌==◌, ◌&&◌, ◌+◌, ◌++◌, List, [], ◌∷◌, Option, None, Some, option_map, find}
 use Rattle.std.specs.List.{list_any}
 use Rattle.sip_transactions.specs.declared.state.State.{State}
 use Rattle.sip_transactions.specs.declared.state.State.TheVariants.{Calling, Trying, Proceeding, Completed, Accepted, Confirmed}
 use Rattle.sip_transactions.specs.declared.state.Role.{Role}
 use Rattle.sip_transactions.specs.declared.state.Role.TheVariants.{InviteClient, Client, InviteServer, Server}
+use Rattle.sip_transactions.specs.declared.timers.TheConstants.{T4, LIFETIME}
 use Rattle.sip_transactions.specs.declared.trigger.Class.{Class}
 use Rattle.sip_transactions.specs.declared.trigger.Class.TheVariants as class
 use Rattle.sip_transactions.specs.declared.trigger.Trigger.{Trigger}
-use Rattle.sip_transactions.specs.declared.trigger.Trigger.TheVariants as on
+use Rattle.sip_transactions.specs.declared.trigger.Trigger.TheVariants.{Start, RepeatDue, EndingDue, Failed, Request, Ack, Response, Answer}
 use Rattle.sip_transactions.specs.declared.step.Step.{Step}
+use Rattle.sip_transactions.specs.declared.step.Next.{Next}
 use Rattle.sip_transactions.specs.declared.step.Next.TheVariants.{Same, Ended, Become}
+use Rattle.sip_transactions.specs.declared.step.Handed.{Handed}
 use Rattle.sip_transactions.specs.declared.step.Handed.TheVariants as up
+use Rattle.sip_transactions.specs.declared.step.Sent.{Sent}
 use Rattle.sip_transactions.specs.declared.step.Sent.TheVariants as send
-use Rattle.sip_transactions.specs.declared.step.Due.TheVariants.{Keep, Clear, Ending}
+use Rattle.sip_transactions.specs.declared.step.Due.{Due}
+use Rattle.sip_transactions.specs.declared.step.Due.TheVariants.{Keep, Clear, Ending, Both, Again}
+use Rattle.sip_transactions.specs.declared.step.Pace.TheVariants.{Doubled, Capped, Even}
 
 -- the states in which a row stands, `None` for no state; the triggers that it is for; and what it does
 pub record Row : Type 0 where
   pub from : List (Option State)
   pub on : List Trigger
   pub step : Step
+
+-- a row: its states, its triggers, the state after it, what it hands up, what it sends, and what becomes of the due moments
+abbrev pub row : List (Option State) → List Trigger → Next → Handed → Sent → Due → Row
+row from on next handed sent due = record { from = from; on = on; step = record { next = next; handed = handed; sent = sent; due = due } }
+
+-- no state, one state, two states
+abbrev pub fresh : List (Option State)
+fresh = None ∷ []
+
+abbrev pub at : State → List (Option State)
+at state = Some state ∷ []
+
+abbrev pub either : State → State → List (Option State)
+either one other = Some one ∷ Some other ∷ []
+
+-- responses that come, by their status
+abbrev pub provisional : List Trigger
+provisional = Response class.Trying ∷ Response class.Provisional ∷ []
+
+abbrev pub success : List Trigger
+success = Response class.Success ∷ []
+
+abbrev pub failure : List Trigger
+failure = Response class.Failure ∷ []
+
+abbrev pub any_response : List Trigger
+any_response = provisional ++ success ++ failure
+
+-- the user's answers, by their status: 101 to 199, 200 to 299, 300 to 699
+abbrev pub answer_1xx : List Trigger
+answer_1xx = Answer class.Provisional ∷ []
+
+abbrev pub answer_2xx : List Trigger
+answer_2xx = Answer class.Success ∷ []
+
+abbrev pub answer_failure : List Trigger
+answer_failure = Answer class.Failure ∷ []
+
+-- any other trigger, alone
+abbrev pub on : Trigger → List Trigger
+on trigger = trigger ∷ []
+
+-- The client of an INVITE: RFC 3261, section 17.1.1, and RFC 6026, section 7.2. The ACK of a 2xx isn't its own.
+-- A repeats the request, B ends the wait for a response, D absorbs repeated responses, M passes on further 2xx.
+abbrev pub invite_client_rows : List Row
+invite_client_rows =
+    row fresh (on Start) (Become Calling) up.Nothing send.Given Both  -- +A +B
+    ∷ row (at Calling) (on RepeatDue) Same up.Nothing send.Latest (Again Doubled)  -- !A +A
+    ∷ row (at Calling) (on EndingDue) Ended up.Timeout send.Nothing Clear  -- !B
+    ∷ row (at Calling) (on Failed) Ended up.Failed send.Nothing Clear
+    ∷ row (either Calling Proceeding) provisional (Become Proceeding) up.Message send.Nothing Clear
+    ∷ row (either Calling Proceeding) success (Become Accepted) up.Message send.Nothing (Ending LIFETIME)  -- +M
+    ∷ row (either Calling Proceeding) failure (Become Completed) up.Message send.Ack (Ending LIFETIME)  -- +D
+    ∷ row (at Completed) failure Same up.Nothing send.Latest Keep
+    ∷ row (at Completed) (on Failed) Ended up.Failed send.Nothing Clear
+    ∷ row (at Accepted) success Same up.Message send.Nothing Keep
+    ∷ row (either Completed Accepted) (on EndingDue) Ended up.Nothing send.Nothing Clear  -- !D !M
+    ∷ row fresh any_response Ended up.NoTransaction send.Nothing Clear
+    ∷ []
+
+-- The client of another request: RFC 3261, section 17.1.2.
+-- E repeats the request, F ends the wait for a final response, K absorbs repeated responses.
+abbrev pub client_rows : List Row
+client_rows =
+    row fresh (on Start) (Become Trying) up.Nothing send.Given Both  -- +E +F
+    ∷ row (at Trying) (on RepeatDue) Same up.Nothing send.Latest (Again Capped)  -- !E +E
+    ∷ row (at Proceeding) (on RepeatDue) Same up.Nothing send.Latest (Again Even)  -- !E +E
+    ∷ row (either Trying Proceeding) (on EndingDue) Ended up.Timeout send.Nothing Clear  -- !F
+    ∷ row (either Trying Proceeding) (on Failed) Ended up.Failed send.Nothing Clear
+    ∷ row (either Trying Proceeding) provisional (Become Proceeding) up.Message send.Nothing Keep
+    ∷ row (either Trying Proceeding) (success ++ failure) (Become Completed) up.Message send.Nothing (Ending T4)  -- +K
+    ∷ row (at Completed) (on EndingDue) Ended up.Nothing send.Nothing Clear  -- !K
+    ∷ row fresh any_response Ended up.NoTransaction send.Nothing Clear
+    ∷ []
+
+-- The server of an INVITE: RFC 3261, section 17.2.1, and RFC 6026, section 7.1.
+-- G repeats the response, H ends the wait for the ACK, I absorbs repeated ACKs, L passes on the ACKs of a 2xx.
+abbrev pub invite_server_rows : List Row
+invite_server_rows =
+    row fresh (on Request) (Become Proceeding) up.Message send.Trying Clear
+    ∷ row (at Proceeding) (on Request) Same up.Nothing send.Latest Keep
+    ∷ row (at Proceeding) answer_1xx Same up.Nothing send.Given Keep
+    ∷ row (at Proceeding) answer_2xx (Become Accepted) up.Nothing send.Given (Ending LIFETIME)  -- +L
+    ∷ row (at Proceeding) answer_failure (Become Completed) up.Nothing send.Given Both  -- +G +H
+    ∷ row (at Completed) (on Request) Same up.Nothing send.Latest Keep
+    ∷ row (at Completed) (on RepeatDue) Same up.Nothing send.Latest (Again Capped)  -- !G +G
+    ∷ row (at Completed) (on Ack) (Become Confirmed) up.Nothing send.Nothing (Ending T4)  -- +I
+    ∷ row (at Completed) (on EndingDue) Ended up.Timeout send.Nothing Clear  -- !H
+    ∷ row (at Accepted) (on Ack) Same up.Message send.Nothing Keep
+    ∷ row (at Accepted) answer_2xx Same up.Nothing send.Given Keep
+    ∷ row (either Confirmed Accepted) (on EndingDue) Ended up.Nothing send.Nothing Clear  -- !I !L
+    ∷ row (either Proceeding Completed ++ either Accepted Confirmed) (on Failed) Same up.Failed send.Nothing Keep
+    ∷ row fresh (on Ack) Ended up.Message send.Nothing Clear
+    ∷ []
+
+-- The server of another request: RFC 3261, section 17.2.2. J keeps the response for repeated requests.
+abbrev pub server_rows : List Row
+server_rows =
+    row fresh (on Request) (Become Trying) up.Message send.Nothing Clear
+    ∷ row (either Trying Proceeding) answer_1xx (Become Proceeding) up.Nothing send.Given Clear
+    ∷ row (either Trying Proceeding) (answer_2xx ++ answer_failure) (Become Completed) up.Nothing send.Given (Ending LIFETIME)  -- +J
+    ∷ row (either Proceeding Completed) (on Request) Same up.Nothing send.Latest Keep
+    ∷ row (at Completed) (on EndingDue) Ended up.Nothing send.Nothing Clear  -- !J
+    ∷ row (at Trying ++ either Proceeding Completed) (on Failed) Same up.Failed send.Nothing Keep
+    ∷ []
+
+-- the table that a transaction goes by
+abbrev pub rows_of : Role → List Row
+rows_of InviteClient = invite_client_rows
+rows_of Client = client_rows
+rows_of InviteServer = invite_server_rows
+rows_of Server = server_rows
+
+-- ---- the row that fits
 
 -- the place of a state and of a trigger in their enums, by which they are compared
 abbrev pub state_place : Option State → ℕ
@@ -38,14 +160,14 @@ class_place class.Success = 2
 class_place class.Failure = 3
 
 abbrev pub trigger_place : Trigger → ℕ
-trigger_place on.Start = 0
-trigger_place on.RepeatDue = 1
-trigger_place on.EndingDue = 2
-trigger_place on.Failed = 3
-trigger_place on.Request = 4
-trigger_place on.Ack = 5
-trigger_place (on.Response c) = 6 + class_place c
-trigger_place (on.Answer c) = 10 + class_place c
+trigger_place Start = 0
+trigger_place RepeatDue = 1
+trigger_place EndingDue = 2
+trigger_place Failed = 3
+trigger_place Request = 4
+trigger_place Ack = 5
+trigger_place (Response c) = 6 + class_place c
+trigger_place (Answer c) = 10 + class_place c
 
 -- the row is for this state and this trigger
 abbrev pub fits : Row → Option State → Trigger → Bool
@@ -55,57 +177,3 @@ fits row state trigger =
 -- what the first row that fits does; no row, no change and no output
 abbrev pub row_of : List Row → Option State → Trigger → Option Step
 row_of rows state trigger = option_map (λ row. row.step) (find (λ row. fits row state trigger) rows)
-
--- a response to no transaction is dropped
-abbrev pub client_rows : List Row
-client_rows =
-    record {
-      from = None ∷ [];
-      on = on.Response class.Trying ∷ on.Response class.Provisional ∷ on.Response class.Success ∷ on.Response class.Failure ∷ [];
-      step = record { next = Ended; handed = up.NoTransaction; sent = send.Nothing; due = Clear };
-    } ∷ []
-
--- an ACK to no transaction is handed up, and makes none
-abbrev pub invite_server_rows : List Row
-invite_server_rows =
-    record {
-      from = None ∷ [];
-      on = on.Ack ∷ [];
-      step = record { next = Ended; handed = up.Message; sent = send.Nothing; due = Clear };
-    } ∷ []
-
--- the server of a request other than INVITE (RFC 3261 section 17.2.2; timer J is 32,000 ms)
-abbrev pub server_rows : List Row
-server_rows =
-    record {
-      from = None ∷ [];
-      on = on.Request ∷ [];
-      step = record { next = Become Trying; handed = up.Message; sent = send.Nothing; due = Clear };
-    } ∷ record {
-      from = Some Trying ∷ Some Proceeding ∷ [];
-      on = on.Answer class.Provisional ∷ [];
-      step = record { next = Become Proceeding; handed = up.Nothing; sent = send.Given; due = Clear };
-    } ∷ record {
-      from = Some Trying ∷ Some Proceeding ∷ [];
-      on = on.Answer class.Success ∷ on.Answer class.Failure ∷ [];
-      step = record { next = Become Completed; handed = up.Nothing; sent = send.Given; due = Ending 32000 };
-    } ∷ record {
-      from = Some Proceeding ∷ Some Completed ∷ [];
-      on = on.Request ∷ [];
-      step = record { next = Same; handed = up.Nothing; sent = send.Latest; due = Keep };
-    } ∷ record {
-      from = Some Completed ∷ [];
-      on = on.EndingDue ∷ [];
-      step = record { next = Ended; handed = up.Nothing; sent = send.Nothing; due = Clear };
-    } ∷ record {
-      from = Some Trying ∷ Some Proceeding ∷ Some Completed ∷ [];
-      on = on.Failed ∷ [];
-      step = record { next = Same; handed = up.Failed; sent = send.Nothing; due = Keep };
-    } ∷ []
-
--- the table that a transaction goes by
-abbrev pub rows_of : Role → List Row
-rows_of InviteClient = client_rows
-rows_of Client = client_rows
-rows_of InviteServer = invite_server_rows
-rows_of Server = server_rows

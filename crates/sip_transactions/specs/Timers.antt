@@ -4,6 +4,7 @@ use Rattle.sip_timers.specs.Queue.{is_due}
 use Rattle.sip_timers.specs.Earlier.{earlier}
 use Rattle.sip_transactions.specs.declared.step.Due.{Due}
 use Rattle.sip_transactions.specs.declared.step.Due.TheVariants.{Keep, Clear, Ending, Both, Again}
+use Rattle.sip_transactions.specs.declared.timers.TheConstants.{T1, T2, LIFETIME}
 use Rattle.sip_transactions.specs.declared.step.Pace.{Pace}
 use Rattle.sip_transactions.specs.declared.step.Pace.TheVariants.{Doubled, Capped, Even}
 use Rattle.sip_transactions.specs.Dues.{Dues}
@@ -18,16 +19,16 @@ first_due dues = earlier dues.ending dues.repeat
 
 -- the interval after j firings (RFC 3261 sections 17.1.1.2, 17.1.2.2 and 17.2.1: timers A, E and G)
 abbrev pub interval : Pace → ℕ → ℕ
-interval Doubled j = 500 * 2 ^ j
-interval Capped j = min (500 * 2 ^ j) 4000
-interval Even j = 4000
+interval Doubled j = T1 * 2 ^ j
+interval Capped j = min (T1 * 2 ^ j) T2
+interval Even j = T2
 
 -- the due moments after a row
 abbrev pub rearmed : Due → ℕ → Dues → Dues
 rearmed Keep now dues = dues
 rearmed Clear now dues = no_dues
 rearmed (Ending after) now dues = record { repeat = None; fired = 0; ending = Some (now + after) }
-rearmed Both now dues = record { repeat = Some (now + 500); fired = 0; ending = Some (now + 32000) }
+rearmed Both now dues = record { repeat = Some (now + T1); fired = 0; ending = Some (now + LIFETIME) }
 rearmed (Again pace) now dues = record { repeat = Some (now + interval pace (dues.fired + 1)); fired = dues.fired + 1; ending = dues.ending }
 
 -- a repeat fires only when it is due, and before the end is

@@ -91,6 +91,37 @@ pub enum Input {
     },
 }
 
+impl Input {
+    ghost use Rattle.std.specs.Option.{option_copied};
+    ghost use Rattle.sip_transactions.specs.Input.{message_in, arrived_in};
+
+    /// The message that came or that the user gave, if there is one.
+    pub(crate) fn message(&self) -> Option<&Message>
+        ensures { option_copied result ≡ message_in self.now }
+    {
+        match self {
+            Input::Receive { message, .. }
+            | Input::Start { message, .. }
+            | Input::Answer { message, .. } => Some(message),
+            Input::Tick | Input::Failed { .. } => None,
+        }
+    }
+
+    /// The message that came, if one did, and where a response to it goes.
+    pub(crate) fn into_arrived(self) -> Option<(Message, Addr)>
+        ensures { result ≡ arrived_in self }
+    {
+        match self {
+            Input::Receive {
+                message,
+                reply_to,
+                ..
+            } => Some((message, reply_to)),
+            Input::Tick | Input::Start { .. } | Input::Answer { .. } | Input::Failed { .. } => None,
+        }
+    }
+}
+
 /// An input with its moment, in milliseconds.
 #[derive(Drop)]
 pub struct Timed {

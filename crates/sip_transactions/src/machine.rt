@@ -1,24 +1,28 @@
 //! One input of one transaction.
 
-ghost use Rattle.std.specs.Prelude.{◌≡◌, ◌≤◌, ◌^◌, ◌++◌, IfOk, IfSome, None, option_to_list, option_map, option_copied};
+ghost use Rattle.std.specs.Prelude.{◌≡◌, ℕ, ◌≤◌, ◌^◌, IfOk, IfSome, None};
 ghost use Rattle.sip_transactions.specs.Input.{role_of};
-ghost use Rattle.sip_transactions.specs.Life.{step_for, begun, life_of, life_after, entered, last_of, stepped, acted, acted_if};
-ghost use Rattle.sip_transactions.specs.Timers.{IsTimely, no_dues};
+ghost use Rattle.sip_transactions.specs.Life.{step_for, begun, keeps_request, life_by, life_after, acted, acted_if};
+ghost use Rattle.sip_transactions.specs.Timers.{IsTimely};
 ghost use Rattle.sip_transactions.specs.Repeats.{RepeatsInTime};
-ghost use Rattle.sip_transactions.specs.Output.{handed_out, sent_bytes, given_bytes, message_out, up_out, send_out, drop_out, kind_of};
+ghost use Rattle.sip_transactions.specs.Output.{outputs_of};
 
 use crate::input::{Input, Timed};
 use crate::life::Life;
-use crate::output::{DropReason, Kind, Out, Up};
+use crate::made::made_bytes;
+use crate::output::Out;
 use crate::rows::step_of;
-use crate::state::{Role, State};
-use crate::step::{Handed, Next, Sent, Step};
-use crate::timers::Timers;
-use crate::trigger::{is_ack, trigger_of};
-use sip_message::{Addr, CallId, Id, Key, Message, StartLine, write};
+use crate::said::{passed_on, said};
+use crate::state::Role;
+use crate::step::{Next, Sent, Step};
+use crate::trigger::trigger_of;
+use sip_message::{Addr, Id, Key, Message};
 use sip_model::StateMachine;
 use sip_text::Text;
 use std::alloc::{AllocError, Global};
+
+/// What is held after an input, and what it adds.
+type After = (Option<Life>, Vec<Out>);
 
 fn role_of(key: &Key) -> Role
     ensures { result ≡ role_of key.now }
@@ -43,244 +47,147 @@ fn step_for(key: &Key, held: &Option<Life>, now: u64, input: &Input) -> Option<S
     step_of(role_of(key), held.as_ref().map(|life| life.state), trigger)
 }
 
-// The life that an input begins.
-#[tactic(auto, unfolding(crate::specs::Life::begun))]
-fn begin(input: &Input) -> Result<Option<Life>, AllocError>
-    ensures { IfOk result (λ life. life ≡ begun input.now) }
-{
-    match input {
-        Input::Receive {
-            id,
-            message,
-            reply_to,
-        } => { Ok(Some(new_life(*id, message.call_id.clone()?, *reply_to))) }
-        Input::Start {
-            id,
-            call_id,
-            to,
-            ..
-        } => Ok(Some(new_life(*id, call_id.clone()?, *to))),
-        Input::Tick | Input::Answer { .. } | Input::Failed { .. } => Ok(None),
-    }
-}
-
-fn new_life(id: Id, call_id: CallId, to: Addr) -> Life
-    ensures { result ≡ record { state = State.Trying; id = id; call_id = call_id; to = to; last = None; timers = no_dues } }
-{
-    Life {
-        state: State::Trying,
-        id,
-        call_id,
-        to,
-        last: None,
-        timers: Timers::new(),
-    }
-}
-
-// The bytes that a row sends.
-#[tactic(auto, unfolding(crate::specs::Output::sent_bytes))]
-fn bytes_to_send(
+// A row at a life that made a message of these bytes.
+fn act(
     alloc: Global,
-    life: &Life,
-    sent: Sent,
-    input: &Input,
-) -> Result<Option<Text>, AllocError>
-    ensures { IfOk result (λ bytes. bytes ≡ sent_bytes life.now sent input.now) }
-{
-    match sent {
-        Sent::Nothing => Ok(None),
-        Sent::Given => given_bytes(alloc, input),
-        Sent::Latest => match &life.last {
-            None => Ok(None),
-            Some(last) => Ok(Some(last.clone()?)),
-        },
-    }
-}
-
-fn given_bytes(alloc: Global, input: &Input) -> Result<Option<Text>, AllocError>
-    ensures { IfOk result (λ bytes. bytes ≡ given_bytes input.now) }
-{
-    match input {
-        Input::Start { message, .. } | Input::Answer { message, .. } => {
-            Ok(Some(Text::from_vec(write(alloc, message)?)))
-        }
-        Input::Tick | Input::Receive { .. } | Input::Failed { .. } => Ok(None),
-    }
-}
-
-// What a row hands up, or drops.
-#[tactic(auto, unfolding(crate::specs::Output::handed_out))]
-fn hand_up(key: &Key, life: &Life, handed: Handed, input: Input) -> Result<Option<Out>, AllocError>
-    ensures { IfOk result (λ out. out ≡ handed_out key.now life.now handed input) }
-{
-    match handed {
-        Handed::Nothing => Ok(None),
-        Handed::Message => message_out(key, life, input),
-        Handed::Timeout => Ok(Some(up_out(key, life, Kind::Timeout)?)),
-        Handed::Failed => Ok(Some(up_out(key, life, Kind::Failed)?)),
-        Handed::NoTransaction => Ok(drop_out(input)),
-    }
-}
-
-fn up_out(key: &Key, life: &Life, kind: Kind) -> Result<Out, AllocError>
-    ensures { IfOk result (λ out. out ≡ up_out key.now life.now kind) }
-{
-    Ok(Out::Up(Up {
-        key: key.clone()?,
-        id: life.id,
-        call_id: life.call_id.clone()?,
-        kind,
-    }))
-}
-
-fn message_out(key: &Key, life: &Life, input: Input) -> Result<Option<Out>, AllocError>
-    ensures { IfOk result (λ out. out ≡ message_out key.now life.now input) }
-{
-    match input {
-        Input::Receive {
-            message,
-            reply_to,
-            ..
-        } => { Ok(Some(up_out(key, life, kind_of(message, reply_to))?)) }
-        Input::Tick | Input::Start { .. } | Input::Answer { .. } | Input::Failed { .. } => Ok(None),
-    }
-}
-
-fn kind_of(message: Message, reply_to: Addr) -> Kind
-    ensures { result ≡ kind_of message.start message reply_to }
-{
-    match &message.start {
-        StartLine::Request { .. } if is_ack(&message) => Kind::Ack(message),
-        StartLine::Request { .. } => Kind::Request(message, reply_to),
-        StartLine::Response { .. } => Kind::Response(message),
-    }
-}
-
-fn drop_out(input: Input) -> Option<Out>
-    ensures { result ≡ drop_out input }
-{
-    match input {
-        Input::Receive { id, .. } => Some(Out::Dropped {
-            place: id.place,
-            reason: DropReason::NoTransaction,
-        }),
-        Input::Tick | Input::Start { .. } | Input::Answer { .. } | Input::Failed { .. } => None,
-    }
-}
-
-// The life after a row, if it goes on.
-#[tactic(auto, unfolding(crate::specs::Life::life_after))]
-fn life_after(life: Life, step: Step, now: u64, bytes: Option<Text>) -> Option<Life>
+    key: &Key,
+    now: u64,
+    life: Life,
+    step: Step,
+    made: Option<Text>,
+    arrived: Option<(Message, Addr)>,
+) -> Result<After, AllocError>
     requires bound { now ≤ 2 ^ 62 }
     requires timely { IsTimely step.due now life.timers }
-    ensures { result ≡ life_after life step now bytes }
+    ensures next { IfOk result (λ after. after.0 ≡ life_after life step now made) }
+    ensures adds { IfOk result (λ after. after.1.items ≡ outputs_of key.now life step made arrived) }
 {
-    let life = with_last(bytes, life);
-    let timers = life.timers.rearmed(step.due, now);
-    entered(step.next, Life { timers, ..life })
+    let outputs = said(alloc, key, &life, step, made.as_ref(), arrived)?;
+    Ok((life.after(step, now, made), outputs))
 }
 
-fn with_last(bytes: Option<Text>, life: Life) -> Life
-    ensures { result ≡ last_of bytes life }
-{
-    match bytes {
-        None => life,
-        Some(bytes) => Life {
-            last: Some(bytes),
-            ..life
-        },
-    }
-}
-
-fn entered(next: Next, life: Life) -> Option<Life>
-    ensures { result ≡ entered next life }
-{
-    match next {
-        Next::Same => Some(life),
-        Next::Ended => None,
-        Next::Become(state) => Some(Life { state, ..life }),
-    }
-}
-
-// A row at a life: what is held after it, and what it says.
-#[tactic(auto, unfolding(crate::specs::Output::outputs_of))]
-fn act(
+// A row at the life that is held.
+fn go_on(
     alloc: Global,
     key: &Key,
     now: u64,
     input: Input,
     life: Life,
     step: Step,
-) -> Result<(Option<Life>, Vec<Out>), AllocError>
+) -> Result<After, AllocError>
     requires bound { now ≤ 2 ^ 62 }
     requires timely { IsTimely step.due now life.timers }
     ensures next { IfOk result (λ after. after.0 ≡ (acted key.now now input life step).0) }
     ensures adds { IfOk result (λ after. after.1.items ≡ (acted key.now now input life step).1) }
 {
-    let bytes = bytes_to_send(alloc, &life, step.sent, &input)?;
-    let outputs = said(alloc, key, &life, step.handed, input, bytes.as_ref())?;
-    Ok((life_after(life, step, now, bytes), outputs))
+    let made = made_bytes(alloc, life.request.as_ref(), step.sent, input.message())?;
+    act(alloc, key, now, life, step, made, input.into_arrived())
 }
 
-// What is handed up, and what is sent.
-fn said(
-    alloc: Global,
-    key: &Key,
-    life: &Life,
-    handed: Handed,
-    input: Input,
-    bytes: Option<&Text>,
-) -> Result<Vec<Out>, AllocError>
-    ensures { IfOk result (λ outputs. outputs.items ≡ option_to_list (handed_out key.now life.now handed input) ++ option_to_list (option_map (send_out key.now life.now.to) (option_copied bytes.entry))) }
+// A row where no life is held.
+#[tactic(auto, unfolding(crate::specs::Life::begun))]
+fn begin(alloc: Global, key: &Key, now: u64, input: Input, step: Step) -> Result<After, AllocError>
+    requires bound { now ≤ 2 ^ 62 }
+    requires timely { RepeatsInTime step.due now None }
+    ensures next { IfOk result (λ after. after.0 ≡ (acted_if key.now now input (begun (role_of key.now) input) step).0) }
+    ensures adds { IfOk result (λ after. after.1.items ≡ (acted_if key.now now input (begun (role_of key.now) input) step).1) }
 {
-    let mut outputs = Vec::new(alloc);
-    if let Some(out) = hand_up(key, life, handed, input)? {
-        outputs.push(out)?;
+    match input {
+        Input::Receive {
+            id,
+            message,
+            reply_to,
+        } => arrive(alloc, key, now, id, message, reply_to, step),
+        Input::Start {
+            id,
+            call_id,
+            message,
+            to,
+        } => {
+            let keeps = keeps_request(role_of(key));
+            let request = if keeps { Some(&message) } else { None };
+            let made = made_bytes(alloc, request, step.sent, Some(&message))?;
+            let request = if keeps { Some(message) } else { None };
+            act(
+                alloc,
+                key,
+                now,
+                Life::new(id, call_id, to, request),
+                step,
+                made,
+                None,
+            )
+        }
+        Input::Tick | Input::Answer { .. } | Input::Failed { .. } => Ok((None, Vec::new(alloc))),
     }
-    if let Some(bytes) = bytes {
-        outputs.push(send_out(key, life.to, bytes)?)?;
-    }
-    Ok(outputs)
 }
 
-fn send_out(key: &Key, to: Addr, bytes: &Text) -> Result<Out, AllocError>
-    ensures { IfOk result (λ out. out ≡ send_out key.now to bytes.now) }
+fn keeps_request(role: Role) -> bool
+    ensures { result ≡ keeps_request role }
 {
-    Ok(Out::Send {
-        key: key.clone()?,
-        to,
-        bytes: bytes.clone()?,
-    })
+    match role {
+        Role::InviteClient => true,
+        Role::Client | Role::InviteServer | Role::Server => false,
+    }
 }
 
-// An input at the life that it belongs to, if there is one.
-fn act_if(
+// A message that comes where no life is held. Where none begins, none is made.
+fn arrive(
     alloc: Global,
     key: &Key,
     now: u64,
-    input: Input,
-    held: Option<Life>,
+    id: Id,
+    message: Message,
+    reply_to: Addr,
     step: Step,
-) -> Result<(Option<Life>, Vec<Out>), AllocError>
+) -> Result<After, AllocError>
     requires bound { now ≤ 2 ^ 62 }
-    requires timely { RepeatsInTime step.due now held }
-    ensures next { IfOk result (λ after. after.0 ≡ (acted_if key.now now input (life_of held input) step).0) }
-    ensures adds { IfOk result (λ after. after.1.items ≡ (acted_if key.now now input (life_of held input) step).1) }
+    requires timely { RepeatsInTime step.due now None }
+    ensures next { IfOk result (λ after. after.0 ≡ (acted key.now now (Input.Receive id message reply_to) (life_by id message.call_id reply_to None) step).0) }
+    ensures adds { IfOk result (λ after. after.1.items ≡ (acted key.now now (Input.Receive id message reply_to) (life_by id message.call_id reply_to None) step).1) }
 {
-    match life_of(held, &input)? {
-        None => Ok((None, Vec::new(alloc))),
-        Some(life) => act(alloc, key, now, input, life, step),
+    match (step.next, step.sent) {
+        (Next::Ended, Sent::Nothing) => pass(alloc, key, id, message, reply_to, step),
+        _ => begin_by_message(alloc, key, now, id, message, reply_to, step),
     }
 }
 
-// The life that an input belongs to.
-fn life_of(held: Option<Life>, input: &Input) -> Result<Option<Life>, AllocError>
-    ensures { IfOk result (λ life. life ≡ life_of held input.now) }
+// A row by which nothing begins and nothing is sent.
+#[tactic(auto, using(crate::proofs::Passing::passed_next, crate::proofs::Passing::passed_adds))]
+fn pass(
+    alloc: Global,
+    key: &Key,
+    id: Id,
+    message: Message,
+    reply_to: Addr,
+    step: Step,
+) -> Result<After, AllocError>
+    requires ended { step.next ≡ Next.Ended }
+    requires silent { step.sent ≡ Sent.Nothing }
+    ensures next { (now : ℕ) → IfOk result (λ after. after.0 ≡ (acted key.now now (Input.Receive id message reply_to) (life_by id message.call_id reply_to None) step).0) }
+    ensures adds { (now : ℕ) → IfOk result (λ after. after.1.items ≡ (acted key.now now (Input.Receive id message reply_to) (life_by id message.call_id reply_to None) step).1) }
 {
-    match held {
-        None => begin(input),
-        Some(life) => Ok(Some(life)),
-    }
+    let outputs = passed_on(alloc, key, id, message, reply_to, step.handed)?;
+    Ok((None, outputs))
+}
+
+fn begin_by_message(
+    alloc: Global,
+    key: &Key,
+    now: u64,
+    id: Id,
+    message: Message,
+    reply_to: Addr,
+    step: Step,
+) -> Result<After, AllocError>
+    requires bound { now ≤ 2 ^ 62 }
+    requires timely { RepeatsInTime step.due now None }
+    ensures next { IfOk result (λ after. after.0 ≡ (acted key.now now (Input.Receive id message reply_to) (life_by id message.call_id reply_to None) step).0) }
+    ensures adds { IfOk result (λ after. after.1.items ≡ (acted key.now now (Input.Receive id message reply_to) (life_by id message.call_id reply_to None) step).1) }
+{
+    let made = made_bytes(alloc, None, step.sent, Some(&message))?;
+    let life = Life::new(id, message.call_id.clone()?, reply_to, None);
+    act(alloc, key, now, life, step, made, Some((message, reply_to)))
 }
 
 /// The machine of every transaction.
@@ -291,6 +198,7 @@ impl StateMachine for Transactions {
     ghost use Rattle.sip_transactions.specs.Keys.{exact_keys};
     ghost use Rattle.sip_transactions.specs.Machine.{transaction_machine, tick_at, life_due};
     ghost use Rattle.sip_transactions.specs.Idle.{ticks_are_idle};
+    ghost use Rattle.sip_transactions.specs.Life.{stepped};
 
     type Key = Key;
 
@@ -332,9 +240,12 @@ impl StateMachine for Transactions {
         ensures adds { IfOk result (λ after. after.1.items ≡ (stepped key.now state input).1) }
     {
         let Timed { moment: now, input } = input;
-        match step_for(key, &state, now, &input) {
-            None => Ok((state, Vec::new(alloc))),
-            Some(step) => act_if(alloc, key, now, input, state, step),
+        let Some(step) = step_for(key, &state, now, &input) else {
+            return Ok((state, Vec::new(alloc)));
+        };
+        match state {
+            None => begin(alloc, key, now, input, step),
+            Some(life) => go_on(alloc, key, now, input, life, step),
         }
     }
 

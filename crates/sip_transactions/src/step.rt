@@ -1,5 +1,7 @@
 //! What a row does.
 
+ghost use Rattle.std.specs.Prelude.{◌≡◌};
+
 use crate::state::State;
 
 /// The state after a row.
@@ -20,7 +22,7 @@ pub enum Handed {
     Nothing,
     /// The message that came.
     Message,
-    /// That no response came in time.
+    /// That no response came in time, or no ACK.
     Timeout,
     /// That a send failed.
     Failed,
@@ -37,16 +39,20 @@ pub enum Sent {
     Given,
     /// The message that was sent last, once more.
     Latest,
+    /// 100 Trying to the request that came.
+    Trying,
+    /// The ACK of the response that came, made from it and the request that the life keeps.
+    Ack,
 }
 
 /// The intervals between repeats. `j` counts how often the repeat has fired.
 #[derive(Clone, Copy)]
 pub enum Pace {
-    /// 500 * 2^j ms.
+    /// T1 * 2^j.
     Doubled,
-    /// 500 * 2^j ms, at most 4,000 ms.
+    /// T1 * 2^j, at most T2.
     Capped,
-    /// 4,000 ms.
+    /// T2.
     Even,
 }
 
@@ -59,7 +65,7 @@ pub enum Due {
     Clear,
     /// The end alone is due, after this time in milliseconds.
     Ending(u32),
-    /// The repeat is due after 500 ms, and the end after 32,000 ms.
+    /// The repeat is due after T1, and the end after 64 times T1.
     Both,
     /// The repeat has fired, and is due again after the next interval. The end stays.
     Again(Pace),
@@ -72,4 +78,54 @@ pub struct Step {
     pub handed: Handed,
     pub sent: Sent,
     pub due: Due,
+}
+
+impl Step {
+    /// The transaction enters a state.
+    pub fn enter(state: State, handed: Handed, sent: Sent, due: Due) -> Step
+        ensures { result ≡ record { next = Next.Become state; handed = handed; sent = sent; due = due } }
+    {
+        Step {
+            next: Next::Become(state),
+            handed,
+            sent,
+            due,
+        }
+    }
+
+    /// The state and both due moments stay.
+    pub fn stay(handed: Handed, sent: Sent) -> Step
+        ensures { result ≡ record { next = Next.Same; handed = handed; sent = sent; due = Due.Keep } }
+    {
+        Step {
+            next: Next::Same,
+            handed,
+            sent,
+            due: Due::Keep,
+        }
+    }
+
+    /// The repeat fires: what was sent last is sent once more.
+    pub fn repeat(pace: Pace) -> Step
+        ensures { result ≡ record { next = Next.Same; handed = Handed.Nothing; sent = Sent.Latest; due = Due.Again pace } }
+    {
+        Step {
+            next: Next::Same,
+            handed: Handed::Nothing,
+            sent: Sent::Latest,
+            due: Due::Again(pace),
+        }
+    }
+
+    /// The transaction ends.
+    pub fn end(handed: Handed) -> Step
+        ensures { result ≡ record { next = Next.Ended; handed = handed; sent = Sent.Nothing; due = Due.Clear } }
+    {
+        Step {
+            next: Next::Ended,
+            handed,
+            sent: Sent::Nothing,
+            due: Due::Clear,
+        }
+    }
 }

@@ -8,14 +8,17 @@ use crate::step::{Due, Pace};
 use sip_timers::earlier;
 use std::marker::Model;
 
-/// T1, the first interval, in milliseconds (RFC 3261 section 17.1.1.1).
-const T1: u64 = 500;
+/// T1, the first interval between repeats, in milliseconds (RFC 3261, section 17.1.1.1; so are T2 and T4).
+pub(crate) const T1: u32 = 500;
 
-/// T2, the greatest interval where it is capped, in milliseconds.
-const T2: u64 = 4_000;
+/// T2, the greatest interval where intervals are capped, in milliseconds.
+pub(crate) const T2: u32 = 4_000;
 
-/// 64 times T1: how long a transaction waits, in milliseconds.
-const LIFETIME: u64 = 32_000;
+/// T4, how long a message may stay in the network, in milliseconds: timers I and K.
+pub(crate) const T4: u32 = 5_000;
+
+/// 64 times T1, how long a transaction waits, in milliseconds: timers B, D, F, H, J, L and M.
+pub(crate) const LIFETIME: u32 = 32_000;
 
 /// At most one moment to send again, and at most one to end, in milliseconds.
 #[derive(Drop)]
@@ -87,9 +90,9 @@ impl Timers {
                 ending: Some(now + u64::from(after)),
             },
             Due::Both => Timers {
-                repeat: Some(now + T1),
+                repeat: Some(now + u64::from(T1)),
                 fired: 0,
-                ending: Some(now + LIFETIME),
+                ending: Some(now + u64::from(LIFETIME)),
             },
             Due::Again(pace) => self.again(pace, now),
         }
@@ -118,9 +121,9 @@ fn interval(pace: Pace, fired: u32) -> u64
     ensures bound { result ≤ 512000 }
 {
     match pace {
-        Pace::Doubled => T1 << fired,
-        Pace::Capped => (T1 << fired).min(T2),
-        Pace::Even => T2,
+        Pace::Doubled => u64::from(T1) << fired,
+        Pace::Capped => (u64::from(T1) << fired).min(u64::from(T2)),
+        Pace::Even => u64::from(T2),
     }
 }
 

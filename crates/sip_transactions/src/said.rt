@@ -1,0 +1,146 @@
+//! What a row says: what it hands up or drops, and then what it sends.
+
+ghost use Rattle.std.specs.Prelude.{◌≡◌, ◌++◌, IfOk, Some, option_to_list, option_map};
+ghost use Rattle.std.specs.Option.{option_copied};
+ghost use Rattle.sip_transactions.specs.Life.{life_by};
+ghost use Rattle.sip_transactions.specs.Output.{handed_out, sent_bytes, outputs_of, up_out, send_out, kind_of};
+
+use crate::life::Life;
+use crate::output::{DropReason, Kind, Out, Up};
+use crate::step::{Handed, Sent, Step};
+use crate::trigger::is_ack;
+use sip_message::{Addr, CallId, Id, Key, Message, StartLine};
+use sip_text::Text;
+use std::alloc::{AllocError, Global};
+
+/// What a row at a life says of a message that came, if one did, where it made a message of these bytes.
+#[tactic(auto, unfolding(crate::specs::Output::outputs_of))]
+pub(crate) fn said(
+    alloc: Global,
+    key: &Key,
+    life: &Life,
+    step: Step,
+    made: Option<&Text>,
+    arrived: Option<(Message, Addr)>,
+) -> Result<Vec<Out>, AllocError>
+    ensures { IfOk result (λ outputs. outputs.items ≡ outputs_of key.now life.now step (option_copied made.entry) arrived) }
+{
+    let mut outputs = Vec::new(alloc);
+    if let Some(out) = hand_up(key, life, step.handed, arrived)? {
+        outputs.push(out)?;
+    }
+    if let Some(bytes) = bytes_sent(life.last.as_ref(), step.sent, made) {
+        outputs.push(send_out(key, life.to, bytes)?)?;
+    }
+    Ok(outputs)
+}
+
+/// What is said of a message where no life begins: it is handed up under its own id, or dropped, or neither.
+pub(crate) fn passed_on(
+    alloc: Global,
+    key: &Key,
+    id: Id,
+    message: Message,
+    reply_to: Addr,
+    handed: Handed,
+) -> Result<Vec<Out>, AllocError>
+    ensures { IfOk result (λ outputs. outputs.items ≡ option_to_list (handed_out key.now (life_by id message.call_id reply_to None) handed (Some (message, reply_to)))) }
+{
+    let mut outputs = Vec::new(alloc);
+    if let Some(out) = pass_on(key, id, message, reply_to, handed)? {
+        outputs.push(out)?;
+    }
+    Ok(outputs)
+}
+
+#[tactic(auto, unfolding(crate::specs::Output::handed_out))]
+fn pass_on(
+    key: &Key,
+    id: Id,
+    message: Message,
+    reply_to: Addr,
+    handed: Handed,
+) -> Result<Option<Out>, AllocError>
+    ensures { IfOk result (λ out. out ≡ handed_out key.now (life_by id message.call_id reply_to None) handed (Some (message, reply_to))) }
+{
+    match handed {
+        Handed::Nothing => Ok(None),
+        Handed::NoTransaction => Ok(Some(no_transaction(id))),
+        Handed::Message => {
+            let call_id = message.call_id.clone()?;
+            Ok(Some(up_out(key, id, call_id, kind_of(message, reply_to))?))
+        }
+        Handed::Timeout => Ok(Some(up_out(key, id, message.call_id.clone()?, Kind::Timeout)?)),
+        Handed::Failed => Ok(Some(up_out(key, id, message.call_id.clone()?, Kind::Failed)?)),
+    }
+}
+
+// What a row hands up, or that it drops what came.
+#[tactic(auto, unfolding(crate::specs::Output::handed_out))]
+fn hand_up(
+    key: &Key,
+    life: &Life,
+    handed: Handed,
+    arrived: Option<(Message, Addr)>,
+) -> Result<Option<Out>, AllocError>
+    ensures { IfOk result (λ out. out ≡ handed_out key.now life.now handed arrived) }
+{
+    let kind = match (handed, arrived) {
+        (Handed::Nothing, _) | (Handed::Message, None) => return Ok(None),
+        (Handed::NoTransaction, _) => return Ok(Some(no_transaction(life.id))),
+        (Handed::Message, Some((message, reply_to))) => kind_of(message, reply_to),
+        (Handed::Timeout, _) => Kind::Timeout,
+        (Handed::Failed, _) => Kind::Failed,
+    };
+    Ok(Some(up_out(key, life.id, life.call_id.clone()?, kind)?))
+}
+
+fn up_out(key: &Key, id: Id, call_id: CallId, kind: Kind) -> Result<Out, AllocError>
+    ensures { IfOk result (λ out. out ≡ Out.Up (record { key = key.now; id = id; call_id = call_id; kind = kind })) }
+{
+    Ok(Out::Up(Up {
+        key: key.clone()?,
+        id,
+        call_id,
+        kind,
+    }))
+}
+
+fn no_transaction(id: Id) -> Out
+    ensures { result ≡ Out.Dropped id.place DropReason.NoTransaction }
+{
+    Out::Dropped {
+        place: id.place,
+        reason: DropReason::NoTransaction,
+    }
+}
+
+fn kind_of(message: Message, reply_to: Addr) -> Kind
+    ensures { result ≡ kind_of message.start message reply_to }
+{
+    match &message.start {
+        StartLine::Request { .. } if is_ack(&message) => Kind::Ack(message),
+        StartLine::Request { .. } => Kind::Request(message, reply_to),
+        StartLine::Response { .. } => Kind::Response(message),
+    }
+}
+
+// The bytes that a row sends: what it made, or what was sent last.
+fn bytes_sent<'a>(last: Option<&'a Text>, sent: Sent, made: Option<&'a Text>) -> Option<&'a Text>
+    ensures { option_copied result ≡ sent_bytes (option_copied last.entry) sent (option_copied made.entry) }
+{
+    match sent {
+        Sent::Latest => last,
+        Sent::Nothing | Sent::Given | Sent::Trying | Sent::Ack => made,
+    }
+}
+
+fn send_out(key: &Key, to: Addr, bytes: &Text) -> Result<Out, AllocError>
+    ensures { IfOk result (λ out. out ≡ send_out key.now to bytes.now) }
+{
+    Ok(Out::Send {
+        key: key.clone()?,
+        to,
+        bytes: bytes.clone()?,
+    })
+}
