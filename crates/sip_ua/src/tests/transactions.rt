@@ -1,9 +1,13 @@
-//! A shard beside plain folds of its transactions, and messages that begin none.
+//! A shard beside plain folds of the standard's tables (RFC 3261, sections 17.1 and 17.2, RFC 6026, section 7), the moments at
+//! which timers fire, and the messages that transactions make.
 
-use sip_message::{Addr, Id, Key, Message, Reason, StatusCode, Token, key_of, response_to};
+use sip_message::{
+    Addr, DisplayText, Id, Key, Message, NameAddr, Reason, StatusCode, Token, Uri, Vias, ack_for,
+    key_of, response_to, write,
+};
 use sip_reader::read;
-use sip_text::Text;
-use sip_transactions::{Command, DropReason, Kind, Out, Shard, ShardFault, State};
+use sip_text::{Series, Text};
+use sip_transactions::{Command, DropReason, Kind, Out, Shard, State};
 use std::alloc::{AllocError, Global};
 use std::process::Abort;
 use std::test::Fail;
@@ -14,27 +18,87 @@ const LOCAL: Addr = Addr {
     port: 5060,
 };
 
-// Where requests come from.
-const PEER: Addr = Addr {
-    ip: [192, 0, 2, 9],
-    port: 5060,
-};
+// The four machines, in the order of their keys.
+#[derive(Clone, Copy, PartialEq, Eq)]
+enum Machine {
+    InviteClient,
+    Client,
+    InviteServer,
+    Server,
+}
 
-// Where a repeated request comes from.
-const ELSEWHERE: Addr = Addr {
-    ip: [192, 0, 2, 77],
-    port: 7000,
-};
+const MACHINES: [Machine; 4] = [
+    Machine::InviteClient,
+    Machine::Client,
+    Machine::InviteServer,
+    Machine::Server,
+];
 
-// A request of the peer with this branch and this method.
-fn request(alloc: Global, branch: &str, method: &str) -> Result<Message, Fail> {
+impl Machine {
+    fn is_client(self) -> bool {
+        matches!(self, Machine::InviteClient | Machine::Client)
+    }
+
+    fn method(self) -> &'static str {
+        match self {
+            Machine::InviteClient | Machine::InviteServer => "INVITE",
+            Machine::Client | Machine::Server => "OPTIONS",
+        }
+    }
+}
+
+// What comes to a transaction. A tick comes to all.
+#[derive(Clone, Copy)]
+enum Happening {
+    Tick,
+    Start,
+    Request,
+    Ack,
+    Response(u16),
+    Answer(u16),
+    Failed,
+}
+
+// What a shard says, without its texts. Up to `Failed` it is handed up under the id of the event at a place.
+#[derive(Clone, Copy, Debug, PartialEq, Eq)]
+enum Said {
+    Request(u32),
+    Ack(u32),
+    Response(u32),
+    Timeout(u32),
+    Failed(u32),
+    // A response of this status, 0 for a request, 1 for an ACK; and the place whose event named the address.
+    Sent(u16, u32),
+    Dropped(u32, DropReason),
+}
+
+// The address that the event at a place names.
+fn addr_of(place: u32) -> Addr {
+    Addr {
+        ip: [192, 0, 2, 9],
+        port: (place % 65_536) as u16,
+    }
+}
+
+// A request of a machine's side. The branch is in upper case at odd places.
+fn message_of(alloc: Global, machine: Machine, method: &str, place: u32) -> Result<Message, Fail> {
+    let host = if machine.is_client() {
+        "192.0.2.1"
+    } else {
+        "192.0.2.9"
+    };
+    let branch = if place % 2 == 0 {
+        "z9hG4bKa1"
+    } else {
+        "Z9HG4BKA1"
+    };
     let text = format!(in alloc;
-        "{method} sip:192.0.2.1 SIP/2.0\r\nVia: SIP/2.0/UDP 192.0.2.9;branch={branch}\r\nFrom: <sip:a@192.0.2.9>;tag=f1\r\nTo: <sip:192.0.2.1>\r\nCall-ID: c1\r\nCSeq: 7 {method}\r\n\r\n"
+        "{method} sip:b@192.0.2.9 SIP/2.0\r\nVia: SIP/2.0/UDP {host};branch={branch}\r\nFrom: <sip:a@192.0.2.1>;tag=f1\r\nTo: <sip:b@192.0.2.9>\r\nCall-ID: c1\r\nCSeq: 7 {method}\r\n\r\n"
     )?;
     Ok(read(alloc, text.as_bytes()).ok().ok_or("a request")?)
 }
 
-// The answer of this status to a request, with the tag `t1`.
+// The response of this status to a request, with the tag `t1`.
 fn answer(
     rt: &impl Abort,
     alloc: Global,
@@ -47,28 +111,23 @@ fn answer(
     response_to(alloc, request, status, reason, &tag)
 }
 
-// What a shard says, without its texts.
-#[derive(Clone, Copy, Debug, PartialEq, Eq)]
-enum Said {
-    // A request is handed up under this id.
-    Request(Id),
-    // A failure is handed up under this id.
-    Failed(Id),
-    // Something else is handed up under this id.
-    Other(Id),
-    // A response of this status is sent to this address.
-    Sent(u16, Addr),
-    // The message at this place is dropped.
-    Dropped(u32, DropReason),
+// The key of a machine's transaction.
+fn key_for(rt: &impl Abort, alloc: Global, machine: Machine) -> Result<Key, Fail> {
+    let request = message_of(alloc, machine, machine.method(), 0)?;
+    if machine.is_client() {
+        return Ok(key_of(alloc, &answer(rt, alloc, &request, 200)?)?);
+    }
+    Ok(key_of(alloc, &request)?)
 }
 
-// The status in a response's first line.
+// The status in a response's first line; 1 for an ACK, and 0 for another request.
 fn status_in(bytes: &[u8]) -> u16 {
     match bytes {
         [b'S', b'I', b'P', b'/', b'2', b'.', b'0', b' ', a, b, c, ..] => {
             let digits = u16::from(*a) * 100 + u16::from(*b) * 10 + u16::from(*c);
             digits.saturating_sub(u16::from(b'0') * 111)
         }
+        [b'A', ..] => 1,
         _ => 0,
     }
 }
@@ -76,268 +135,583 @@ fn status_in(bytes: &[u8]) -> u16 {
 fn said_by(out: &Out) -> Said {
     match out {
         Out::Up(up) => match up.kind {
-            Kind::Request(_, _) => Said::Request(up.id),
-            Kind::Failed => Said::Failed(up.id),
-            _ => Said::Other(up.id),
+            Kind::Request(_, _) => Said::Request(up.id.place),
+            Kind::Ack(_) => Said::Ack(up.id.place),
+            Kind::Response(_) => Said::Response(up.id.place),
+            Kind::Timeout => Said::Timeout(up.id.place),
+            Kind::Failed => Said::Failed(up.id.place),
         },
-        Out::Send { to, bytes, .. } => Said::Sent(status_in(bytes.as_slice()), *to),
+        Out::Send { to, bytes, .. } => Said::Sent(status_in(bytes.as_slice()), u32::from(to.port)),
         Out::Dropped { place, reason } => Said::Dropped(*place, *reason),
     }
 }
 
-// What comes to a transaction. A tick comes to all.
-#[derive(Clone, Copy)]
-enum Happening {
-    Tick,
-    Request(Addr),
-    Answer(u16),
-    Failed,
-}
-
-// A line of the script: a moment, whether the second branch is meant, and what comes.
-type Line = (u32, bool, Happening);
-
-// What comes to the two transactions, line by line.
-fn script() -> [Line; 27] {
-    [
-        (0, false, Happening::Answer(200)),
-        (0, false, Happening::Failed),
-        (0, false, Happening::Request(PEER)),
-        (0, false, Happening::Request(PEER)),
-        (0, true, Happening::Request(ELSEWHERE)),
-        (5, false, Happening::Answer(100)),
-        (5, false, Happening::Failed),
-        (5, false, Happening::Tick),
-        (7, false, Happening::Answer(183)),
-        (7, false, Happening::Request(ELSEWHERE)),
-        (8, false, Happening::Answer(180)),
-        (8, false, Happening::Request(PEER)),
-        (10, true, Happening::Answer(699)),
-        (10, true, Happening::Answer(200)),
-        (20, false, Happening::Answer(200)),
-        (20, false, Happening::Answer(183)),
-        (9_000, false, Happening::Request(ELSEWHERE)),
-        (9_000, true, Happening::Request(PEER)),
-        (9_000, false, Happening::Failed),
-        (32_009, false, Happening::Tick),
-        (32_010, false, Happening::Tick),
-        (32_010, true, Happening::Request(PEER)),
-        (32_019, false, Happening::Request(PEER)),
-        (32_020, false, Happening::Tick),
-        (32_020, false, Happening::Failed),
-        (32_020, false, Happening::Request(PEER)),
-        (90_000, false, Happening::Tick),
-    ]
-}
-
-// A server transaction as RFC 3261 section 17.2.2 has it.
-#[derive(Clone, Copy)]
-struct Plain {
-    state: State,
-    id: Id,
-    to: Addr,
-    answer: u16,
-    end: Option<u32>,
-}
-
-fn begun(id: Id, happening: Happening) -> (Option<Plain>, Option<Said>) {
-    match happening {
-        Happening::Request(to) => {
-            let plain = Plain {
-                state: State::Trying,
-                id,
-                to,
-                answer: 0,
-                end: None,
-            };
-            (Some(plain), Some(Said::Request(id)))
-        }
-        _ => (None, None),
-    }
-}
-
-// An answer that is sent: a provisional one, or the final one.
-fn answered(plain: Plain, moment: u32, status: u16) -> (Option<Plain>, Option<Said>) {
-    let (state, end) = if status < 200 {
-        (State::Proceeding, None)
-    } else {
-        (State::Completed, moment.checked_add(32_000))
-    };
-    let after = Plain {
-        state,
-        answer: status,
-        end,
-        ..plain
-    };
-    (Some(after), Some(Said::Sent(status, plain.to)))
-}
-
-fn gone_on(plain: Plain, moment: u32, happening: Happening) -> (Option<Plain>, Option<Said>) {
-    let is_open = plain.state != State::Completed;
-    match happening {
-        Happening::Tick => match plain.end {
-            Some(end) if end <= moment => (None, None),
-            _ => (Some(plain), None),
-        },
-        Happening::Request(_) if plain.state == State::Trying => (Some(plain), None),
-        Happening::Request(_) => (Some(plain), Some(Said::Sent(plain.answer, plain.to))),
-        Happening::Answer(status) if is_open && status > 100 => { answered(plain, moment, status) }
-        Happening::Answer(_) => (Some(plain), None),
-        Happening::Failed => (Some(plain), Some(Said::Failed(plain.id))),
-    }
-}
-
-// One transaction, folded from the lines so far that are its own: what it is, and what the last line adds.
-fn folded(lines: &[Line], second: bool) -> (Option<Plain>, Option<Said>) {
-    let mut held: Option<Plain> = None;
-    let mut adds = None;
-    let mut place = 0u32;
-    for &(moment, meant, happening) in lines {
-        place = place.wrapping_add(1);
-        adds = None;
-        if meant == second || matches!(happening, Happening::Tick) {
-            let id = Id { round: 0, place };
-            (held, adds) = match held {
-                None => begun(id, happening),
-                Some(plain) => gone_on(plain, moment, happening),
-            };
-        }
-    }
-    (held, adds)
-}
-
-// Gives a shard a line of the script.
+// Gives a shard what comes to a machine's transaction as the event at a place.
 fn give(
     rt: &impl Abort,
     alloc: Global,
     shard: &mut Shard,
-    request: &Message,
+    machine: Machine,
     place: u32,
-    moment: u32,
-    happening: Happening,
-) -> Result<Vec<Out>, ShardFault> {
-    let now = u64::from(moment);
+    now: u32,
+    what: Happening,
+) -> Result<Vec<Out>, Fail> {
     let id = Id { round: 0, place };
-    match happening {
-        Happening::Tick => shard.tick(now),
-        Happening::Request(from) => shard.receive(id, request.clone()?, from, now),
-        Happening::Answer(status) => {
-            let key = key_of(alloc, request)?;
-            let message = answer(rt, alloc, request, status)?;
-            shard.command(id, Command::Answer { key, message }, now)
+    let now = u64::from(now);
+    let to = addr_of(place);
+    let request = message_of(alloc, machine, machine.method(), place)?;
+    let key = key_for(rt, alloc, machine)?;
+    let outs = match what {
+        Happening::Tick => shard.tick(now)?,
+        Happening::Start => {
+            let call_id = request.call_id.clone()?;
+            let message = request;
+            shard.command(
+                id,
+                Command::Start {
+                    key,
+                    call_id,
+                    message,
+                    to,
+                },
+                now,
+            )?
         }
-        Happening::Failed => shard.failed(id, &key_of(alloc, request)?, now),
+        Happening::Request => shard.receive(id, request, to, now)?,
+        Happening::Ack => shard.receive(id, message_of(alloc, machine, "ACK", place)?, to, now)?,
+        Happening::Response(status) => {
+            shard.receive(id, answer(rt, alloc, &request, status)?, to, now)?
+        }
+        Happening::Answer(status) => {
+            let message = answer(rt, alloc, &request, status)?;
+            shard.command(id, Command::Answer { key, message }, now)?
+        }
+        Happening::Failed => shard.failed(id, &key, now)?,
+    };
+    Ok(outs)
+}
+
+// A transaction as the standard has it: what it sent last, its next repeat with the interval before it, and its end.
+#[derive(Clone, Copy)]
+struct Plain {
+    state: State,
+    place: u32,
+    sent: u16,
+    repeat: Option<(u32, u32)>,
+    end: Option<u32>,
+}
+
+// What is held after an event, what it hands up or drops, and what it sends.
+type After = (Option<Plain>, Option<Said>, Option<Said>);
+
+impl Plain {
+    fn new(state: State, place: u32, sent: u16) -> Plain {
+        Plain {
+            state,
+            place,
+            sent,
+            repeat: None,
+            end: None,
+        }
+    }
+
+    fn repeated_from(self, now: u32) -> Plain {
+        Plain {
+            repeat: Some((now.saturating_add(500), 500)),
+            end: Some(now.saturating_add(32_000)),
+            ..self
+        }
+    }
+
+    // In another state, where nothing is repeated, up to an end.
+    fn entered(self, state: State, end: Option<u32>) -> Plain {
+        Plain {
+            state,
+            repeat: None,
+            end,
+            ..self
+        }
+    }
+
+    fn sends(self, status: u16) -> After {
+        let after = Plain {
+            sent: status,
+            ..self
+        };
+        (Some(after), None, Some(Said::Sent(status, self.place)))
+    }
+
+    fn says(self, said: Said) -> After {
+        (Some(self), Some(said), None)
     }
 }
 
-// What is seen after a line: both states, how many are held, and what was said.
-#[derive(Clone, Copy, PartialEq, Eq)]
-struct View {
-    first: Option<State>,
-    second: Option<State>,
-    live: usize,
-    outputs: usize,
-    output: Option<Said>,
-}
-
-// What is to be seen after the last of these lines. Each line adds one output at most.
-fn expected(lines: &[Line]) -> View {
-    let (first, first_adds) = folded(lines, false);
-    let (second, second_adds) = folded(lines, true);
-    View {
-        first: first.map(|plain| plain.state),
-        second: second.map(|plain| plain.state),
-        live: usize::from(first.is_some()) + usize::from(second.is_some()),
-        outputs: usize::from(first_adds.is_some()) + usize::from(second_adds.is_some()),
-        output: first_adds.or(second_adds),
+fn begun(machine: Machine, now: u32, place: u32, what: Happening) -> After {
+    match (machine, what) {
+        (Machine::InviteClient, Happening::Start) => {
+            Plain::new(State::Calling, place, 0)
+                .repeated_from(now)
+                .sends(0)
+        }
+        (Machine::Client, Happening::Start) => {
+            Plain::new(State::Trying, place, 0)
+                .repeated_from(now)
+                .sends(0)
+        }
+        (Machine::InviteServer, Happening::Request) => {
+            let (after, _, sent) = Plain::new(State::Proceeding, place, 100).sends(100);
+            (after, Some(Said::Request(place)), sent)
+        }
+        (Machine::Server, Happening::Request) => {
+            Plain::new(State::Trying, place, 0).says(Said::Request(place))
+        }
+        (_, Happening::Response(_)) => {
+            (
+                None,
+                Some(Said::Dropped(place, DropReason::NoTransaction)),
+                None,
+            )
+        }
+        (_, Happening::Ack) => (None, Some(Said::Ack(place)), None),
+        _ => (None, None, None),
     }
 }
 
-fn seen(shard: &Shard, first: &Key, second: &Key, outs: &[Out]) -> View {
-    View {
-        first: shard.state_of(first),
-        second: shard.state_of(second),
-        live: shard.live(),
-        outputs: outs.len(),
-        output: outs.first().map(said_by),
+fn ticked(machine: Machine, held: Plain, now: u32) -> After {
+    if held.end.is_some_and(|end| end <= now) {
+        let waits = match held.state {
+            State::Calling | State::Trying | State::Proceeding => true,
+            State::Completed => machine == Machine::InviteServer,
+            State::Accepted | State::Confirmed => false,
+        };
+        let said = if waits {
+            Some(Said::Timeout(held.place))
+        } else {
+            None
+        };
+        return (None, said, None);
+    }
+    let Some((due, before)) = held.repeat else {
+        return (Some(held), None, None);
+    };
+    if now < due {
+        return (Some(held), None, None);
+    }
+    let doubled = before.saturating_mul(2);
+    let interval = match (machine, held.state) {
+        (Machine::InviteClient, _) => doubled,
+        (Machine::Client, State::Proceeding) => 4_000,
+        _ => doubled.min(4_000),
+    };
+    let repeat = Some((now.saturating_add(interval), interval));
+    Plain { repeat, ..held }.sends(held.sent)
+}
+
+// The first digit of a response's status.
+fn class_of(what: Happening) -> u16 {
+    match what {
+        Happening::Response(status) | Happening::Answer(status) => status / 100,
+        _ => 0,
     }
 }
 
-// The two requests of the script.
-#[derive(Drop)]
-struct Requests {
-    one: Message,
-    two: Message,
+fn invite_client(held: Plain, now: u32, what: Happening) -> After {
+    let end = Some(now.saturating_add(32_000));
+    let waits = matches!(held.state, State::Calling | State::Proceeding);
+    let up = Said::Response(held.place);
+    match (held.state, what, class_of(what)) {
+        (_, Happening::Response(_), 1) if waits => held.entered(State::Proceeding, None).says(up),
+        (_, Happening::Response(_), 2) if waits => held.entered(State::Accepted, end).says(up),
+        (_, Happening::Response(_), _) if waits => {
+            let (after, _, sent) = held.entered(State::Completed, end).sends(1);
+            (after, Some(up), sent)
+        }
+        (State::Completed, Happening::Response(_), 3..=6) => held.sends(1),
+        (State::Accepted, Happening::Response(_), 2) => held.says(up),
+        (State::Calling | State::Completed, Happening::Failed, _) => {
+            (None, Some(Said::Failed(held.place)), None)
+        }
+        _ => (Some(held), None, None),
+    }
 }
 
-// Whether the shard says to the last of these lines, which has this place, and holds after it, what the folds of its two transactions say.
+fn client(held: Plain, now: u32, what: Happening) -> After {
+    let up = Said::Response(held.place);
+    let end = Some(now.saturating_add(5_000));
+    match (held.state, what, class_of(what)) {
+        (State::Completed, _, _) => (Some(held), None, None),
+        (_, Happening::Response(_), 1) => {
+            let after = Plain {
+                state: State::Proceeding,
+                ..held
+            };
+            after.says(up)
+        }
+        (_, Happening::Response(_), _) => held.entered(State::Completed, end).says(up),
+        (_, Happening::Failed, _) => (None, Some(Said::Failed(held.place)), None),
+        _ => (Some(held), None, None),
+    }
+}
+
+fn invite_server(held: Plain, now: u32, what: Happening) -> After {
+    let end = Some(now.saturating_add(32_000));
+    match (held.state, what, class_of(what)) {
+        (State::Proceeding | State::Completed, Happening::Request, _) => held.sends(held.sent),
+        (State::Proceeding, Happening::Answer(100), _) => (Some(held), None, None),
+        (State::Proceeding, Happening::Answer(status), 1) => held.sends(status),
+        (State::Proceeding, Happening::Answer(status), 2) => {
+            held.entered(State::Accepted, end).sends(status)
+        }
+        (State::Proceeding, Happening::Answer(status), _) => {
+            let after = held.entered(State::Completed, None);
+            after.repeated_from(now).sends(status)
+        }
+        (State::Accepted, Happening::Answer(status), 2) => held.sends(status),
+        (State::Completed, Happening::Ack, _) => {
+            let end = Some(now.saturating_add(5_000));
+            (Some(held.entered(State::Confirmed, end)), None, None)
+        }
+        (State::Accepted, Happening::Ack, _) => held.says(Said::Ack(held.place)),
+        (_, Happening::Failed, _) => held.says(Said::Failed(held.place)),
+        _ => (Some(held), None, None),
+    }
+}
+
+fn server(held: Plain, now: u32, what: Happening) -> After {
+    let end = Some(now.saturating_add(32_000));
+    match (held.state, what, class_of(what)) {
+        (State::Proceeding | State::Completed, Happening::Request, _) => held.sends(held.sent),
+        (_, Happening::Failed, _) => held.says(Said::Failed(held.place)),
+        (State::Completed, _, _) | (_, Happening::Answer(100), _) => (Some(held), None, None),
+        (_, Happening::Answer(status), 1) => held.entered(State::Proceeding, None).sends(status),
+        (_, Happening::Answer(status), _) => held.entered(State::Completed, end).sends(status),
+        _ => (Some(held), None, None),
+    }
+}
+
+fn stepped(machine: Machine, held: Option<Plain>, now: u32, place: u32, what: Happening) -> After {
+    match (held, what, machine) {
+        (None, _, _) => begun(machine, now, place, what),
+        (Some(held), Happening::Tick, _) => ticked(machine, held, now),
+        (Some(held), _, Machine::InviteClient) => invite_client(held, now, what),
+        (Some(held), _, Machine::Client) => client(held, now, what),
+        (Some(held), _, Machine::InviteServer) => invite_server(held, now, what),
+        (Some(held), _, Machine::Server) => server(held, now, what),
+    }
+}
+
+// A line of a script: a moment, a machine, and what comes to its transaction.
+type Line = (u32, Machine, Happening);
+
+// A machine's transaction, folded from all its own lines: what it is, and what the last line adds.
+fn folded(machine: Machine, lines: &[Line]) -> After {
+    let mut after: After = (None, None, None);
+    let mut place = 0u32;
+    for &(now, meant, what) in lines {
+        place = place.wrapping_add(1);
+        after = if meant == machine || matches!(what, Happening::Tick) {
+            stepped(machine, after.0, now, place, what)
+        } else {
+            (after.0, None, None)
+        };
+    }
+    after
+}
+
+// What may come to a machine's transaction.
+fn happening_of(machine: Machine, choice: usize) -> Happening {
+    let of_client = [
+        Happening::Start,
+        Happening::Response(100),
+        Happening::Response(183),
+        Happening::Response(200),
+        Happening::Response(486),
+        Happening::Failed,
+    ];
+    let of_server = [
+        Happening::Request,
+        Happening::Answer(100),
+        Happening::Answer(183),
+        Happening::Answer(200),
+        Happening::Answer(486),
+        Happening::Failed,
+    ];
+    match machine {
+        Machine::InviteServer if choice % 7 == 0 => Happening::Ack,
+        Machine::InviteServer | Machine::Server => of_server[choice % 6],
+        Machine::InviteClient | Machine::Client => of_client[choice % 6],
+    }
+}
+
+// The moments pass in steps that meet the timers, and after each step all see a tick.
+fn next_line(now: u32, random: u32) -> Line {
+    let steps = [
+        0, 0, 0, 0, 0, 0, 1, 499, 500, 500, 1_000, 1_000, 2_000, 4_000, 5_000, 27_000,
+    ];
+    let step = steps[(random >> 27) as usize % 16];
+    let machine = MACHINES[(random >> 22) as usize % 4];
+    if step > 0 {
+        return (now.saturating_add(step), machine, Happening::Tick);
+    }
+    (
+        now,
+        machine,
+        happening_of(machine, (random >> 8) as usize % 1_000),
+    )
+}
+
+// Whether a shard says to the last of these lines, and holds after it, what the folds of its transactions say.
 fn is_as_folded(
     rt: &impl Abort,
     alloc: Global,
     shard: &mut Shard,
-    requests: &Requests,
     place: u32,
     lines: &[Line],
-) -> Result<bool, ShardFault> {
-    let Some(&(moment, is_second, happening)) = lines.last() else {
+) -> Result<bool, Fail> {
+    let Some(&(now, machine, what)) = lines.last() else {
         return Ok(true);
     };
-    let request = if is_second {
-        &requests.two
-    } else {
-        &requests.one
-    };
-    let outs = give(rt, alloc, shard, request, place, moment, happening)?;
-    let first = key_of(alloc, &requests.one)?;
-    let second = key_of(alloc, &requests.two)?;
-    Ok(seen(shard, &first, &second, &outs) == expected(lines))
+    let outs = give(rt, alloc, shard, machine, place, now, what)?;
+    let mut expected = Vec::new(alloc);
+    let mut live = 0usize;
+    let mut is_same = true;
+    for machine in MACHINES {
+        let (held, up, sent) = folded(machine, lines);
+        let state = shard.state_of(&key_for(rt, alloc, machine)?);
+        is_same = is_same && state == held.map(|plain| plain.state);
+        live = live.wrapping_add(usize::from(held.is_some()));
+        for said in [up, sent] {
+            if let Some(said) = said {
+                expected.push(said)?;
+            }
+        }
+    }
+    Ok(is_same && live == shard.live() && are_said(&outs, &expected))
+}
+
+fn are_said(outs: &[Out], expected: &[Said]) -> bool {
+    outs.len() == expected.len()
+        && outs
+            .iter()
+            .zip(expected)
+            .all(|(out, said)| said_by(out) == *said)
 }
 
 #[test]
 fn a_shard_beside_plain_folds(rt: HostRuntime) -> Result<(), Fail> {
     let alloc = rt.alloc();
     let mut shard = Shard::new(alloc, LOCAL);
-    let requests = Requests {
-        one: request(alloc, "z9hG4bKa1", "OPTIONS")?,
-        two: request(alloc, "z9hG4bKb2", "INFO")?,
-    };
-    let lines = script();
-    for index in 0..lines.len() {
-        let place = (index as u32).wrapping_add(1);
-        let so_far = &lines[..=index];
-        let is_same = is_as_folded(&rt, alloc, &mut shard, &requests, place, so_far)?;
+    let mut lines: Vec<Line> = Vec::new(alloc);
+    let mut random = 20_261_123u32;
+    let mut now = 0u32;
+    for place in 1..500u32 {
+        random = random.wrapping_mul(1_664_525).wrapping_add(1_013_904_223);
+        let line = next_line(now, random);
+        now = line.0;
+        lines.push(line)?;
+        let is_same = is_as_folded(&rt, alloc, &mut shard, place, lines.as_slice())?;
         assert!(rt; is_same, "line {place}");
     }
     Ok(())
 }
 
-// What a shard of the agent at this address says of one message that begins no transaction.
-fn said_of(
-    rt: &impl Abort,
-    alloc: Global,
-    local: Addr,
-    message: Message,
-) -> Result<Option<Said>, ShardFault> {
-    let mut shard = Shard::new(alloc, local);
-    let outs = shard.receive(Id { round: 4, place: 2 }, message, PEER, 5)?;
-    assert!(rt; outs.len() == 1);
+// A step of a script: a moment, what comes, and what is handed up or dropped and what is sent.
+type Step = (u32, Happening, Option<Said>, Option<Said>);
+
+// Plays a script on a machine's transaction, at whose end nothing is held.
+fn play(rt: &impl Abort, alloc: Global, machine: Machine, steps: &[Step]) -> Result<(), Fail> {
+    let mut shard = Shard::new(alloc, LOCAL);
+    let mut place = 0u32;
+    for &(now, what, up, sent) in steps {
+        place = place.wrapping_add(1);
+        let outs = give(rt, alloc, &mut shard, machine, place, now, what)?;
+        assert!(rt; are_said(&outs, &said_of(alloc, up, sent)?), "step {place}");
+    }
     assert!(rt; shard.live() == 0);
-    Ok(outs.first().map(said_by))
+    Ok(())
 }
 
-// A response to another sender, one that no transaction waits for, and an ACK that comes alone.
-#[test]
-fn what_begins_no_transaction(rt: HostRuntime) -> Result<(), Fail> {
-    let alloc = rt.alloc();
-    let options = request(alloc, "z9hG4bKa1", "OPTIONS")?;
-    let response = answer(&rt, alloc, &options, 200)?;
-    let said = said_of(&rt, alloc, LOCAL, response.clone()?)?;
-    assert!(rt; said == Some(Said::Dropped(2, DropReason::NotOurs)));
-    let said = said_of(&rt, alloc, PEER, response)?;
-    assert!(rt; said == Some(Said::Dropped(2, DropReason::NoTransaction)));
+fn said_of(alloc: Global, up: Option<Said>, sent: Option<Said>) -> Result<Vec<Said>, AllocError> {
+    let mut said = Vec::new(alloc);
+    for one in [up, sent] {
+        if let Some(one) = one {
+            said.push(one)?;
+        }
+    }
+    Ok(said)
+}
 
-    let ack = request(alloc, "z9hG4bKa1", "ACK")?;
-    let said = said_of(&rt, alloc, LOCAL, ack)?;
-    assert!(rt; said == Some(Said::Other(Id { round: 4, place: 2 })));
+// The steps are those of late rounds, of an INVITE that is answered 486, of one that is answered 200 twice, of a 486 that is
+// acknowledged, of a failed send, and of an ACK alone.
+#[test]
+fn scripts_of_transactions(rt: HostRuntime) -> Result<(), Fail> {
+    let alloc = rt.alloc();
+    let start: Step = (0, Happening::Start, None, Some(Said::Sent(0, 1)));
+    let timeout = Some(Said::Timeout(1));
+    let response = Some(Said::Response(1));
+    let ack = Some(Said::Sent(1, 1));
+    let dropped = Some(Said::Dropped(6, DropReason::NoTransaction));
+    let late = [start, (40_000, Happening::Tick, timeout, None)];
+    play(&rt, alloc, Machine::InviteClient, &late)?;
+    let from_the_round = [
+        start,
+        (5_000, Happening::Tick, None, Some(Said::Sent(0, 1))),
+        (5_999, Happening::Tick, None, None),
+        (6_000, Happening::Tick, None, Some(Said::Sent(0, 1))),
+        (32_000, Happening::Tick, timeout, None),
+    ];
+    play(&rt, alloc, Machine::InviteClient, &from_the_round)?;
+    let refused = [
+        start,
+        (100, Happening::Response(486), response, ack),
+        (200, Happening::Response(486), None, ack),
+        (32_099, Happening::Response(486), None, ack),
+        (32_100, Happening::Tick, None, None),
+        (32_100, Happening::Response(486), dropped, None),
+    ];
+    play(&rt, alloc, Machine::InviteClient, &refused)?;
+    let accepted = [
+        start,
+        (100, Happening::Response(200), response, None),
+        (32_099, Happening::Response(200), response, None),
+        (32_100, Happening::Tick, None, None),
+    ];
+    play(&rt, alloc, Machine::InviteClient, &accepted)?;
+    let acknowledged = [
+        (
+            0,
+            Happening::Request,
+            Some(Said::Request(1)),
+            Some(Said::Sent(100, 1)),
+        ),
+        (0, Happening::Answer(486), None, Some(Said::Sent(486, 1))),
+        (500, Happening::Tick, None, Some(Said::Sent(486, 1))),
+        (600, Happening::Ack, None, None),
+        (5_600, Happening::Tick, None, None),
+    ];
+    play(&rt, alloc, Machine::InviteServer, &acknowledged)?;
+    let failed = [start, (10, Happening::Failed, Some(Said::Failed(1)), None)];
+    play(&rt, alloc, Machine::Client, &failed)?;
+    play(
+        &rt,
+        alloc,
+        Machine::InviteServer,
+        &[(0, Happening::Ack, Some(Said::Ack(1)), None)],
+    )
+}
+
+// A transaction that these events come to sends again at each of these moments and not a millisecond before, and times out at
+// 32,000.
+fn fires(
+    rt: &impl Abort,
+    alloc: Global,
+    machine: Machine,
+    events: &[(u32, Happening)],
+    moments: &[u32],
+) -> Result<(), Fail> {
+    let mut shard = Shard::new(alloc, LOCAL);
+    let mut last = 0u32;
+    for &moment in moments {
+        for &(at, what) in events {
+            if last <= at && at < moment {
+                give(rt, alloc, &mut shard, machine, 1, at, what)?;
+            }
+        }
+        assert!(rt;
+            shard.tick(u64::from(moment.saturating_sub(1)))?.is_empty(),
+            "before {moment}"
+        );
+        let outs = shard.tick(u64::from(moment))?;
+        assert!(rt;
+            matches!(outs.as_slice(), [Out::Send { .. }]),
+            "at {moment}"
+        );
+        last = moment;
+    }
+    assert!(rt; shard.tick(31_999)?.is_empty());
+    assert!(rt; are_said(&shard.tick(32_000)?, &[Said::Timeout(1)]));
+    assert!(rt; shard.live() == 0);
+    Ok(())
+}
+
+#[test]
+fn timers_fire_at_their_moments(rt: HostRuntime) -> Result<(), Fail> {
+    let alloc = rt.alloc();
+    let start = (0, Happening::Start);
+    let doubled = [500, 1_500, 3_500, 7_500, 15_500, 31_500];
+    let capped = [
+        500, 1_500, 3_500, 7_500, 11_500, 15_500, 19_500, 23_500, 27_500, 31_500,
+    ];
+    let even = [
+        500, 1_500, 5_500, 9_500, 13_500, 17_500, 21_500, 25_500, 29_500,
+    ];
+    fires(&rt, alloc, Machine::InviteClient, &[start], &doubled)?;
+    fires(&rt, alloc, Machine::Client, &[start], &capped)?;
+    fires(
+        &rt,
+        alloc,
+        Machine::Client,
+        &[start, (600, Happening::Response(183))],
+        &even,
+    )?;
+    let unacknowledged = [(0, Happening::Request), (0, Happening::Answer(486))];
+    fires(&rt, alloc, Machine::InviteServer, &unacknowledged, &capped)
+}
+
+// The bytes of 100 Trying, and of the ACK of a request with two Vias, a Route and a body.
+#[test]
+fn messages_that_transactions_make(rt: HostRuntime) -> Result<(), Fail> {
+    let alloc = rt.alloc();
+    let mut shard = Shard::new(alloc, LOCAL);
+    let outs = give(
+        &rt,
+        alloc,
+        &mut shard,
+        Machine::InviteServer,
+        2,
+        0,
+        Happening::Request,
+    )?;
+    let [_, Out::Send { bytes, .. }] = outs.as_slice() else {
+        return Err("100 Trying".into());
+    };
+    let trying =
+        b"SIP/2.0 100 Trying\r\nVia: SIP/2.0/UDP 192.0.2.9;branch=z9hG4bKa1\r\nFrom: <sip:a@192.0.2.1>;tag=f1\r\nTo: <sip:b@192.0.2.9>\r\nCall-ID: c1\r\nCSeq: 7 INVITE\r\nContent-Length: 0\r\n\r\n";
+    assert!(rt; bytes.as_slice() == trying.as_slice());
+
+    let mut request = message_of(alloc, Machine::InviteClient, "INVITE", 2)?;
+    let mut vias = Vec::new(alloc);
+    vias.push(request.vias.top().clone()?)?;
+    vias.push(request.vias.top().clone()?)?;
+    request.vias = Vias::new(Series::from_vec(vias)).ok_or("two Vias")?;
+    request.routes.push(NameAddr {
+        display: DisplayText::nothing(alloc),
+        uri: Uri::new(Text::copy_of(alloc, b"sip:192.0.2.7;lr")?).ok_or("a URI")?,
+        parameters: Series::new(alloc),
+    })?;
+    let request = request.with_body(alloc, Text::copy_of(alloc, b"x")?)?;
+    let response = answer(&rt, alloc, &request, 486)?;
+    let made = write(alloc, &ack_for(alloc, &request, &response)?)?;
+    let ack =
+        b"ACK sip:b@192.0.2.9 SIP/2.0\r\nVia: SIP/2.0/UDP 192.0.2.1;branch=z9hG4bKa1\r\nMax-Forwards: 70\r\nFrom: <sip:a@192.0.2.1>;tag=f1\r\nTo: <sip:b@192.0.2.9>;tag=t1\r\nCall-ID: c1\r\nCSeq: 7 ACK\r\nRoute: <sip:192.0.2.7;lr>\r\nContent-Length: 0\r\n\r\n";
+    assert!(rt; made.as_slice() == ack.as_slice());
+    Ok(())
+}
+
+// A response to another sender.
+#[test]
+fn a_response_to_another_sender_is_dropped(rt: HostRuntime) -> Result<(), Fail> {
+    let alloc = rt.alloc();
+    let mut shard = Shard::new(alloc, addr_of(1));
+    let outs = give(
+        &rt,
+        alloc,
+        &mut shard,
+        Machine::Client,
+        2,
+        0,
+        Happening::Response(200),
+    )?;
+    assert!(rt; are_said(&outs, &[Said::Dropped(2, DropReason::NotOurs)]));
     Ok(())
 }
