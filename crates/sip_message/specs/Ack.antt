@@ -9,10 +9,13 @@ use Rattle.sip_message.specs.Response.{bare}
 abbrev pub ack_cseq : CSeq → CSeq
 ack_cseq cseq = record { number = cseq.number; method = codes "ACK" }
 
--- Request-URI, From, Call-ID, CSeq number and Route of the request, its top Via alone, and the To of the response
+-- Request-URI, From, Call-ID, CSeq number and Route of the request, its top Via alone, and the To
+-- of the response
 abbrev pub ack_of : Message → Message → Message
 ack_of request response =
-    record (bare request.start (take 1 request.vias) request.from response.to request.call_id (ack_cseq request.cseq)) {
+    let via = take 1 request.vias in
+    let cseq = ack_cseq request.cseq in
+    record (bare request.start via request.from response.to request.call_id cseq) {
       max_forwards = Some MAX_FORWARDS;
       routes = request.routes;
     }

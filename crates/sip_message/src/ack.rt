@@ -13,8 +13,9 @@ use std::alloc::{AllocError, Global};
 /// How many hops an ACK may take (RFC 3261, section 8.1.1.6).
 const MAX_FORWARDS: u32 = 70;
 
-/// The ACK that the client of an INVITE sends for a response of 300 to 699: the start line, From, Call-ID, CSeq number
-/// and Route of the request, its top Via alone, the To of the response, and no body.
+/// The ACK that the client of an INVITE sends for a response of 300 to 699: the start line, From,
+/// Call-ID, CSeq number and Route of the request, its top Via alone, the To of the response, and no
+/// body.
 #[tactic(auto, unfolding(crate::specs::Response::bare))]
 pub fn ack_for(alloc: Global, request: &Message, response: &Message) -> Result<Message, AllocError>
     ensures { IfOk result (λ made. made ≡ ack.ack_of request.now response.now) }

@@ -23,7 +23,10 @@ use Rattle.sip_transactions.specs.Output.{outputs_of, made_bytes}
 
 -- what the row for an input does, if there is one
 unfoldable pub step_for : Key → Option Life → ℕ → Input → Option Step
-step_for key held now input = option_and_then (row_of (rows_of (role_of key)) (option_map (λ life. life.state) held)) (trigger_of held now input)
+step_for key held now input =
+    let rows = rows_of (role_of key) in
+    let state = option_map (λ life. life.state) held in
+    option_and_then (row_of rows state) (trigger_of held now input)
 
 -- the client of an INVITE keeps it, for its ACKs
 abbrev pub keeps_request : Role → Bool
@@ -34,12 +37,21 @@ keeps_request Server = false
 
 -- a life of this id and this Call-ID, before the row of its first input gives it its state
 abbrev pub life_by : Id → List ℕ → Addr → Option Message → Life
-life_by id call_id to request = record { state = Trying; id = id; call_id = call_id; to = to; request = request; last = None; timers = no_dues }
+life_by id call_id to request = record {
+  state = Trying;
+  id = id;
+  call_id = call_id;
+  to = to;
+  request = request;
+  last = None;
+  timers = no_dues;
+}
 
 -- the life that an input begins, with the id and the Call-ID of that input
 unfoldable pub begun : Role → Input → Option Life
 begun role (Receive id message reply_to) = Some (life_by id message.call_id reply_to None)
-begun role (Start id call_id message to) = Some (life_by id call_id to (if keeps_request role then Some message else None))
+begun role (Start id call_id message to) =
+    Some (life_by id call_id to (if keeps_request role then Some message else None))
 begun role Tick = None
 begun role (Answer id message) = None
 begun role (Failed id) = None
@@ -68,12 +80,16 @@ last_of (Some bytes) life = record life { last = Some bytes }
 unfoldable pub life_after : Life → Step → ℕ → Option (List ℕ) → Option Life
 life_after life step now made = entered step.next (armed step.due now (last_of made life))
 
--- a row at a life that made a message of these bytes: what is held after it, and what it says
-abbrev pub acted_by : Key → ℕ → Input → Life → Step → Option (List ℕ) → Option Life × List Out
-acted_by key now input life step made = (life_after life step now made, outputs_of key life step made (arrived_in input))
-
+-- a row at a life: what is held after it, and what it says
 abbrev pub acted : Key → ℕ → Input → Life → Step → Option Life × List Out
-acted key now input life step = acted_by key now input life step (made_bytes life.request step.sent (message_in input))
+acted key now input life step =
+    let made = made_bytes life.request step.sent (message_in input) in
+    (life_after life step now made, outputs_of key life step made (arrived_in input))
+
+-- the same at a message that comes where no life is held
+abbrev pub acted_at_arrival : Key → ℕ → Id → Message → Addr → Step → Option Life × List Out
+acted_at_arrival key now id message reply_to step =
+    acted key now (Receive id message reply_to) (life_by id message.call_id reply_to None) step
 
 abbrev pub acted_if : Key → ℕ → Input → Option Life → Step → Option Life × List Out
 acted_if key now input None step = (None, [])
@@ -82,7 +98,9 @@ acted_if key now input (Some life) step = acted key now input life step
 -- an input: where no row fits, nothing changes and nothing is said
 abbrev pub stepped_by : Key → Option Life → ℕ → Input → Option Step → Option Life × List Out
 stepped_by key held now input None = (held, [])
-stepped_by key held now input (Some step) = acted_if key now input (life_of (role_of key) held input) step
+stepped_by key held now input (Some step) =
+    acted_if key now input (life_of (role_of key) held input) step
 
 unfoldable pub stepped : Key → Option Life → Timed → Option Life × List Out
-stepped key held timed = stepped_by key held timed.moment timed.input (step_for key held timed.moment timed.input)
+stepped key held timed =
+    stepped_by key held timed.moment timed.input (step_for key held timed.moment timed.input)

@@ -1,6 +1,6 @@
--- The tables of the four machines, a line for each row (RFC 3261, sections 17.1 and 17.2, and RFC 6026, section 7).
--- A timer's letter stands beside each row that sets it (+) or in which it fires (!). T1, T2 and T4 are those of RFC 3261,
--- section 17, and LIFETIME is 64 times T1, in ms.
+-- The tables of the four machines, a line for each row (RFC 3261, sections 17.1 and 17.2, and
+-- RFC 6026, section 7). A timer's letter stands beside each row that sets it (+) or in which it
+-- fires (!). T1, T2 and T4 are those of RFC 3261, section 17, and LIFETIME is 64 times T1, in ms.
 use Rattle.std.specs.Prelude.{ℕ, Bool, ◌==◌, ◌&&◌, ◌+◌, ◌++◌, List, [], ◌∷◌, Option, None, Some, option_map, find}
 use Rattle.std.specs.List.{list_any}
 use Rattle.sip_transactions.specs.declared.state.State.{State}
@@ -29,9 +29,14 @@ pub record Row : Type 0 where
   pub on : List Trigger
   pub step : Step
 
--- a row: its states, its triggers, the state after it, what it hands up, what it sends, and what becomes of the due moments
+-- a row: its states, its triggers, the state after it, what it hands up, what it sends, and what
+-- becomes of the due moments
 abbrev pub row : List (Option State) → List Trigger → Next → Handed → Sent → Due → Row
-row from on next handed sent due = record { from = from; on = on; step = record { next = next; handed = handed; sent = sent; due = due } }
+row from on next handed sent due = record {
+  from = from;
+  on = on;
+  step = record { next = next; handed = handed; sent = sent; due = due };
+}
 
 -- no state, one state, two states
 abbrev pub fresh : List (Option State)
@@ -70,8 +75,9 @@ answer_failure = Answer class.Failure ∷ []
 abbrev pub on : Trigger → List Trigger
 on trigger = trigger ∷ []
 
--- The client of an INVITE: RFC 3261, section 17.1.1, and RFC 6026, section 7.2. The ACK of a 2xx isn't its own.
--- A repeats the request, B ends the wait for a response, D absorbs repeated responses, M passes on further 2xx.
+-- The client of an INVITE: RFC 3261, section 17.1.1, and RFC 6026, section 7.2. The ACK of a 2xx
+-- isn't its own. A repeats the request, B ends the wait for a response, D absorbs repeated
+-- responses, M passes on further 2xx.
 abbrev pub invite_client_rows : List Row
 invite_client_rows =
     row fresh (on Start) (Become Calling) up.Nothing send.Given Both  -- +A +B
@@ -88,8 +94,8 @@ invite_client_rows =
     ∷ row fresh any_response Ended up.NoTransaction send.Nothing Clear
     ∷ []
 
--- The client of another request: RFC 3261, section 17.1.2.
--- E repeats the request, F ends the wait for a final response, K absorbs repeated responses.
+-- The client of another request: RFC 3261, section 17.1.2. E repeats the request, F ends the wait
+-- for a final response, K absorbs repeated responses.
 abbrev pub client_rows : List Row
 client_rows =
     row fresh (on Start) (Become Trying) up.Nothing send.Given Both  -- +E +F
@@ -103,8 +109,8 @@ client_rows =
     ∷ row fresh any_response Ended up.NoTransaction send.Nothing Clear
     ∷ []
 
--- The server of an INVITE: RFC 3261, section 17.2.1, and RFC 6026, section 7.1.
--- G repeats the response, H ends the wait for the ACK, I absorbs repeated ACKs, L passes on the ACKs of a 2xx.
+-- The server of an INVITE: RFC 3261, section 17.2.1, and RFC 6026, section 7.1. G repeats the
+-- response, H ends the wait for the ACK, I absorbs repeated ACKs, L passes on the ACKs of a 2xx.
 abbrev pub invite_server_rows : List Row
 invite_server_rows =
     row fresh (on Request) (Become Proceeding) up.Message send.Trying Clear
@@ -123,7 +129,8 @@ invite_server_rows =
     ∷ row fresh (on Ack) Ended up.Message send.Nothing Clear
     ∷ []
 
--- The server of another request: RFC 3261, section 17.2.2. J keeps the response for repeated requests.
+-- The server of another request: RFC 3261, section 17.2.2. J keeps the response for repeated
+-- requests.
 abbrev pub server_rows : List Row
 server_rows =
     row fresh (on Request) (Become Trying) up.Message send.Nothing Clear

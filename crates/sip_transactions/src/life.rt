@@ -29,7 +29,7 @@ pub struct Life {
 }
 
 impl Life {
-    /// The life of an input with this id and this Call-ID, before its row; a row that begins a life gives it its state.
+    /// The life of an input with this id and this Call-ID, before its row gives it its state.
     pub(crate) fn new(id: Id, call_id: CallId, to: Addr, request: Option<Message>) -> Life
         ensures { result ≡ life_by id call_id to request }
     {

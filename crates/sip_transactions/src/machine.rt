@@ -2,7 +2,7 @@
 
 ghost use Rattle.std.specs.Prelude.{◌≡◌, ℕ, ◌≤◌, ◌^◌, IfOk, IfSome, None};
 ghost use Rattle.sip_transactions.specs.Input.{role_of};
-ghost use Rattle.sip_transactions.specs.Life.{step_for, begun, keeps_request, life_by, life_after, acted, acted_if};
+ghost use Rattle.sip_transactions.specs.Life.{step_for, begun, keeps_request, life_after, acted, acted_if, acted_at_arrival};
 ghost use Rattle.sip_transactions.specs.Timers.{IsTimely};
 ghost use Rattle.sip_transactions.specs.Repeats.{RepeatsInTime};
 ghost use Rattle.sip_transactions.specs.Output.{outputs_of};
@@ -89,8 +89,10 @@ fn go_on(
 fn begin(alloc: Global, key: &Key, now: u64, input: Input, step: Step) -> Result<After, AllocError>
     requires bound { now ≤ 2 ^ 62 }
     requires timely { RepeatsInTime step.due now None }
-    ensures next { IfOk result (λ after. after.0 ≡ (acted_if key.now now input (begun (role_of key.now) input) step).0) }
-    ensures adds { IfOk result (λ after. after.1.items ≡ (acted_if key.now now input (begun (role_of key.now) input) step).1) }
+    ensures next { let life = begun (role_of key.now) input in
+        IfOk result (λ after. after.0 ≡ (acted_if key.now now input life step).0) }
+    ensures adds { let life = begun (role_of key.now) input in
+        IfOk result (λ after. after.1.items ≡ (acted_if key.now now input life step).1) }
 {
     match input {
         Input::Receive {
@@ -143,8 +145,8 @@ fn arrive(
 ) -> Result<After, AllocError>
     requires bound { now ≤ 2 ^ 62 }
     requires timely { RepeatsInTime step.due now None }
-    ensures next { IfOk result (λ after. after.0 ≡ (acted key.now now (Input.Receive id message reply_to) (life_by id message.call_id reply_to None) step).0) }
-    ensures adds { IfOk result (λ after. after.1.items ≡ (acted key.now now (Input.Receive id message reply_to) (life_by id message.call_id reply_to None) step).1) }
+    ensures next { IfOk result (λ after. after.0 ≡ (acted_at_arrival key.now now id message reply_to step).0) }
+    ensures adds { IfOk result (λ after. after.1.items ≡ (acted_at_arrival key.now now id message reply_to step).1) }
 {
     match (step.next, step.sent) {
         (Next::Ended, Sent::Nothing) => pass(alloc, key, id, message, reply_to, step),
@@ -164,8 +166,8 @@ fn pass(
 ) -> Result<After, AllocError>
     requires ended { step.next ≡ Next.Ended }
     requires silent { step.sent ≡ Sent.Nothing }
-    ensures next { (now : ℕ) → IfOk result (λ after. after.0 ≡ (acted key.now now (Input.Receive id message reply_to) (life_by id message.call_id reply_to None) step).0) }
-    ensures adds { (now : ℕ) → IfOk result (λ after. after.1.items ≡ (acted key.now now (Input.Receive id message reply_to) (life_by id message.call_id reply_to None) step).1) }
+    ensures next { (now : ℕ) → IfOk result (λ after. after.0 ≡ (acted_at_arrival key.now now id message reply_to step).0) }
+    ensures adds { (now : ℕ) → IfOk result (λ after. after.1.items ≡ (acted_at_arrival key.now now id message reply_to step).1) }
 {
     let outputs = passed_on(alloc, key, id, message, reply_to, step.handed)?;
     Ok((None, outputs))
@@ -182,8 +184,8 @@ fn begin_by_message(
 ) -> Result<After, AllocError>
     requires bound { now ≤ 2 ^ 62 }
     requires timely { RepeatsInTime step.due now None }
-    ensures next { IfOk result (λ after. after.0 ≡ (acted key.now now (Input.Receive id message reply_to) (life_by id message.call_id reply_to None) step).0) }
-    ensures adds { IfOk result (λ after. after.1.items ≡ (acted key.now now (Input.Receive id message reply_to) (life_by id message.call_id reply_to None) step).1) }
+    ensures next { IfOk result (λ after. after.0 ≡ (acted_at_arrival key.now now id message reply_to step).0) }
+    ensures adds { IfOk result (λ after. after.1.items ≡ (acted_at_arrival key.now now id message reply_to step).1) }
 {
     let made = made_bytes(alloc, None, step.sent, Some(&message))?;
     let life = Life::new(id, message.call_id.clone()?, reply_to, None);

@@ -13,8 +13,8 @@ use std::alloc::{AllocError, Global};
 /// The status of 100 Trying.
 const TRYING: u16 = 100;
 
-/// The bytes of the message that a row makes, if it makes one: of a message that came or that the user gave, and for an
-/// ACK of the request that the life keeps.
+/// The bytes of the message that a row makes, if it makes one: of a message that came or that the
+/// user gave, and for an ACK of the request that the life keeps.
 #[tactic(auto, unfolding(crate::specs::Output::made_of))]
 pub(crate) fn made_bytes(
     alloc: Global,
@@ -22,7 +22,8 @@ pub(crate) fn made_bytes(
     sent: Sent,
     message: Option<&Message>,
 ) -> Result<Option<Text>, AllocError>
-    ensures { IfOk result (λ made. made ≡ made_bytes (option_copied request.entry) sent (option_copied message.entry)) }
+    ensures { let bytes = made_bytes (option_copied request.entry) sent (option_copied message.entry) in
+        IfOk result (λ made. made ≡ bytes) }
 {
     let Some(message) = message else {
         return Ok(None);

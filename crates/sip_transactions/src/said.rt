@@ -23,7 +23,8 @@ pub(crate) fn said(
     made: Option<&Text>,
     arrived: Option<(Message, Addr)>,
 ) -> Result<Vec<Out>, AllocError>
-    ensures { IfOk result (λ outputs. outputs.items ≡ outputs_of key.now life.now step (option_copied made.entry) arrived) }
+    ensures { let bytes = option_copied made.entry in
+        IfOk result (λ outputs. outputs.items ≡ outputs_of key.now life.now step bytes arrived) }
 {
     let mut outputs = Vec::new(alloc);
     if let Some(out) = hand_up(key, life, step.handed, arrived)? {
@@ -44,7 +45,9 @@ pub(crate) fn passed_on(
     reply_to: Addr,
     handed: Handed,
 ) -> Result<Vec<Out>, AllocError>
-    ensures { IfOk result (λ outputs. outputs.items ≡ option_to_list (handed_out key.now (life_by id message.call_id reply_to None) handed (Some (message, reply_to)))) }
+    ensures { let life = life_by id message.call_id reply_to None in
+        let out = handed_out key.now life handed (Some (message, reply_to)) in
+        IfOk result (λ outputs. outputs.items ≡ option_to_list out) }
 {
     let mut outputs = Vec::new(alloc);
     if let Some(out) = pass_on(key, id, message, reply_to, handed)? {
@@ -61,7 +64,8 @@ fn pass_on(
     reply_to: Addr,
     handed: Handed,
 ) -> Result<Option<Out>, AllocError>
-    ensures { IfOk result (λ out. out ≡ handed_out key.now (life_by id message.call_id reply_to None) handed (Some (message, reply_to))) }
+    ensures { let life = life_by id message.call_id reply_to None in
+        IfOk result (λ out. out ≡ handed_out key.now life handed (Some (message, reply_to))) }
 {
     match handed {
         Handed::Nothing => Ok(None),
@@ -96,7 +100,8 @@ fn hand_up(
 }
 
 fn up_out(key: &Key, id: Id, call_id: CallId, kind: Kind) -> Result<Out, AllocError>
-    ensures { IfOk result (λ out. out ≡ Out.Up (record { key = key.now; id = id; call_id = call_id; kind = kind })) }
+    ensures { IfOk result (λ out. out
+        ≡ Out.Up (record { key = key.now; id = id; call_id = call_id; kind = kind })) }
 {
     Ok(Out::Up(Up {
         key: key.clone()?,
@@ -127,7 +132,8 @@ fn kind_of(message: Message, reply_to: Addr) -> Kind
 
 // The bytes that a row sends: what it made, or what was sent last.
 fn bytes_sent<'a>(last: Option<&'a Text>, sent: Sent, made: Option<&'a Text>) -> Option<&'a Text>
-    ensures { option_copied result ≡ sent_bytes (option_copied last.entry) sent (option_copied made.entry) }
+    ensures { let bytes = option_copied made.entry in
+        option_copied result ≡ sent_bytes (option_copied last.entry) sent bytes }
 {
     match sent {
         Sent::Latest => last,

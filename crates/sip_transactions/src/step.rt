@@ -107,7 +107,13 @@ impl Step {
 
     /// The repeat fires: what was sent last is sent once more.
     pub fn repeat(pace: Pace) -> Step
-        ensures { result ≡ record { next = Next.Same; handed = Handed.Nothing; sent = Sent.Latest; due = Due.Again pace } }
+        ensures { result
+            ≡ record {
+              next = Next.Same;
+              handed = Handed.Nothing;
+              sent = Sent.Latest;
+              due = Due.Again pace;
+            } }
     {
         Step {
             next: Next::Same,
@@ -119,7 +125,8 @@ impl Step {
 
     /// The transaction ends.
     pub fn end(handed: Handed) -> Step
-        ensures { result ≡ record { next = Next.Ended; handed = handed; sent = Sent.Nothing; due = Due.Clear } }
+        ensures { let quiet = Sent.Nothing in
+            result ≡ record { next = Next.Ended; handed = handed; sent = quiet; due = Due.Clear } }
     {
         Step {
             next: Next::Ended,
