@@ -445,19 +445,22 @@ fn happening_of(machine: Machine, choice: usize) -> Happening {
 
 // The moments pass in steps that meet the timers, and after each step all see a tick.
 fn next_line(now: u32, random: u32) -> Line {
-    let steps = [
-        0, 0, 0, 0, 0, 0, 1, 499, 500, 500, 1_000, 1_000, 2_000, 4_000, 5_000, 27_000,
-    ];
-    let step = steps[(random >> 27) as usize % 16];
+    let step = match random >> 26 {
+        0 => 27_000,
+        1 => 5_000,
+        2 | 3 => 4_000,
+        4 | 5 => 1_000,
+        6 | 7 | 8 => 500,
+        9 => 499,
+        10 => 1,
+        _ => 0,
+    };
     let machine = MACHINES[(random >> 22) as usize % 4];
     if step > 0 {
         return (now.saturating_add(step), machine, Happening::Tick);
     }
-    (
-        now,
-        machine,
-        happening_of(machine, (random >> 8) as usize % 1_000),
-    )
+    let choice = (random >> 8) as usize % 1_000;
+    (now, machine, happening_of(machine, choice))
 }
 
 // Whether a shard says to the last of these lines, and holds after it, what the folds of its transactions say.
@@ -502,9 +505,9 @@ fn a_shard_beside_plain_folds(rt: HostRuntime) -> Result<(), Fail> {
     let alloc = rt.alloc();
     let mut shard = Shard::new(alloc, LOCAL);
     let mut lines: Vec<Line> = Vec::new(alloc);
-    let mut random = 20_261_123u32;
+    let mut random = 384u32;
     let mut now = 0u32;
-    for place in 1..500u32 {
+    for place in 1..700u32 {
         random = random.wrapping_mul(1_664_525).wrapping_add(1_013_904_223);
         let line = next_line(now, random);
         now = line.0;
