@@ -505,7 +505,7 @@ fn a_shard_beside_plain_folds(rt: HostRuntime) -> Result<(), Fail> {
     let alloc = rt.alloc();
     let mut shard = Shard::new(alloc, LOCAL);
     let mut lines: Vec<Line> = Vec::new(alloc);
-    let mut random = 384u32;
+    let mut random = 1_770u32;
     let mut now = 0u32;
     for place in 1..700u32 {
         random = random.wrapping_mul(1_664_525).wrapping_add(1_013_904_223);
