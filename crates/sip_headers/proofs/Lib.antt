@@ -1,3 +1,8 @@
 pub mod Drafts
 pub mod Folds
 pub mod Presences
+pub mod Completes
+pub mod Eaches
+pub mod HeaderSets
+pub mod HeaderNumbers
+pub mod HeaderFaults

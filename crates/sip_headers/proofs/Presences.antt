@@ -15,14 +15,14 @@ use Rattle.sip_headers.specs.declared.slot.Slot.{Slot}
 use Rattle.sip_headers.specs.declared.slot.Slot.TheVariants.{Absent, Once, Twice, Bad}
 use Rattle.sip_headers.proofs.Drafts.{is_draft}
 
-find_same_by : {A : Type 0} (p q : Bool) (x : A) (one two : Option A) → p ≡ q → one ≡ two → cond p (Some x) one ≡ cond q (Some x) two
+pub find_same_by : {A : Type 0} (p q : Bool) (x : A) (one two : Option A) → p ≡ q → one ≡ two → cond p (Some x) one ≡ cond q (Some x) two
 find_same_by p q x one two e f = ap (λ b. cond b (Some x) one) e ∙ ap (λ o. cond q (Some x) o) f
 
 find_same : {A : Type 0} (p q : A → Bool) (xs : List A) → AllByRecursion (λ x. p x ≡ q x) xs → find p xs ≡ find q xs
 find_same p q [] all = refl
 find_same p q (x ∷ xs) all = find_same_by (p x) (q x) x (find p xs) (find q xs) all.0 (find_same p q xs all.1)
 
-none_of : {A : Type 0} (p : A → Bool) (xs : List A) → list_any p xs ≡ false → AllByRecursion (λ x. p x ≡ false) xs
+pub none_of : {A : Type 0} (p : A → Bool) (xs : List A) → list_any p xs ≡ false → AllByRecursion (λ x. p x ≡ false) xs
 none_of p [] e = tt
 none_of p (x ∷ xs) e = let parts = or_parts (p x) (list_any p xs) e in (parts.0, none_of p xs parts.1)
 
@@ -44,13 +44,13 @@ slot_repeated P (Once x) (v ∷ (w ∷ vs)) is fit = absurd is.1
 slot_repeated P Twice vs is fit = sym (lt-ltb 1 (length vs) (omega (arith, is.2)))
 slot_repeated P Bad vs is fit = absurd cc
 
-list_never_repeated : {X : Type 0} (o : Option (List X)) → is_repeated (list_presence o) ≡ false
+pub list_never_repeated : {X : Type 0} (o : Option (List X)) → is_repeated (list_presence o) ≡ false
 list_never_repeated None = refl
 list_never_repeated (Some []) = refl
 list_never_repeated (Some (x ∷ xs)) = refl
 
 -- a Via line has a value
-some_via : (vias : List ViaDraft) (text : List ℕ) → AreVias vias text → vias ≡ [] → ⊥
+pub some_via : (vias : List ViaDraft) (text : List ℕ) → AreVias vias text → vias ≡ [] → ⊥
 some_via vias text ([], split, all) none = split
 some_via [] text (piece ∷ pieces, split, all) none = absurd all
 some_via (via ∷ vias) text (piece ∷ pieces, split, all) none = absurd cc
@@ -70,7 +70,7 @@ via_nowhere (Some (x ∷ xs)) (v ∷ vs) is fit = refl
 
 -- ---- all headers
 
-fits : (d : Draft) → has_bad_header d ≡ false → AllByRecursion (λ header. is_unfit (presence_of d header) ≡ false) headers
+pub fits : (d : Draft) → has_bad_header d ≡ false → AllByRecursion (λ header. is_unfit (presence_of d header) ≡ false) headers
 fits d e = none_of (λ header. is_unfit (presence_of d header)) headers (or_parts _ _ e).1
 
 missing_of : (d : Draft) (lines : List (List ℕ)) → IsDraftOf d lines → AllByRecursion (λ header. is_unfit (presence_of d header) ≡ false) headers → missing d ≡ find (λ header. is_needed (entry header).kind && has_no_values (values header lines)) headers

@@ -6,3 +6,7 @@ pub mod Columns
 pub mod Folding
 pub mod Whole
 pub mod Presence
+pub mod Headers
+pub mod Complete
+pub mod Numbers
+pub mod Faults

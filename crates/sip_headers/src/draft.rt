@@ -1,10 +1,12 @@
 //! All header lines of a message, by header.
-ghost use Rattle.std.specs.Prelude.{◌≡◌, IfOk, OnOk};
+ghost use Rattle.std.specs.Prelude.{◌≡◌, IfOk, OnOk, Some};
+ghost use Rattle.sip_headers.specs.Complete as complete;
 ghost use Rattle.sip_headers.specs.Draft as drafts;
 
 use crate::header_line::{LineClass, class_of};
+use crate::headers::Headers;
 use crate::slot::{Slot, listed, meet, meet_list};
-use sip_message::{Header, NameAddr, Party};
+use sip_message::{Header, NameAddr, Party, ReadFault};
 use sip_parts::{CallId, HeaderName, HeaderValue, OtherName, Token};
 use sip_text::{Series, Text, token_eq};
 use sip_values::{
@@ -141,6 +143,63 @@ impl Draft {
         let header = other_in(alloc, name, value)?;
         self.others = listed(self.others.take(), header)?;
         Ok(())
+    }
+
+    /// The headers of these lines.
+    ///
+    /// # Errors
+    ///
+    /// BadHeader where a line is no header line, or a value isn't in its header's form; Missing for the first header that
+    /// isn't there; Repeated for the first that is there twice.
+    pub fn into_headers(self) -> Result<Headers, ReadFault>
+        ensures { result ≡ complete.headers_of self }
+    {
+        match self.fault() {
+            Some(fault) => Err(fault),
+            None => Ok(self.into_all()),
+        }
+    }
+
+    #[tactic(auto, unfolding(crate::specs::Complete::headers_in))]
+    fn into_all(self) -> Headers
+        requires { complete.IsComplete self }
+        ensures { complete.headers_in self ≡ Some result }
+    {
+        let Draft {
+            is_bad: _,
+            vias,
+            max_forwards,
+            from,
+            to,
+            call_id,
+            cseq,
+            contacts,
+            record_routes,
+            routes,
+            require,
+            supported,
+            rseq,
+            rack,
+            content_length,
+            others,
+        } = self;
+        Headers {
+            vias: vias.unwrap(),
+            max_forwards: max_forwards.into_at_most_once(),
+            from: from.into_once(),
+            to: to.into_once(),
+            call_id: call_id.into_once(),
+            cseq: cseq.into_once(),
+            contacts: contacts.unwrap(),
+            record_routes: record_routes.unwrap(),
+            routes: routes.unwrap(),
+            require: require.unwrap(),
+            supported: supported.unwrap(),
+            rseq: rseq.into_at_most_once(),
+            rack: rack.into_at_most_once(),
+            content_length: content_length.into_at_most_once(),
+            others: others.unwrap(),
+        }
     }
 }
 

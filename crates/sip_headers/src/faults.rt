@@ -1,11 +1,13 @@
 //! Headers that are missing, or stand in a message more often than they may.
-ghost use Rattle.std.specs.Prelude.{◌≡◌, find, ◌&&◌};
+ghost use Rattle.std.specs.Prelude.{◌≡◌, find, ◌&&◌, IfNone};
+ghost use Rattle.sip_headers.specs.Complete as complete;
 ghost use Rattle.std.specs.List.{list_any};
 ghost use Rattle.sip_parts.specs.HeaderEntry as table;
 ghost use Rattle.sip_headers.specs.Presence as presence;
 
 use crate::draft::Draft;
 use crate::slot::Slot;
+use sip_message::ReadFault;
 use sip_parts::{HeaderKind, HeaderName};
 use sip_text::Series;
 
@@ -107,6 +109,24 @@ impl Draft {
         HeaderName::ALL
             .iter()
             .any(|header| self.presence(*header).is_unfit())
+    }
+
+    /// The first fault of these lines.
+    #[tactic(auto, unfolding(crate::specs::Complete::fault_in))]
+    pub(crate) fn fault(&self) -> Option<ReadFault>
+        ensures first { result ≡ complete.fault_in self.now }
+        ensures complete { IfNone result (complete.IsComplete self.now) }
+    {
+        if self.has_bad_header() {
+            return Some(ReadFault::BadHeader);
+        }
+        match self.missing() {
+            Some(header) => Some(ReadFault::Missing(header)),
+            None => match self.repeated() {
+                Some(header) => Some(ReadFault::Repeated(header)),
+                None => None,
+            },
+        }
     }
 
     /// The first header that each message has and that isn't there.

@@ -5,6 +5,7 @@ mod draft;
 mod faults;
 mod folding;
 mod header_line;
+mod headers;
 mod laws;
 mod slot;
 
@@ -12,5 +13,6 @@ pub use draft::Draft;
 pub use faults::Presence;
 pub use folding::{Whole, gather, whole_line};
 pub use header_line::{LineClass, class_of};
-pub use laws::{what_is_gathered, what_is_missing, what_is_repeated};
+pub use headers::{Headers, Numbers, with_ports};
+pub use laws::{what_headers_are, what_is_gathered, what_is_missing, what_is_repeated};
 pub use slot::{Slot, meet, meet_list};

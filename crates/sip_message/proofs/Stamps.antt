@@ -16,8 +16,11 @@ use Rattle.sip_text.specs.Parameter.{is_value_byte, is_value_word, is_parameter_
 use Rattle.sip_text.specs.Quoted.{is_quoted}
 use Rattle.sip_message.specs.Ip.{ip_text}
 use Rattle.sip_parts.specs.Parameters.{parameter_named, value_named, value_or_nothing}
-use Rattle.sip_message.specs.Via.{branch_of, has_cookie, are_vias}
-use Rattle.sip_message.specs.Source.{with_value, stamped_via, stamped_vias}
+use Rattle.sip_message.specs.Via.{branch_of, has_cookie, are_vias, with_top_parameters, first_branch}
+use Rattle.std.specs.List.{slice_get}
+use Rattle.std.proofs.lemmas.Option.{same_Some}
+use Rattle.sip_message.specs.Source.{with_value, asks_port, with_received, with_port, stamped_parameters, stamped_via, stamped_vias}
+use Rattle.sip_message.specs.declared.addr.Addr.{Addr}
 use Rattle.sip_parts.proofs.Bytes.{or_right, both_true, none_of, all_weaker}
 
 digits_test : IsDigitsTest (λ ds. list_all is_ascii_digit ds ≡ true)
@@ -75,17 +78,21 @@ not_both name a b differ is = not_true _ (λ other. differ (sym ((bytes_eq-Decid
 abbrev branch : List ℕ
 branch = codes "branch"
 
-abbrev received : List ℕ
-received = codes "received"
+-- a name that isn't `branch`
+pub record IsOtherName (name : List ℕ) : Type 0 where
+  pub differ : str_to_ascii_lowercase name ≡ str_to_ascii_lowercase branch → ⊥
 
-differ : str_to_ascii_lowercase received ≡ str_to_ascii_lowercase branch → ⊥
-differ e = cc
+pub received_name : IsOtherName (codes "received")
+received_name = record { differ = λ e. absurd cc }
 
-found_here : (p : Parameter) (ip : List ℕ) (ps : List Parameter) → str_eq_ignore_ascii_case p.name received ≡ true → value_named branch ((record { name = p.name; value = Some ip }) ∷ ps) ≡ value_named branch (p ∷ ps)
+pub port_name : IsOtherName (codes "rport")
+port_name = record { differ = λ e. absurd cc }
+
+found_here : (name : List ℕ) → IsOtherName name → (p : Parameter) (text : List ℕ) (ps : List Parameter) → str_eq_ignore_ascii_case p.name name ≡ true → value_named branch ((record { name = p.name; value = Some text }) ∷ ps) ≡ value_named branch (p ∷ ps)
 unfolding value_named
-found_here p ip ps is =
-    let no = not_both p.name received branch differ is in
-    rw (no) refl
+found_here name other p text ps is =
+    let no_branch = not_both p.name name branch other.differ is in
+    rw (no_branch) refl
 
 further : (p : Parameter) (others ps : List Parameter) → value_named branch others ≡ value_named branch ps → value_named branch (p ∷ others) ≡ value_named branch (p ∷ ps)
 unfolding value_named
@@ -95,28 +102,49 @@ further p others ps same = by (str_eq_ignore_ascii_case p.name branch)
     by true = refl
     by false = same
 
-chosen : (p : Parameter) (ip : List ℕ) (ps : List Parameter) (r : Bool) → str_eq_ignore_ascii_case p.name received ≡ r → value_named branch (with_value received ip ps) ≡ value_named branch ps → value_named branch (cond r ((record { name = p.name; value = Some ip }) ∷ ps) (p ∷ with_value received ip ps)) ≡ value_named branch (p ∷ ps)
-chosen p ip ps true is same = found_here p ip ps is
-chosen p ip ps false is same = further p (with_value received ip ps) ps same
+chosen : (name : List ℕ) → IsOtherName name → (p : Parameter) (text : List ℕ) (ps : List Parameter) (r : Bool) → str_eq_ignore_ascii_case p.name name ≡ r → value_named branch (with_value name text ps) ≡ value_named branch ps → value_named branch (cond r ((record { name = p.name; value = Some text }) ∷ ps) (p ∷ with_value name text ps)) ≡ value_named branch (p ∷ ps)
+chosen name other p text ps true is same = found_here name other p text ps is
+chosen name other p text ps false is same = further p (with_value name text ps) ps same
 
-nothing_there : (ip : List ℕ) → value_named branch (with_value received ip []) ≡ value_named branch []
+nothing_by : (name text : List ℕ) (r : Bool) → str_eq_ignore_ascii_case name branch ≡ r → (r ≡ true → ⊥) → value_or_nothing (cond r (Some (record { name = name; value = Some text })) None) ≡ []
+nothing_by name text true is differ = absurd (differ refl)
+nothing_by name text false is differ = refl
+
+nothing_there : (name : List ℕ) → IsOtherName name → (text : List ℕ) → value_named branch (with_value name text []) ≡ value_named branch []
 unfolding value_named
-nothing_there ip = refl
+nothing_there name other text =
+    nothing_by name text (str_eq_ignore_ascii_case name branch) refl (λ e. other.differ ((bytes_eq-Decides (str_to_ascii_lowercase name) (str_to_ascii_lowercase branch)).0 e))
 
-pub branch_stays : (ip : List ℕ) (parameters : List Parameter) → value_named branch (with_value received ip parameters) ≡ value_named branch parameters
-branch_stays ip [] = nothing_there ip
-branch_stays ip (p ∷ ps) = chosen p ip ps (str_eq_ignore_ascii_case p.name received) refl (branch_stays ip ps)
+pub branch_stays : (name : List ℕ) → IsOtherName name → (text : List ℕ) (parameters : List Parameter) → value_named branch (with_value name text parameters) ≡ value_named branch parameters
+branch_stays name other text [] = nothing_there name other text
+branch_stays name other text (p ∷ ps) =
+    chosen name other p text ps (str_eq_ignore_ascii_case p.name name) refl (branch_stays name other text ps)
 
-branch_kept : (ip : List ℕ) (via : Via) → branch_of (stamped_via ip via) ≡ branch_of via
-unfolding stamped_via
-branch_kept ip via = by (bytes_eq via.host ip)
-  where
-    by : (r : Bool) → branch_of (cond r via (record via { parameters = with_value received ip via.parameters })) ≡ branch_of via
-    by true = refl
-    by false = branch_stays ip via.parameters
+branch_by : (source : Addr) (via : Via) (r s : Bool) → value_named branch (cond r (with_received source (with_port source via.parameters)) (cond s via.parameters (with_received source via.parameters))) ≡ value_named branch via.parameters
+branch_by source via true s =
+    branch_stays (codes "received") received_name (ip_text source.ip) (with_port source via.parameters)
+    ∙ branch_stays (codes "rport") port_name (decimal source.port) via.parameters
+branch_by source via false true = refl
+branch_by source via false false = branch_stays (codes "received") received_name (ip_text source.ip) via.parameters
+
+branch_kept : (source : Addr) (via : Via) → branch_of (stamped_via source via) ≡ branch_of via
+unfolding stamped_parameters
+branch_kept source via = branch_by source via (asks_port via) (bytes_eq via.host (ip_text source.ip))
+
+-- other parameters with the same branch
+pub kept_top : (vias : List Via) (parameters : List Parameter) → value_named branch parameters ≡ first_branch vias → IsTrue (are_vias vias) → IsTrue (are_vias (with_top_parameters vias parameters))
+unfolding are_vias
+kept_top [] parameters same h = h
+kept_top (via ∷ vias) parameters same h = ap has_cookie same ∙ h
 
 -- a stamp leaves the branch
-pub stamped_are_vias : (ip : List ℕ) (vias : List Via) → IsTrue (are_vias vias) → IsTrue (are_vias (stamped_vias ip vias))
-unfolding are_vias
-stamped_are_vias ip [] h = h
-stamped_are_vias ip (via ∷ vias) h = ap has_cookie (branch_kept ip via) ∙ h
+pub stamp_leaves : (source : Addr) (vias : List Via) (via : Via) → slice_get vias 0 ≡ Some via → value_named branch (stamped_parameters source via) ≡ first_branch vias
+stamp_leaves source [] via e = absurd cc
+stamp_leaves source (first ∷ vias) via e =
+    branch_kept source via ∙ ap branch_of (sym (same_Some first via e))
+
+-- a port is a parameter's value
+pub port_is_value : (n : ℕ) → n < 2 ^ 16 → IsTrue (is_parameter_value (decimal n))
+unfolding is_parameter_value is_value_word
+port_is_value n lt =
+    or_right (is_quoted (decimal n)) _ (run_from_all is_value_byte (decimal n) (decimal_nonempty n (omega arith)) (all_weaker is_ascii_digit is_value_byte digit_value_byte (decimal n) (all_digits-decimal n (omega arith))))

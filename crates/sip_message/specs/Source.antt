@@ -1,13 +1,14 @@
--- The source of a request (RFC 3261, section 18.2.1): `received` where the top Via names another host, and the address
--- that the answer goes to.
-use Rattle.std.specs.Prelude.{ℕ, Bool, List, [], ◌∷◌, Option, Some, codes, if◌then◌else◌}
+-- The source of a request (RFC 3261, section 18.2.1; RFC 3581, sections 3 and 4), and the address that the answer goes to.
+use Rattle.std.specs.Prelude.{ℕ, Bool, false, List, [], ◌∷◌, Option, Some, None, codes, decimal, is_none, if◌then◌else◌}
+use Rattle.std.specs.Option.{option_map_or}
 use Rattle.std.specs.Str.{bytes_eq, str_eq_ignore_ascii_case}
 use Rattle.sip_message.specs.declared.addr.Addr.{Addr}
+use Rattle.sip_parts.specs.Parameters.{parameter_named}
 use Rattle.sip_parts.specs.declared.parameter.Parameter.{Parameter}
 use Rattle.sip_message.specs.declared.via.Via.{Via}
 use Rattle.sip_message.specs.declared.message.Message.{Message}
 use Rattle.sip_message.specs.Ip.{ip_text}
-use Rattle.sip_message.specs.TopVia.{top_port}
+use Rattle.sip_message.specs.TopVia.{top_via, port_of}
 
 -- the first parameter of this name gets the value; where there is none a new one stands last
 abbrev pub with_value : List ℕ → List ℕ → List Parameter → List Parameter
@@ -17,19 +18,43 @@ with_value name value (p ∷ ps) =
     then (record { name = p.name; value = Some value }) ∷ ps
     else p ∷ with_value name value ps
 
--- a Via with the IP address that its message came from, where it names another host
-unfoldable pub stamped_via : List ℕ → Via → Via
-stamped_via ip via =
-    if bytes_eq via.host ip then via else record via { parameters = with_value (codes "received") ip via.parameters }
+-- the parameter has no value
+abbrev pub is_open : Option Parameter → Bool
+is_open None = false
+is_open (Some p) = is_none p.value
 
-abbrev pub stamped_vias : List ℕ → List Via → List Via
-stamped_vias ip [] = []
-stamped_vias ip (via ∷ vias) = stamped_via ip via ∷ vias
+-- who sent it asks for the port that it came from: the first `rport` has no value (RFC 3581, section 3)
+abbrev pub asks_port : Via → Bool
+asks_port via = is_open (parameter_named (codes "rport") via.parameters)
+
+abbrev pub with_received : Addr → List Parameter → List Parameter
+with_received source parameters = with_value (codes "received") (ip_text source.ip) parameters
+
+abbrev pub with_port : Addr → List Parameter → List Parameter
+with_port source parameters = with_value (codes "rport") (decimal source.port) parameters
+
+-- The parameters of a Via with the source that its message came from (RFC 3581, section 4): its port where it was asked for, and
+-- its IP address then or where the Via names another host.
+unfoldable pub stamped_parameters : Addr → Via → List Parameter
+stamped_parameters source via =
+    if asks_port via then with_received source (with_port source via.parameters)
+    else (if bytes_eq via.host (ip_text source.ip) then via.parameters else with_received source via.parameters)
+
+abbrev pub stamped_via : Addr → Via → Via
+stamped_via source via = record via { parameters = stamped_parameters source via }
+
+-- the top Via alone
+abbrev pub stamped_vias : Addr → List Via → List Via
+stamped_vias source [] = []
+stamped_vias source (via ∷ vias) = stamped_via source via ∷ vias
 
 -- the message with its source in the top Via
 unfoldable pub stamped : Message → Addr → Message
-stamped message source = record message { vias = stamped_vias (ip_text source.ip) message.vias }
+stamped message source = record message { vias = stamped_vias source message.vias }
 
--- where the answer goes: the source IP and the port of the sent-by
+abbrev pub answered_at : Addr → Via → Addr
+answered_at source via = if asks_port via then source else record { ip = source.ip; port = port_of via }
+
+-- Where the answer goes: to the source where its port was asked for, otherwise to the source IP and the port of the sent-by.
 unfoldable pub answer_address : Message → Addr → Addr
-answer_address message source = record { ip = source.ip; port = top_port message }
+answer_address message source = option_map_or (answered_at source) (top_via message) source

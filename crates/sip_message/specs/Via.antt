@@ -1,6 +1,7 @@
 -- Via values (RFC 3261, sections 8.1.1.7 and 20.42).
 use Rattle.std.specs.Prelude.{ℕ, Bool, false, List, [], ◌∷◌, codes, take}
 use Rattle.std.specs.Str.{str_eq_ignore_ascii_case}
+use Rattle.sip_parts.specs.declared.parameter.Parameter.{Parameter}
 use Rattle.sip_message.specs.declared.via.Via.{Via}
 use Rattle.sip_parts.specs.Parameters.{value_named}
 
@@ -16,3 +17,13 @@ has_cookie branch = str_eq_ignore_ascii_case (take 7 branch) (codes "z9hG4bK")
 unfoldable pub are_vias : List Via → Bool
 are_vias [] = false
 are_vias (via ∷ vias) = has_cookie (branch_of via)
+
+-- the same values, the top one with other parameters
+abbrev pub with_top_parameters : List Via → List Parameter → List Via
+with_top_parameters [] parameters = []
+with_top_parameters (via ∷ vias) parameters = record via { parameters = parameters } ∷ vias
+
+-- the branch of the top value
+abbrev pub first_branch : List Via → List ℕ
+first_branch [] = []
+first_branch (via ∷ vias) = branch_of via

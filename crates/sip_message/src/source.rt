@@ -1,88 +1,124 @@
-//! The source of a request (RFC 3261, section 18.2.1).
-ghost use Rattle.std.specs.Prelude.{◌≡◌, ◌++◌, IfOk, OnOk, OnErr, Some, codes};
+//! The source of a request (RFC 3261, section 18.2.1; RFC 3581).
+ghost use Rattle.std.specs.Prelude.{◌≡◌, ◌++◌, IfOk, IsTrue, OnOk, OnErr, Some, unwrap_or};
+ghost use Rattle.sip_text.specs.Parameter.{is_parameter_value};
+ghost use Rattle.sip_text.specs.Token.{is_token};
 ghost use Rattle.sip_message.specs.Source as source_of;
-ghost use Rattle.sip_message.specs.Ip.{ip_text};
 
 use crate::addr::{Addr, ip_text};
 use crate::keys::port_of;
 use crate::message::Message;
 use crate::via::Via;
-use crate::vias::Vias;
-use sip_parts::{Parameter, ParameterValue, Token};
-use sip_text::{Series, Text, token_eq};
+use sip_parts::{Parameter, ParameterValue, Token, parameter_named};
+use sip_text::{Series, Text, decimal, token_eq};
 use std::alloc::{AllocError, Global};
 
-/// Notes the source in the top Via, by `received` where that names another host than the source IP, and gives the address
-/// that the answer goes to. Without memory the message stays as it is.
+/// Notes the source in the top Via, and gives the address that the answer goes to. Where the first `rport` has no value, it gets the
+/// source port, `received` the source IP, and the answer goes to the source; otherwise `received` is set where the Via names another
+/// host than the source IP, and the answer goes to the source IP and the port of the sent-by. The other values stay as they are, and
+/// nothing is copied where nothing changes. Without memory the message stays as it is.
 #[tactic(auto, unfolding(crate::specs::Source::stamped, crate::specs::Source::answer_address))]
 pub fn stamp_source(alloc: Global, message: &mut Message, source: Addr) -> Result<Addr, AllocError>
     ensures stamped { OnOk result (message.new ≡ source_of.stamped message.old source) }
     ensures address { IfOk result (λ address. address ≡ source_of.answer_address message.old source) }
     ensures err { OnErr result (message.new ≡ message.old) }
 {
-    let port = port_of(message.vias.top());
-    message.vias = stamped_vias(alloc, &message.vias, source)?;
-    let ip = source.ip;
-    Ok(Addr { ip, port })
-}
-
-fn stamped_vias(alloc: Global, vias: &Vias, source: Addr) -> Result<Vias, AllocError>
-    ensures { IfOk result (λ made. made ≡ source_of.stamped_vias (ip_text source.ip) vias.now) }
-{
-    let [top, others @ ..] = vias.as_slice() else {
-        return vias.clone();
-    };
-    let mut stamped = Vec::new(alloc);
-    stamped.push(stamped_via(alloc, top, source)?)?;
-    push_vias(&mut stamped, others)?;
-    Ok(Vias::from_series(Series::from_vec(stamped)))
-}
-
-fn push_vias(made: &mut Vec<Via>, vias: &[Via]) -> Result<(), AllocError>
-    ensures { OnOk result (made.new.items ≡ made.old.items ++ vias.now) }
-{
-    for via in vias {
-        made.push(via.clone()?)?;
+    let top = message.vias.top();
+    let address = answered_at(top, source);
+    if let Some(parameters) = stamped_parameters(alloc, top, source)? {
+        message.vias.set_top_parameters(alloc, parameters);
     }
-    Ok(())
+    Ok(address)
 }
 
-#[tactic(auto, unfolding(crate::specs::Source::stamped_via))]
-fn stamped_via(alloc: Global, via: &Via, source: Addr) -> Result<Via, AllocError>
-    ensures { IfOk result (λ made. made ≡ source_of.stamped_via (ip_text source.ip) via.now) }
+fn answered_at(via: &Via, source: Addr) -> Addr
+    ensures { result ≡ source_of.answered_at source via.now }
 {
+    if asks_port(via) {
+        return source;
+    }
+    let ip = source.ip;
+    let port = port_of(via);
+    Addr { ip, port }
+}
+
+/// Whether the first `rport` has no value.
+fn asks_port(via: &Via) -> bool
+    ensures { result ≡ source_of.asks_port via.now }
+{
+    match parameter_named(via.parameters.as_slice(), b"rport") {
+        None => false,
+        Some(parameter) => parameter.value.is_none(),
+    }
+}
+
+/// The parameters with the source, or None where they stay as they are.
+#[tactic(auto, unfolding(crate::specs::Source::stamped_parameters))]
+fn stamped_parameters(
+    alloc: Global,
+    via: &Via,
+    source: Addr,
+) -> Result<Option<Series<Parameter>>, AllocError>
+    ensures { IfOk result (λ made. unwrap_or made via.now.parameters ≡ source_of.stamped_parameters source via.now) }
+{
+    if asks_port(via) {
+        let with_port = with_port(alloc, via.parameters.as_slice(), source)?;
+        return Ok(Some(with_received(alloc, with_port.as_slice(), source)?));
+    }
     let ip = ip_text(source.ip);
     if via.host.as_slice() == ip.as_slice() {
-        return via.clone();
+        return Ok(None);
     }
-    Ok(Via {
-        transport: via.transport.clone()?,
-        host: via.host.clone()?,
-        port: via.port,
-        parameters: with_received(alloc, via.parameters.as_slice(), source)?,
-    })
+    Ok(Some(with_received(alloc, via.parameters.as_slice(), source)?))
 }
 
+#[tactic(auto, unfolding(sip_text::specs::Token::is_token, sip_text::specs::Character::is_token_byte))]
 fn with_received(
     alloc: Global,
     parameters: &[Parameter],
     source: Addr,
 ) -> Result<Series<Parameter>, AllocError>
-    ensures { IfOk result (λ made. made ≡ source_of.with_value (codes "received") (ip_text source.ip) parameters.now) }
+    ensures { IfOk result (λ made. made ≡ source_of.with_received source parameters.now) }
+{
+    let ip = ip_text(source.ip);
+    with_value(alloc, parameters, b"received", &ip)
+}
+
+#[tactic(auto, unfolding(sip_text::specs::Token::is_token, sip_text::specs::Character::is_token_byte))]
+fn with_port(
+    alloc: Global,
+    parameters: &[Parameter],
+    source: Addr,
+) -> Result<Series<Parameter>, AllocError>
+    ensures { IfOk result (λ made. made ≡ source_of.with_port source parameters.now) }
+{
+    let port = decimal(u64::from(source.port));
+    with_value(alloc, parameters, b"rport", &port)
+}
+
+/// The parameters, of which the first of this name gets the value; where there is none a new one stands last.
+fn with_value(
+    alloc: Global,
+    parameters: &[Parameter],
+    name: &[u8],
+    value: &[u8],
+) -> Result<Series<Parameter>, AllocError>
+    requires name_is { IsTrue (is_token name.now) }
+    requires value_is { IsTrue (is_parameter_value value.now) }
+    ensures { IfOk result (λ made. made ≡ source_of.with_value name.now value.now parameters.now) }
 {
     let mut made = Vec::new(alloc);
     let mut rest = parameters;
     while let [parameter, others @ ..] = rest {
-        if token_eq(parameter.name.as_slice(), b"received") {
-            let name = parameter.name.clone()?;
-            made.push(with_ip(alloc, name, source)?)?;
+        if token_eq(parameter.name.as_slice(), name) {
+            made.push(valued(alloc, parameter.name.clone()?, value)?)?;
             push_all(&mut made, others)?;
             return Ok(Series::from_vec(made));
         }
         made.push(parameter.clone()?)?;
         rest = others;
     }
-    made.push(with_ip(alloc, received(alloc)?, source)?)?;
+    let name = Token::from_text(Text::copy_of(alloc, name)?);
+    made.push(valued(alloc, name, value)?)?;
     Ok(Series::from_vec(made))
 }
 
@@ -95,19 +131,12 @@ fn push_all(made: &mut Vec<Parameter>, parameters: &[Parameter]) -> Result<(), A
     Ok(())
 }
 
-fn with_ip(alloc: Global, name: Token, source: Addr) -> Result<Parameter, AllocError>
-    ensures { IfOk result (λ made. (made.name ≡ name) × (made.value ≡ Some (ip_text source.ip))) }
+fn valued(alloc: Global, name: Token, value: &[u8]) -> Result<Parameter, AllocError>
+    requires { IsTrue (is_parameter_value value.now) }
+    ensures { IfOk result (λ made. (made.name ≡ name) × (made.value ≡ Some value.now)) }
 {
-    let text = Text::copy_of(alloc, &ip_text(source.ip))?;
     Ok(Parameter {
         name,
-        value: Some(ParameterValue::from_text(text)),
+        value: Some(ParameterValue::from_text(Text::copy_of(alloc, value)?)),
     })
-}
-
-#[tactic(auto, unfolding(sip_text::specs::Token::is_token, sip_text::specs::Character::is_token_byte))]
-fn received(alloc: Global) -> Result<Token, AllocError>
-    ensures { IfOk result (λ token. token ≡ codes "received") }
-{
-    Ok(Token::from_text(Text::copy_of(alloc, b"received")?))
 }

@@ -1,13 +1,16 @@
 //! The Via values of a message.
-ghost use Rattle.std.specs.Prelude.{◌≡◌, IsTrue, Some, take};
+ghost use Rattle.std.specs.Prelude.{◌≡◌, IsTrue, Some, codes, take};
+ghost use Rattle.sip_parts.specs.Parameters.{value_named};
 ghost use Rattle.std.specs.List.{slice_get};
 ghost use Rattle.std.specs.Option.{SomeIff, option_copied};
 ghost use Rattle.sip_message.specs.Via as via;
 
 use crate::via::Via;
+use sip_parts::Parameter;
 use sip_text::{Series, token_eq};
-use std::alloc::AllocError;
+use std::alloc::{AllocError, Global};
 use std::marker::Model;
+use std::mem;
 
 /// Via values, the top one first. There is at least one, and the branch of the top one begins with `z9hG4bK`, in any
 /// case of the letters. A contract sees them as their list.
@@ -53,6 +56,17 @@ impl Vias {
         ensures { slice_get self.now 0 ≡ Some result.now }
     {
         &self.vias.as_slice()[0]
+    }
+
+    /// Gives the top value other parameters, which have the same branch.
+    #[tactic(auto, unfolding(crate::specs::Via::are_vias), using(crate::proofs::Stamps::kept_top))]
+    pub(crate) fn set_top_parameters(&mut self, alloc: Global, parameters: Series<Parameter>)
+        requires { value_named (codes "branch") parameters ≡ via.first_branch self.old }
+        ensures { self.new ≡ via.with_top_parameters self.old parameters }
+    {
+        let mut vias = mem::replace(&mut self.vias, Series::new(alloc)).into_vec();
+        vias[0].parameters = parameters;
+        self.vias = Series::from_vec(vias);
     }
 
     pub fn as_slice(&self) -> &[Via]

@@ -5,8 +5,8 @@ pub mod DisplayText
 pub mod PartyDisplay
 pub mod HeaderValue
 pub mod Reason
-pub mod HeaderName
-pub mod OtherName
 pub mod Parameters
 pub mod Tag
 pub mod HeaderEntry
+pub mod HeaderName
+pub mod OtherName

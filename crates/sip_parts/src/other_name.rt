@@ -5,13 +5,13 @@ ghost use Rattle.std.specs.Cmp.{partial_equiv_from_equiv};
 ghost use Rattle.std.specs.Cmp.Lexicographic.{pointwise, nat_list_eq_equiv};
 ghost use Rattle.sip_parts.specs.OtherName as rule;
 
-use crate::header_name::is_field_name;
-use sip_text::{Text, is_token};
+use crate::header_name::HeaderName;
+use sip_text::{Text, is_token, token_eq};
 use std::alloc::AllocError;
 use std::marker::Model;
 
-/// The name of a header that isn't read into a field of its own: a token, and neither the name of such a header
-/// nor a compact name, in any case of the letters.
+/// The name of a header that isn't read into a field of its own: a token, and neither a name of such a header
+/// nor one of the compact names that stand for a longer one, in any case of the letters.
 pub struct OtherName {
     text: Text,
 }
@@ -99,5 +99,13 @@ impl Eq for OtherName {
 pub(crate) fn is_other_name(text: &[u8]) -> bool
     ensures { result ≡ rule.is_other_name text.now }
 {
-    is_token(text) && !is_field_name(text)
+    is_token(text) && !(HeaderName::of(text).is_some() || is_compact_name(text))
+}
+
+/// Whether the name is the compact name of a header that is kept under its long name.
+#[tactic(auto, unfolding(crate::specs::OtherName::is_compact_name))]
+fn is_compact_name(name: &[u8]) -> bool
+    ensures { result ≡ rule.is_compact_name name.now }
+{
+    token_eq(name, b"c") || (token_eq(name, b"s") || token_eq(name, b"e"))
 }

@@ -7,7 +7,7 @@ use Rattle.sip_message.specs.declared.message.Message.{Message}
 use Rattle.sip_reader.specs.Faults.{TellsFault}
 use Rattle.sip_reader.specs.ReadMessage.{◌>>=◌, Gives, Fails, message_at}
 use Rattle.sip_reader.specs.Spells.{Spells, Answers}
-use Rattle.sip_reader.proofs.LineFaults.{first_told}
+use Rattle.sip_reader.proofs.FirstFaults.{told}
 use Rattle.sip_reader.proofs.Outcomes.{same_Ok}
 use Rattle.sip_reader.proofs.Spelled.{spelled_takes, spelled_again}
 
@@ -31,16 +31,16 @@ is_only text r given m spelled =
 -- a fault that was told, want of memory aside, is the first
 failed : (text : List ℕ) (e : ReadFault) → Fails e (message_at text) → TellsFault e text
 failed text fault.NoMemory given = tt
-failed text fault.TooLong given = first_told text fault.TooLong given
-failed text fault.NoEmptyLine given = first_told text fault.NoEmptyLine given
-failed text fault.BadStartLine given = first_told text fault.BadStartLine given
-failed text fault.BadHeader given = first_told text fault.BadHeader given
-failed text (fault.Missing header) given = first_told text (fault.Missing header) given
-failed text (fault.Repeated header) given = first_told text (fault.Repeated header) given
-failed text fault.BadNumber given = first_told text fault.BadNumber given
-failed text fault.OldBranch given = first_told text fault.OldBranch given
-failed text fault.MethodMismatch given = first_told text fault.MethodMismatch given
-failed text fault.Truncated given = first_told text fault.Truncated given
+failed text fault.TooLong given = told text fault.TooLong given
+failed text fault.NoEmptyLine given = told text fault.NoEmptyLine given
+failed text fault.BadStartLine given = told text fault.BadStartLine given
+failed text fault.BadHeader given = told text fault.BadHeader given
+failed text (fault.Missing header) given = told text (fault.Missing header) given
+failed text (fault.Repeated header) given = told text (fault.Repeated header) given
+failed text fault.BadNumber given = told text fault.BadNumber given
+failed text fault.OldBranch given = told text fault.OldBranch given
+failed text fault.MethodMismatch given = told text fault.MethodMismatch given
+failed text fault.Truncated given = told text fault.Truncated given
 
 pub is_fault : (text : List ℕ) (r : Result Message ReadFault) → Gives r (message_at text) → IfErr r (λ e. TellsFault e text)
 is_fault text (Ok m) given = tt

@@ -11,8 +11,7 @@ use Rattle.sip_parts.specs.Host.{is_host_byte, is_bracket_byte}
 use Rattle.sip_text.specs.Parameter.{is_value_byte, is_value_word}
 use Rattle.sip_parts.specs.Uri.{is_uri_byte, is_uri}
 use Rattle.sip_parts.specs.Word.{is_word_byte, is_word}
-use Rattle.sip_reader.specs.Lines.{has_no}
-use Rattle.sip_reader.specs.Values.{is_port_byte, is_port_word}
+use Rattle.sip_text.specs.Lines.{has_no}
 use Rattle.sip_reader.proofs.Cuts.{all_imply, run_all, none_of}
 use Rattle.sip_reader.proofs.Pieces.{by_bool}
 
@@ -87,10 +86,6 @@ uri_without_bracket text uri = none_of is_uri_byte 62 refl text (run_all is_uri_
 pub value_without_semicolon : (text : List ℕ) → is_value_word text ≡ true → has_no 59 text ≡ true
 unfolding is_value_word is_value_byte
 value_without_semicolon text value = none_of is_value_byte 59 refl text (run_all is_value_byte text value)
-
-pub port_without_semicolon : (text : List ℕ) → is_port_word text ≡ true → has_no 59 text ≡ true
-unfolding is_port_word is_port_byte
-port_without_semicolon text port = none_of is_port_byte 59 refl text (run_all is_port_byte text port)
 
 pub bracket_without_semicolon : (text : List ℕ) → list_all is_bracket_byte text ≡ true → has_no 59 text ≡ true
 unfolding is_bracket_byte

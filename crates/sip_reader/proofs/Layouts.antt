@@ -8,26 +8,21 @@ use Rattle.std.proofs.lemmas.List.{length-append, length-take}
 use Rattle.std.proofs.lemmas.Option.{same_Some}
 use Rattle.sip_text.specs.Cut.{cut_at}
 use Rattle.sip_text.specs.Line.{line_at}
-use Rattle.sip_reader.specs.Layout.{without_line_ends, header_with, header_at}
-use Rattle.sip_reader.specs.Lines.{IsLine, IsLines, IsFull, Lays}
-use Rattle.sip_reader.specs.Reading.{◌>>=◌}
-use Rattle.sip_reader.proofs.Cuts.{at_takes, at_again}
-use Rattle.sip_reader.proofs.Headers.{after_line, header_at-line}
-use Rattle.sip_reader.proofs.Pieces.{Reads, bind_some, map_some}
+use Rattle.sip_text.specs.Lines.{IsLine, IsLines}
+use Rattle.sip_text.proofs.LineParts.{line_takes}
+use Rattle.sip_headers.specs.Folding.{Section, with_line_of, section_at, folded_onto, onto_section}
+use Rattle.sip_headers.proofs.Folds.{one_line, no_line}
+use Rattle.sip_reader.specs.Layout.{IsFull, Lays}
+use Rattle.sip_reader.specs.SkippedEnds.{without_line_ends}
+use Rattle.sip_reader.proofs.Cuts.{at_again}
+use Rattle.sip_reader.proofs.Pieces.{map_some}
 
 -- ---- one line
 
 abbrev stripped : List ℕ × List ℕ → List ℕ × List ℕ
 stripped p = (strip_carriage_return p.0, p.1)
 
-line_takes : (text : List ℕ) (p : List ℕ × List ℕ) → line_at text ≡ Some p → IsLine text p.0 p.1
-unfolding line_at
-line_takes text p e =
-    let m = map_some stripped (cut_at 10 text) p e in
-    let cut = at_takes 10 text m.0 m.1 in
-    subst (λ (q : List ℕ × List ℕ). IsLine text q.0 q.1) m.2 (record { part = m.0.0; parts = cut.0; one = cut.1; stripped = refl })
-
-line_again : (text line after : List ℕ) → IsLine text line after → line_at text ≡ Some (line, after)
+pub line_again : (text line after : List ℕ) → IsLine text line after → line_at text ≡ Some (line, after)
 unfolding line_at
 line_again text line after is =
     ap (λ (xs : List ℕ). option_map stripped (cut_at 10 xs)) is.parts ∙ ap (option_map stripped) (at_again 10 is.part after is.one) ∙ ap (λ (xs : List ℕ). Some (xs, after)) (sym is.stripped)
@@ -35,48 +30,59 @@ line_again text line after is =
 after_shorter : (text line after : List ℕ) → IsLine text line after → length after < length text
 after_shorter text line after is = omega (arith, ap length is.parts, length-append is.part (10 ∷ after))
 
--- ---- the header lines
+-- ---- the lines up to the empty one
 
-abbrev Found : List ℕ → List (List ℕ) × List ℕ → Type 0
+abbrev after_line : Option (List ℕ × List ℕ) → Option Section
+after_line None = None
+after_line (Some p) = with_line_of p.0 p.1 (section_at p.1)
+
+section_by : (text : List ℕ) (o : Option (List ℕ × List ℕ)) → line_at text ≡ o → section_at text ≡ after_line o
+section_by text None e = no_line text e
+section_by text (Some p) e = one_line text p.0 p.1 e
+
+section_at-line : (text : List ℕ) → section_at text ≡ after_line (line_at text)
+section_at-line text = section_by text (line_at text) refl
+
+abbrev Found : List ℕ → Section → Type 0
 Found text h = IsLines text (h.0 ++ ([] ∷ [])) h.1 × AllByRecursion IsFull h.0
 
 abbrev Finds : List ℕ → Type 0
-Finds text = (h : List (List ℕ) × List ℕ) → header_at text ≡ Some h → Found text h
+Finds text = (h : Section) → section_at text ≡ Some h → Found text h
 
 full : (b : ℕ) (bs : List ℕ) → IsFull (b ∷ bs)
 full b bs e = absurd cc
 
-abbrev with_line : List ℕ → List (List ℕ) × List ℕ → List (List ℕ) × List ℕ
+abbrev with_line : List ℕ → Section → Section
 with_line line h = (line ∷ h.0, h.1)
 
-from_line : (text : List ℕ) (o : Option (List ℕ × List ℕ)) → line_at text ≡ o → ((after : List ℕ) → length after < length text → Finds after) → (h : List (List ℕ) × List ℕ) → after_line o ≡ Some h → Found text h
+from_line : (text : List ℕ) (o : Option (List ℕ × List ℕ)) → line_at text ≡ o → ((after : List ℕ) → length after < length text → Finds after) → (h : Section) → after_line o ≡ Some h → Found text h
 from_line text None is more h e = absurd cc
 from_line text (Some ([], after)) is more h e =
-    subst (λ (k : List (List ℕ) × List ℕ). Found text k) (same_Some ([], after) h e) ((after, line_takes text ([], after) is, refl), tt)
+    subst (λ (k : Section). Found text k) (same_Some ([], after) h e) ((after, line_takes text [] after is, refl), tt)
 from_line text (Some (b ∷ bs, after)) is more h e =
-    let line = line_takes text (b ∷ bs, after) is in
-    let m = map_some (with_line (b ∷ bs)) (header_at after) h e in
+    let line = line_takes text (b ∷ bs) after is in
+    let m = map_some (with_line (b ∷ bs)) (section_at after) h e in
     let rest = more after (after_shorter text (b ∷ bs) after line) m.0 m.1 in
-    subst (λ (k : List (List ℕ) × List ℕ). Found text k) m.2 ((after, line, rest.0), (full b bs, rest.1))
+    subst (λ (k : Section). Found text k) m.2 ((after, line, rest.0), (full b bs, rest.1))
 
-header_within : (n : ℕ) (text : List ℕ) → length text ≤ n → Finds text
-header_within zero text short h e =
-    from_line text (line_at text) refl (λ after lt. absurd (omega arith)) h (sym (header_at-line text) ∙ e)
-header_within (suc n) text short h e =
-    from_line text (line_at text) refl (λ after lt. header_within n after (omega arith)) h (sym (header_at-line text) ∙ e)
+section_within : (n : ℕ) (text : List ℕ) → length text ≤ n → Finds text
+section_within zero text short h e =
+    from_line text (line_at text) refl (λ after lt. absurd (omega arith)) h (sym (section_at-line text) ∙ e)
+section_within (suc n) text short h e =
+    from_line text (line_at text) refl (λ after lt. section_within n after (omega arith)) h (sym (section_at-line text) ∙ e)
 
-header_takes : (text : List ℕ) → Finds text
-header_takes text = header_within (length text) text (omega arith)
+section_takes : (text : List ℕ) → Finds text
+section_takes text = section_within (length text) text (omega arith)
 
-one_more : (line after : List ℕ) (lines : List (List ℕ)) (rest : List ℕ) → IsFull line → header_at after ≡ Some (lines, rest) → header_with line after (header_at after) ≡ Some (line ∷ lines, rest)
+one_more : (line after : List ℕ) (lines : List (List ℕ)) (rest : List ℕ) → IsFull line → section_at after ≡ Some (lines, rest) → with_line_of line after (section_at after) ≡ Some (line ∷ lines, rest)
 one_more [] after lines rest is more = absurd (is refl)
 one_more (b ∷ bs) after lines rest is more = ap (option_map (with_line (b ∷ bs))) more
 
-header_again : (lines : List (List ℕ)) (text rest : List ℕ) → AllByRecursion IsFull lines → IsLines text (lines ++ ([] ∷ [])) rest → header_at text ≡ Some (lines, rest)
-header_again [] text rest all is =
-    header_at-line text ∙ ap after_line (line_again text [] is.0 is.1) ∙ ap (λ (xs : List ℕ). Some ([], xs)) is.2
-header_again (line ∷ lines) text rest all is =
-    header_at-line text ∙ ap after_line (line_again text line is.0 is.1) ∙ one_more line is.0 lines rest all.0 (header_again lines is.0 rest all.1 is.2)
+section_again : (lines : List (List ℕ)) (text rest : List ℕ) → AllByRecursion IsFull lines → IsLines text (lines ++ ([] ∷ [])) rest → section_at text ≡ Some (lines, rest)
+section_again [] text rest all is =
+    section_at-line text ∙ ap after_line (line_again text [] is.0 is.1) ∙ ap (λ (xs : List ℕ). Some ([], xs)) is.2
+section_again (line ∷ lines) text rest all is =
+    section_at-line text ∙ ap after_line (line_again text line is.0 is.1) ∙ one_more line is.0 lines rest all.0 (section_again lines is.0 rest all.1 is.2)
 
 -- ---- empty lines at the start
 
@@ -192,7 +198,7 @@ kept_first b c bs true is none =
     absurd (none (c ∷ bs) (inl (ap (λ (x : ℕ). x ∷ (c ∷ bs)) (eqb-true b 10 is))))
 kept_first b c bs false is none = kept_cr b c bs (eqb b 13 && eqb c 10) refl none
 
-kept : (text : List ℕ) → NoEnd text → without_line_ends text ≡ text
+pub kept : (text : List ℕ) → NoEnd text → without_line_ends text ≡ text
 kept [] none = refl
 kept (b ∷ []) none = kept_one b (eqb b 10) refl none
 kept (b ∷ (c ∷ bs)) none = kept_first b c bs (eqb b 10) refl none
@@ -206,7 +212,7 @@ skip_line text after (inl e) = ap without_line_ends e ∙ skip_lf after
 skip_line text after (inr e) = ap without_line_ends e
 
 -- a line that isn't empty doesn't begin with its end
-no_end : (text line after : List ℕ) → IsLine text line after → IsFull line → NoEnd text
+pub no_end : (text line after : List ℕ) → IsLine text line after → IsFull line → NoEnd text
 no_end text line after is some_line other ends =
     let empty = line_again text [] other (an_empty_line text other ends) in
     let both : Some ([], other) ≡ Some (line, after) = sym empty ∙ line_again text line after is in
@@ -220,32 +226,35 @@ skip_again (suc n) text start lines rest some_line is =
 
 -- ---- the whole
 
-pub record Layout : Type 0 where
-  pub start : List ℕ
-  pub lines : List (List ℕ)
-  pub rest : List ℕ
+pub laid_takes : (text first after start : List ℕ) (lines : List (List ℕ)) (rest : List ℕ) → line_at (without_line_ends text) ≡ Some (first, after) → onto_section first (section_at after) ≡ Some (start ∷ lines, rest) → Lays text start lines rest
+laid_takes text first after start lines rest e f =
+    let line = line_takes (without_line_ends text) first after e in
+    let m = map_some (λ (s : Section). (folded_onto first s.0, s.1)) (section_at after) (start ∷ lines, rest) f in
+    let found = section_takes after m.0 m.1 in
+    let skipped = skip_takes text (first ∷ (m.0.0 ++ ([] ∷ []))) m.0.1 (after, line, found.0) in
+    let begins : IsFull first = λ (none : first ≡ []). skip_done text after (empty_line (without_line_ends text) after (subst (λ (xs : List ℕ). IsLine (without_line_ends text) xs after) none line)) in
+    record {
+      skipped = skipped.0;
+      first = first;
+      more = m.0.0;
+      parts = subst (λ (xs : List ℕ). IsLines text (replicate skipped.0 [] ++ (first ∷ (m.0.0 ++ ([] ∷ [])))) xs) (ap (λ (s : Section). s.1) m.2) skipped.1;
+      first_is = begins;
+      more_are = found.1;
+      whole = sym (ap (λ (s : Section). s.0) m.2);
+    }
 
-abbrev pub layout_at : List ℕ → Option Layout
-layout_at text = line_at (without_line_ends text) >>= λ first. header_at first.1 >>= λ header. Some (record { start = first.0; lines = header.0; rest = header.1 })
+pub record Laid (text start : List ℕ) (lines : List (List ℕ)) (rest : List ℕ) : Type 0 where
+  pub first : List ℕ
+  pub after : List ℕ
+  pub line_is : line_at (without_line_ends text) ≡ Some (first, after)
+  pub section_is : onto_section first (section_at after) ≡ Some (start ∷ lines, rest)
 
-abbrev pub LaysOut : Layout → List ℕ → Type 0
-LaysOut layout text = Lays text layout.start layout.lines layout.rest
-
-layout_takes : (text : List ℕ) (layout : Layout) → layout_at text ≡ Some layout → LaysOut layout text
-layout_takes text layout e =
-    let a = bind_some (line_at (without_line_ends text)) (λ first. header_at first.1 >>= λ header. Some (record { start = first.0; lines = header.0; rest = header.1 })) layout e in
-    let b = bind_some (header_at a.0.1) (λ header. Some (record { start = a.0.0; lines = header.0; rest = header.1 })) layout a.2 in
-    let line = line_takes (without_line_ends text) a.0 a.1 in
-    let header = header_takes a.0.1 b.0 b.1 in
-    let skipped = skip_takes text (a.0.0 ∷ (b.0.0 ++ ([] ∷ []))) b.0.1 (a.0.1, line, header.0) in
-    let begins : IsFull a.0.0 = λ (none : a.0.0 ≡ []). skip_done text a.0.1 (empty_line (without_line_ends text) a.0.1 (subst (λ (xs : List ℕ). IsLine (without_line_ends text) xs a.0.1) none line)) in
-    subst (λ (l : Layout). LaysOut l text) (same_Some _ layout b.2)
-    (record { skipped = skipped.0; parts = skipped.1; start_is = begins; lines_are = header.1 })
-
-layout_again : (text : List ℕ) (layout : Layout) → LaysOut layout text → layout_at text ≡ Some layout
-layout_again text layout lays =
-    let is = skip_again lays.skipped text layout.start (layout.lines ++ ([] ∷ [])) layout.rest lays.start_is lays.parts in
-    rw (line_again (without_line_ends text) layout.start is.0 is.1, header_again layout.lines is.0 layout.rest lays.lines_are is.2) refl
-
-pub layout_reads : Reads (List ℕ) Layout layout_at LaysOut
-layout_reads = record { takes = layout_takes; again = layout_again }
+pub laid_again : (text start : List ℕ) (lines : List (List ℕ)) (rest : List ℕ) → Lays text start lines rest → Laid text start lines rest
+laid_again text start lines rest lays =
+    let is = skip_again lays.skipped text lays.first (lays.more ++ ([] ∷ [])) rest lays.first_is lays.parts in
+    record {
+      first = lays.first;
+      after = is.0;
+      line_is = line_again (without_line_ends text) lays.first is.0 is.1;
+      section_is = ap (onto_section lays.first) (section_again lays.more is.0 rest lays.more_are is.2) ∙ ap (λ (ls : List (List ℕ)). Some (ls, rest)) (sym lays.whole);
+    }

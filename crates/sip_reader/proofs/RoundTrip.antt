@@ -1,32 +1,63 @@
 -- What is written for a message is spelled by its text.
-use Rattle.std.proofs.Common.{◌≡◌, inl, inr, ℕ, ◌^◌, ◌<◌, ◌≤◌, true, List, [], ◌∷◌, ◌++◌, map, length, codes, decimal, None, refl, sym, ap, subst, ◌∙◌, append_assoc, arith}
-use Rattle.std.specs.List.{flat_map, AllByRecursion, AllZip}
-use Rattle.std.proofs.lemmas.Bool.{and_from}
+use Rattle.std.proofs.Common.{◌≡◌, inl, ℕ, ◌^◌, ◌<◌, ◌≤◌, true, cond, List, [], ◌∷◌, ◌++◌, map, length, codes, decimal, Option, Some, None, Ok, Err, refl, sym, ap, subst, ◌∙◌, append_assoc, arith}
+use Rattle.std.specs.Prelude.{IfSome, IsTrue}
+use Rattle.std.specs.List.{flat_map, AllByRecursion, list_all}
+use Rattle.std.specs.Option.{option_map, option_to_list}
+use Rattle.std.proofs.lemmas.Bool.{and_from, le-ltb, lt-ltb}
 use Rattle.std.proofs.lemmas.Fmt.{length-decimal-le}
 use Rattle.std.proofs.lemmas.List.{append-nil, length-append}
 use Rattle.std.proofs.lemmas.List.Folds.{list_all-append}
-use Rattle.sip_text.specs.Character.{is_token_byte}
+use Rattle.sip_text.specs.Lines.{has_no}
 use Rattle.sip_text.specs.Token.{is_token}
-use Rattle.sip_parts.specs.declared.header_name.HeaderName.TheVariants as header
-use Rattle.sip_message.specs.Written.{header_line, via_line, start_text, head_text, identity_text, routes_text, extensions_text, content_text, other_line, via_text, cseq_text, written}
+use Rattle.sip_parts.specs.declared.header_name.HeaderName.TheVariants as name
+use Rattle.sip_message.specs.Via.{are_vias}
+use Rattle.sip_message.specs.declared.fault.ReadFault.TheVariants as fault
+use Rattle.sip_message.specs.declared.header.Header.{Header}
 use Rattle.sip_message.specs.declared.message.Message.{Message}
+use Rattle.sip_message.specs.declared.name_addr.NameAddr.{NameAddr}
+use Rattle.sip_message.specs.declared.party.Party.{Party}
+use Rattle.sip_message.specs.declared.rack.RAck.{RAck}
 use Rattle.sip_message.specs.declared.start_line.StartLine.{StartLine}
 use Rattle.sip_message.specs.declared.start_line.StartLine.TheVariants as start
 use Rattle.sip_message.specs.declared.via.Via.{Via}
-use Rattle.sip_reader.specs.HeaderLine.{is_named}
-use Rattle.sip_reader.specs.HeaderSet.{SpellsField, is_of, is_other}
-use Rattle.sip_reader.specs.Lines.{IsLines, IsFull}
-use Rattle.sip_reader.specs.Rules.{IsStartLine, IsMessage, IsPlainMessage, IsVia, IsPlain}
-use Rattle.sip_reader.specs.Spells.{Spells, HasBasicHeadersAlone}
+use Rattle.sip_message.specs.Written.{header_line, via_line, via_text, party_line, address_line, address_text, number_line, tokens_line, joined, cseq_text, rack_line, rack_text, other_line, start_text, head_text, identity_text, routes_text, extensions_text, content_text, written}
+use Rattle.sip_values.specs.Address.{name_addrs_from, party_from}
+use Rattle.sip_values.specs.Numeral.{numeral_from}
+use Rattle.sip_values.specs.Sequence.{call_id_from, cseq_from, rack_from, tokens_from}
+use Rattle.sip_values.specs.ViaValue.{vias_from}
+use Rattle.sip_values.specs.declared.numeral.Numeral.{Numeral}
+use Rattle.sip_values.specs.declared.numeral.Numeral.TheVariants.{Number}
+use Rattle.sip_values.specs.declared.via.ViaDraft.{ViaDraft}
+use Rattle.sip_headers.specs.Complete.{slot_of, draft_with, headers_of}
+use Rattle.sip_headers.specs.Draft.{no_draft}
+use Rattle.sip_headers.specs.Numbers.{via_draft, rack_draft, headers_with, port_words, is_number, is_port, are_numbers}
+use Rattle.sip_headers.specs.Slot.{met, listed}
+use Rattle.sip_headers.specs.declared.draft.Draft.{Draft}
+use Rattle.sip_headers.specs.declared.slot.Slot.{Slot}
+use Rattle.sip_headers.specs.declared.slot.Slot.TheVariants.{Absent, Once}
+use Rattle.sip_headers.proofs.Folds.{ends_here}
+use Rattle.sip_headers.proofs.HeaderSets.{no_fault}
+use Rattle.sip_reader.specs.Layout.{IsFull}
+use Rattle.sip_reader.specs.ReadMessage.{◌>>=◌, message_of_headers, message_of_lines, message_in, message_at}
+use Rattle.sip_reader.specs.ReadStart.{start_at}
+use Rattle.sip_reader.specs.Rules.{IsStartLine, IsParty, IsNameAddr, IsRAck, IsVia, IsOtherHeader, IsMessage}
+use Rattle.sip_reader.specs.SkippedEnds.{without_line_ends}
+use Rattle.sip_reader.specs.Spells.{Spells}
 use Rattle.sip_reader.specs.StartLine.{SpellsStart, IsStatusCode}
-use Rattle.sip_reader.specs.declared.field.Field.{Field}
-use Rattle.sip_reader.specs.declared.field.Field.TheVariants as field
-use Rattle.sip_reader.proofs.StartLines.{is_three}
-use Rattle.sip_reader.proofs.WrittenBytes.{solid, token_solid, word_solid, digits_solid, solid_line, no_lf, decimal_digits, decimal_value, decimal_number, digits_word}
-use Rattle.sip_reader.proofs.WrittenLines.{with_end, NoLf, lines_lie, flat_map_both, all_both, line_of, spells_line, line_no_lf, line_full, kept_line, kept_lines, kept_spelled, kept_no_lf, kept_full, skipped_others, all_others}
-use Rattle.sip_reader.proofs.WrittenValues.{kept_solid, words_of, port_number, via_spelled, via_kept, via_plain, party_text, party_spelled, party_solid, cseq_words, cseq_spelled, cseq_kept, cseq_plain}
+use Rattle.sip_reader.proofs.Layouts.{kept, no_end}
+use Rattle.sip_reader.proofs.Making.{first_of, first_spelled, body_again}
+use Rattle.sip_reader.proofs.Outcomes.{step_again, result_again}
+use Rattle.sip_reader.proofs.Sections.{some_gathered}
+use Rattle.sip_reader.proofs.Spelled.{made_again, spelled_takes}
+use Rattle.sip_reader.proofs.StartLines.{is_three, start_reads}
+use Rattle.sip_reader.proofs.WrittenBytes.{solid, token_solid, word_solid, digits_solid, solid_line, no_lf, decimal_digits, decimal_value}
+use Rattle.sip_reader.proofs.WrittenLines.{is_line, ended_line, Ready, Goes, no_lines, goes_to, end_ready, end_gathered, header_goes, other_goes, list_goes, two_go}
+use Rattle.sip_reader.proofs.WrittenValues.{Again, party_again, name_addr_again, number_again, call_id_again, cseq_again, rack_again, tokens_again, via_again}
 
 -- ---- the start line
+
+abbrev NoLf : List ℕ → Type 0
+NoLf line = has_no 10 line ≡ true
 
 abbrev start_of : StartLine → List ℕ → List ℕ
 start_of (start.Request uri) method = method ++ (32 ∷ (uri ++ (32 ∷ codes "SIP/2.0")))
@@ -41,7 +72,7 @@ response_parts : (w d r e : List ℕ) → (((w ++ (32 ∷ d)) ++ (32 ∷ [])) ++
 response_parts w d r e =
     ap (λ (xs : List ℕ). xs ++ e) (append_assoc (w ++ (32 ∷ d)) (32 ∷ []) r ∙ append_assoc w (32 ∷ d) (32 ∷ r))
 
-start_with_end : (says : StartLine) (method : List ℕ) → start_text says method ≡ with_end (start_of says method)
+start_with_end : (says : StartLine) (method : List ℕ) → start_text says method ≡ start_of says method ++ codes "\r\n"
 unfolding start_text
 start_with_end (start.Request uri) method = request_parts method uri (codes "SIP/2.0") (codes "\r\n")
 start_with_end (start.Response status reason) method = response_parts (codes "SIP/2.0") (decimal status) reason (codes "\r\n")
@@ -76,194 +107,310 @@ start_free (start.Request uri) method is token =
 start_free (start.Response status reason) method is token =
     both_free (decimal status) (32 ∷ reason) (solid_free (decimal status) (digits_solid (decimal status) (decimal_digits status (omega (arith, is.1))))) (no_lf reason is.2)
 
--- ---- the text, line by line
+-- ---- one header after the other
 
-abbrev length_line : Message → List ℕ
-length_line m = line_of (codes "Content-Length") (decimal (length m.body))
+slot_goes : {X : Type 0} (put : Slot X → Draft) (f : List ℕ → Option X) (x : X) (text value rest : List ℕ) → Again f x value → Goes (put Absent) text (put (met Absent (f value))) rest → Goes (put Absent) text (put (Once x)) rest
+slot_goes put f x text value rest again goes = goes_to (ap (λ o. put (met Absent o)) again.read) goes
 
-abbrev header_lines : Message → Via → List (List ℕ)
-header_lines m via =
-    line_of (codes "Via") (via_text via) ∷ (line_of (codes "From") (party_text m.from) ∷ (line_of (codes "To") (party_text m.to)
-    ∷ (line_of (codes "Call-ID") m.call_id ∷ (line_of (codes "CSeq") (cseq_text m.cseq) ∷ (map kept_line m.others ++ (length_line m ∷ []))))))
+more_goes : {X : Type 0} (put : Option (List X) → Draft) (f : List ℕ → Option (List X)) (front more : List X) (text value rest : List ℕ) → Again f more value → Goes (put (Some front)) text (put (listed (Some front) (f value))) rest → Goes (put (Some front)) text (put (Some (front ++ more))) rest
+more_goes put f front more text value rest again goes = goes_to (ap (λ o. put (listed (Some front) o)) again.read) goes
 
-abbrev all_lines : Message → Via → List (List ℕ)
-all_lines m via = start_of m.start m.cseq.method ∷ (header_lines m via ++ ([] ∷ []))
+-- a number where there is one
+abbrev numbered : Option ℕ → Slot Numeral
+numbered n = slot_of (option_map (λ x. Number x) n)
 
-regroup : (s v f t c q o l e b : List ℕ) → ((((((s ++ (v ++ [])) ++ []) ++ (((f ++ t) ++ c) ++ q)) ++ []) ++ [])) ++ (((o ++ l) ++ e) ++ b) ≡ (s ++ (v ++ (f ++ (t ++ (c ++ (q ++ ((o ++ (l ++ [])) ++ (e ++ [])))))))) ++ b
-regroup s v f t c q o l e b = simp (append_assoc, append-nil)
+number_goes : (put : Slot Numeral → Draft) (line : ℕ → List ℕ) (text : Option ℕ → List ℕ) → (text None ≡ []) → ((n : ℕ) → text (Some n) ≡ line n) → ((n : ℕ) (rest : List ℕ) → n < 2 ^ 32 → Ready rest → Goes (put Absent) (line n ++ rest) (put (Once (Number n))) rest) → (n : Option ℕ) (rest : List ℕ) → IfSome n (λ x. x < 2 ^ 32) → Ready rest → Goes (put Absent) (text n ++ rest) (put (numbered n)) rest
+number_goes put line text none some step None rest lt ready =
+    subst (λ (xs : List ℕ). Goes (put Absent) (xs ++ rest) (put Absent) rest) (sym none) (no_lines (put Absent) (put Absent) rest refl ready)
+number_goes put line text none some step (Some n) rest lt ready =
+    subst (λ (xs : List ℕ). Goes (put Absent) (xs ++ rest) (put (Once (Number n))) rest) (sym (some n)) (step n rest lt ready)
 
-head_is : (m : Message) (via : Via) → m.vias ≡ via ∷ [] → m.max_forwards ≡ None → head_text m ≡ (start_text m.start m.cseq.method ++ (via_line via ++ [])) ++ []
-unfolding head_text
-head_is m via one none = rw (one, none) refl
+abbrev IsToken : List ℕ → Type 0
+IsToken token = IsTrue (is_token token)
 
-routes_are : (m : Message) → HasBasicHeadersAlone m → routes_text m ≡ []
-unfolding routes_text
-routes_are m h = rw (h.contacts, h.record_routes, h.routes) refl
+tokens_go : (put : Option (List (List ℕ)) → Draft) (line : List ℕ → List (List ℕ) → List ℕ) (text : List (List ℕ) → List ℕ) → (text [] ≡ []) → ((t : List ℕ) (ts : List (List ℕ)) → text (t ∷ ts) ≡ line t ts) → ((t : List ℕ) (ts : List (List ℕ)) (rest : List ℕ) → IsToken t → AllByRecursion IsToken ts → Ready rest → Goes (put (Some [])) (line t ts ++ rest) (put (Some (t ∷ ts))) rest) → (tokens : List (List ℕ)) (rest : List ℕ) → AllByRecursion IsToken tokens → Ready rest → Goes (put (Some [])) (text tokens ++ rest) (put (Some tokens)) rest
+tokens_go put line text none some step [] rest all ready =
+    subst (λ (xs : List ℕ). Goes (put (Some [])) (xs ++ rest) (put (Some [])) rest) (sym none) (no_lines (put (Some [])) (put (Some [])) rest refl ready)
+tokens_go put line text none some step (t ∷ ts) rest all ready =
+    subst (λ (xs : List ℕ). Goes (put (Some [])) (xs ++ rest) (put (Some (t ∷ ts))) rest) (sym (some t ts)) (step t ts rest all.0 all.1 ready)
 
-extensions_are : (m : Message) → HasBasicHeadersAlone m → extensions_text m ≡ []
-unfolding extensions_text
-extensions_are m h = rw (h.require, h.supported, h.rseq, h.rack) refl
+-- ---- the drafts on the way
 
-written_plain : (m : Message) (via : Via) → m.vias ≡ via ∷ [] → HasBasicHeadersAlone m → written m ≡ (((((start_text m.start m.cseq.method ++ (via_line via ++ [])) ++ []) ++ identity_text m) ++ []) ++ []) ++ content_text m
-unfolding written
-written_plain m via one h =
-    ap (λ (xs : List ℕ). (((xs ++ identity_text m) ++ routes_text m) ++ extensions_text m) ++ content_text m) (head_is m via one h.max_forwards)
-    ∙ ap (λ (xs : List ℕ). (((((start_text m.start m.cseq.method ++ (via_line via ++ [])) ++ []) ++ identity_text m) ++ xs) ++ extensions_text m) ++ content_text m) (routes_are m h)
-    ∙ ap (λ (xs : List ℕ). (((((start_text m.start m.cseq.method ++ (via_line via ++ [])) ++ []) ++ identity_text m) ++ []) ++ xs) ++ content_text m) (extensions_are m h)
+abbrev with_vias : Message → Option (List ViaDraft) → Draft
+with_vias m o = record no_draft { vias = o }
 
-last_lines : (m : Message) → flat_map with_end ((map kept_line m.others ++ (length_line m ∷ [])) ++ ([] ∷ [])) ≡ (flat_map other_line m.others ++ (with_end (length_line m) ++ [])) ++ (codes "\r\n" ++ [])
-last_lines m =
-    flat_map_both with_end (map kept_line m.others ++ (length_line m ∷ [])) ([] ∷ [])
-    ∙ ap (λ (xs : List ℕ). xs ++ (codes "\r\n" ++ [])) (flat_map_both with_end (map kept_line m.others) (length_line m ∷ []) ∙ ap (λ (xs : List ℕ). xs ++ (with_end (length_line m) ++ [])) (kept_lines m.others))
+abbrev with_hops : Message → Slot Numeral → Draft
+with_hops m s = record (with_vias m (Some (map via_draft m.vias))) { max_forwards = s }
 
-in_lines : (m : Message) (via : Via) → m.vias ≡ via ∷ [] → HasBasicHeadersAlone m → written m ≡ flat_map with_end (all_lines m via) ++ m.body
-unfolding identity_text content_text header_line
-in_lines m via one h =
-    let begin = with_end (start_of m.start m.cseq.method) in
-    let v = with_end (line_of (codes "Via") (via_text via)) in
-    let f = with_end (line_of (codes "From") (party_text m.from)) in
-    let t = with_end (line_of (codes "To") (party_text m.to)) in
-    let c = with_end (line_of (codes "Call-ID") m.call_id) in
-    let q = with_end (line_of (codes "CSeq") (cseq_text m.cseq)) in
-    written_plain m via one h
-    ∙ ap (λ (xs : List ℕ). (((((xs ++ (via_line via ++ [])) ++ []) ++ identity_text m) ++ []) ++ []) ++ content_text m) (start_with_end m.start m.cseq.method)
-    ∙ regroup begin v f t c q (flat_map other_line m.others) (with_end (length_line m)) (codes "\r\n") m.body
-    ∙ ap (λ (xs : List ℕ). (begin ++ (v ++ (f ++ (t ++ (c ++ (q ++ xs)))))) ++ m.body) (sym (last_lines m))
+abbrev with_from : Message → Slot Party → Draft
+with_from m s = record (with_hops m (numbered m.max_forwards)) { from = s }
 
--- ---- the header lines
+abbrev with_to : Message → Slot Party → Draft
+with_to m s = record (with_from m (Once m.from)) { to = s }
 
-abbrev all_fields : Message → Via → List Field
-all_fields m via =
-    field.Via (words_of via) ∷ (field.From m.from ∷ (field.To m.to ∷ (field.CallId m.call_id ∷ (field.CSeq (cseq_words m.cseq)
-    ∷ (map (λ x. field.Other x) m.others ++ (field.ContentLength (decimal (length m.body)) ∷ []))))))
+abbrev with_call_id : Message → Slot (List ℕ) → Draft
+with_call_id m s = record (with_to m (Once m.to)) { call_id = s }
 
-abbrev Long : List ℕ → Type 0
-Long name = is_token name ≡ true
+abbrev identified : Message → Draft
+identified m = record (with_call_id m (Once m.call_id)) { cseq = Once (record { number = Number m.cseq.number; method = m.cseq.method }) }
 
-names : Long (codes "Via") × Long (codes "From") × Long (codes "To") × Long (codes "Call-ID") × Long (codes "CSeq") × Long (codes "Content-Length")
-unfolding is_token is_token_byte
-names = (refl, refl, refl, refl, refl, refl)
+abbrev with_contacts : Message → Option (List NameAddr) → Draft
+with_contacts m o = record (identified m) { contacts = o }
 
--- what is known of the one Via
-record IsReady (m : Message) (via : Via) : Type 0 where
-  basic : IsMessage m
-  plain : IsPlainMessage m
-  via_is : IsVia via
-  via_plain_is : AllByRecursion IsPlain via.parameters
-  small : length m.body < 2 ^ 32
+abbrev with_record_routes : Message → Option (List NameAddr) → Draft
+with_record_routes m o = record (with_contacts m (Some m.contacts)) { record_routes = o }
 
-fields_spelled : (m : Message) (via : Via) → IsReady m via → AllZip SpellsField (all_fields m via) (header_lines m via)
-unfolding is_named
-fields_spelled m via r =
-    let b = r.basic in
-    let p = r.plain in
-    let from = party_solid m.from b.from p.from_display p.from_parameters in
-    let to = party_solid m.to b.to p.to_display p.to_parameters in
-    let call_id = word_solid m.call_id b.call_id in
-    let digits = decimal_digits (length m.body) (omega (arith, r.small)) in
-    let word = digits_solid (decimal (length m.body)) digits in (
-      spells_line (field.Via (words_of via)) (codes "Via") (via_text via) names.0 (via_plain via r.via_is r.via_plain_is) (via_kept via r.via_is r.via_plain_is) (refl, via_spelled via r.via_is r.via_plain_is),
-      (
-        spells_line (field.From m.from) (codes "From") (party_text m.from) names.1 (solid_line (party_text m.from) from) (kept_solid (party_text m.from) from) (refl, party_spelled m.from b.from p.from_display p.from_parameters),
-        (
-          spells_line (field.To m.to) (codes "To") (party_text m.to) names.2 (solid_line (party_text m.to) to) (kept_solid (party_text m.to) to) (refl, party_spelled m.to b.to p.to_display p.to_parameters),
-          (
-            spells_line (field.CallId m.call_id) (codes "Call-ID") m.call_id names.3 (solid_line m.call_id call_id) (kept_solid m.call_id call_id) (refl, (refl, b.call_id)),
-            (
-              spells_line (field.CSeq (cseq_words m.cseq)) (codes "CSeq") (cseq_text m.cseq) names.4 (cseq_plain m.cseq b.number b.method) (cseq_kept m.cseq b.number b.method) (refl, cseq_spelled m.cseq b.number b.method),
-              kept_spelled m.others (field.ContentLength (decimal (length m.body)) ∷ []) (length_line m ∷ []) b.others
-                  (spells_line (field.ContentLength (decimal (length m.body))) (codes "Content-Length") (decimal (length m.body)) names.5 (solid_line (decimal (length m.body)) word) (kept_solid (decimal (length m.body)) word) (refl, (refl, digits_word (decimal (length m.body)) digits)), tt),
-            ),
-          ),
-        ),
-      ),
-    )
+abbrev with_routes : Message → Option (List NameAddr) → Draft
+with_routes m o = record (with_record_routes m (Some m.record_routes)) { routes = o }
 
-lines_free : (m : Message) (via : Via) → IsReady m via → AllByRecursion NoLf (all_lines m via)
-lines_free m via r =
-    let b = r.basic in
-    let p = r.plain in
-    let from = party_solid m.from b.from p.from_display p.from_parameters in
-    let to = party_solid m.to b.to p.to_display p.to_parameters in
-    let word = digits_solid (decimal (length m.body)) (decimal_digits (length m.body) (omega (arith, r.small))) in (
-      start_free m.start m.cseq.method b.start b.method,
-      (
-        line_no_lf (codes "Via") (via_text via) names.0 (via_plain via r.via_is r.via_plain_is),
-        (
-          line_no_lf (codes "From") (party_text m.from) names.1 (solid_line (party_text m.from) from),
-          (
-            line_no_lf (codes "To") (party_text m.to) names.2 (solid_line (party_text m.to) to),
-            (
-              line_no_lf (codes "Call-ID") m.call_id names.3 (solid_line m.call_id (word_solid m.call_id b.call_id)),
-              (
-                line_no_lf (codes "CSeq") (cseq_text m.cseq) names.4 (cseq_plain m.cseq b.number b.method),
-                all_both NoLf (map kept_line m.others ++ (length_line m ∷ [])) ([] ∷ []) (all_both NoLf (map kept_line m.others) (length_line m ∷ []) (kept_no_lf m.others b.others) (line_no_lf (codes "Content-Length") (decimal (length m.body)) names.5 (solid_line (decimal (length m.body)) word), tt)) (refl, tt),
-              ),
-            ),
-          ),
-        ),
-      ),
-    )
+abbrev with_require : Message → Option (List (List ℕ)) → Draft
+with_require m o = record (with_routes m (Some m.routes)) { require = o }
 
-lines_full : (m : Message) (via : Via) → AllByRecursion IsFull (header_lines m via)
-lines_full m via = (
-  line_full (codes "Via") (via_text via),
-  (
-    line_full (codes "From") (party_text m.from),
-    (
-      line_full (codes "To") (party_text m.to),
-      (
-        line_full (codes "Call-ID") m.call_id,
-        (
-          line_full (codes "CSeq") (cseq_text m.cseq),
-          all_both IsFull (map kept_line m.others) (length_line m ∷ []) (kept_full m.others) (line_full (codes "Content-Length") (decimal (length m.body)), tt),
-        ),
-      ),
-    ),
-  ),
-)
+abbrev with_supported : Message → Option (List (List ℕ)) → Draft
+with_supported m o = record (with_require m (Some m.require)) { supported = o }
 
--- ---- the message
+abbrev with_rseq : Message → Slot Numeral → Draft
+with_rseq m s = record (with_supported m (Some m.supported)) { rseq = s }
 
-spelled : (m : Message) (via : Via) → m.vias ≡ via ∷ [] → IsReady m via → length (written m) ≤ 65535 → Spells m (written m)
-spelled m via one r short =
-    let b = r.basic in
-    let tail = field.ContentLength (decimal (length m.body)) ∷ [] in
-    record {
-      start = start_of m.start m.cseq.method;
-      fields = all_fields m via;
-      rest = m.body;
-      via = words_of via;
-      cseq = cseq_words m.cseq;
-      short = short;
-      laid = record {
-        lines = header_lines m via;
-        layout = record {
-          skipped = 0;
-          parts = subst (λ (xs : List ℕ). IsLines xs (all_lines m via) m.body) (sym (in_lines m via one r.plain.further)) (lines_lie (all_lines m via) m.body (lines_free m via r));
-          start_is = start_full m.start m.cseq.method;
-          lines_are = lines_full m via;
-        };
-        each = fields_spelled m via r;
-      };
-      start_is = start_spelled m.start m.cseq.method b.start b.method;
-      one_via = ap (λ fs. field.Via (words_of via) ∷ fs) (skipped_others (is_of header.Via) (λ kept. refl) m.others tail);
-      vias_are = record { port = via.port; port_is = port_number via.port r.via_is.port; one = one; are = b.top };
-      from_is = ap (λ fs. field.From m.from ∷ fs) (skipped_others (is_of header.From) (λ kept. refl) m.others tail);
-      to_is = ap (λ fs. field.To m.to ∷ fs) (skipped_others (is_of header.To) (λ kept. refl) m.others tail);
-      call_id_is = ap (λ fs. field.CallId m.call_id ∷ fs) (skipped_others (is_of header.CallId) (λ kept. refl) m.others tail);
-      one_cseq = ap (λ fs. field.CSeq (cseq_words m.cseq) ∷ fs) (skipped_others (is_of header.CSeq) (λ kept. refl) m.others tail);
-      cseq_is = record { number_is = decimal_number (2 ^ 32) m.cseq.number b.number (omega arith); method_is = refl };
-      others_are = all_others is_other (λ kept. refl) m.others tail ∙ append-nil (map (λ x. field.Other x) m.others);
-      body_is = inr (record { word = decimal (length m.body); discarded = []; one = skipped_others (is_of header.ContentLength) (λ kept. refl) m.others tail; length_is = decimal_number (2 ^ 32) (length m.body) r.small (omega arith); parts = sym (append-nil m.body) });
-      further = r.plain.further;
-    }
+abbrev with_rack : Message → Option RAck → Draft
+with_rack m o = record (with_rseq m (numbered m.rseq)) { rack = slot_of (option_map rack_draft o) }
 
-one_is : (vias : List Via) (via : Via) → vias ≡ via ∷ [] → AllByRecursion IsVia vias → IsVia via
-one_is vias via one are = (subst (λ vs. AllByRecursion IsVia vs) one are).0
+abbrev with_others : Message → Option (List Header) → Draft
+with_others m o = record (with_rack m m.rack) { others = o }
 
-pub written_spelled : (m : Message) → IsMessage m → IsPlainMessage m → length (written m) ≤ 65535 → Spells m (written m)
-written_spelled m b p short =
-    let parts = in_lines m p.via p.one_via p.further in
-    let small : length m.body < 2 ^ 32 = omega (arith, ap length parts, length-append (flat_map with_end (all_lines m p.via)) m.body, short) in
-    spelled m p.via p.one_via (record { basic = b; plain = p; via_is = one_is m.vias p.via p.one_via b.vias; via_plain_is = p.via_parameters; small = small }) short
+-- ---- each header
+
+same_list : {X : Type 0} (xs : List X) → map (λ x. x) xs ≡ xs
+same_list [] = refl
+same_list (x ∷ xs) = ap (λ ys. x ∷ ys) (same_list xs)
+
+vias_go : (m : Message) (rest : List ℕ) → AllByRecursion IsVia m.vias → Ready rest → Goes no_draft (flat_map via_line m.vias ++ rest) (with_hops m Absent) rest
+vias_go m rest all ready =
+    list_goes (with_vias m) via_line via_draft IsVia
+    (λ front v r is ok. let again = via_again v is in more_goes (with_vias m) vias_from front (via_draft v ∷ []) (via_line v ++ r) (via_text v) r again (header_goes (with_vias m (Some front)) name.Via (via_text v) r again.good ok))
+    [] m.vias rest all ready
+
+hops_go : (m : Message) (rest : List ℕ) → IfSome m.max_forwards (λ n. n < 2 ^ 32) → Ready rest → Goes (with_hops m Absent) (number_line (codes "Max-Forwards") m.max_forwards ++ rest) (with_from m Absent) rest
+hops_go m rest lt ready =
+    number_goes (with_hops m) (λ n. header_line (codes "Max-Forwards") (decimal n)) (number_line (codes "Max-Forwards")) refl (λ n. refl)
+    (λ n r small ok. let again = number_again n small in slot_goes (with_hops m) (numeral_from (2 ^ 32)) (Number n) (header_line (codes "Max-Forwards") (decimal n) ++ r) (decimal n) r again (header_goes (with_hops m Absent) name.MaxForwards (decimal n) r again.good ok))
+    m.max_forwards rest lt ready
+
+from_goes : (m : Message) (rest : List ℕ) → IsParty m.from → Ready rest → Goes (with_from m Absent) (party_line (codes "From") m.from ++ rest) (with_to m Absent) rest
+from_goes m rest is ready =
+    let again = party_again m.from is in
+    let value = address_text m.from.display m.from.uri m.from.parameters in
+    slot_goes (with_from m) party_from m.from (party_line (codes "From") m.from ++ rest) value rest again (header_goes (with_from m Absent) name.From value rest again.good ready)
+
+to_goes : (m : Message) (rest : List ℕ) → IsParty m.to → Ready rest → Goes (with_to m Absent) (party_line (codes "To") m.to ++ rest) (with_call_id m Absent) rest
+to_goes m rest is ready =
+    let again = party_again m.to is in
+    let value = address_text m.to.display m.to.uri m.to.parameters in
+    slot_goes (with_to m) party_from m.to (party_line (codes "To") m.to ++ rest) value rest again (header_goes (with_to m Absent) name.To value rest again.good ready)
+
+call_id_goes : (m : Message) (rest : List ℕ) → IsMessage m → Ready rest → Goes (with_call_id m Absent) (header_line (codes "Call-ID") m.call_id ++ rest) (with_call_id m (Once m.call_id)) rest
+call_id_goes m rest is ready =
+    let again = call_id_again m.call_id is.call_id in
+    slot_goes (with_call_id m) call_id_from m.call_id (header_line (codes "Call-ID") m.call_id ++ rest) m.call_id rest again (header_goes (with_call_id m Absent) name.CallId m.call_id rest again.good ready)
+
+cseq_goes : (m : Message) (rest : List ℕ) → IsMessage m → Ready rest → Goes (with_call_id m (Once m.call_id)) (header_line (codes "CSeq") (cseq_text m.cseq) ++ rest) (identified m) rest
+cseq_goes m rest is ready =
+    let again = cseq_again m.cseq is.number is.method in
+    slot_goes (λ s. record (with_call_id m (Once m.call_id)) { cseq = s }) cseq_from (record { number = Number m.cseq.number; method = m.cseq.method }) (header_line (codes "CSeq") (cseq_text m.cseq) ++ rest) (cseq_text m.cseq) rest again (header_goes (with_call_id m (Once m.call_id)) name.CSeq (cseq_text m.cseq) rest again.good ready)
+
+contacts_go : (m : Message) (rest : List ℕ) → AllByRecursion IsNameAddr m.contacts → Ready rest → Goes (identified m) (flat_map (address_line (codes "Contact")) m.contacts ++ rest) (with_contacts m (Some m.contacts)) rest
+contacts_go m rest all ready =
+    goes_to (ap (λ xs. with_contacts m (Some xs)) (same_list m.contacts)) (list_goes (with_contacts m) (address_line (codes "Contact")) (λ a. a) IsNameAddr
+    (λ front a r is ok. let again = name_addr_again a is in more_goes (with_contacts m) name_addrs_from front (a ∷ []) (address_line (codes "Contact") a ++ r) (address_text a.display a.uri a.parameters) r again (header_goes (with_contacts m (Some front)) name.Contact (address_text a.display a.uri a.parameters) r again.good ok))
+    [] m.contacts rest all ready)
+
+record_routes_go : (m : Message) (rest : List ℕ) → AllByRecursion IsNameAddr m.record_routes → Ready rest → Goes (with_contacts m (Some m.contacts)) (flat_map (address_line (codes "Record-Route")) m.record_routes ++ rest) (with_record_routes m (Some m.record_routes)) rest
+record_routes_go m rest all ready =
+    goes_to (ap (λ xs. with_record_routes m (Some xs)) (same_list m.record_routes)) (list_goes (with_record_routes m) (address_line (codes "Record-Route")) (λ a. a) IsNameAddr
+    (λ front a r is ok. let again = name_addr_again a is in more_goes (with_record_routes m) name_addrs_from front (a ∷ []) (address_line (codes "Record-Route") a ++ r) (address_text a.display a.uri a.parameters) r again (header_goes (with_record_routes m (Some front)) name.RecordRoute (address_text a.display a.uri a.parameters) r again.good ok))
+    [] m.record_routes rest all ready)
+
+routes_go : (m : Message) (rest : List ℕ) → AllByRecursion IsNameAddr m.routes → Ready rest → Goes (with_record_routes m (Some m.record_routes)) (flat_map (address_line (codes "Route")) m.routes ++ rest) (with_routes m (Some m.routes)) rest
+routes_go m rest all ready =
+    goes_to (ap (λ xs. with_routes m (Some xs)) (same_list m.routes)) (list_goes (with_routes m) (address_line (codes "Route")) (λ a. a) IsNameAddr
+    (λ front a r is ok. let again = name_addr_again a is in more_goes (with_routes m) name_addrs_from front (a ∷ []) (address_line (codes "Route") a ++ r) (address_text a.display a.uri a.parameters) r again (header_goes (with_routes m (Some front)) name.Route (address_text a.display a.uri a.parameters) r again.good ok))
+    [] m.routes rest all ready)
+
+require_goes : (m : Message) (rest : List ℕ) → AllByRecursion IsToken m.require → Ready rest → Goes (with_routes m (Some m.routes)) (tokens_line (codes "Require") m.require ++ rest) (with_require m (Some m.require)) rest
+require_goes m rest all ready =
+    tokens_go (with_require m) (λ t ts. header_line (codes "Require") (joined t ts)) (tokens_line (codes "Require")) refl (λ t ts. refl)
+    (λ t ts r is more ok. let again = tokens_again t ts is more in more_goes (with_require m) tokens_from [] (t ∷ ts) (header_line (codes "Require") (joined t ts) ++ r) (joined t ts) r again (header_goes (with_require m (Some [])) name.Require (joined t ts) r again.good ok))
+    m.require rest all ready
+
+supported_goes : (m : Message) (rest : List ℕ) → AllByRecursion IsToken m.supported → Ready rest → Goes (with_require m (Some m.require)) (tokens_line (codes "Supported") m.supported ++ rest) (with_supported m (Some m.supported)) rest
+supported_goes m rest all ready =
+    tokens_go (with_supported m) (λ t ts. header_line (codes "Supported") (joined t ts)) (tokens_line (codes "Supported")) refl (λ t ts. refl)
+    (λ t ts r is more ok. let again = tokens_again t ts is more in more_goes (with_supported m) tokens_from [] (t ∷ ts) (header_line (codes "Supported") (joined t ts) ++ r) (joined t ts) r again (header_goes (with_supported m (Some [])) name.Supported (joined t ts) r again.good ok))
+    m.supported rest all ready
+
+rseq_goes : (m : Message) (rest : List ℕ) → IfSome m.rseq (λ n. n < 2 ^ 32) → Ready rest → Goes (with_rseq m Absent) (number_line (codes "RSeq") m.rseq ++ rest) (with_rseq m (numbered m.rseq)) rest
+rseq_goes m rest lt ready =
+    number_goes (with_rseq m) (λ n. header_line (codes "RSeq") (decimal n)) (number_line (codes "RSeq")) refl (λ n. refl)
+    (λ n r small ok. let again = number_again n small in slot_goes (with_rseq m) (numeral_from (2 ^ 32)) (Number n) (header_line (codes "RSeq") (decimal n) ++ r) (decimal n) r again (header_goes (with_rseq m Absent) name.RSeq (decimal n) r again.good ok))
+    m.rseq rest lt ready
+
+rack_goes : (m : Message) (rack : Option RAck) (rest : List ℕ) → IfSome rack IsRAck → Ready rest → Goes (with_rack m None) (rack_line rack ++ rest) (with_rack m rack) rest
+rack_goes m None rest is ready = no_lines (with_rack m None) (with_rack m None) rest refl ready
+rack_goes m (Some rack) rest is ready =
+    let again = rack_again rack is in
+    slot_goes (λ s. record (with_rseq m (numbered m.rseq)) { rack = s }) rack_from (rack_draft rack) (header_line (codes "RAck") (rack_text rack) ++ rest) (rack_text rack) rest again (header_goes (with_rack m None) name.RAck (rack_text rack) rest again.good ready)
+
+others_go : (m : Message) (rest : List ℕ) → AllByRecursion IsOtherHeader m.others → Ready rest → Goes (with_rack m m.rack) (flat_map other_line m.others ++ rest) (with_others m (Some m.others)) rest
+others_go m rest all ready =
+    goes_to (ap (λ xs. with_others m (Some xs)) (same_list m.others)) (list_goes (with_others m) other_line (λ h. h) IsOtherHeader
+    (λ front h r is ok. other_goes (with_others m (Some front)) front h r is refl ok) [] m.others rest all ready)
+
+length_goes : (m : Message) (rest : List ℕ) → length m.body < 2 ^ 32 → Ready rest → Goes (with_others m (Some m.others)) (header_line (codes "Content-Length") (decimal (length m.body)) ++ rest) (draft_with (headers_with m (Some (length m.body)))) rest
+length_goes m rest lt ready =
+    let again = number_again (length m.body) lt in
+    slot_goes (λ s. record (with_others m (Some m.others)) { content_length = s }) (numeral_from (2 ^ 32)) (Number (length m.body)) (header_line (codes "Content-Length") (decimal (length m.body)) ++ rest) (decimal (length m.body)) rest again (header_goes (with_others m (Some m.others)) name.ContentLength (decimal (length m.body)) rest again.good ready)
+
+-- ---- all of them
+
+abbrev last_text : Message → List ℕ
+last_text m = 13 ∷ (10 ∷ m.body)
+
+abbrev content_lines : Message → List ℕ
+content_lines m =
+    flat_map other_line m.others ++ (header_line (codes "Content-Length") (decimal (length m.body)) ++ last_text m)
+
+abbrev extension_lines : Message → List ℕ
+extension_lines m =
+    tokens_line (codes "Require") m.require ++ (tokens_line (codes "Supported") m.supported
+    ++ (number_line (codes "RSeq") m.rseq ++ (rack_line m.rack ++ content_lines m)))
+
+abbrev route_lines : Message → List ℕ
+route_lines m =
+    flat_map (address_line (codes "Contact")) m.contacts ++ (flat_map (address_line (codes "Record-Route")) m.record_routes
+    ++ (flat_map (address_line (codes "Route")) m.routes ++ extension_lines m))
+
+abbrev identity_lines : Message → List ℕ
+identity_lines m =
+    party_line (codes "From") m.from ++ (party_line (codes "To") m.to
+    ++ (header_line (codes "Call-ID") m.call_id ++ (header_line (codes "CSeq") (cseq_text m.cseq) ++ route_lines m)))
+
+abbrev header_lines : Message → List ℕ
+header_lines m =
+    flat_map via_line m.vias ++ (number_line (codes "Max-Forwards") m.max_forwards ++ identity_lines m)
+
+abbrev whole : Message → Draft
+whole m = draft_with (headers_with m (Some (length m.body)))
+
+content_goes : (m : Message) → IsMessage m → length m.body < 2 ^ 32 → Goes (with_rack m m.rack) (content_lines m) (whole m) (last_text m)
+content_goes m is lt =
+    let last = length_goes m (last_text m) lt (end_ready m.body) in
+    two_go (others_go m (header_line (codes "Content-Length") (decimal (length m.body)) ++ last_text m) is.others last.ready) last
+
+extensions_go : (m : Message) → IsMessage m → length m.body < 2 ^ 32 → Goes (with_routes m (Some m.routes)) (extension_lines m) (whole m) (last_text m)
+extensions_go m is lt =
+    let content = content_goes m is lt in
+    let rack = two_go (rack_goes m m.rack (content_lines m) is.rack content.ready) content in
+    let rseq = two_go (rseq_goes m (rack_line m.rack ++ content_lines m) is.rseq rack.ready) rack in
+    let supported = two_go (supported_goes m (number_line (codes "RSeq") m.rseq ++ (rack_line m.rack ++ content_lines m)) is.supported rseq.ready) rseq in
+    two_go (require_goes m (tokens_line (codes "Supported") m.supported ++ (number_line (codes "RSeq") m.rseq ++ (rack_line m.rack ++ content_lines m))) is.require supported.ready) supported
+
+all_routes_go : (m : Message) → IsMessage m → length m.body < 2 ^ 32 → Goes (identified m) (route_lines m) (whole m) (last_text m)
+all_routes_go m is lt =
+    let extensions = extensions_go m is lt in
+    let routes = two_go (routes_go m (extension_lines m) is.routes extensions.ready) extensions in
+    let record_routes = two_go (record_routes_go m (flat_map (address_line (codes "Route")) m.routes ++ extension_lines m) is.record_routes routes.ready) routes in
+    two_go (contacts_go m (flat_map (address_line (codes "Record-Route")) m.record_routes ++ (flat_map (address_line (codes "Route")) m.routes ++ extension_lines m)) is.contacts record_routes.ready) record_routes
+
+identity_goes : (m : Message) → IsMessage m → length m.body < 2 ^ 32 → Goes (with_from m Absent) (identity_lines m) (whole m) (last_text m)
+identity_goes m is lt =
+    let routes = all_routes_go m is lt in
+    let cseq = two_go (cseq_goes m (route_lines m) is routes.ready) routes in
+    let call_id = two_go (call_id_goes m (header_line (codes "CSeq") (cseq_text m.cseq) ++ route_lines m) is cseq.ready) cseq in
+    let to = two_go (to_goes m (header_line (codes "Call-ID") m.call_id ++ (header_line (codes "CSeq") (cseq_text m.cseq) ++ route_lines m)) is.to call_id.ready) call_id in
+    two_go (from_goes m (party_line (codes "To") m.to ++ (header_line (codes "Call-ID") m.call_id ++ (header_line (codes "CSeq") (cseq_text m.cseq) ++ route_lines m))) is.from to.ready) to
+
+headers_go : (m : Message) → IsMessage m → length m.body < 2 ^ 32 → Goes no_draft (header_lines m) (whole m) (last_text m)
+headers_go m is lt =
+    let identity = identity_goes m is lt in
+    let hops = two_go (hops_go m (identity_lines m) is.max_forwards identity.ready) identity in
+    two_go (vias_go m (number_line (codes "Max-Forwards") m.max_forwards ++ identity_lines m) is.vias hops.ready) hops
+
+-- ---- the whole text
+
+regroup : (s e v x f t c q a r o k p g n h l z : List ℕ) → ((((((s ++ e) ++ v) ++ x) ++ (((f ++ t) ++ c) ++ q)) ++ ((a ++ r) ++ o)) ++ (((k ++ p) ++ g) ++ n)) ++ (((h ++ l) ++ e) ++ z) ≡ s ++ (e ++ (v ++ (x ++ (f ++ (t ++ (c ++ (q ++ (a ++ (r ++ (o ++ (k ++ (p ++ (g ++ (n ++ (h ++ (l ++ (e ++ z)))))))))))))))))
+regroup s e v x f t c q a r o k p g n h l z = simp append_assoc
+
+in_lines : (m : Message) → written m ≡ start_of m.start m.cseq.method ++ (13 ∷ (10 ∷ header_lines m))
+unfolding written head_text identity_text routes_text extensions_text content_text
+in_lines m =
+    ap (λ (s : List ℕ). ((((((s ++ flat_map via_line m.vias) ++ number_line (codes "Max-Forwards") m.max_forwards) ++ (((party_line (codes "From") m.from ++ party_line (codes "To") m.to) ++ header_line (codes "Call-ID") m.call_id) ++ header_line (codes "CSeq") (cseq_text m.cseq))) ++ ((flat_map (address_line (codes "Contact")) m.contacts ++ flat_map (address_line (codes "Record-Route")) m.record_routes) ++ flat_map (address_line (codes "Route")) m.routes)) ++ (((tokens_line (codes "Require") m.require ++ tokens_line (codes "Supported") m.supported) ++ number_line (codes "RSeq") m.rseq) ++ rack_line m.rack)) ++ (((flat_map other_line m.others ++ header_line (codes "Content-Length") (decimal (length m.body))) ++ codes "\r\n") ++ m.body))) (start_with_end m.start m.cseq.method)
+    ∙ regroup (start_of m.start m.cseq.method) (codes "\r\n") (flat_map via_line m.vias) (number_line (codes "Max-Forwards") m.max_forwards) (party_line (codes "From") m.from) (party_line (codes "To") m.to) (header_line (codes "Call-ID") m.call_id) (header_line (codes "CSeq") (cseq_text m.cseq)) (flat_map (address_line (codes "Contact")) m.contacts) (flat_map (address_line (codes "Record-Route")) m.record_routes) (flat_map (address_line (codes "Route")) m.routes) (tokens_line (codes "Require") m.require) (tokens_line (codes "Supported") m.supported) (number_line (codes "RSeq") m.rseq) (rack_line m.rack) (flat_map other_line m.others) (header_line (codes "Content-Length") (decimal (length m.body))) m.body
+
+-- ---- its numbers
+
+good_ports : (vias : List Via) → AllByRecursion IsVia vias → list_all is_port (port_words (map via_draft vias)) ≡ true
+good_ports [] all = refl
+good_ports (v ∷ vias) all =
+    list_all-append is_port (option_to_list (option_map (λ n. Number n) v.port)) (port_words (map via_draft vias))
+    ∙ and_from _ _ (good_port v.port all.0.port) (good_ports vias all.1)
+  where
+    good_port : (port : Option ℕ) → IfSome port (λ n. n < 2 ^ 16) → list_all is_port (option_to_list (option_map (λ n. Number n) port)) ≡ true
+    good_port None lt = refl
+    good_port (Some n) lt = and_from _ _ (lt-ltb n (2 ^ 16) lt) refl
+
+good_number : (n : Option ℕ) → list_all is_number (option_to_list (option_map (λ x. Number x) n)) ≡ true
+good_number None = refl
+good_number (Some n) = refl
+
+both_good : (xs ys : List Numeral) → list_all is_number xs ≡ true → list_all is_number ys ≡ true → list_all is_number (xs ++ ys) ≡ true
+both_good xs ys e f = list_all-append is_number xs ys ∙ and_from _ _ e f
+
+good_rack : (rack : Option RAck) → list_all is_number (flat_map (λ r. r.rseq ∷ (r.cseq ∷ [])) (option_to_list (option_map rack_draft rack))) ≡ true
+good_rack None = refl
+good_rack (Some rack) = refl
+
+good_numbers : (m : Message) (count : Option ℕ) → IsMessage m → are_numbers (headers_with m count) ≡ true
+good_numbers m count is =
+    and_from _ _ (good_ports m.vias is.vias)
+    (both_good (option_to_list (option_map (λ x. Number x) m.max_forwards)) _ (good_number m.max_forwards)
+    (both_good (option_to_list (option_map (λ x. Number x) m.rseq)) _ (good_number m.rseq)
+    (both_good (flat_map (λ r. r.rseq ∷ (r.cseq ∷ [])) (option_to_list (option_map rack_draft m.rack))) _ (good_rack m.rack) (good_number count))))
+
+-- ---- it is read again
+
+some_vias : (vias : List Via) → are_vias vias ≡ true → map via_draft vias ≡ [] → ⊥
+unfolding are_vias
+some_vias [] is e = absurd cc
+some_vias (v ∷ vias) is e = absurd cc
+
+lines_again : (m : Message) → IsMessage m → message_of_lines (start_of m.start m.cseq.method) (whole m) m.body ≡ Ok m
+unfolding message_of_lines
+lines_again m is =
+    let text = start_of m.start m.cseq.method in
+    let line = first_of m.start m.cseq.method in
+    let h = headers_with m (Some (length m.body)) in
+    step_again fault.BadStartLine (start_at text) (λ says. headers_of (whole m) >>= λ g. message_of_headers says g m.body) line (start_reads.again text line (first_spelled m.start m.cseq.method text (start_spelled m.start m.cseq.method is.start is.method)))
+    ∙ result_again (headers_of (whole m)) (λ g. message_of_headers line g m.body) h (no_fault h (some_vias m.vias is.top))
+    ∙ made_again m (Some (length m.body)) m.body (good_numbers m (Some (length m.body)) is) is.top (body_again m.body (Some (length m.body)) m.body ([], sym (append-nil m.body), refl))
+
+body_short : (m : Message) → length (written m) ≤ 65535 → length m.body < 2 ^ 32
+unfolding written content_text
+body_short m short =
+    let content = (flat_map other_line m.others ++ header_line (codes "Content-Length") (decimal (length m.body))) ++ codes "\r\n" in
+    omega (arith, short, length-append (((head_text m ++ identity_text m) ++ routes_text m) ++ extensions_text m) (content ++ m.body), length-append content m.body)
+
+read_again : (m : Message) → IsMessage m → length (written m) ≤ 65535 → message_at (written m) ≡ Ok m
+read_again m is short =
+    let first = start_of m.start m.cseq.method in
+    let rest = header_lines m in
+    let text = first ++ (13 ∷ (10 ∷ rest)) in
+    let free = start_free m.start m.cseq.method is.start is.method in
+    let all = headers_go m is (body_short m short) in
+    let begins : without_line_ends text ≡ text = kept text (no_end text first rest (is_line first rest free) (start_full m.start m.cseq.method)) in
+    let read : message_in text ≡ message_of_lines first (whole m) m.body = some_gathered text first rest first rest (whole m) m.body (sym (ended_line first rest free)) (ends_here first rest all.ready.line all.ready.after all.ready.line_is all.ready.anew) (sym (all.same ∙ end_gathered (whole m) m.body)) in
+    ap (λ b. cond b (Err fault.TooLong) (message_in (without_line_ends (written m)))) (le-ltb 65535 (length (written m)) short)
+    ∙ ap (λ (xs : List ℕ). message_in (without_line_ends xs)) (in_lines m)
+    ∙ ap message_in begins ∙ read ∙ lines_again m is
+
+pub written_spelled : (m : Message) → IsMessage m → length (written m) ≤ 65535 → Spells m (written m)
+written_spelled m is short = spelled_takes (written m) m (read_again m is short)

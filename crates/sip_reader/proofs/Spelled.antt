@@ -1,214 +1,173 @@
 -- What reading gives is what the text spells.
-use Rattle.std.proofs.Common.{◌≡◌, inl, inr, ℕ, ◌^◌, ◌≤◌, Bool, true, false, cond, ltb, List, [], ◌∷◌, map, length, Option, Some, None, Result, Ok, Err, refl, sym, ap, subst, ◌∙◌}
-use Rattle.std.specs.Option.{option_map, option_to_list}
+use Rattle.std.proofs.Common.{◌≡◌, ℕ, ◌≤◌, Bool, true, false, cond, ltb, List, [], ◌∷◌, map, length, Option, Some, None, Result, Ok, Err, refl, sym, ap, subst, ◌∙◌}
 use Rattle.std.proofs.lemmas.Bool.{ltb-false, le-ltb}
-use Rattle.std.proofs.lemmas.Option.{same_Some}
+use Rattle.sip_text.specs.Forms.{each}
 use Rattle.sip_text.specs.Line.{line_at}
-use Rattle.sip_parts.specs.declared.header_name.HeaderName.TheVariants as header
+use Rattle.sip_message.specs.Via.{are_vias}
 use Rattle.sip_message.specs.declared.fault.ReadFault.{ReadFault}
 use Rattle.sip_message.specs.declared.fault.ReadFault.TheVariants as fault
 use Rattle.sip_message.specs.declared.message.Message.{Message}
 use Rattle.sip_message.specs.declared.start_line.StartLine.{StartLine}
-use Rattle.sip_message.specs.declared.start_line.StartLine.TheVariants as start
-use Rattle.sip_reader.specs.declared.field.Field.{Field}
-use Rattle.sip_reader.specs.declared.field.Field.TheVariants as field
-use Rattle.sip_reader.specs.declared.fields.Fields.{Fields}
+use Rattle.sip_message.specs.declared.via.Via.{Via}
+use Rattle.sip_values.specs.declared.via.ViaDraft.{ViaDraft}
+use Rattle.sip_headers.specs.Complete.{headers_of}
+use Rattle.sip_headers.specs.Draft.{draft_of}
+use Rattle.sip_headers.specs.Folding.{Section, section_at, onto_section}
+use Rattle.sip_headers.specs.Headers.{AreHeaders}
+use Rattle.sip_headers.specs.Numbers.{headers_with, are_numbers, numbers_in, via_with, via_draft, message_with}
+use Rattle.sip_headers.specs.declared.headers.Headers.{Headers}
+use Rattle.sip_headers.specs.declared.headers.Numbers.{Numbers}
+use Rattle.sip_headers.proofs.HeaderFaults.{headers_take}
+use Rattle.sip_headers.proofs.HeaderNumbers.{are_all_numbers, numbered, numbers_with, numbers_again, ports_again, message_again}
+use Rattle.sip_headers.proofs.HeaderSets.{headers_again}
 use Rattle.sip_reader.specs.declared.first_line.FirstLine.{FirstLine}
-use Rattle.sip_reader.specs.declared.first_line.FirstLine.TheVariants as first
-use Rattle.sip_reader.specs.declared.parts.Parts.{Parts}
-use Rattle.sip_reader.specs.Fields.{no_fields, fault_in}
-use Rattle.sip_reader.specs.HeaderSet.{SpellsField, values}
-use Rattle.sip_reader.specs.Layout.{without_line_ends, header_at}
-use Rattle.sip_reader.specs.NumberWords.{IsNumber, IsOptionalNumber}
-use Rattle.sip_reader.specs.Parts.{parts_of}
-use Rattle.sip_reader.specs.Reading as option
-use Rattle.sip_reader.specs.Reading.{each, field_at}
-use Rattle.sip_reader.specs.ReadMessage.{◌>>=◌, or_fault, fields_from, one_via, fields_at, message_of_all, message_of_parts, message_of_fields, message_of_lines, message_in, message_at}
+use Rattle.sip_reader.specs.ReadMessage.{◌>>=◌, or_fault, good_vias, vias_of, start_line_of, body_of, message_of_headers, message_of_lines, message_of_section, message_in, message_at}
 use Rattle.sip_reader.specs.ReadStart.{start_at}
-use Rattle.sip_reader.specs.Spells.{Spells, SpellsBody}
-use Rattle.sip_reader.specs.StartLine.{SpellsStart, IsRequestLine}
-use Rattle.sip_reader.proofs.Alone.{IsAlone, parts_alone, none_repeated, no_fault, alone_no_fault, alone_parts}
-use Rattle.sip_reader.proofs.Gathering.{gathered, from_each, Gathers, gathers, map_same, same_via, same_from, same_to, same_call_id, same_cseq, same_length, same_other}
-use Rattle.sip_reader.proofs.HeaderLines.{field_reads}
-use Rattle.sip_reader.proofs.Layouts.{Layout, layout_at, layout_reads}
-use Rattle.sip_reader.proofs.Making.{IsStart, IsBody, Makes, makes_take, makes_again}
-use Rattle.sip_reader.proofs.Outcomes.{step_ok, step_again, unless_ok}
-use Rattle.sip_reader.proofs.Pieces.{bind_some, map_some, each_takes, each_again}
-use Rattle.sip_reader.proofs.StartLines.{SpellsFirst, start_reads}
+use Rattle.sip_reader.specs.SkippedEnds.{without_line_ends}
+use Rattle.sip_reader.specs.Spells.{Spells}
+use Rattle.sip_reader.specs.StartLine.{SpellsStart}
+use Rattle.sip_reader.proofs.Layouts.{laid_takes, laid_again}
+use Rattle.sip_reader.proofs.Making.{start_takes, first_of, first_spelled, start_line_again, body_takes, body_again}
+use Rattle.sip_reader.proofs.Outcomes.{same_Ok, step_ok, result_ok, step_again, result_again}
+use Rattle.sip_reader.proofs.StartLines.{start_reads}
 
 -- ---- the stages
 
-abbrev pub then_fields : List (List ℕ) → List ℕ → FirstLine → Result Message ReadFault
-then_fields lines rest line = or_fault fault.BadHeader (fields_at lines) >>= λ fields. message_of_fields line fields rest
+abbrev pub then_body : Headers → List ℕ → Numbers → List Via → StartLine → Result Message ReadFault
+then_body h rest numbers vias says =
+    or_fault fault.Truncated (body_of rest numbers.content_length) >>= λ body. Ok (message_with says vias numbers h body)
 
-abbrev pub then_start_line : Layout → Result Message ReadFault
-then_start_line layout = message_of_lines layout.start layout.lines layout.rest
+abbrev pub then_start : FirstLine → Headers → List ℕ → Numbers → List Via → Result Message ReadFault
+then_start line h rest numbers vias =
+    or_fault fault.MethodMismatch (start_line_of line h.cseq.method) >>= λ says. then_body h rest numbers vias says
 
-laid_header : (start : List ℕ) (o : Option (List (List ℕ) × List ℕ)) → (or_fault fault.NoEmptyLine o >>= λ header. message_of_lines start header.0 header.1) ≡ (or_fault fault.NoEmptyLine (option.◌>>=◌ o (λ header. Some (record { start = start; lines = header.0; rest = header.1 }))) >>= then_start_line)
-laid_header start None = refl
-laid_header start (Some header) = refl
+abbrev pub then_branch : FirstLine → Headers → List ℕ → Numbers → List Via → Result Message ReadFault
+then_branch line h rest numbers vias =
+    or_fault fault.OldBranch (good_vias vias) >>= λ good. then_start line h rest numbers good
 
-laid_line : (o : Option (List ℕ × List ℕ)) → (or_fault fault.NoEmptyLine o >>= λ line. or_fault fault.NoEmptyLine (header_at line.1) >>= λ header. message_of_lines line.0 header.0 header.1) ≡ (or_fault fault.NoEmptyLine (option.◌>>=◌ o (λ line. option.◌>>=◌ (header_at line.1) (λ header. Some (record { start = line.0; lines = header.0; rest = header.1 })))) >>= then_start_line)
-laid_line None = refl
-laid_line (Some line) = laid_header line.0 (header_at line.1)
+-- what a message was made of
+pub record IsMade (line : FirstLine) (h : Headers) (rest : List ℕ) (m : Message) : Type 0 where
+  pub numbers : Numbers
+  pub vias : List Via
+  pub says : StartLine
+  pub body : List ℕ
+  pub numbers_are : numbers_in h ≡ Some numbers
+  pub vias_are : each via_with h.vias ≡ Some vias
+  pub branch_is : are_vias vias ≡ true
+  pub start_is : start_line_of line h.cseq.method ≡ Some says
+  pub body_is : body_of rest numbers.content_length ≡ Some body
+  pub same : message_with says vias numbers h body ≡ m
 
-pub in_layout : (text : List ℕ) → message_in (without_line_ends text) ≡ (or_fault fault.NoEmptyLine (layout_at text) >>= then_start_line)
-unfolding message_in
-in_layout text = laid_line (line_at (without_line_ends text))
+vias_take : (drafts : List ViaDraft) (vias : List Via) → vias_of drafts ≡ Ok vias → (each via_with drafts ≡ Some vias) × (are_vias vias ≡ true)
+unfolding vias_of
+vias_take drafts vias e =
+    let a = step_ok fault.BadNumber (each via_with drafts) (λ vs. or_fault fault.OldBranch (good_vias vs)) vias e in
+    let g = good (are_vias a.0) a.0 vias a.2 in
+    (a.1 ∙ ap (λ vs. Some vs) g.1, subst (λ vs. are_vias vs ≡ true) g.1 g.0)
+  where
+    good : (r : Bool) (vs ws : List Via) → or_fault fault.OldBranch (cond r (Some vs) None) ≡ Ok ws → (r ≡ true) × (vs ≡ ws)
+    good true vs ws p = (refl, same_Ok vs ws p)
+    good false vs ws p = absurd cc
+
+pub made : (line : FirstLine) (h : Headers) (rest : List ℕ) (m : Message) → message_of_headers line h rest ≡ Ok m → IsMade line h rest m
+unfolding message_of_headers
+made line h rest m e =
+    let a = step_ok fault.BadNumber (numbers_in h) (λ numbers. vias_of h.vias >>= λ vias. then_start line h rest numbers vias) m e in
+    let b = result_ok (vias_of h.vias) (λ vias. then_start line h rest a.0 vias) m a.2 in
+    let vias = vias_take h.vias b.0 b.1 in
+    let c = step_ok fault.MethodMismatch (start_line_of line h.cseq.method) (λ says. then_body h rest a.0 b.0 says) m b.2 in
+    let d = step_ok fault.Truncated (body_of rest a.0.content_length) (λ body. Ok (message_with c.0 b.0 a.0 h body)) m c.2 in
+    record { numbers = a.0; vias = b.0; says = c.0; body = d.0; numbers_are = a.1; vias_are = vias.0; branch_is = vias.1; start_is = c.1; body_is = d.1; same = same_Ok _ m d.2 }
 
 sized : (r : Bool) (read : Result Message ReadFault) (m : Message) → cond r (Err fault.TooLong) read ≡ Ok m → (r ≡ false) × (read ≡ Ok m)
 sized true read m e = absurd cc
 sized false read m e = (refl, e)
 
-at_most_one : (r : Bool) (f g : Fields) → cond r None (Some f) ≡ Some g → (r ≡ false) × (f ≡ g)
-at_most_one true f g e = absurd cc
-at_most_one false f g e = (refl, same_Some f g e)
+-- a section that has a start line
+pub record IsSection (section : Option Section) (m : Message) : Type 0 where
+  pub start : List ℕ
+  pub lines : List (List ℕ)
+  pub rest : List ℕ
+  pub section_is : section ≡ Some (start ∷ lines, rest)
+  pub read_is : message_of_lines start (draft_of lines) rest ≡ Ok m
 
-pub fields_take : (lines : List (List ℕ)) (f : Fields) → fields_at lines ≡ Some f → (fs : List Field) × (each field_at lines ≡ Some fs) × Gathers fs f × (ltb 1 (length f.vias) ≡ false)
-unfolding fields_at
-fields_take lines f e =
-    let a = bind_some (fields_from no_fields lines) one_via f e in
-    let m = map_some (gathered no_fields) (each field_at lines) a.0 (sym (from_each lines no_fields) ∙ a.1) in
-    let one = at_most_one (ltb 1 (length a.0.vias)) a.0 f a.2 in
-    let same : gathered no_fields m.0 ≡ f = m.2 ∙ one.1 in
-    (m.0, m.1, subst (λ g. Gathers m.0 g) same (gathers m.0), subst (λ (g : Fields). ltb 1 (length g.vias) ≡ false) one.1 one.0)
+section_takes : (section : Option Section) (m : Message) → message_of_section section ≡ Ok m → IsSection section m
+unfolding message_of_section
+section_takes None m e = absurd cc
+section_takes (Some ([], rest)) m e = absurd cc
+section_takes (Some (start ∷ lines, rest)) m e =
+    record { start = start; lines = lines; rest = rest; section_is = refl; read_is = e }
 
-fields_again : (lines : List (List ℕ)) (fs : List Field) → each field_at lines ≡ Some fs → ltb 1 (length (gathered no_fields fs).vias) ≡ false → fields_at lines ≡ Some (gathered no_fields fs)
-unfolding fields_at
-fields_again lines fs e one =
-    ap (λ o. option.◌>>=◌ o one_via) (from_each lines no_fields ∙ ap (option_map (gathered no_fields)) e) ∙ ap (λ (r : Bool). cond r None (Some (gathered no_fields fs))) one
-
-pub all_ok : (line : FirstLine) (o : Option Parts) (rest : List ℕ) (m : Message) → message_of_all line o rest ≡ Ok m → (parts : Parts) × (o ≡ Some parts) × (message_of_parts line parts rest ≡ Ok m)
-all_ok line None rest m e = absurd cc
-all_ok line (Some parts) rest m e = (parts, refl, e)
-
--- ---- what was read is spelled
-
-start_spelled : (line : FirstLine) (method : List ℕ) (says : StartLine) (text : List ℕ) → SpellsFirst line text → IsStart line method says → SpellsStart says method text
-start_spelled (first.Request own uri) method (start.Request other) text spelled is =
-    subst (λ (xs : List ℕ). IsRequestLine xs other text) is.0 (subst (λ (xs : List ℕ). IsRequestLine own xs text) is.1 spelled)
-start_spelled (first.Request own uri) method (start.Response status reason) text spelled is = absurd is
-start_spelled (first.Response status reason) method (start.Request other) text spelled is = absurd is
-start_spelled (first.Response status reason) method (start.Response number phrase) text spelled is =
-    subst (λ (xs : List ℕ). SpellsStart (start.Response number xs) method text) is.1 (subst (λ (n : ℕ). SpellsStart (start.Response n reason) method text) is.0 spelled)
-
-body_spelled : (fs : List Field) (word : Option (List ℕ)) (number : Option ℕ) (rest body : List ℕ) → values header.ContentLength fs ≡ map (λ x. field.ContentLength x) (option_to_list word) → IsOptionalNumber (2 ^ 32) number word → IsBody rest number body → SpellsBody fs body rest
-body_spelled fs None None rest body one is part = inl (one, part)
-body_spelled fs None (Some n) rest body one is part = absurd is
-body_spelled fs (Some word) None rest body one is part = absurd is
-body_spelled fs (Some word) (Some n) rest body one is part =
-    inr (record { word = word; discarded = part.0; one = one; length_is = subst (λ (k : ℕ). IsNumber (2 ^ 32) k word) (sym part.2) is; parts = part.1 })
-
-all_spelled : (text : List ℕ) (m : Message) (layout : Layout) (line : FirstLine) (fs : List Field) (f : Fields) (parts : Parts) → length text ≤ 65535 → layout_at text ≡ Some layout → start_at layout.start ≡ Some line → each field_at layout.lines ≡ Some fs → Gathers fs f → IsAlone f parts → Makes line parts layout.rest m → Spells m text
-all_spelled text m layout line fs f parts short laid line_is fields g is makes =
-    let method : m.cseq.method ≡ parts.cseq.method = ap (λ c. c.method) makes.cseq_is in
-    let number : m.cseq.number ≡ makes.numbers.cseq = ap (λ c. c.number) makes.cseq_is in
-    record {
-      start = layout.start;
-      fields = fs;
-      rest = layout.rest;
-      via = parts.via;
-      cseq = parts.cseq;
+lines_take : (text start : List ℕ) (lines : List (List ℕ)) (rest : List ℕ) (m : Message) → length text ≤ 65535 → (first after : List ℕ) → line_at (without_line_ends text) ≡ Some (first, after) → onto_section first (section_at after) ≡ Some (start ∷ lines, rest) → message_of_lines start (draft_of lines) rest ≡ Ok m → Spells m text
+unfolding message_of_lines
+lines_take text start lines rest m short first after line_is section_is e =
+    let a = step_ok fault.BadStartLine (start_at start) (λ says. headers_of (draft_of lines) >>= λ h. message_of_headers says h rest) m e in
+    let b = result_ok (headers_of (draft_of lines)) (λ h. message_of_headers a.0 h rest) m a.2 in
+    let made_is = made a.0 b.0 rest m b.2 in
+    let own : b.0 ≡ headers_with (message_with made_is.says made_is.vias made_is.numbers b.0 made_is.body) made_is.numbers.content_length = numbered b.0 made_is.says made_is.vias made_is.numbers made_is.body made_is.numbers_are made_is.vias_are in
+    subst (λ (n : Message). Spells n text) made_is.same (record {
+      start = start;
+      lines = lines;
+      rest = rest;
+      content_length = made_is.numbers.content_length;
       short = short;
-      laid = record { lines = layout.lines; layout = layout_reads.takes text layout laid; each = each_takes field_at SpellsField field_reads layout.lines fs fields };
-      start_is = subst (λ (xs : List ℕ). SpellsStart m.start xs layout.start) (sym method) (start_spelled line parts.cseq.method m.start layout.start (start_reads.takes layout.start line line_is) makes.start_is);
-      one_via = g.vias ∙ ap (map (λ x. field.Via x)) is.vias;
-      vias_are = record { port = makes.numbers.port; port_is = makes.are.port_is; one = makes.vias_is; are = makes.vias_are };
-      from_is = g.froms ∙ ap (map (λ x. field.From x)) is.froms ∙ ap (λ x. field.From x ∷ []) (sym makes.from_is);
-      to_is = g.tos ∙ ap (map (λ x. field.To x)) is.tos ∙ ap (λ x. field.To x ∷ []) (sym makes.to_is);
-      call_id_is = g.call_ids ∙ ap (map (λ x. field.CallId x)) is.call_ids ∙ ap (λ x. field.CallId x ∷ []) (sym makes.call_id_is);
-      one_cseq = g.cseqs ∙ ap (map (λ x. field.CSeq x)) is.cseqs;
-      cseq_is = record { number_is = subst (λ (k : ℕ). IsNumber (2 ^ 32) k parts.cseq.number) (sym number) makes.are.cseq_is; method_is = method };
-      others_are = g.others ∙ ap (map (λ x. field.Other x)) (is.others ∙ sym makes.others_are);
-      body_is = body_spelled fs parts.length makes.numbers.length layout.rest m.body (g.lengths ∙ ap (map (λ x. field.ContentLength x)) is.lengths) makes.are.length_is makes.body_is;
-      further = makes.further;
-    }
+      laid = laid_takes text first after start lines rest line_is section_is;
+      start_is = start_again_at a.0 b.0 made_is start a.1;
+      headers_are = subst (λ (h : Headers). AreHeaders h lines) own (headers_take lines b.0 b.1);
+      numbers_are = ap are_numbers (sym own) ∙ are_all_numbers b.0 made_is.numbers made_is.vias made_is.numbers_are made_is.vias_are;
+      branch_is = made_is.branch_is;
+      body_is = body_takes rest made_is.numbers.content_length made_is.body made_is.body_is;
+    })
+  where
+    start_again_at : (line : FirstLine) (h : Headers) (is : IsMade line h rest m) (text : List ℕ) → start_at text ≡ Some line → SpellsStart is.says h.cseq.method text
+    start_again_at line h is text p =
+        start_takes line h.cseq.method is.says text is.start_is (start_reads.takes text line p)
 
 pub spelled_takes : (text : List ℕ) (m : Message) → message_at text ≡ Ok m → Spells m text
-unfolding message_of_lines message_of_fields
+unfolding message_in
 spelled_takes text m e =
     let size = sized (ltb 65535 (length text)) (message_in (without_line_ends text)) m e in
-    let l = step_ok fault.NoEmptyLine (layout_at text) then_start_line m (sym (in_layout text) ∙ size.1) in
-    let s = step_ok fault.BadStartLine (start_at l.0.start) (then_fields l.0.lines l.0.rest) m l.2 in
-    let f = step_ok fault.BadHeader (fields_at l.0.lines) (λ fields. message_of_fields s.0 fields l.0.rest) m s.2 in
-    let fields = fields_take l.0.lines f.0 f.1 in
-    let u = unless_ok (fault_in f.0) (message_of_all s.0 (parts_of f.0) l.0.rest) m f.2 in
-    let parts = all_ok s.0 (parts_of f.0) l.0.rest m u.1 in
-    let is = parts_alone f.0 parts.0 fields.3 (none_repeated f.0 (no_fault f.0 u.0).1) parts.1 in
-    all_spelled text m l.0 s.0 fields.0 f.0 parts.0 (ltb-false 65535 (length text) size.0) l.1 s.1 fields.1 fields.2 is (makes_take s.0 parts.0 l.0.rest m parts.2)
+    let first = step_ok fault.NoEmptyLine (line_at (without_line_ends text)) (λ p. message_of_section (onto_section p.0 (section_at p.1))) m size.1 in
+    let section = section_takes (onto_section first.0.0 (section_at first.0.1)) m first.2 in
+    lines_take text section.start section.lines section.rest m (ltb-false 65535 (length text) size.0) first.0.0 first.0.1 first.1 section.section_is section.read_is
 
--- ---- what is spelled is read
+-- ---- and the other way round
 
-abbrev pub first_of : StartLine → List ℕ → FirstLine
-first_of (start.Request uri) method = first.Request method uri
-first_of (start.Response status reason) method = first.Response status reason
+vias_again : (m : Message) (content_length : Option ℕ) → are_numbers (headers_with m content_length) ≡ true → are_vias m.vias ≡ true → vias_of (map via_draft m.vias) ≡ Ok m.vias
+unfolding vias_of
+vias_again m content_length numbers branch =
+    ap (λ o. or_fault fault.BadNumber o >>= λ vs. or_fault fault.OldBranch (good_vias vs)) (ports_again m content_length numbers)
+    ∙ ap (λ b. or_fault fault.OldBranch (cond b (Some m.vias) None)) branch
 
-pub first_spelled : (says : StartLine) (method text : List ℕ) → SpellsStart says method text → SpellsFirst (first_of says method) text
-first_spelled (start.Request uri) method text spelled = spelled
-first_spelled (start.Response status reason) method text spelled = spelled
-
-first_is : (says : StartLine) (method own : List ℕ) → method ≡ own → IsStart (first_of says method) own says
-first_is (start.Request uri) method own same = (same, refl)
-first_is (start.Response status reason) method own same = (refl, refl)
-
-record HasLength (fs : List Field) (rest body : List ℕ) : Type 0 where
-  word : Option (List ℕ)
-  number : Option ℕ
-  one : values header.ContentLength fs ≡ map (λ x. field.ContentLength x) (option_to_list word)
-  number_is : IsOptionalNumber (2 ^ 32) number word
-  part : IsBody rest number body
-
-length_of : (fs : List Field) (rest body : List ℕ) → SpellsBody fs body rest → HasLength fs rest body
-length_of fs rest body (inl is) = record { word = None; number = None; one = is.0; number_is = tt; part = is.1 }
-length_of fs rest body (inr is) = record { word = Some is.word; number = Some (length body); one = is.one; number_is = is.length_is; part = (is.discarded, is.parts, refl) }
-
-abbrev parts_in : (m : Message) (text : List ℕ) → Spells m text → Option (List ℕ) → Parts
-parts_in m text s word = record { via = s.via; from = m.from; to = m.to; call_id = m.call_id; cseq = s.cseq; length = word; others = m.others }
-
-alone_in : (m : Message) (text : List ℕ) (s : Spells m text) (has : HasLength s.fields s.rest m.body) → IsAlone (gathered no_fields s.fields) (parts_in m text s has.word)
-alone_in m text s has =
-    let f = gathered no_fields s.fields in
-    let g = gathers s.fields in
-    record {
-      vias = map_same (λ x. field.Via x) same_via f.vias (s.via ∷ []) (sym g.vias ∙ s.one_via);
-      froms = map_same (λ x. field.From x) same_from f.froms (m.from ∷ []) (sym g.froms ∙ s.from_is);
-      tos = map_same (λ x. field.To x) same_to f.tos (m.to ∷ []) (sym g.tos ∙ s.to_is);
-      call_ids = map_same (λ x. field.CallId x) same_call_id f.call_ids (m.call_id ∷ []) (sym g.call_ids ∙ s.call_id_is);
-      cseqs = map_same (λ x. field.CSeq x) same_cseq f.cseqs (s.cseq ∷ []) (sym g.cseqs ∙ s.one_cseq);
-      lengths = map_same (λ x. field.ContentLength x) same_length f.lengths (option_to_list has.word) (sym g.lengths ∙ has.one);
-      others = map_same (λ x. field.Other x) same_other f.others m.others (sym g.others ∙ s.others_are);
-    }
-
-makes_in : (m : Message) (text : List ℕ) (s : Spells m text) (has : HasLength s.fields s.rest m.body) → Makes (first_of m.start m.cseq.method) (parts_in m text s has.word) s.rest m
-makes_in m text s has = record {
-  numbers = record { port = s.vias_are.port; cseq = m.cseq.number; length = has.number };
-  are = record { port_is = s.vias_are.port_is; cseq_is = s.cseq_is.number_is; length_is = has.number_is };
-  vias_is = s.vias_are.one;
-  vias_are = s.vias_are.are;
-  start_is = first_is m.start m.cseq.method s.cseq.method s.cseq_is.method_is;
-  body_is = has.part;
-  from_is = refl;
-  to_is = refl;
-  call_id_is = refl;
-  cseq_is = ap (λ (xs : List ℕ). record { number = m.cseq.number; method = xs }) s.cseq_is.method_is;
-  others_are = refl;
-  further = s.further;
-}
-
-again_in : (m : Message) (text : List ℕ) (s : Spells m text) → HasLength s.fields s.rest m.body → message_at text ≡ Ok m
-unfolding message_of_lines message_of_fields
-again_in m text s has =
-    let layout : Layout = record { start = s.start; lines = s.laid.lines; rest = s.rest } in
-    let f = gathered no_fields s.fields in
-    let parts = parts_in m text s has.word in
-    let is = alone_in m text s has in
+pub made_again : (m : Message) (content_length : Option ℕ) (rest : List ℕ) → are_numbers (headers_with m content_length) ≡ true → are_vias m.vias ≡ true → body_of rest content_length ≡ Some m.body → message_of_headers (first_of m.start m.cseq.method) (headers_with m content_length) rest ≡ Ok m
+unfolding message_of_headers
+made_again m content_length rest numbers branch body =
+    let h = headers_with m content_length in
     let line = first_of m.start m.cseq.method in
-    let one : ltb 1 (length f.vias) ≡ false = ap (λ xs. ltb 1 (length xs)) is.vias in
-    let fields : fields_at s.laid.lines ≡ Some f = fields_again s.laid.lines s.fields (each_again field_at SpellsField field_reads s.laid.lines s.fields s.laid.each) one in
-    let made : message_of_fields line f s.rest ≡ Ok m = rw (alone_no_fault f parts is, alone_parts f parts is) (makes_again line parts s.rest m (makes_in m text s has)) in
-    let read : message_of_lines s.start s.laid.lines s.rest ≡ Ok m = step_again fault.BadStartLine (start_at s.start) (then_fields s.laid.lines s.rest) line (Ok m) (start_reads.again s.start line (first_spelled m.start m.cseq.method s.start s.start_is)) (step_again fault.BadHeader (fields_at s.laid.lines) (λ g. message_of_fields line g s.rest) f (Ok m) fields made) in
-    let whole : message_in (without_line_ends text) ≡ Ok m = in_layout text ∙ step_again fault.NoEmptyLine (layout_at text) then_start_line layout (Ok m) (layout_reads.again text layout s.laid.layout) read in
-    ap (λ (r : Bool). cond r (Err fault.TooLong) (message_in (without_line_ends text))) (le-ltb 65535 (length text) s.short) ∙ whole
+    step_again fault.BadNumber (numbers_in h) (λ ns. vias_of h.vias >>= λ vs. then_start line h rest ns vs) (numbers_with m content_length) (numbers_again m content_length)
+    ∙ result_again (vias_of h.vias) (λ vs. then_start line h rest (numbers_with m content_length) vs) m.vias (vias_again m content_length numbers branch)
+    ∙ step_again fault.MethodMismatch (start_line_of line m.cseq.method) (λ says. then_body h rest (numbers_with m content_length) m.vias says) m.start (start_line_again m.start m.cseq.method)
+    ∙ step_again fault.Truncated (body_of rest content_length) (λ b. Ok (message_with m.start m.vias (numbers_with m content_length) h b)) m.body body
+    ∙ ap (λ (n : Message). Ok n) (message_again m content_length)
+
+lines_again : (m : Message) (text : List ℕ) (is : Spells m text) → message_of_lines is.start (draft_of is.lines) is.rest ≡ Ok m
+unfolding message_of_lines
+lines_again m text is =
+    let line = first_of m.start m.cseq.method in
+    let h = headers_with m is.content_length in
+    step_again fault.BadStartLine (start_at is.start) (λ says. headers_of (draft_of is.lines) >>= λ g. message_of_headers says g is.rest) line (start_reads.again is.start line (first_spelled m.start m.cseq.method is.start is.start_is))
+    ∙ result_again (headers_of (draft_of is.lines)) (λ g. message_of_headers line g is.rest) h (headers_again h is.lines is.headers_are)
+    ∙ made_again m is.content_length is.rest is.numbers_are is.branch_is (body_again is.rest is.content_length m.body is.body_is)
+
+section_again : (section : Option Section) (start : List ℕ) (lines : List (List ℕ)) (rest : List ℕ) → section ≡ Some (start ∷ lines, rest) → message_of_section section ≡ message_of_lines start (draft_of lines) rest
+unfolding message_of_section
+section_again section start lines rest e = ap message_of_section e
 
 pub spelled_again : (text : List ℕ) (m : Message) → Spells m text → message_at text ≡ Ok m
-spelled_again text m s = again_in m text s (length_of s.fields s.rest m.body s.body_is)
+unfolding message_in
+spelled_again text m is =
+    let laid = laid_again text is.start is.lines is.rest is.laid in
+    ap (λ b. cond b (Err fault.TooLong) (message_in (without_line_ends text))) (le-ltb 65535 (length text) is.short)
+    ∙ step_again fault.NoEmptyLine (line_at (without_line_ends text)) (λ p. message_of_section (onto_section p.0 (section_at p.1))) (laid.first, laid.after) laid.line_is
+    ∙ section_again (onto_section laid.first (section_at laid.after)) is.start is.lines is.rest laid.section_is
+    ∙ lines_again m text is

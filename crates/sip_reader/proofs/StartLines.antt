@@ -15,16 +15,15 @@ use Rattle.sip_parts.specs.Reason.{is_reason}
 use Rattle.sip_parts.specs.Word.{is_word}
 use Rattle.sip_reader.specs.declared.first_line.FirstLine.{FirstLine}
 use Rattle.sip_reader.specs.declared.first_line.FirstLine.TheVariants as first
-use Rattle.sip_reader.specs.Lines.{has_no}
-use Rattle.sip_reader.specs.NumberWords.{is_number}
-use Rattle.sip_reader.specs.Reading.{◌>>=◌}
+use Rattle.sip_text.specs.Lines.{has_no}
+use Rattle.sip_text.proofs.ReadForms.{Reads}
+use Rattle.sip_headers.specs.Complete.{◌>>=◌}
 use Rattle.sip_reader.specs.ReadStart.{request_at, code_in, code_at, reason_at, status_at, start_at}
 use Rattle.sip_reader.specs.StartLine.{is_version, IsRequestLine, IsStatusCode, IsReasonPart, IsStatusLine}
 use Rattle.sip_reader.proofs.Characters.{same_lower, lower_without, token_without, no_space, no_slash, word_without_space}
 use Rattle.sip_reader.proofs.Cuts.{at_takes, at_again, run_all}
-use Rattle.sip_reader.proofs.WrittenBytes.{all_digits}
-use Rattle.sip_reader.proofs.WordNumbers.{number_is, number_again}
-use Rattle.sip_reader.proofs.Pieces.{Reads, bind_some, guard_some, by_bool}
+use Rattle.sip_reader.proofs.Digits.{is_number, all_digits, number_is, number_again}
+use Rattle.sip_reader.proofs.Pieces.{bind_some, guard_some, by_bool}
 
 -- what the start line says, a request's method with it
 abbrev pub SpellsFirst : FirstLine → List ℕ → Type 0

@@ -19,12 +19,11 @@ use Rattle.sip_parts.specs.Host.{is_host_byte, is_bracket_byte}
 use Rattle.sip_text.specs.Parameter.{is_value_byte, is_value_word}
 use Rattle.sip_parts.specs.Uri.{is_uri_byte, is_uri}
 use Rattle.sip_parts.specs.Word.{is_word_byte, is_word}
-use Rattle.sip_reader.specs.Lines.{has_no}
-use Rattle.sip_reader.specs.NumberWords.{IsNumber}
-use Rattle.sip_reader.specs.Values.{is_port_byte, is_port_word}
+use Rattle.sip_text.specs.Lines.{has_no}
 use Rattle.sip_reader.proofs.Blanks.{end_is, starts_full}
 use Rattle.sip_reader.proofs.Characters.{token_bytes, full_at}
 use Rattle.sip_reader.proofs.Cuts.{all_imply, run_all}
+use Rattle.sip_reader.proofs.Digits.{IsNumber, all_digits}
 use Rattle.sip_reader.proofs.Pieces.{by_bool}
 
 -- ---- bytes that neither end a line nor are white space
@@ -69,7 +68,7 @@ bracket_bytes_solid text all = all_imply is_bracket_byte is_solid (solid_byte is
 pub solid_both : (one other : List ℕ) → solid one ≡ true → solid other ≡ true → solid (one ++ other) ≡ true
 solid_both one other p q = list_all-append is_solid one other ∙ and_from (solid one) (solid other) p q
 
-solid_full : (b : ℕ) → is_solid b ≡ true → not (is_blank b) ≡ true
+pub solid_full : (b : ℕ) → is_solid b ≡ true → not (is_blank b) ≡ true
 solid_full b s = (and_parts (not (is_blank b)) (not (is_line_byte b)) s).0
 
 solid_plain : (b : ℕ) → is_solid b ≡ true → not (is_line_byte b) ≡ true
@@ -104,7 +103,7 @@ longer_end (c ∷ cs) b bs e =
 pub behind_space : (b : ℕ) (bs : List ℕ) → is_blank b ≡ false → trimmed_end (b ∷ bs) ≡ b ∷ bs → b ∷ bs ≡ trimmed (32 ∷ (b ∷ bs))
 behind_space b bs full end = sym (ap trimmed_end (starts_full b bs full) ∙ end)
 
-kept_end : (value : List ℕ) → 1 ≤ length value → not (is_blank (get_or value (length value - 1) 0)) ≡ true → trimmed_end value ≡ value
+pub kept_end : (value : List ℕ) → 1 ≤ length value → not (is_blank (get_or value (length value - 1) 0)) ≡ true → trimmed_end value ≡ value
 kept_end value some last = other_last value some (not-true (is_blank (get_or value (length value - 1) 0)) last)
 
 pub header_value_kept : (value : List ℕ) → is_header_value value ≡ true → value ≡ trimmed (32 ∷ value)
@@ -119,10 +118,6 @@ unfolding is_header_value
 header_value_plain value is = (and_parts (has_no_blank_ends value) (has_no_line_byte value) is).1
 
 -- ---- decimal numbers
-
-pub all_digits : (text : List ℕ) → all_ascii_digits text ≡ list_all is_ascii_digit text
-all_digits [] = refl
-all_digits (b ∷ bs) = ap (λ r. is_ascii_digit b && r) (all_digits bs)
 
 run_from : (test : ℕ → Bool) (text : List ℕ) → 0 < length text → list_all test text ≡ true → is_run test text ≡ true
 run_from test [] some all = absurd (omega arith)
@@ -149,9 +144,3 @@ unfolding is_word is_word_byte
 digits_word [] digits = absurd (true≢false (sym digits))
 digits_word (b ∷ bs) digits =
     all_imply is_ascii_digit is_word_byte (λ c d. rw (full_to is_ascii_digit c 32 refl d, full_to is_ascii_digit c 9 refl d, full_to is_ascii_digit c 13 refl d, full_to is_ascii_digit c 10 refl d) refl) (b ∷ bs) digits
-
-pub digits_port : (text : List ℕ) → is_digits text ≡ true → is_port_word text ≡ true
-unfolding is_port_word is_port_byte
-digits_port [] digits = absurd (true≢false (sym digits))
-digits_port (b ∷ bs) digits =
-    all_imply is_ascii_digit is_port_byte (λ c d. rw (full_to is_ascii_digit c 32 refl d, full_to is_ascii_digit c 9 refl d, full_to is_ascii_digit c 59 refl d, full_to is_ascii_digit c 44 refl d, full_to is_ascii_digit c 34 refl d) refl) (b ∷ bs) digits

@@ -1,126 +1,223 @@
--- The lines that are written lie so in the text.
-use Rattle.std.proofs.Common.{◌≡◌, ℕ, ◌-◌, Bool, true, false, List, [], ◌∷◌, ◌++◌, map, length, codes, refl, sym, ap, ◌∙◌, append_assoc, arith}
-use Rattle.std.specs.List.{flat_map, filter, AllByRecursion, AllZip}
+-- The lines that are written are gathered one after the other.
+use Rattle.std.proofs.Common.{◌≡◌, ℕ, ◌-◌, true, false, cond, not, ◌||◌, List, [], ◌∷◌, ◌++◌, map, length, codes, Option, Some, None, is_some, refl, sym, ap, subst, ◌∙◌, append_assoc, arith}
+use Rattle.std.specs.Prelude.{option_and_then}
+use Rattle.std.specs.List.{flat_map, AllByRecursion}
+use Rattle.std.specs.Option.{option_map}
+use Rattle.std.specs.Str.{str_eq_ignore_ascii_case}
 use Rattle.std.specs.Str.Lines.{strip_carriage_return}
-use Rattle.std.proofs.lemmas.Bool.{and_from}
-use Rattle.std.proofs.lemmas.List.{length-append, get_or_at, take_at}
+use Rattle.std.proofs.lemmas.Bool.{and_from, and_parts, or_parts, not-true}
+use Rattle.std.proofs.lemmas.List.{append-nil, length-append, get_or_at, take_at}
 use Rattle.std.proofs.lemmas.List.Folds.{list_all-append}
+use Rattle.sip_text.specs.Character.{is_token_byte}
+use Rattle.sip_text.specs.Forms.{by_cut, both, told, passing, reading_of}
+use Rattle.sip_text.specs.Line.{line_at}
+use Rattle.sip_text.specs.Lines.{has_no, IsLine}
 use Rattle.sip_text.specs.Token.{is_token}
-use Rattle.sip_text.specs.Trimmed.{trimmed}
-use Rattle.sip_parts.specs.HeaderValue.{has_no_line_byte}
-use Rattle.sip_message.specs.Written.{header_line, other_line}
+use Rattle.sip_text.specs.Trimmed.{trimmed, trimmed_end}
+use Rattle.sip_text.specs.Unfolded.{begins_blank}
+use Rattle.sip_text.specs.declared.separator.Separator.TheVariants.{Byte}
+use Rattle.sip_parts.specs.HeaderEntry.{entry, is_named, header_named}
+use Rattle.sip_parts.specs.HeaderValue.{has_no_line_byte, is_header_value}
+use Rattle.sip_parts.specs.OtherName.{is_compact_name, is_other_name}
+use Rattle.sip_parts.specs.declared.header_name.HeaderName.{HeaderName}
+use Rattle.sip_parts.specs.declared.header_name.HeaderName.TheVariants as name
 use Rattle.sip_message.specs.declared.header.Header.{Header}
-use Rattle.sip_reader.specs.HeaderLine.{IsHeaderLine}
-use Rattle.sip_reader.specs.HeaderSet.{SpellsField, Says}
-use Rattle.sip_reader.specs.Lines.{has_no, IsLine, IsLines, IsFull}
+use Rattle.sip_message.specs.Written.{header_line, other_line}
+use Rattle.sip_headers.specs.Draft.{with_value, with_class, with_line, long_name, other_from}
+use Rattle.sip_headers.specs.Folding.{section_at, whole_section}
+use Rattle.sip_headers.specs.HeaderLine.{Class, known, other, class_by_name, class_by_parts, class_from}
+use Rattle.sip_headers.specs.Slot.{listed}
+use Rattle.sip_headers.specs.declared.draft.Draft.{Draft}
+use Rattle.sip_headers.proofs.Folds.{drafted_on, section_ends, section_goes_on, ends_here}
 use Rattle.sip_reader.specs.Rules.{IsOtherHeader}
-use Rattle.sip_reader.specs.declared.field.Field.{Field}
-use Rattle.sip_reader.specs.declared.field.Field.TheVariants as field
-use Rattle.sip_reader.proofs.WrittenBytes.{token_solid, solid_line, no_lf, header_value_kept, header_value_plain}
-use Rattle.sip_reader.proofs.WrittenValues.{other_token, other_long}
+use Rattle.sip_reader.proofs.Characters.{token_without, token_full}
+use Rattle.sip_reader.proofs.Layouts.{line_again}
+use Rattle.sip_reader.proofs.Passing.{cut_here, token_passes}
+use Rattle.sip_reader.proofs.WrittenBytes.{solid_end, token_solid, no_lf, header_value_kept, header_value_plain}
+use Rattle.sip_reader.proofs.WrittenValues.{Good}
 
--- ---- lines with their ends
-
-abbrev pub with_end : List ℕ → List ℕ
-with_end line = line ++ codes "\r\n"
-
-abbrev pub NoLf : List ℕ → Type 0
-NoLf line = has_no 10 line ≡ true
-
-ended : (line more rest : List ℕ) → ((line ++ (13 ∷ (10 ∷ []))) ++ more) ++ rest ≡ (line ++ (13 ∷ [])) ++ (10 ∷ (more ++ rest))
-ended line more rest =
-    append_assoc (line ++ (13 ∷ (10 ∷ []))) more rest ∙ append_assoc line (13 ∷ (10 ∷ [])) (more ++ rest) ∙ sym (append_assoc line (13 ∷ []) (10 ∷ (more ++ rest)))
+-- ---- a line with its end
 
 stripped_again : (line : List ℕ) → line ≡ strip_carriage_return (line ++ (13 ∷ []))
 stripped_again line =
     let long : length (line ++ (13 ∷ [])) - 1 ≡ length line = omega (arith, length-append line (13 ∷ [])) in
     rw (long, get_or_at line 13 [] 0 (length line) refl, take_at line (13 ∷ []) (length line) refl) refl
 
-one_line : (line more rest : List ℕ) → NoLf line → IsLine ((with_end line ++ more) ++ rest) line (more ++ rest)
-one_line line more rest free = record {
+pub is_line : (line rest : List ℕ) → has_no 10 line ≡ true → IsLine (line ++ (13 ∷ (10 ∷ rest))) line rest
+is_line line rest free = record {
   part = line ++ (13 ∷ []);
-  parts = ended line more rest;
+  parts = sym (append_assoc line (13 ∷ []) (10 ∷ rest));
   one = list_all-append _ line (13 ∷ []) ∙ and_from _ _ free refl;
   stripped = stripped_again line;
 }
 
-pub lines_lie : (lines : List (List ℕ)) (rest : List ℕ) → AllByRecursion NoLf lines → IsLines (flat_map with_end lines ++ rest) lines rest
-lines_lie [] rest free = refl
-lines_lie (line ∷ lines) rest free =
-    (flat_map with_end lines ++ rest, one_line line (flat_map with_end lines) rest free.0, lines_lie lines rest free.1)
+pub ended_line : (line rest : List ℕ) → has_no 10 line ≡ true → line_at (line ++ (13 ∷ (10 ∷ rest))) ≡ Some (line, rest)
+ended_line line rest free = line_again (line ++ (13 ∷ (10 ∷ rest))) line rest (is_line line rest free)
 
-pub flat_map_both : {X Y : Type 0} (f : X → List Y) (xs ys : List X) → flat_map f (xs ++ ys) ≡ flat_map f xs ++ flat_map f ys
-flat_map_both f [] ys = refl
-flat_map_both f (x ∷ xs) ys =
-    ap (λ zs. f x ++ zs) (flat_map_both f xs ys) ∙ sym (append_assoc (f x) (flat_map f xs) (flat_map f ys))
+-- the first line of the text doesn't go on with the line before it
+pub record Ready (text : List ℕ) : Type 0 where
+  pub line : List ℕ
+  pub after : List ℕ
+  pub line_is : line_at text ≡ Some (line, after)
+  pub anew : begins_blank line ≡ false
 
-pub all_both : {X : Type 0} (P : X → Type 0) (xs ys : List X) → AllByRecursion P xs → AllByRecursion P ys → AllByRecursion P (xs ++ ys)
-all_both P [] ys p q = q
-all_both P (x ∷ xs) ys p q = (p.0, all_both P xs ys p.1 q)
+abbrev pub gathered : Draft → List ℕ → Option (Draft × List ℕ)
+gathered d text = drafted_on d (whole_section (section_at text))
 
--- ---- one header line
+-- the lines at the start of the text make the one draft the other
+pub record Goes (d : Draft) (text : List ℕ) (e : Draft) (rest : List ℕ) : Type 0 where
+  pub ready : Ready text
+  pub same : gathered d text ≡ gathered e rest
 
-abbrev pub line_of : List ℕ → List ℕ → List ℕ
-line_of name value = (name ++ codes ": ") ++ value
+pub no_lines : (d e : Draft) (rest : List ℕ) → d ≡ e → Ready rest → Goes d rest e rest
+no_lines d e rest same ready = record { ready = ready; same = ap (λ (x : Draft). gathered x rest) same }
 
-pub line_with_end : (name value : List ℕ) → header_line name value ≡ with_end (line_of name value)
+pub goes_to : {d e f : Draft} {text rest : List ℕ} → e ≡ f → Goes d text e rest → Goes d text f rest
+goes_to {d} {e} {f} {text} {rest} same goes = subst (λ (x : Draft). Goes d text x rest) same goes
+
+from_text : {d e : Draft} {text other rest : List ℕ} → text ≡ other → Goes d other e rest → Goes d text e rest
+from_text {d} {e} {text} {other} {rest} same goes = subst (λ (xs : List ℕ). Goes d xs e rest) (sym same) goes
+
+pub two_go : {d e f : Draft} {one two three : List ℕ} → Goes d one e two → Goes e two f three → Goes d one f three
+two_go first second = record { ready = first.ready; same = first.same ∙ second.same }
+
+line_goes : (d : Draft) (line rest : List ℕ) → has_no 10 line ≡ true → (line ≡ [] → ⊥) → begins_blank line ≡ false → Ready rest → Goes d (line ++ (13 ∷ (10 ∷ rest))) (with_line d line) rest
+line_goes d line rest free full anew ready =
+    let text = line ++ (13 ∷ (10 ∷ rest)) in
+    record {
+      ready = record { line = line; after = rest; line_is = ended_line line rest free; anew = anew };
+      same = sym (section_goes_on d text line rest line rest (gathered d text) (ended_line line rest free) full (ends_here line rest ready.line ready.after ready.line_is ready.anew) refl);
+    }
+
+-- the empty line
+pub end_ready : (body : List ℕ) → Ready (13 ∷ (10 ∷ body))
+end_ready body = record { line = []; after = body; line_is = ended_line [] body refl; anew = refl }
+
+pub end_gathered : (d : Draft) (body : List ℕ) → gathered d (13 ∷ (10 ∷ body)) ≡ Some (d, body)
+end_gathered d body =
+    sym (section_ends d (13 ∷ (10 ∷ body)) [] body (gathered d (13 ∷ (10 ∷ body))) (ended_line [] body refl) refl refl)
+
+-- ---- header lines
+
+abbrev line_of : List ℕ → List ℕ → List ℕ
+line_of name value = name ++ (58 ∷ (32 ∷ value))
+
+text_is : (name value rest : List ℕ) → header_line name value ++ rest ≡ line_of name value ++ (13 ∷ (10 ∷ rest))
 unfolding header_line
-line_with_end name value = refl
+text_is name value rest =
+    append_assoc ((name ++ (58 ∷ (32 ∷ []))) ++ value) (13 ∷ (10 ∷ [])) rest
+    ∙ ap (λ (xs : List ℕ). xs ++ (13 ∷ (10 ∷ rest))) (append_assoc name (58 ∷ (32 ∷ [])) value)
 
-pub is_line_of : (name value : List ℕ) → is_token name ≡ true → has_no_line_byte value ≡ true → value ≡ trimmed (32 ∷ value) → IsHeaderLine name value (line_of name value)
-is_line_of name value token plain kept = record {
-  gap = [];
-  rest = 32 ∷ value;
-  parts = append_assoc name (58 ∷ (32 ∷ [])) value;
-  name_is = token;
-  gap_is = refl;
-  value_is = kept;
-  rest_is = plain;
-}
+no_colon : is_token_byte 58 ≡ false
+unfolding is_token_byte
+no_colon = refl
 
-pub spells_line : (says : Field) (name value : List ℕ) → is_token name ≡ true → has_no_line_byte value ≡ true → value ≡ trimmed (32 ∷ value) → Says says name value → SpellsField says (line_of name value)
-spells_line says name value token plain kept said =
-    record { name = name; value = value; is_line = is_line_of name value token plain kept; is_said = said }
+no_line_feed : is_token_byte 10 ≡ false
+unfolding is_token_byte
+no_line_feed = refl
 
-pub line_no_lf : (name value : List ℕ) → is_token name ≡ true → has_no_line_byte value ≡ true → NoLf (line_of name value)
-line_no_lf name value token plain =
-    list_all-append _ (name ++ codes ": ") value ∙ and_from _ _ (list_all-append _ name (codes ": ") ∙ and_from _ _ (no_lf name (solid_line name (token_solid name token))) refl) (no_lf value plain)
+class_is : (name value : List ℕ) → is_token name ≡ true → Good value → class_from (line_of name value) ≡ class_by_name name value (header_named name)
+class_is name value token good =
+    ap (λ o. class_by_parts (by_cut o (both (reading_of (passing is_token) trimmed_end) (told trimmed (passing has_no_line_byte))) None)) (cut_here (Byte 58) name 58 (32 ∷ value) (token_passes 58 no_colon name token) refl)
+    ∙ ap (λ (xs : List ℕ). class_by_parts (option_and_then (λ x. option_and_then (λ y. Some (x, y)) (option_map trimmed (cond (has_no_line_byte value) (Some (32 ∷ value)) None))) (cond (is_token xs) (Some xs) None))) (solid_end name (token_solid name token))
+    ∙ ap (λ r. class_by_parts (option_and_then (λ x. option_and_then (λ y. Some (x, y)) (option_map trimmed (cond (has_no_line_byte value) (Some (32 ∷ value)) None))) (cond r (Some name) None))) token
+    ∙ ap (λ r. class_by_parts (option_and_then (λ y. Some (name, y)) (option_map trimmed (cond r (Some (32 ∷ value)) None)))) good.plain
+    ∙ ap (λ (xs : List ℕ). class_by_name name xs (header_named name)) good.kept
 
-pub line_full : (name value : List ℕ) → IsFull (line_of name value)
-line_full name value none =
-    let long = ap length none in
-    omega (arith, long, length-append (name ++ (58 ∷ (32 ∷ []))) value, length-append name (58 ∷ (32 ∷ [])))
+full_line : (name more : List ℕ) → is_token name ≡ true → (name ++ more ≡ [] → ⊥) × (begins_blank (name ++ more) ≡ false)
+unfolding is_token
+full_line [] more token = absurd cc
+full_line (b ∷ bs) more token = (λ (e : b ∷ (bs ++ more) ≡ []). absurd cc, token_full b (and_parts _ _ token).0)
 
--- ---- the other headers
+line_free : (name value : List ℕ) → is_token name ≡ true → Good value → has_no 10 (line_of name value) ≡ true
+line_free name value token good =
+    list_all-append _ name (58 ∷ (32 ∷ value)) ∙ and_from _ _ (token_without 10 no_line_feed name token) (no_lf value good.plain)
 
-abbrev pub kept_line : Header → List ℕ
-kept_line kept = line_of kept.name kept.value
+class_goes : (d : Draft) (name value rest : List ℕ) (class : Class) → is_token name ≡ true → Good value → class_by_name name value (header_named name) ≡ class → Ready rest → Goes d (header_line name value ++ rest) (with_class d class) rest
+class_goes d name value rest class token good is ready =
+    let full = full_line name (58 ∷ (32 ∷ value)) token in
+    goes_to (ap (with_class d) (class_is name value token good ∙ is)) (from_text (text_is name value rest) (line_goes d (line_of name value) rest (line_free name value token good) full.0 full.1 ready))
 
-pub kept_lines : (others : List Header) → flat_map with_end (map kept_line others) ≡ flat_map other_line others
-unfolding header_line
-kept_lines [] = refl
-kept_lines (kept ∷ others) = ap (λ (xs : List ℕ). with_end (kept_line kept) ++ xs) (kept_lines others)
+named : (h : HeaderName) → header_named (entry h).name ≡ Some h
+unfolding is_named
+named name.Via = refl
+named name.MaxForwards = refl
+named name.From = refl
+named name.To = refl
+named name.CallId = refl
+named name.CSeq = refl
+named name.Contact = refl
+named name.RecordRoute = refl
+named name.Route = refl
+named name.Require = refl
+named name.Supported = refl
+named name.RSeq = refl
+named name.RAck = refl
+named name.ContentLength = refl
 
-pub kept_spelled : (others : List Header) (fields : List Field) (lines : List (List ℕ)) → AllByRecursion IsOtherHeader others → AllZip SpellsField fields lines → AllZip SpellsField (map (λ x. field.Other x) others ++ fields) (map kept_line others ++ lines)
-kept_spelled [] fields lines are more = more
-kept_spelled (kept ∷ others) fields lines are more = (
-  spells_line (field.Other kept) kept.name kept.value (other_token kept.name are.0.name) (header_value_plain kept.value are.0.value) (header_value_kept kept.value are.0.value) (record { name_is = are.0.name; value_is = are.0.value; same_name = other_long kept.name are.0.name; same_value = refl }),
-  kept_spelled others fields lines are.1 more,
-)
+name_token : (h : HeaderName) → is_token (entry h).name ≡ true
+unfolding is_token is_token_byte
+name_token name.Via = refl
+name_token name.MaxForwards = refl
+name_token name.From = refl
+name_token name.To = refl
+name_token name.CallId = refl
+name_token name.CSeq = refl
+name_token name.Contact = refl
+name_token name.RecordRoute = refl
+name_token name.Route = refl
+name_token name.Require = refl
+name_token name.Supported = refl
+name_token name.RSeq = refl
+name_token name.RAck = refl
+name_token name.ContentLength = refl
 
-pub kept_no_lf : (others : List Header) → AllByRecursion IsOtherHeader others → AllByRecursion NoLf (map kept_line others)
-kept_no_lf [] are = tt
-kept_no_lf (kept ∷ others) are =
-    (line_no_lf kept.name kept.value (other_token kept.name are.0.name) (header_value_plain kept.value are.0.value), kept_no_lf others are.1)
+pub header_goes : (d : Draft) (h : HeaderName) (value rest : List ℕ) → Good value → Ready rest → Goes d (header_line (entry h).name value ++ rest) (with_value d h value) rest
+header_goes d h value rest good ready =
+    class_goes d (entry h).name value rest (known h value) (name_token h) good (ap (class_by_name (entry h).name value) (named h)) ready
 
-pub kept_full : (others : List Header) → AllByRecursion IsFull (map kept_line others)
-kept_full [] = tt
-kept_full (kept ∷ others) = (line_full kept.name kept.value, kept_full others)
+-- ---- headers that stay as they stand
 
-pub skipped_others : (test : Field → Bool) → ((kept : Header) → test (field.Other kept) ≡ false) → (others : List Header) (fields : List Field) → filter test (map (λ x. field.Other x) others ++ fields) ≡ filter test fields
-skipped_others test fails [] fields = refl
-skipped_others test fails (kept ∷ others) fields = rw (fails kept) (skipped_others test fails others fields)
+no_header : (o : Option HeaderName) → is_some o ≡ false → o ≡ None
+no_header None e = refl
+no_header (Some h) e = absurd cc
 
-pub all_others : (test : Field → Bool) → ((kept : Header) → test (field.Other kept) ≡ true) → (others : List Header) (fields : List Field) → filter test (map (λ x. field.Other x) others ++ fields) ≡ map (λ x. field.Other x) others ++ filter test fields
-all_others test passes [] fields = refl
-all_others test passes (kept ∷ others) fields = rw (passes kept, all_others test passes others fields) refl
+record IsOwn (name : List ℕ) : Type 0 where
+  pub token : is_token name ≡ true
+  pub unknown : header_named name ≡ None
+  pub long : long_name name ≡ name
+
+own_name : (name : List ℕ) → is_other_name name ≡ true → IsOwn name
+unfolding is_other_name is_compact_name long_name
+own_name name is =
+    let parts = and_parts (is_token name) (not (is_some (header_named name) || is_compact_name name)) is in
+    let neither = or_parts (is_some (header_named name)) (is_compact_name name) (not-true (is_some (header_named name) || is_compact_name name) parts.1) in
+    let first = or_parts (str_eq_ignore_ascii_case name (codes "c")) (str_eq_ignore_ascii_case name (codes "s") || str_eq_ignore_ascii_case name (codes "e")) neither.1 in
+    let others = or_parts (str_eq_ignore_ascii_case name (codes "s")) (str_eq_ignore_ascii_case name (codes "e")) first.1 in
+    record { token = parts.0; unknown = no_header (header_named name) neither.0; long = rw (first.0, others.0, others.1) refl }
+
+other_again : (header : Header) → IsOtherHeader header → other_from header.name header.value ≡ Some (header ∷ [])
+other_again header is =
+    let own = own_name header.name is.name in
+    ap (λ (n : List ℕ). cond (is_other_name n) (cond (is_header_value header.value) (Some ((record { name = n; value = header.value }) ∷ [])) None) None) own.long
+    ∙ ap (λ r. cond r (cond (is_header_value header.value) (Some (header ∷ [])) None) None) is.name
+    ∙ ap (λ r. cond r (Some (header ∷ [])) None) is.value
+
+other_good : (value : List ℕ) → is_header_value value ≡ true → Good value
+other_good value is = record { kept = sym (header_value_kept value is); plain = header_value_plain value is }
+
+pub other_goes : (d : Draft) (front : List Header) (header : Header) (rest : List ℕ) → IsOtherHeader header → d.others ≡ Some front → Ready rest → Goes d (other_line header ++ rest) (record d { others = Some (front ++ header ∷ []) }) rest
+other_goes d front header rest is others ready =
+    let own = own_name header.name is.name in
+    goes_to (λ i. record d { others = (ap (λ o. listed o (other_from header.name header.value)) others ∙ ap (listed (Some front)) (other_again header is)) i })
+    (class_goes d header.name header.value rest (other header.name header.value) own.token (other_good header.value is.value) (ap (class_by_name header.name header.value) own.unknown) ready)
+
+-- ---- one line for each of a list
+
+pub list_goes : {A X : Type 0} (put : Option (List X) → Draft) (line : A → List ℕ) (to : A → X) (Keeps : A → Type 0) → ((front : List X) (a : A) (rest : List ℕ) → Keeps a → Ready rest → Goes (put (Some front)) (line a ++ rest) (put (Some (front ++ to a ∷ []))) rest) → (front : List X) (all : List A) (rest : List ℕ) → AllByRecursion Keeps all → Ready rest → Goes (put (Some front)) (flat_map line all ++ rest) (put (Some (front ++ map to all))) rest
+list_goes put line to Keeps step front [] rest keep ready =
+    no_lines (put (Some front)) (put (Some (front ++ []))) rest (ap (λ xs. put (Some xs)) (sym (append-nil front))) ready
+list_goes put line to Keeps step front (a ∷ all) rest keep ready =
+    let more = list_goes put line to Keeps step (front ++ to a ∷ []) all rest keep.1 ready in
+    from_text (append_assoc (line a) (flat_map line all) rest)
+    (goes_to (ap (λ xs. put (Some xs)) (append_assoc front (to a ∷ []) (map to all))) (two_go (step front a (flat_map line all ++ rest) keep.0 more.ready) more))

@@ -1,28 +1,20 @@
--- The lines of a message, from left to right (RFC 3261, section 7).
-use Rattle.std.specs.Prelude.{ℕ, List, [], ◌∷◌, ◌++◌, Option, Some, None, ◌==◌, ◌&&◌, if◌then◌else◌}
-use Rattle.std.specs.Option.{option_map}
-use Rattle.std.specs.Str.Lines.{strip_carriage_return}
+-- The lines of a message: which split of the whole text is right (RFC 3261, sections 7 and 7.3.1). Line ends at the start of a
+-- text are skipped, which is this project's choice (section 7.5 has it for streams).
+use Rattle.std.specs.Prelude.{◌≡◌, ℕ, List, [], ◌∷◌, ◌++◌, replicate}
+use Rattle.std.specs.List.{AllByRecursion}
+use Rattle.sip_text.specs.Lines.{IsLines}
+use Rattle.sip_headers.specs.Folding.{whole_lines}
 
--- the text without the line ends that it begins with
-abbrev pub without_line_ends : List ℕ → List ℕ
-without_line_ends [] = []
-without_line_ends (b ∷ []) = if b == 10 then [] else b ∷ []
-without_line_ends (b ∷ c ∷ bs) =
-    if b == 10 then without_line_ends (c ∷ bs)
-    else (if b == 13 && c == 10 then without_line_ends bs else b ∷ c ∷ bs)
+abbrev pub IsFull : List ℕ → Type 0
+IsFull line = line ≡ [] → ⊥
 
--- the empty line ends the header; any other line is one more of it
-abbrev pub header_with : List ℕ → List ℕ → Option (List (List ℕ) × List ℕ) → Option (List (List ℕ) × List ℕ)
-header_with [] after more = Some ([], after)
-header_with (b ∷ bs) after more = option_map (λ h. ((b ∷ bs) ∷ h.0, h.1)) more
-
--- the same, where the line has begun with these bytes
-abbrev pub header_from : List ℕ → List ℕ → Option (List (List ℕ) × List ℕ)
-header_from begun [] = None
-header_from begun (b ∷ bs) =
-    if b == 10 then header_with (strip_carriage_return begun) bs (header_from [] bs)
-    else header_from (begun ++ b ∷ []) bs
-
--- the lines up to the first empty one, and what follows it; nothing where there is no empty line
-unfoldable pub header_at : List ℕ → Option (List (List ℕ) × List ℕ)
-header_at text = header_from [] text
+-- Empty lines that are skipped, the start line, the header lines, the empty line that ends them, and the rest. A line that
+-- begins with white space goes on with the line before it.
+pub record Lays (text start : List ℕ) (lines : List (List ℕ)) (rest : List ℕ) : Type 0 where
+  pub skipped : ℕ
+  pub first : List ℕ
+  pub more : List (List ℕ)
+  pub parts : IsLines text (replicate skipped [] ++ (first ∷ (more ++ ([] ∷ [])))) rest
+  pub first_is : IsFull first
+  pub more_are : AllByRecursion IsFull more
+  pub whole : start ∷ lines ≡ whole_lines (first ∷ more)

@@ -1,30 +1,26 @@
--- Reading a message from left to right, with the first fault that is met.
+-- Reading a message from left to right, with the first fault that is met. What is a message is said in the relations of Spells.
 use Rattle.std.specs.Prelude.{◌≡◌, ℕ, List, [], ◌∷◌, length, take, Option, Some, None, Result, Ok, Err, nat_lt, if◌then◌else◌}
 use Rattle.std.specs.Str.{bytes_eq}
+use Rattle.sip_text.specs.Forms.{each}
 use Rattle.sip_text.specs.Line.{line_at}
-use Rattle.sip_message.specs.declared.cseq.CSeq.{CSeq}
-use Rattle.sip_message.specs.declared.party.Party.{Party}
-use Rattle.sip_message.specs.declared.header.Header.{Header}
-use Rattle.sip_message.specs.declared.via.Via.{Via}
-use Rattle.sip_reader.specs.declared.via_words.ViaWords.{ViaWords}
-use Rattle.sip_message.specs.declared.start_line.StartLine.{StartLine}
-use Rattle.sip_message.specs.declared.start_line.StartLine.TheVariants as start
-use Rattle.sip_reader.specs.declared.first_line.FirstLine.{FirstLine}
-use Rattle.sip_reader.specs.declared.first_line.FirstLine.TheVariants as first
+use Rattle.sip_message.specs.Via.{are_vias}
 use Rattle.sip_message.specs.declared.fault.ReadFault.{ReadFault}
 use Rattle.sip_message.specs.declared.fault.ReadFault.TheVariants as fault
-use Rattle.sip_reader.specs.declared.fields.Fields.{Fields}
-use Rattle.sip_reader.specs.declared.parts.Parts.{Parts}
 use Rattle.sip_message.specs.declared.message.Message.{Message}
-use Rattle.sip_message.specs.Via.{are_vias}
-use Rattle.sip_reader.specs.Fields.{with_field, fault_in}
-pub use Rattle.sip_reader.specs.Fields.{no_fields}
-use Rattle.sip_reader.specs.Layout.{without_line_ends, header_at}
+use Rattle.sip_message.specs.declared.start_line.StartLine.{StartLine}
+use Rattle.sip_message.specs.declared.start_line.StartLine.TheVariants as start
+use Rattle.sip_message.specs.declared.via.Via.{Via}
+use Rattle.sip_values.specs.declared.via.ViaDraft.{ViaDraft}
+use Rattle.sip_headers.specs.Complete.{headers_of}
+use Rattle.sip_headers.specs.Draft.{draft_of}
+use Rattle.sip_headers.specs.Folding.{Section, section_at, onto_section}
+use Rattle.sip_headers.specs.Numbers.{numbers_in, via_with, message_with}
+use Rattle.sip_headers.specs.declared.draft.Draft.{Draft}
+use Rattle.sip_headers.specs.declared.headers.Headers.{Headers}
 use Rattle.sip_reader.specs.ReadStart.{start_at}
-use Rattle.sip_reader.specs.Reading as option
-use Rattle.sip_reader.specs.Reading.{field_at}
-use Rattle.sip_reader.specs.Parts.{parts_of}
-use Rattle.sip_reader.specs.Numbers.{numbers_of}
+use Rattle.sip_reader.specs.SkippedEnds.{without_line_ends}
+use Rattle.sip_reader.specs.declared.first_line.FirstLine.{FirstLine}
+use Rattle.sip_reader.specs.declared.first_line.FirstLine.TheVariants as first
 
 infixl 10 ◌>>=◌
 abbrev pub ◌>>=◌ : {A B : Type 0} → Result A ReadFault → (A → Result B ReadFault) → Result B ReadFault
@@ -46,24 +42,15 @@ abbrev pub or_fault : {A : Type 0} → ReadFault → Option A → Result A ReadF
 or_fault e None = Err e
 or_fault e (Some x) = Ok x
 
--- ---- header lines
-
-abbrev pub fields_from : Fields → List (List ℕ) → Option Fields
-fields_from fields [] = Some fields
-fields_from fields (line ∷ lines) = option.◌>>=◌ (field_at line) (λ field. fields_from (with_field fields field) lines)
-
-abbrev pub one_via : Fields → Option Fields
-one_via fields = if nat_lt 1 (length fields.vias) then None else Some fields
-
-unfoldable pub fields_at : List (List ℕ) → Option Fields
-fields_at lines = option.◌>>=◌ (fields_from no_fields lines) one_via
-
 -- ---- the message
 
-unfoldable pub vias_of : ViaWords → Option ℕ → Option (List Via)
-vias_of via port =
-    let vias = (record { transport = via.transport; host = via.host; port = port; parameters = via.parameters }) ∷ [] in
-    if are_vias vias then Some vias else None
+abbrev pub good_vias : List Via → Option (List Via)
+good_vias vias = if are_vias vias then Some vias else None
+
+unfoldable pub vias_of : List ViaDraft → Result (List Via) ReadFault
+vias_of drafts = do
+  vias ← or_fault fault.BadNumber (each via_with drafts)
+  or_fault fault.OldBranch (good_vias vias)
 
 unfoldable pub start_line_of : FirstLine → List ℕ → Option StartLine
 start_line_of (first.Request method uri) cseq_method = if bytes_eq method cseq_method then Some (start.Request uri) else None
@@ -73,57 +60,31 @@ unfoldable pub body_of : List ℕ → Option ℕ → Option (List ℕ)
 body_of text None = Some text
 body_of text (Some n) = if nat_lt (length text) n then None else Some (take n text)
 
-unfoldable pub made : StartLine → List Via → (Party × Party × List ℕ × CSeq) → List Header → List ℕ → Message
-made start vias identity others body = record {
-  start = start;
-  vias = vias;
-  max_forwards = None;
-  from = identity.0;
-  to = identity.1;
-  call_id = identity.2;
-  cseq = identity.3;
-  contacts = [];
-  record_routes = [];
-  routes = [];
-  require = [];
-  supported = [];
-  rseq = None;
-  rack = None;
-  others = others;
-  body = body;
-}
+unfoldable pub message_of_headers : FirstLine → Headers → List ℕ → Result Message ReadFault
+message_of_headers line h text = do
+  numbers ← or_fault fault.BadNumber (numbers_in h)
+  vias ← vias_of h.vias
+  start ← or_fault fault.MethodMismatch (start_line_of line h.cseq.method)
+  body ← or_fault fault.Truncated (body_of text numbers.content_length)
+  Ok (message_with start vias numbers h body)
 
-unfoldable pub message_of_parts : FirstLine → Parts → List ℕ → Result Message ReadFault
-message_of_parts line parts text = do
-  numbers ← or_fault fault.BadNumber (numbers_of parts)
-  vias ← or_fault fault.OldBranch (vias_of parts.via numbers.port)
-  start ← or_fault fault.MethodMismatch (start_line_of line parts.cseq.method)
-  body ← or_fault fault.Truncated (body_of text numbers.length)
-  Ok (made start vias (parts.from, parts.to, parts.call_id, record { number = numbers.cseq; method = parts.cseq.method }) parts.others body)
-
-abbrev pub unless_fault : {A : Type 0} → Option ReadFault → Result A ReadFault → Result A ReadFault
-unless_fault (Some e) read = Err e
-unless_fault None read = read
-
-abbrev pub message_of_all : FirstLine → Option Parts → List ℕ → Result Message ReadFault
-message_of_all start None text = Err fault.BadHeader
-message_of_all start (Some parts) text = message_of_parts start parts text
-
-unfoldable pub message_of_fields : FirstLine → Fields → List ℕ → Result Message ReadFault
-message_of_fields start fields text = unless_fault (fault_in fields) (message_of_all start (parts_of fields) text)
-
-unfoldable pub message_of_lines : List ℕ → List (List ℕ) → List ℕ → Result Message ReadFault
-message_of_lines start_line lines text = do
+unfoldable pub message_of_lines : List ℕ → Draft → List ℕ → Result Message ReadFault
+message_of_lines start_line draft text = do
   start ← or_fault fault.BadStartLine (start_at start_line)
-  fields ← or_fault fault.BadHeader (fields_at lines)
-  message_of_fields start fields text
+  headers ← headers_of draft
+  message_of_headers start headers text
+
+-- the first line is the start line
+unfoldable pub message_of_section : Option Section → Result Message ReadFault
+message_of_section None = Err fault.NoEmptyLine
+message_of_section (Some ([], rest)) = Err fault.NoEmptyLine
+message_of_section (Some (start_line ∷ lines, rest)) = message_of_lines start_line (draft_of lines) rest
 
 -- a text that doesn't begin with a line end
 unfoldable pub message_in : List ℕ → Result Message ReadFault
 message_in text = do
-  first ← or_fault fault.NoEmptyLine (line_at text)
-  header ← or_fault fault.NoEmptyLine (header_at first.1)
-  message_of_lines first.0 header.0 header.1
+  line ← or_fault fault.NoEmptyLine (line_at text)
+  message_of_section (onto_section line.0 (section_at line.1))
 
 abbrev pub message_at : List ℕ → Result Message ReadFault
 message_at text = if nat_lt 65535 (length text) then Err fault.TooLong else message_in (without_line_ends text)

@@ -1,10 +1,12 @@
 //! Laws over the definitions of reading.
-ghost use Rattle.std.specs.Prelude.{◌≡◌, ◌≤◌, ℕ, IfErr, IfOk, List, Ok, length};
+ghost use Rattle.std.specs.Prelude.{◌≡◌, ◌≤◌, ℕ, IfOk, List, Ok, length};
+ghost use Rattle.sip_headers.specs.Faults.{Decides};
+ghost use Rattle.sip_message.specs.declared.fault.ReadFault.{ReadFault};
 ghost use Rattle.sip_message.specs.declared.message.Message.{Message};
 ghost use Rattle.sip_message.specs.Written.{written};
-ghost use Rattle.sip_reader.specs.Faults.{TellsFault};
+ghost use Rattle.sip_reader.specs.Faults.{Condition, IsFirstFault, faults};
 ghost use Rattle.sip_reader.specs.ReadMessage.{message_at};
-ghost use Rattle.sip_reader.specs.Rules.{IsMessage, IsPlainMessage};
+ghost use Rattle.sip_reader.specs.Rules.{IsMessage};
 ghost use Rattle.sip_reader.specs.Spells.{Spells};
 
 /// A text spells at most one message.
@@ -12,14 +14,20 @@ pub fn one_message()
     ensures { (text : List ℕ) (m n : Message) → Spells m text → Spells n text → m ≡ n }
 {}
 
-/// Reading from left to right gives the message that the text spells, and otherwise the first fault whose condition holds.
+/// Reading from left to right gives the message that the text spells; where it spells none, the first fault whose condition
+/// holds.
 pub fn what_is_read()
     ensures found { (text : List ℕ) → IfOk (message_at text) (λ m. Spells m text) }
     ensures only { (text : List ℕ) (m : Message) → Spells m text → message_at text ≡ Ok m }
-    ensures fault { (text : List ℕ) → IfErr (message_at text) (λ fault. TellsFault fault text) }
+    ensures fault { (text : List ℕ) → Decides (Condition text) faults (message_at text) }
+{}
+
+/// Where a fault is told, no message is spelled.
+pub fn no_fault_of_a_message()
+    ensures { (text : List ℕ) (m : Message) (fault : ReadFault) → Spells m text → IsFirstFault fault text → ⊥ }
 {}
 
 /// What is written for a message is read again as the same message, where it isn't too long.
 pub fn written_is_spelled()
-    ensures { (m : Message) → IsMessage m → IsPlainMessage m → length (written m) ≤ 65535 → Spells m (written m) }
+    ensures { (m : Message) → IsMessage m → length (written m) ≤ 65535 → Spells m (written m) }
 {}

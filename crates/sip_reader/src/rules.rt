@@ -1,10 +1,11 @@
 //! The rules that every message keeps, since its parts do.
-ghost use Rattle.std.specs.Prelude.{◌<◌, ◌^◌, IfSome};
+ghost use Rattle.std.specs.Prelude.{◌<◌, ◌^◌, IfSome, IsTrue};
 ghost use Rattle.std.specs.List.{AllByRecursion};
+ghost use Rattle.sip_text.specs.Token.{is_token};
 ghost use Rattle.sip_reader.specs.Rules as rules;
 
-use sip_message::{Header, Message, Party, StartLine, Via};
-use sip_parts::Parameter;
+use sip_message::{Header, Message, NameAddr, Party, RAck, StartLine, Via};
+use sip_parts::{Parameter, Token};
 
 /// A message keeps the rules of its parts.
 pub fn keeps_rules(message: &Message)
@@ -12,11 +13,19 @@ pub fn keeps_rules(message: &Message)
 {
     start_line_keeps(&message.start);
     vias_keep(message.vias.as_slice());
+    number_keeps(message.max_forwards);
     party_keeps(&message.from);
     party_keeps(&message.to);
     let _call_id = message.call_id.as_slice();
     let _number = message.cseq.number;
     let _method = message.cseq.method.as_slice();
+    addresses_keep(message.contacts.as_slice());
+    addresses_keep(message.record_routes.as_slice());
+    addresses_keep(message.routes.as_slice());
+    tokens_keep(message.require.as_slice());
+    tokens_keep(message.supported.as_slice());
+    number_keeps(message.rseq);
+    rack_keeps(&message.rack);
     others_keep(message.others.as_slice());
 }
 
@@ -62,12 +71,60 @@ fn port_keeps(port: Option<u16>)
     }
 }
 
+fn number_keeps(number: Option<u32>)
+    ensures { IfSome number (λ n. n < 2 ^ 32) }
+{
+    match number {
+        None => {}
+        Some(number) => {
+            let _number = number;
+        }
+    }
+}
+
+fn rack_keeps(rack: &Option<RAck>)
+    ensures { IfSome rack.now rules.IsRAck }
+{
+    match rack {
+        None => {}
+        Some(rack) => {
+            let _rseq = rack.rseq;
+            let _cseq = rack.cseq;
+            let _method = rack.method.as_slice();
+        }
+    }
+}
+
 fn party_keeps(party: &Party)
     ensures { rules.IsParty party.now }
 {
     let _display = party.display.as_slice();
     let _uri = party.uri.as_slice();
     parameters_keep(party.parameters.as_slice());
+}
+
+fn addresses_keep(addresses: &[NameAddr])
+    ensures { AllByRecursion rules.IsNameAddr addresses.now }
+{
+    for address in addresses {
+        address_keeps(address);
+    }
+}
+
+fn address_keeps(address: &NameAddr)
+    ensures { rules.IsNameAddr address.now }
+{
+    let _display = address.display.as_slice();
+    let _uri = address.uri.as_slice();
+    parameters_keep(address.parameters.as_slice());
+}
+
+fn tokens_keep(tokens: &[Token])
+    ensures { AllByRecursion (λ token. IsTrue (is_token token)) tokens.now }
+{
+    for token in tokens {
+        let _token = token.as_slice();
+    }
 }
 
 fn parameters_keep(parameters: &[Parameter])

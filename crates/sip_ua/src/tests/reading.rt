@@ -112,10 +112,10 @@ fn a_via_with_tabs_and_a_port(rt: HostRuntime) -> Result<(), Fail> {
 
 #[test]
 fn a_compact_name_gets_its_long_form(rt: HostRuntime) -> Result<(), Fail> {
-    let line = b"c: application/sdp\r\nTo: <sip:192.0.2.1>\r\nMax-Forwards: 70";
+    let line = b"c: application/sdp\r\nt: <sip:192.0.2.1>\r\nMax-Forwards: 70";
     let message = message_with(rt.alloc(), 3, line, b"")?;
-    assert!(rt; message.others.len() == 2);
-    let header = message.others.first().ok_or("two headers are kept")?;
+    assert!(rt; message.others.len() == 1 && message.max_forwards == Some(70));
+    let header = message.others.first().ok_or("one header is kept")?;
     assert!(rt; header.name.as_slice() == b"Content-Type".as_slice());
     assert!(rt; header.value.as_slice() == b"application/sdp".as_slice());
     Ok(())
@@ -144,16 +144,10 @@ fn faults(rt: HostRuntime) -> Result<(), Fail> {
         ),
         (0, b"SIP/2.0 099 Early".as_slice(), ReadFault::BadStartLine),
         (4, b"Call-ID".as_slice(), ReadFault::BadHeader),
-        (4, b"i: c1".as_slice(), ReadFault::BadHeader),
         (4, b"Call-ID: c1\r\n more".as_slice(), ReadFault::BadHeader),
         (
-            4,
-            b"Via: SIP/2.0/UDP b;branch=z9hG4bKa2\r\nCall-ID: c1".as_slice(),
-            ReadFault::BadHeader,
-        ),
-        (
             2,
-            b"From: \"A\" <sip:a@192.0.2.9>".as_slice(),
+            b"From: \"A <sip:a@192.0.2.9>".as_slice(),
             ReadFault::BadHeader,
         ),
         (

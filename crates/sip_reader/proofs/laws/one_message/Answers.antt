@@ -4,4 +4,4 @@ use Rattle.sip_reader.proofs.Spelled.{spelled_again}
 use Rattle.sip_reader.proofs.laws.one_message.Goals as goal
 
 pub returns : goal.returns
-returns c = λ text m n one other. same_Ok m n (sym (spelled_again text m one) ∙ spelled_again text n other)
+returns c text m n p q = same_Ok m n (sym (spelled_again text m p) ∙ spelled_again text n q)

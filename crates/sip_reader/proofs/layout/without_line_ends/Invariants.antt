@@ -1,5 +1,5 @@
 use Rattle.std.proofs.Common.{◌≡◌, length}
-use Rattle.sip_reader.specs.Layout as layout
+use Rattle.sip_reader.specs.SkippedEnds as layout
 use Rattle.sip_reader.proofs.layout.without_line_ends.Given as goal
 
 abbrev pub invariant-loop-rest : goal.invariant-loop-rest

@@ -1,30 +1,15 @@
-use Rattle.std.proofs.Common.{◌≡◌, Some, None, refl}
-use Rattle.std.proofs.lemmas.Result.{err_from_is_err_and}
-use Rattle.sip_text.specs.Line.{line_at}
-use Rattle.sip_reader.specs.ReadMessage.{message_in}
+use Rattle.std.proofs.Common.{sym, subst}
+use Rattle.sip_headers.specs.Whole.{whole_now}
+use Rattle.sip_reader.specs.ReadMessage.{Gives}
+use Rattle.sip_reader.proofs.Sections.{none_gathered, some_gathered}
 use Rattle.sip_reader.proofs.reader.read_lines.Goals as goal
 
-pub returns-in_default : goal.returns-in_default
-unfolding message_in
-returns-in_default c =
-    let none : None ≡ line_at c.args.text.now = c.in_default.ensures.parts in
-    rw (← none) refl
-
-pub returns-in_err-lines : goal.returns-in_err-lines
-returns-in_err-lines c =
-    let p = err_from_is_err_and c.from_residual.result c.from_residual.ensures.1 in
-    rw (p.1, p.2) tt
-
 pub returns-in_default-2 : goal.returns-in_default-2
-unfolding message_in
 returns-in_default-2 c =
-    let first : Some (c.in-Some.start_line.now, c.in-Some.after.now) ≡ line_at c.args.text.now = c.in-Some.ensures.parts in
-    let header = rw c.in_default-2.is at c.in_ok-lines.ensures in
-    rw (← first, ← header) refl
+    none_gathered c.args.text.now c.in-Some.line.now c.in-Some.after.now (whole_now c.in_ok-start_line.start_line) c.in_ok-start_line.after.now c.in-Some.ensures.parts c.in_ok-start_line.ensures.whole (rw c.in_default-2.is at c.in_ok-draft.ensures)
 
 pub returns : goal.returns
-unfolding message_in
 returns c =
-    let first : Some (c.in-Some.start_line.now, c.in-Some.after.now) ≡ line_at c.args.text.now = c.in-Some.ensures.parts in
-    let header = rw c.in-Some-2.is at c.in_ok-lines.ensures in
-    rw (← first, ← header) (rw c.deref.ensures.value at c.read_header.ensures)
+    subst (λ r. Gives c.read_section.result r)
+    (sym (some_gathered c.args.text.now c.in-Some.line.now c.in-Some.after.now (whole_now c.in_ok-start_line.start_line) c.in_ok-start_line.after.now c.in-Some-2.draft c.in-Some-2.rest.now c.in-Some.ensures.parts c.in_ok-start_line.ensures.whole (rw c.in-Some-2.is at c.in_ok-draft.ensures)))
+    (rw c.as_slice.ensures at c.read_section.ensures)

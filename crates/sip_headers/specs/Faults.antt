@@ -1,0 +1,73 @@
+-- Why lines have no headers: the faults in their order, and what each says of the lines (RFC 3261, sections 7.3 and 8.1.1).
+use Rattle.std.specs.Prelude.{◌≡◌, ◌<◌, ◌⊎◌, ◌^◌, ℕ, List, [], ◌∷◌, ◌++◌, map, length, Result, Ok, Err}
+use Rattle.std.specs.List.{AllByRecursion}
+use Rattle.sip_parts.specs.HeaderEntry.{headers_where, is_needed, is_single}
+use Rattle.sip_parts.specs.declared.header_name.HeaderName.{HeaderName}
+use Rattle.sip_parts.specs.declared.header_name.HeaderName.TheVariants as name
+use Rattle.sip_message.specs.declared.fault.ReadFault.{ReadFault}
+use Rattle.sip_message.specs.declared.fault.ReadFault.TheVariants as fault
+use Rattle.sip_message.specs.declared.header.Header.{Header}
+use Rattle.sip_values.specs.Address.{AreNameAddrs, IsPartyText}
+use Rattle.sip_values.specs.Numeral.{IsNumeral}
+use Rattle.sip_values.specs.Sequence.{AreTokens, IsCallId, IsCSeqText, IsRAckText}
+use Rattle.sip_values.specs.ViaValue.{AreVias}
+use Rattle.sip_headers.specs.Headers.{IsSomeHeaderLine, IsOther}
+use Rattle.sip_headers.specs.Section.{values, others_of}
+use Rattle.sip_headers.specs.Slot.{HasBad}
+
+-- ---- the first of several faults
+
+-- the first of these faults whose condition holds
+abbrev pub IsFirst : (ReadFault → Type 0) → List ReadFault → ReadFault → Type 0
+IsFirst C [] fault = ⊥
+IsFirst C (other ∷ others) fault = ((fault ≡ other) × C other) ⊎ ((C other → ⊥) × IsFirst C others fault)
+
+-- none of the conditions holds
+abbrev pub NoneHolds : (ReadFault → Type 0) → List ReadFault → Type 0
+NoneHolds C faults = AllByRecursion (λ fault. C fault → ⊥) faults
+
+-- a value where no condition holds, otherwise the first fault
+abbrev pub Decides : {X : Type 0} → (ReadFault → Type 0) → List ReadFault → Result X ReadFault → Type 0
+Decides C faults (Ok x) = NoneHolds C faults
+Decides C faults (Err fault) = IsFirst C faults fault
+
+-- ---- their conditions
+
+-- one of these values isn't in the header's form
+abbrev pub HasBadValue : HeaderName → List (List ℕ) → Type 0
+HasBadValue name.Via values = HasBad AreVias values
+HasBadValue name.MaxForwards values = HasBad (IsNumeral (2 ^ 32)) values
+HasBadValue name.From values = HasBad IsPartyText values
+HasBadValue name.To values = HasBad IsPartyText values
+HasBadValue name.CallId values = HasBad IsCallId values
+HasBadValue name.CSeq values = HasBad IsCSeqText values
+HasBadValue name.Contact values = HasBad AreNameAddrs values
+HasBadValue name.RecordRoute values = HasBad AreNameAddrs values
+HasBadValue name.Route values = HasBad AreNameAddrs values
+HasBadValue name.Require values = HasBad AreTokens values
+HasBadValue name.Supported values = HasBad AreTokens values
+HasBadValue name.RSeq values = HasBad (IsNumeral (2 ^ 32)) values
+HasBadValue name.RAck values = HasBad IsRAckText values
+HasBadValue name.ContentLength values = HasBad (IsNumeral (2 ^ 32)) values
+
+-- one of the other headers can't stay as it stands
+abbrev pub HasBadOther : List (List ℕ × List ℕ) → Type 0
+HasBadOther others = AllByRecursion (λ other. (header : Header) × IsOther header other) others → ⊥
+
+-- not every line is a header line, or a value isn't in its header's form
+abbrev pub HasBadHeader : List (List ℕ) → Type 0
+HasBadHeader lines =
+    (AllByRecursion IsSomeHeaderLine lines → ⊥)
+    ⊎ (((header : HeaderName) × HasBadValue header (values header lines)) ⊎ HasBadOther (others_of lines))
+
+-- what a fault says of the lines
+abbrev pub HeaderCondition : List (List ℕ) → ReadFault → Type 0
+HeaderCondition lines fault.BadHeader = HasBadHeader lines
+HeaderCondition lines (fault.Missing header) = values header lines ≡ []
+HeaderCondition lines (fault.Repeated header) = 1 < length (values header lines)
+HeaderCondition lines other = ⊥
+
+-- the faults in their order: the five headers that each message has, and the eight that stand at most once
+abbrev pub header_faults : List ReadFault
+header_faults =
+    fault.BadHeader ∷ (map fault.Missing (headers_where is_needed) ++ map fault.Repeated (headers_where is_single))

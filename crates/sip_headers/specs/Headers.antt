@@ -1,0 +1,66 @@
+-- The headers of a message: what its header lines say together, where each value is in its header's form and none is missing
+-- or stands too often (RFC 3261, sections 7.3 and 20). Words stand in the places of numbers.
+use Rattle.std.specs.Prelude.{◌≡◌, ◌^◌, ℕ, IsTrue, List, [], ◌∷◌, Option, Some}
+use Rattle.std.specs.List.{AllZip, AllByRecursion}
+use Rattle.std.specs.Option.{option_to_list}
+use Rattle.sip_parts.specs.HeaderValue.{is_header_value}
+use Rattle.sip_parts.specs.OtherName.{is_other_name}
+use Rattle.sip_parts.specs.declared.header_name.HeaderName.TheVariants as name
+use Rattle.sip_message.specs.declared.header.Header.{Header}
+use Rattle.sip_values.specs.Address.{AreNameAddrs, IsPartyText}
+use Rattle.sip_values.specs.Numeral.{IsNumeral}
+use Rattle.sip_values.specs.Sequence.{AreTokens, IsCallId, IsCSeqText, IsRAckText}
+use Rattle.sip_values.specs.ViaValue.{AreVias}
+use Rattle.sip_headers.specs.Draft.{long_name}
+use Rattle.sip_headers.specs.HeaderLine.{IsHeaderLine}
+use Rattle.sip_headers.specs.Section.{values, others_of}
+use Rattle.sip_headers.specs.Slot.{IsList}
+use Rattle.sip_headers.specs.declared.headers.Headers.{Headers}
+
+-- ---- how often a header's lines stand
+
+-- one line, with this value
+abbrev pub One : {X : Type 0} → (X → List ℕ → Type 0) → X → List (List ℕ) → Type 0
+One P x values = AllZip P (x ∷ []) values
+
+-- one line with this value, or none
+abbrev pub AtMostOne : {X : Type 0} → (X → List ℕ → Type 0) → Option X → List (List ℕ) → Type 0
+AtMostOne P value values = AllZip P (option_to_list value) values
+
+-- the lists of all lines, one after the other
+abbrev pub Many : {X : Type 0} → (List X → List ℕ → Type 0) → List X → List (List ℕ) → Type 0
+Many P xs values = IsList P (Some xs) values
+
+-- ---- one header line, and a header that stays as it stands
+
+abbrev pub IsSomeHeaderLine : List ℕ → Type 0
+IsSomeHeaderLine line = (parts : List ℕ × List ℕ) × IsHeaderLine parts line
+
+-- its long name, and its value
+pub record IsOther (header : Header) (parts : List ℕ × List ℕ) : Type 0 where
+  pub name_is : header.name ≡ long_name parts.0
+  pub value_is : header.value ≡ parts.1
+  pub good_name : IsTrue (is_other_name header.name)
+  pub good_value : IsTrue (is_header_value header.value)
+
+-- ---- the table
+
+-- The lines have these headers, and at least one Via.
+pub record AreHeaders (h : Headers) (lines : List (List ℕ)) : Type 0 where
+  pub all_lines : AllByRecursion IsSomeHeaderLine lines
+  pub some_via : h.vias ≡ [] → ⊥
+  pub vias : Many AreVias h.vias (values name.Via lines)
+  pub max_forwards : AtMostOne (IsNumeral (2 ^ 32)) h.max_forwards (values name.MaxForwards lines)
+  pub from : One IsPartyText h.from (values name.From lines)
+  pub to : One IsPartyText h.to (values name.To lines)
+  pub call_id : One IsCallId h.call_id (values name.CallId lines)
+  pub cseq : One IsCSeqText h.cseq (values name.CSeq lines)
+  pub contacts : Many AreNameAddrs h.contacts (values name.Contact lines)
+  pub record_routes : Many AreNameAddrs h.record_routes (values name.RecordRoute lines)
+  pub routes : Many AreNameAddrs h.routes (values name.Route lines)
+  pub require : Many AreTokens h.require (values name.Require lines)
+  pub supported : Many AreTokens h.supported (values name.Supported lines)
+  pub rseq : AtMostOne (IsNumeral (2 ^ 32)) h.rseq (values name.RSeq lines)
+  pub rack : AtMostOne IsRAckText h.rack (values name.RAck lines)
+  pub content_length : AtMostOne (IsNumeral (2 ^ 32)) h.content_length (values name.ContentLength lines)
+  pub others : AllZip IsOther h.others (others_of lines)

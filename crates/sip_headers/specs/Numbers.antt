@@ -1,0 +1,132 @@
+-- The numbers of a message (RFC 3261, sections 20.14, 20.16, 20.22 and 20.42; RFC 3262, section 7).
+use Rattle.std.specs.Prelude.{◌^◌, ◌&&◌, ℕ, Bool, true, false, List, [], ◌∷◌, ◌++◌, Option, Some, None, map, nat_lt, if◌then◌else◌}
+use Rattle.std.specs.List.{flat_map, list_all}
+use Rattle.std.specs.Option.{option_map, option_to_list}
+use Rattle.sip_message.specs.declared.message.Message.{Message}
+use Rattle.sip_message.specs.declared.rack.RAck.{RAck}
+use Rattle.sip_message.specs.declared.start_line.StartLine.{StartLine}
+use Rattle.sip_message.specs.declared.via.Via.{Via}
+use Rattle.sip_values.specs.declared.numeral.Numeral.{Numeral}
+use Rattle.sip_values.specs.declared.numeral.Numeral.TheVariants.{Number, NotANumber}
+use Rattle.sip_values.specs.declared.sequence.RAckDraft.{RAckDraft}
+use Rattle.sip_values.specs.declared.via.ViaDraft.{ViaDraft}
+use Rattle.sip_headers.specs.Complete.{◌>>=◌}
+use Rattle.sip_headers.specs.declared.headers.Headers.{Headers}
+use Rattle.sip_headers.specs.declared.headers.Numbers.{Numbers}
+
+-- ---- the headers of a message, with its numbers in their places
+
+abbrev pub via_draft : Via → ViaDraft
+via_draft via = record { transport = via.transport; host = via.host; port = option_map Number via.port; parameters = via.parameters }
+
+abbrev pub rack_draft : RAck → RAckDraft
+rack_draft rack = record { rseq = Number rack.rseq; cseq = Number rack.cseq; method = rack.method }
+
+-- those of a message, and this Content-Length
+abbrev pub headers_with : Message → Option ℕ → Headers
+headers_with m length = record {
+  vias = map via_draft m.vias;
+  max_forwards = option_map Number m.max_forwards;
+  from = m.from;
+  to = m.to;
+  call_id = m.call_id;
+  cseq = record { number = Number m.cseq.number; method = m.cseq.method };
+  contacts = m.contacts;
+  record_routes = m.record_routes;
+  routes = m.routes;
+  require = m.require;
+  supported = m.supported;
+  rseq = option_map Number m.rseq;
+  rack = option_map rack_draft m.rack;
+  content_length = option_map Number length;
+  others = m.others;
+}
+
+-- ---- words in the places of numbers
+
+abbrev pub rack_words : RAckDraft → List Numeral
+rack_words rack = rack.rseq ∷ (rack.cseq ∷ [])
+
+-- the ports of the Via values
+abbrev pub port_words : List ViaDraft → List Numeral
+port_words vias = flat_map (λ via. option_to_list via.port) vias
+
+-- the numbers of the other headers
+abbrev pub number_words : Headers → List Numeral
+number_words h =
+    h.cseq.number ∷ (option_to_list h.max_forwards
+    ++ (option_to_list h.rseq ++ (flat_map rack_words (option_to_list h.rack) ++ option_to_list h.content_length)))
+
+abbrev pub is_number : Numeral → Bool
+is_number (Number n) = true
+is_number NotANumber = false
+
+abbrev pub is_port : Numeral → Bool
+is_port (Number n) = nat_lt n (2 ^ 16)
+is_port NotANumber = false
+
+-- each of them is a number, and each port is below 2 ^ 16
+abbrev pub are_numbers : Headers → Bool
+are_numbers h = list_all is_port (port_words h.vias) && list_all is_number (number_words h)
+
+-- ---- the numbers, read
+
+abbrev pub known : Numeral → Option ℕ
+known (Number n) = Some n
+known NotANumber = None
+
+abbrev pub known_if : Option Numeral → Option (Option ℕ)
+known_if None = Some None
+known_if (Some word) = known word >>= λ n. Some (Some n)
+
+abbrev pub known_both : Numeral → Numeral → Option (Option (ℕ × ℕ))
+known_both one other = known one >>= λ a. known other >>= λ b. Some (Some (a, b))
+
+abbrev pub known_rack : Option RAckDraft → Option (Option (ℕ × ℕ))
+known_rack None = Some None
+known_rack (Some rack) = known_both rack.rseq rack.cseq
+
+unfoldable pub numbers_in : Headers → Option Numbers
+numbers_in h = do
+  cseq ← known h.cseq.number
+  max_forwards ← known_if h.max_forwards
+  rseq ← known_if h.rseq
+  rack ← known_rack h.rack
+  content_length ← known_if h.content_length
+  Some (record { max_forwards = max_forwards; cseq = cseq; rseq = rseq; rack = rack; content_length = content_length })
+
+abbrev pub known_port : Option Numeral → Option (Option ℕ)
+known_port None = Some None
+known_port (Some word) = known word >>= λ n. if nat_lt 65535 n then None else Some (Some n)
+
+-- a Via value with its port
+abbrev pub via_with : ViaDraft → Option Via
+via_with via = known_port via.port >>= λ port. Some (record { transport = via.transport; host = via.host; port = port; parameters = via.parameters })
+
+-- ---- the message
+
+abbrev pub rack_with : Option RAckDraft → Option (ℕ × ℕ) → Option RAck
+rack_with (Some rack) (Some numbers) = Some (record { rseq = numbers.0; cseq = numbers.1; method = rack.method })
+rack_with None numbers = None
+rack_with (Some rack) None = None
+
+-- a message with these headers and numbers
+abbrev pub message_with : StartLine → List Via → Numbers → Headers → List ℕ → Message
+message_with start vias numbers h body = record {
+  start = start;
+  vias = vias;
+  max_forwards = numbers.max_forwards;
+  from = h.from;
+  to = h.to;
+  call_id = h.call_id;
+  cseq = record { number = numbers.cseq; method = h.cseq.method };
+  contacts = h.contacts;
+  record_routes = h.record_routes;
+  routes = h.routes;
+  require = h.require;
+  supported = h.supported;
+  rseq = numbers.rseq;
+  rack = rack_with h.rack numbers.rack;
+  others = h.others;
+  body = body;
+}
