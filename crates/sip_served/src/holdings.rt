@@ -78,6 +78,12 @@ impl Holdings {
         next_due(self.requests.as_slice())
     }
 
+    pub(crate) fn dialogs(&mut self) -> &mut Dialogs
+        ensures value { result.now.entries ≡ self.old.dialogs }
+    {
+        &mut self.dialogs
+    }
+
     /// An item of the event of this id, at the moment `now` in ms. `tag` is the To tag that the answers to a request without one get.
     pub(crate) fn item(
         &mut self,

@@ -60,6 +60,13 @@ impl Served {
         self.holdings.next_due()
     }
 
+    /// The held dialogs, for writing. Takes no memory.
+    pub fn dialogs(&mut self) -> &mut Dialogs
+        ensures value { result.now.entries ≡ self.old.state.dialogs }
+    {
+        self.holdings.dialogs()
+    }
+
     /// Takes what a transaction hands up, or a command of the user, at the moment `now` in ms. The id is that of its event, and
     /// `tag` is the To tag that the answers to a request without one get.
     ///
