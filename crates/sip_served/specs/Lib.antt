@@ -2,6 +2,7 @@ pub mod Acknowledgment
 pub mod Arrival
 pub mod Command
 pub mod Dialogs
+pub mod Lending
 pub mod Notices
 pub mod Refusal
 pub mod Requests

@@ -52,6 +52,8 @@ impl Model for Holdings {
 }
 
 impl Holdings {
+    ghost use Rattle.std.specs.Borrow.{sem};
+    ghost use Rattle.sip_served.specs.Lending.{HoldingsLend};
     ghost use Rattle.sip_served.specs.ServerSide.{empty_at};
     ghost use Rattle.sip_served.specs.State.{State};
 
@@ -79,6 +81,7 @@ impl Holdings {
     }
 
     pub(crate) fn dialogs(&mut self) -> &mut Dialogs
+        ensures* writes_back { sem 𝓛 (HoldingsLend self.entry result) }
         ensures value { result.now.entries ≡ self.old.dialogs }
     {
         &mut self.dialogs

@@ -30,6 +30,8 @@ impl Model for Served {
 }
 
 impl Served {
+    ghost use Rattle.std.specs.Borrow.{sem};
+    ghost use Rattle.sip_served.specs.Lending.{ServedLends};
     ghost use Rattle.sip_served.specs.ServerSide.{after, empty_at, lost};
     ghost use Rattle.sip_served.specs.Step.{holds, item_taken};
     ghost use Rattle.sip_served.specs.Tick.{next_due, tick_taken};
@@ -62,6 +64,7 @@ impl Served {
 
     /// The held dialogs, for writing. Takes no memory.
     pub fn dialogs(&mut self) -> &mut Dialogs
+        ensures* writes_back { sem 𝓛 (ServedLends self.entry result) }
         ensures value { result.now.entries ≡ self.old.state.dialogs }
     {
         self.holdings.dialogs()
