@@ -86,11 +86,11 @@ silent : {O : Type 0} (xs ys : List O) → xs ++ ys ≡ [] → (speaks xs ≡ fa
 silent [] ys e = (refl, e)
 silent (x ∷ xs) ys e = absurd cc
 
-not_longer : {X : Type 0} (p : X → Bool) (xs : List X) → length (filter p xs) ≤ length xs
+pub not_longer : {X : Type 0} (p : X → Bool) (xs : List X) → length (filter p xs) ≤ length xs
 not_longer p [] = omega arith
 not_longer p (x ∷ xs) = by_bool (p x) (λ e. rw e (let h = not_longer p xs in omega arith)) (λ e. rw e (let h = not_longer p xs in omega arith))
 
-as_long : {X Y : Type 0} (f : X → Y) (xs : List X) → length (map f xs) ≡ length xs
+pub as_long : {X Y : Type 0} (f : X → Y) (xs : List X) → length (map f xs) ≡ length xs
 as_long f [] = refl
 as_long f (x ∷ xs) = ap suc (as_long f xs)
 

@@ -3,5 +3,6 @@ pub mod Changes
 pub mod Dues
 pub mod Joined
 pub mod Numbers
+pub mod OneWaits
 pub mod Places
 pub mod Ticks

@@ -7,6 +7,7 @@ pub mod Notices
 pub mod Refusal
 pub mod Requests
 pub mod Respond
+pub mod Run
 pub mod ServerSide
 pub mod State
 pub mod Step

@@ -1,7 +1,9 @@
 //! Laws of the server side of a call.
 
-ghost use Rattle.std.specs.Prelude.{◌≡◌, ◌≢◌, ℕ, true, false};
+ghost use Rattle.std.specs.Prelude.{◌≡◌, ◌≢◌, ℕ, List, true, false};
+ghost use Rattle.sip_message.specs.declared.addr.Addr.{Addr};
 ghost use Rattle.sip_timers.specs.Queue.{is_due};
+ghost use Rattle.sip_served.specs.Run.{Event, OneWaitsEach, state_after};
 ghost use Rattle.sip_served.specs.State.{State, quiet};
 ghost use Rattle.sip_served.specs.Tick.{next_due, tick_taken};
 
@@ -10,4 +12,10 @@ ghost use Rattle.sip_served.specs.Tick.{next_due, tick_taken};
 pub fn ticks_when_due()
     ensures before { (state : State) (now : ℕ) → is_due now (next_due state) ≡ false → tick_taken state now ≡ quiet state }
     ensures from { (state : State) (now : ℕ) → is_due now (next_due state) ≡ true → tick_taken state now ≢ quiet state }
+{}
+
+/// Whatever happened to the server side of a call, of each held request at most one reliable provisional response waits for its PRACK
+/// (RFC 3262, section 3).
+pub fn at_most_one_waits()
+    ensures { (local : Addr) (events : List Event) → OneWaitsEach (state_after local events) }
 {}

@@ -30,7 +30,7 @@ pub use dialogs::Dialogs;
 pub use held_dialog::{DialogLife, DialogName, HeldDialog};
 pub use held_request::{HeldRequest, Retransmission, Success};
 pub use item::{CallOut, Item};
-pub use laws::ticks_when_due;
+pub use laws::{at_most_one_waits, ticks_when_due};
 pub use notice::Notice;
 pub use refusal::Refusal;
 pub use served::Served;
