@@ -1,14 +1,14 @@
 -- The machine of one call: the state of its server side after each input, and what it gives (RFC 3261, sections 8.2 and 12).
-use Rattle.std.specs.Prelude.{ℕ, List, [], ◌∷◌, Option, None, Some, nat_lt, length, if◌then◌else◌}
+use Rattle.std.specs.Prelude.{ℕ, false, List, [], ◌∷◌, Option, None, Some, if◌then◌else◌}
 use Rattle.sip_message.specs.declared.addr.Addr.{Addr}
 use Rattle.sip_message.specs.declared.id.Id.{Id}
 use Rattle.sip_model.specs.Machine.{Machine}
-use Rattle.sip_served.specs.Removal.{after_tick, next_removal}
-use Rattle.sip_served.specs.Requests.{after_item, given_for_item}
-use Rattle.sip_served.specs.ServerSide.{all_held}
+use Rattle.sip_served.specs.ServerSide.{empty_at}
+use Rattle.sip_served.specs.State.{Taken as ServedTaken}
+use Rattle.sip_served.specs.Step.{holds, item_taken as served_item}
+use Rattle.sip_served.specs.Tick.{next_due, tick_taken as served_tick}
 use Rattle.sip_served.specs.declared.command.UserCommand.{UserCommand}
 use Rattle.sip_served.specs.declared.command.UserCommand.TheVariants.{Respond}
-use Rattle.sip_served.specs.declared.held_request.HeldRequest.{HeldRequest}
 use Rattle.sip_served.specs.declared.item.Item.{Item}
 use Rattle.sip_served.specs.declared.item.Item.TheVariants.{Up, User}
 use Rattle.sip_served.specs.declared.item.CallOut.{CallOut}
@@ -22,28 +22,25 @@ use Rattle.sip_calls.specs.declared.calls.Happening.{Happening}
 use Rattle.sip_calls.specs.declared.calls.Happening.TheVariants.{Tick, Item as AnItem}
 use Rattle.sip_calls.specs.Name.{name_of}
 
--- a call under which nothing is held is over
-abbrev pub kept_call : Call → Option Call
-kept_call call = if nat_lt 0 (length (all_held call.served)) then Some call else None
-
--- the same call, with other held requests
-abbrev pub with_held : Call → List HeldRequest → Call
-with_held call held = record call { served = record call.served { requests = Some held } }
-
--- a call of which nothing is held yet
-abbrev pub new_call : Addr → Call
-new_call local = record { served = record { local = local; requests = Some [] } }
-
 -- a call after what happens to it, `None` if it isn't held, and what it gives
 abbrev pub Taken : Type 0
 Taken = Option Call × List CallOut
 
+-- a call under which nothing is held is over
+abbrev pub kept_call : Call → Option Call
+kept_call call = if holds call.served.state then Some call else None
+
+-- the call after something was taken, and what it gives
+abbrev pub after_taken : Call → ServedTaken → Taken
+after_taken call taken = (kept_call (record call { served = record call.served { state = taken.0 } }), taken.1)
+
+-- a call of which nothing is held yet
+abbrev pub new_call : Addr → Call
+new_call local = record { served = record { broken = false; local = local; state = empty_at local } }
+
 -- an item of a call, whose event makes the To tag of a request without one
 abbrev pub item_taken : List ℕ → Call → Id → Item → ℕ → Taken
-item_taken seed call id item now = (
-  kept_call (with_held call (after_item (all_held call.served) (name_of seed id 0) item now)),
-  given_for_item (all_held call.served) (name_of seed id 0) id item,
-)
+item_taken seed call id item now = after_taken call (served_item call.served.state (name_of seed id 0) id item now)
 
 -- an answer to a call that isn't held is refused
 abbrev pub given_unheld : Id → UserCommand → List CallOut
@@ -56,7 +53,7 @@ new_item_taken calls id (Up up) now = item_taken calls.seed (new_call calls.loca
 new_item_taken calls id (User command) now = (None, given_unheld id command)
 
 abbrev pub tick_taken : Call → ℕ → Taken
-tick_taken call now = (kept_call (with_held call (after_tick (all_held call.served) now)), [])
+tick_taken call now = after_taken call (served_tick call.served.state now)
 
 -- what happens to a call
 abbrev pub call_step : Calls → Option Call → Happening → ℕ → Taken
@@ -71,7 +68,7 @@ call_machine calls = record { step = λ key state input. call_step calls state i
 
 -- the moment at which something is due of a call; one under which nothing is held is over at once
 abbrev pub call_due : Call → Option ℕ
-call_due call = if nat_lt 0 (length (all_held call.served)) then next_removal (all_held call.served) else Some 0
+call_due call = if holds call.served.state then next_due call.served.state else Some 0
 
 -- the input of a tick
 abbrev pub tick_input : ℕ → CallInput

@@ -101,7 +101,8 @@ fn via_parameters(alloc: Global, branch: Branch) -> Result<Series<Parameter>, Al
     Ok(Series::from_vec(parameters))
 }
 
-fn own_contact(alloc: Global, local: Addr) -> Result<NameAddr, AllocError>
+/// `<sip:local>`, the Contact of one's own messages.
+pub fn own_contact(alloc: Global, local: Addr) -> Result<NameAddr, AllocError>
     ensures { IfOk result (λ contact. contact ≡ request.contact_of local) }
 {
     let uri = own_uri(alloc, local)?;

@@ -79,13 +79,24 @@ impl Outbound {
         ensures one_waits { length self.new.waiting ≤ 1 }
         ensures next { IfOk result (λ number. number ≡ self.old.next) }
     {
-        if let Some(fault) = self.fault() {
-            return Err(fault);
-        }
-        let number = self.next as u32;
+        let number = self.next_number()?;
         self.waiting = Some(Provisional::new(number, has_body, now));
         self.next += 1;
         Ok(number)
+    }
+
+    /// The number that the next response gets.
+    ///
+    /// # Errors
+    ///
+    /// The first `SendFault` that fits.
+    pub fn next_number(&self) -> Result<u32, SendFault>
+        ensures { result ≡ send_answer self.now }
+    {
+        match self.fault() {
+            Some(fault) => Err(fault),
+            None => Ok(self.next as u32),
+        }
     }
 
     // Why the next can't be sent.
@@ -189,6 +200,14 @@ impl Outbound {
             return None;
         }
         self.waiting?.next_due()
+    }
+
+    /// Whether a response with the number `rseq` waits for its PRACK.
+    pub fn waits_for(&self, rseq: u32) -> bool
+        ensures { result ≡ waits_for rseq self.now }
+    {
+        self.waiting
+            .is_some_and(|waiting| waiting.number == rseq)
     }
 
     /// Whether a response that waits for its PRACK has a body.

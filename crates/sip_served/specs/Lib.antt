@@ -1,8 +1,14 @@
+pub mod Acknowledgment
+pub mod Arrival
 pub mod Command
+pub mod Dialogs
+pub mod Lending
 pub mod Notices
 pub mod Refusal
-pub mod Removal
 pub mod Requests
 pub mod Respond
+pub mod Run
 pub mod ServerSide
-pub mod Up
+pub mod State
+pub mod Step
+pub mod Tick

@@ -1,82 +1,205 @@
--- The user's answer to a held request: when it is refused, what it sends, and what is held then (RFC 3261, section 8.2.6).
-use Rattle.std.specs.Prelude.{ℕ, ◌+◌, Bool, true, false, ◌&&◌, ◌==◌, nat_lt, nat_le, List, [], ◌∷◌, Option, None, Some, Result, Ok, Err, position, slice_get, slice_set, is_some, if◌then◌else◌}
-use Rattle.std.specs.Option.{option_map_or}
+-- The user's answer to a held request: when it is refused, what is sent, and what is held then (RFC 3261, sections 8.2.6, 12.1.1
+-- and 13.3.1; RFC 3262, section 3).
+use Rattle.std.specs.Prelude.{ℕ, ◌+◌, Bool, true, false, not, ◌&&◌, ◌||◌, nat_lt, nat_le, List, [], ◌∷◌, ◌++◌, length, Option, None, Some, codes, find, is_some, is_none, if◌then◌else◌}
+use Rattle.std.specs.List.{list_any}
+use Rattle.std.specs.Option.{option_map, option_map_or}
+use Rattle.std.specs.Result.{is_ok, result_ok}
+use Rattle.indexmap.specs.IndexMap.{insert_entry}
+use Rattle.sip_message.specs.declared.addr.Addr.{Addr}
 use Rattle.sip_message.specs.declared.id.Id.{Id}
 use Rattle.sip_message.specs.declared.message.Message.{Message}
 use Rattle.sip_message.specs.Response.{response_of}
 use Rattle.sip_message.specs.Message.{with_body_of}
+use Rattle.sip_dialog.specs.Opening.{opened_by_request}
+use Rattle.sip_dialog.specs.Request.{contact_of}
+use Rattle.sip_reliable.specs.declared.send_fault.SendFault.{SendFault}
+use Rattle.sip_reliable.specs.declared.send_fault.SendFault.TheVariants as send
+use Rattle.sip_reliable.specs.Ledger.{Ledger, closed_now, send_answer, send_fault, with_sent}
 use Rattle.sip_transactions.specs.declared.input.Command.TheVariants.{Answer}
 use Rattle.sip_served.specs.declared.command.Reliability.{Reliability}
 use Rattle.sip_served.specs.declared.command.Reliability.TheVariants.{Plain, Reliable}
 use Rattle.sip_served.specs.declared.command.Respond.{Respond}
+use Rattle.sip_served.specs.declared.held_dialog.DialogLife.{DialogLife}
+use Rattle.sip_served.specs.declared.held_dialog.DialogName.{DialogName}
+use Rattle.sip_served.specs.declared.held_dialog.HeldDialog.{HeldDialog}
 use Rattle.sip_served.specs.declared.held_request.HeldRequest.{HeldRequest}
+use Rattle.sip_served.specs.declared.held_request.Success.{Success}
 use Rattle.sip_served.specs.declared.item.CallOut.{CallOut}
 use Rattle.sip_served.specs.declared.item.CallOut.TheVariants.{Notice, Command}
 use Rattle.sip_served.specs.declared.notice.Notice.TheVariants.{Refused}
 use Rattle.sip_served.specs.declared.refusal.Refusal.{Refusal}
-use Rattle.sip_served.specs.declared.refusal.Refusal.TheVariants.{NoSuchRequest, BadStatus, AlreadyFinal, NotSupported}
-use Rattle.sip_served.specs.declared.respond.Answerable.{Answerable}
-use Rattle.sip_served.specs.Removal.{held_after_final}
+use Rattle.sip_served.specs.declared.refusal.Refusal.TheVariants.{NoSuchRequest, AlreadyFinal, BadStatus, ReliablePending, NotSupported, SequenceUsedUp, DialogEnded}
+use Rattle.sip_served.specs.Dialogs.{confirmed, dialog_changed, early_ended, is_named, lives}
+use Rattle.sip_served.specs.Requests.{dialog_name, is_final, is_inside, is_invite, is_provisional, is_success, requires_100rel, supports_100rel}
+use Rattle.sip_served.specs.State.{Dialogs, State, Taken, changed_at, has_id}
 
-abbrev pub has_id : Id → HeldRequest → Bool
-has_id id held = (held.id.round == id.round) && (held.id.place == id.place)
+-- ---- when it is refused
+
+-- the user may give these
+abbrev pub is_user_status : ℕ → Bool
+is_user_status status = nat_le 101 status && nat_le status 699
 
 abbrev pub is_reliable : Reliability → Bool
 is_reliable Plain = false
 is_reliable Reliable = true
 
--- the status, where the user may answer with it
-abbrev pub answer_status_of : ℕ → Option ℕ
-answer_status_of status = if nat_lt 100 status && nat_lt status 700 then Some status else None
+-- a provisional response to an INVITE whose sender has 100rel
+abbrev pub may_be_reliable : HeldRequest → ℕ → Bool
+may_be_reliable held status = is_invite held.request && is_provisional status && supports_100rel held.request
 
--- what becomes of an answer to a held request: the first refusal that fits decides
-abbrev pub decision_with : HeldRequest → ℕ → Respond → Option ℕ → Result Answerable Refusal
-decision_with held index respond None = Err BadStatus
-decision_with held index respond (Some status) =
-    if is_some held.removal then Err AlreadyFinal
-    else if is_reliable respond.reliability then Err NotSupported
-    else Ok (record { index = index; status = status })
+-- It is sent reliably where that was asked for, and always where the INVITE requires it.
+abbrev pub is_sent_reliably : HeldRequest → Respond → Bool
+is_sent_reliably held respond =
+    may_be_reliable held respond.status && (is_reliable respond.reliability || requires_100rel held.request)
 
-abbrev pub decision_for : HeldRequest → ℕ → Respond → Result Answerable Refusal
-decision_for held index respond = decision_with held index respond (answer_status_of respond.status)
+-- it makes or confirms a dialog, or is one of a dialog
+abbrev pub is_of_dialog : HeldRequest → ℕ → Bool
+is_of_dialog held status = is_invite held.request && (is_provisional status || is_success status)
 
-abbrev pub decision_at : List HeldRequest → Respond → Option ℕ → Result Answerable Refusal
-decision_at requests respond None = Err NoSuchRequest
-decision_at requests respond (Some index) = option_map_or (λ held. decision_for held index respond) (slice_get requests index) (Err NoSuchRequest)
+-- the dialog of the request has ended
+abbrev pub has_ended : Dialogs → HeldRequest → Bool
+has_ended dialogs held = option_map_or (λ life. not (lives dialogs life)) held.dialog false
 
-abbrev pub decision : List HeldRequest → Respond → Result Answerable Refusal
-decision requests respond = decision_at requests respond (position (has_id respond.id) requests)
+abbrev pub refusal_of_fault : SendFault → Refusal
+refusal_of_fault send.Closed = AlreadyFinal
+refusal_of_fault send.NotSupported = NotSupported
+refusal_of_fault send.Unacknowledged = ReliablePending
+refusal_of_fault send.NumbersUsedUp = SequenceUsedUp
 
--- the response, with the body that the user gave it
-abbrev pub answer_to : HeldRequest → ℕ → Respond → Message
-answer_to held status respond = with_body_of (response_of held.request status respond.reason held.tag) respond.body
+-- no other reliable response waits, or with a 2xx none that has a body; and a number is left
+abbrev pub reliable_refusal : HeldRequest → Respond → Option Refusal
+reliable_refusal held respond =
+    if is_sent_reliably held respond then option_map refusal_of_fault (send_fault held.ledger)
+    else (if is_success respond.status && list_any (λ p. p.has_body) held.ledger.waiting then Some ReliablePending
+    else None)
 
--- the command that gives it to its transaction
-abbrev pub answer_command : HeldRequest → ℕ → Respond → CallOut
-answer_command held status respond = Command held.id (Answer held.key (answer_to held status respond))
+-- the first that fits
+abbrev pub refusal_for : Dialogs → Respond → HeldRequest → Option Refusal
+refusal_for dialogs respond held =
+    if not (is_user_status respond.status) then Some BadStatus
+    else (if is_some held.removal then Some AlreadyFinal
+    else (if is_reliable respond.reliability && not (may_be_reliable held respond.status) then Some NotSupported
+    else (if is_of_dialog held respond.status && has_ended dialogs held then Some DialogEnded
+    else reliable_refusal held respond)))
 
--- a final response is the last one
-abbrev pub is_final : ℕ → Bool
-is_final status = nat_le 200 status
+-- ---- the response
 
--- the request after its answer
-abbrev pub answered : HeldRequest → ℕ → ℕ → HeldRequest
-answered held status now = if is_final status then record held { removal = Some (now + held_after_final) } else held
+-- `Require: 100rel` and the RSeq of a reliable one (RFC 3262, section 3)
+abbrev pub with_rseq : Option ℕ → Message → Message
+with_rseq rseq response = record response { require = codes "100rel" ∷ []; rseq = rseq }
 
--- the held requests after an answer, and after a refusal
-abbrev pub after_decision : List HeldRequest → ℕ → Result Answerable Refusal → List HeldRequest
-after_decision requests now (Err refusal) = requests
-after_decision requests now (Ok answer) =
-    option_map_or (λ held. slice_set requests answer.index (answered held answer.status now)) (slice_get requests answer.index) requests
+-- the Record-Route of the INVITE and one's own Contact (RFC 3261, section 12.1.1)
+abbrev pub with_routes : Addr → Message → Message → Message
+with_routes local request response = record response { contacts = contact_of local ∷ []; record_routes = request.record_routes }
 
-abbrev pub after_respond : List HeldRequest → Respond → ℕ → List HeldRequest
-after_respond requests respond now = after_decision requests now (decision requests respond)
+abbrev pub if_so : Bool → (Message → Message) → Message → Message
+if_so so change message = if so then change message else message
 
--- an answer goes to the transaction of its request; a refusal is told
-abbrev pub given_by_decision : List HeldRequest → Id → Respond → Result Answerable Refusal → List CallOut
-given_by_decision requests id respond (Err refusal) = Notice (Refused respond.call_id id.place refusal) ∷ []
-given_by_decision requests id respond (Ok answer) =
-    option_map_or (λ held. answer_command held answer.status respond ∷ []) (slice_get requests answer.index) []
+abbrev pub answer_to : Addr → HeldRequest → Respond → Message
+answer_to local held respond =
+    with_body_of
+    (if_so (is_sent_reliably held respond) (with_rseq (result_ok (send_answer held.ledger)))
+    (if_so (is_of_dialog held respond.status) (with_routes local held.request)
+    (response_of held.request respond.status respond.reason held.tag)))
+    respond.body
 
-abbrev pub given_by_respond : List HeldRequest → Id → Respond → List CallOut
-given_by_respond requests id respond = given_by_decision requests id respond (decision requests respond)
+-- ---- the request after it
+
+-- a number is taken where one is left
+abbrev pub ledger_sent : Bool → ℕ → Ledger → Ledger
+ledger_sent has_body now ledger = if is_ok (send_answer ledger) then with_sent has_body now ledger else ledger
+
+-- a reliable provisional response waits for its PRACK
+abbrev pub sent_reliably : Message → ℕ → HeldRequest → HeldRequest
+sent_reliably response now held =
+    record held { ledger = ledger_sent (nat_lt 0 (length response.body)) now held.ledger; provisional = Some response }
+
+-- A 2xx to an INVITE is sent again after T1, and given up 64*T1 after it was sent, where its ACK doesn't come.
+abbrev pub success_sent : Message → ℕ → Success
+success_sent response now = record { response = response; end = now + 32000; retransmission = Some record { due = now + 500; interval = 500 } }
+
+-- a final response is the last one; 64*T1 later the request is removed (RFC 3261, section 17.2.2)
+abbrev pub finished : Message → ℕ → ℕ → HeldRequest → HeldRequest
+finished response status now held = record held {
+  ledger = closed_now held.ledger;
+  success = if is_invite held.request && is_success status then Some (success_sent response now) else held.success;
+  removal = Some (now + 32000);
+}
+
+abbrev pub answered : Respond → Message → ℕ → HeldRequest → HeldRequest
+answered respond response now held =
+    if is_sent_reliably held respond then sent_reliably response now held
+    else (if is_final respond.status then finished response respond.status now held
+    else held)
+
+-- ---- the dialogs after it
+
+-- it makes a dialog where the request is outside of any, and has made none (RFC 3261, section 12.1.1)
+abbrev pub makes_dialog : HeldRequest → ℕ → Bool
+makes_dialog held status = is_of_dialog held status && not (is_inside held.request) && is_none held.dialog
+
+abbrev pub made_dialog : Id → HeldRequest → ℕ → HeldDialog
+made_dialog event held status = record {
+  dialog = opened_by_request held.request held.tag status;
+  address = held.reply_to;
+  made_by = held.id;
+  born = event;
+  heard = None;
+  owed = [];
+}
+
+-- a 2xx confirms the dialog that an earlier response made
+abbrev pub confirms_dialog : HeldRequest → ℕ → Bool
+confirms_dialog held status = is_of_dialog held status && is_success status && not (is_inside held.request)
+
+-- any other final response ends the early dialogs
+abbrev pub rejects : HeldRequest → ℕ → Bool
+rejects held status = is_invite held.request && nat_le 300 status
+
+abbrev pub dialogs_answered : Id → HeldRequest → Respond → Message → Dialogs → Dialogs × List CallOut
+dialogs_answered event held respond response dialogs =
+    let name = dialog_name held.request held.tag in
+    if makes_dialog held respond.status then (insert_entry is_named dialogs name (made_dialog event held respond.status), [])
+    else (if confirms_dialog held respond.status then (dialog_changed name (confirmed response) dialogs, [])
+    else (if rejects held respond.status then early_ended held.id dialogs
+    else (dialogs, [])))
+
+-- the dialog that it made is the request's
+abbrev pub with_dialog : Id → Respond → HeldRequest → HeldRequest
+with_dialog event respond held =
+    if makes_dialog held respond.status
+    then record held { dialog = Some record { name = dialog_name held.request held.tag; born = event } }
+    else held
+
+-- ---- all of it
+
+-- An answer goes to the transaction of its request. `changed` are the held requests with this one changed so.
+abbrev pub answer_given_at : ((HeldRequest → HeldRequest) → List HeldRequest) → State → Id → Respond → ℕ → HeldRequest → Taken
+answer_given_at changed state event respond now held =
+    let response = answer_to state.local held respond in
+    let dialogs = dialogs_answered event held respond response state.dialogs in (
+      record state {
+        requests = changed (λ held. answered respond response now (with_dialog event respond held));
+        dialogs = dialogs.0;
+      },
+      Command held.id (Answer held.key response) ∷ dialogs.1,
+    )
+
+abbrev pub answer_given : State → Id → Respond → ℕ → HeldRequest → Taken
+answer_given state event respond now held = answer_given_at (λ change. changed_at respond.id change state.requests) state event respond now held
+
+-- a refusal is told, and nothing changes
+abbrev pub refused_notice : Id → Respond → Refusal → List CallOut
+refused_notice event respond refusal = Notice (Refused respond.call_id event.place refusal) ∷ []
+
+abbrev pub by_refusal : State → Id → Respond → ℕ → HeldRequest → Option Refusal → Taken
+by_refusal state event respond now held (Some refusal) = (state, refused_notice event respond refusal)
+by_refusal state event respond now held None = answer_given state event respond now held
+
+abbrev pub by_request : State → Id → Respond → ℕ → Option HeldRequest → Taken
+by_request state event respond now None = (state, refused_notice event respond NoSuchRequest)
+by_request state event respond now (Some held) = by_refusal state event respond now held (refusal_for state.dialogs respond held)
+
+-- the answer to the request of its id
+abbrev pub respond_taken : State → Id → Respond → ℕ → Taken
+respond_taken state event respond now = by_request state event respond now (find (has_id respond.id) state.requests)

@@ -1,16 +1,23 @@
 -- What the server side of a Call-ID shows.
-use Rattle.std.specs.Prelude.{List, Option, None, Some, []}
+use Rattle.std.specs.Prelude.{Bool, true, List, []}
 use Rattle.sip_message.specs.declared.addr.Addr.{Addr}
-use Rattle.sip_served.specs.declared.held_request.HeldRequest.{HeldRequest}
+use Rattle.sip_served.specs.declared.item.CallOut.{CallOut}
+use Rattle.sip_served.specs.State.{State, Taken}
 
--- the held requests in the order in which they came up, or `None` after want of memory
+-- whether a call met want of memory, and what is held
 pub record ServerSide : Type 0 where
+  pub broken : Bool
   pub local : Addr
-  pub requests : Option (List HeldRequest)
+  pub state : State
 
--- the requests that are held
-abbrev pub all_held : ServerSide → List HeldRequest
-all_held side = held_or_none side.requests where
-  held_or_none : Option (List HeldRequest) → List HeldRequest
-  held_or_none None = []
-  held_or_none (Some held) = held
+-- nothing is held, at this address
+abbrev pub empty_at : Addr → State
+empty_at local = record { local = local; requests = []; dialogs = [] }
+
+-- after want of memory nothing is held
+abbrev pub lost : ServerSide → ServerSide
+lost side = record { broken = true; local = side.local; state = empty_at side.local }
+
+-- what was taken is held
+abbrev pub after : ServerSide → Taken → ServerSide × List CallOut
+after side taken = (record side { state = taken.0 }, taken.1)

@@ -1,17 +1,45 @@
 //! A server request that is held.
 
-use sip_message::{Id, Key, Message, Token};
+use crate::held_dialog::DialogLife;
+use sip_message::{Addr, Id, Key, Message, Token};
+use sip_reliable::Outbound;
 
-/// A server request that came up.
+/// A server request that came up and was told to the user.
 pub struct HeldRequest {
     pub id: Id,
     /// The key of its transaction.
     pub key: Key,
     pub request: Message,
+    /// Where its answers go.
+    pub reply_to: Addr,
     /// The To tag that its responses get where the request has none.
     pub tag: Token,
+    /// The dialog that it came in, or that its answer made.
+    pub dialog: Option<DialogLife>,
+    /// The reliable provisional responses to it that were sent.
+    pub ledger: Outbound,
+    /// The last of them, until its PRACK came.
+    pub provisional: Option<Message>,
+    /// The 2xx to an INVITE.
+    pub success: Option<Success>,
     /// After the final response: the moment in ms at which it is removed.
     pub removal: Option<u64>,
+}
+
+/// The 2xx response to an INVITE, which is sent again until its ACK comes (RFC 3261, section 13.3.1.4).
+pub struct Success {
+    pub response: Message,
+    /// The moment in ms at which it is given up.
+    pub end: u64,
+    /// None once its ACK came or it was given up.
+    pub retransmission: Option<Retransmission>,
+}
+
+/// When a response is sent again, and the interval before it, both in ms.
+#[derive(Clone, Copy)]
+pub struct Retransmission {
+    pub due: u64,
+    pub interval: u64,
 }
 
 impl Drop for HeldRequest {
@@ -20,8 +48,23 @@ impl Drop for HeldRequest {
             id: _,
             key: _,
             request: _,
+            reply_to: _,
             tag: _,
+            dialog: _,
+            ledger: _,
+            provisional: _,
+            success: _,
             removal: _,
+        } = self;
+    }
+}
+
+impl Drop for Success {
+    fn drop(self) {
+        let Success {
+            response: _,
+            end: _,
+            retransmission: _,
         } = self;
     }
 }

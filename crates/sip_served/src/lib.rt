@@ -1,21 +1,36 @@
-//! The server side of one Call-ID: the requests that came up and wait for, or keep, their answers.
+//! The server side of one Call-ID: the requests that came up and wait for, or keep, their answers, and the dialogs.
 #![tactic(auto)]
 
+mod acknowledgment;
+mod arrival;
 mod command;
+mod debt;
+mod dialogs;
+mod held_dialog;
 mod held_request;
+mod holdings;
 mod item;
+mod laws;
 mod notice;
+mod outputs;
 mod refusal;
+mod request;
 mod requests;
 mod respond;
 mod served;
+mod tick;
+mod unsupported;
 
 pub use command::{
     Cancel, DialogBody, DialogRequest, Invite, Plain, ProvisionalSupport, Reliability, Respond,
     UserCommand,
 };
-pub use held_request::HeldRequest;
+pub use debt::Debt;
+pub use dialogs::Dialogs;
+pub use held_dialog::{DialogLife, DialogName, HeldDialog};
+pub use held_request::{HeldRequest, Retransmission, Success};
 pub use item::{CallOut, Item};
+pub use laws::{at_most_one_waits, ticks_when_due};
 pub use notice::Notice;
 pub use refusal::Refusal;
 pub use served::Served;

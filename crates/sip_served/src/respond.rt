@@ -1,95 +1,337 @@
 //! The answer of the user to a held server request.
 
-ghost use Rattle.std.specs.Prelude.{◌≡◌, ◌<◌, ◌≤◌, ◌^◌, IfOk, IfSome, length, position};
-ghost use Rattle.sip_served.specs.Respond.{answer_command, answer_status_of, answered, decision, decision_for, has_id};
+ghost use Rattle.std.specs.Prelude.{◌≡◌, ◌≤◌, ◌^◌, IfOk, OnOk, codes};
+ghost use Rattle.indexmap.specs.IndexMap.{insert_entry};
+ghost use Rattle.sip_transactions.specs.declared.input.Command.TheVariants.{Answer};
+ghost use Rattle.sip_served.specs.Dialogs.{is_named};
+ghost use Rattle.sip_served.specs.Requests.{dialog_name};
+ghost use Rattle.sip_served.specs.Respond as spec;
+ghost use Rattle.sip_served.specs.declared.item.CallOut.TheVariants as call_out;
 
 use crate::command::{Reliability, Respond};
-use crate::held_request::HeldRequest;
+use crate::dialogs::{Dialogs, confirm, end_early, lives};
+use crate::held_dialog::{DialogLife, HeldDialog};
+use crate::held_request::{HeldRequest, Retransmission, Success};
 use crate::item::CallOut;
 use crate::refusal::Refusal;
-use sip_message::{Id, StatusCode, response_to};
+use crate::request::{
+    dialog_name, is_final, is_inside, is_invite, is_provisional, is_success, requires_100rel,
+    supports_100rel,
+};
+use sip_dialog::{Dialog, own_contact};
+use sip_message::{Addr, Id, Message, StatusCode, Token, response_to};
+use sip_reliable::{Inbound, SendFault};
+use sip_text::{Series, Text};
 use sip_transactions::Command;
 use std::alloc::{AllocError, Global};
 
-/// How long a request is held after its final response: 64 times T1, in ms (RFC 3261, section 17.2.2).
-const HELD_AFTER_FINAL: u64 = 32_000;
+/// T1, the first interval, in ms (RFC 3261, section 17.1.1.1).
+const T1: u64 = 500;
 
-/// The least status of a final response.
-const FIRST_FINAL: u16 = 200;
+/// The least status that the user may answer with.
+const LEAST_STATUS: u16 = 101;
 
-/// Where the request that is answered stands among those that are held, and the status of its answer.
-pub(crate) struct Answerable {
-    pub(crate) index: usize,
-    pub(crate) status: StatusCode,
-}
+/// The greatest status.
+const GREATEST_STATUS: u16 = 699;
 
-/// Whether a held request can be answered so: the first refusal that fits decides.
-#[tactic(auto, using(std::proofs::lemmas::Option::slice_get_read))]
-pub(crate) fn decide(requests: &[HeldRequest], respond: &Respond) -> Result<Answerable, Refusal>
-    ensures decided { result ≡ decision requests.now respond.now }
-    ensures within { IfOk result (λ answerable. answerable.index < length requests.now) }
+/// The least status that is above those of success.
+const FIRST_REJECTING: u16 = 300;
+
+/// Why an answer to a held request is refused, if it is: the first reason that fits.
+pub(crate) fn refusal_for(
+    dialogs: &Dialogs,
+    respond: &Respond,
+    held: &HeldRequest,
+) -> Option<Refusal>
+    ensures first { result ≡ spec.refusal_for dialogs.now.entries respond.now held.now }
+    ensures status { result ≡ None → (101 ≤ respond.now.status) × (respond.now.status ≤ 699) }
 {
-    let Some(index) = place_of(requests, respond.id) else {
-        return Err(Refusal::NoSuchRequest);
-    };
-    decide_for(&requests[index], index, respond)
-}
-
-// The place of the request of an id.
-fn place_of(requests: &[HeldRequest], id: Id) -> Option<usize>
-    ensures place { result ≡ position (has_id id) requests.now }
-    ensures within { IfSome result (λ index. index < length requests.now) }
-{
-    requests.iter().position(|held| held.id == id)
-}
-
-fn decide_for(held: &HeldRequest, index: usize, respond: &Respond) -> Result<Answerable, Refusal>
-    ensures decided { result ≡ decision_for held.now index respond.now }
-    ensures index { IfOk result (λ answerable. answerable.index ≡ index) }
-{
-    let Some(status) = answer_status(respond.status) else {
-        return Err(Refusal::BadStatus);
-    };
-    if held.removal.is_some() {
-        return Err(Refusal::AlreadyFinal);
-    }
-    match respond.reliability {
-        Reliability::Plain => Ok(Answerable { index, status }),
-        Reliability::Reliable => Err(Refusal::NotSupported),
+    if !is_user_status(respond.status) {
+        Some(Refusal::BadStatus)
+    } else if held.removal.is_some() {
+        Some(Refusal::AlreadyFinal)
+    } else if is_reliable(respond.reliability) && !may_be_reliable(held, respond.status) {
+        Some(Refusal::NotSupported)
+    } else if is_of_dialog(held, respond.status) && has_ended(dialogs, held) {
+        Some(Refusal::DialogEnded)
+    } else {
+        reliable_refusal(held, respond)
     }
 }
 
-// The status, where the user may answer with it.
-fn answer_status(status: u16) -> Option<StatusCode>
-    ensures { result ≡ answer_status_of status }
+fn is_user_status(status: u16) -> bool
+    ensures { result ≡ spec.is_user_status status }
 {
-    if status == 100 {
-        return None;
-    }
-    StatusCode::new(status)
+    LEAST_STATUS <= status && status <= GREATEST_STATUS
 }
 
-/// Notes on an answered request when it is removed: some time after its final response.
-pub(crate) fn note_answer(held: &mut HeldRequest, status: StatusCode, now: u64)
-    requires { now ≤ 2 ^ 62 }
-    ensures { held.new ≡ answered held.old status now }
+fn may_be_reliable(held: &HeldRequest, status: u16) -> bool
+    ensures { result ≡ spec.may_be_reliable held.now status }
 {
-    if status.code() >= FIRST_FINAL {
-        held.removal = Some(now + HELD_AFTER_FINAL);
+    is_invite(&held.request) && is_provisional(status) && supports_100rel(&held.request)
+}
+
+/// Whether the answer is sent reliably.
+pub(crate) fn is_sent_reliably(held: &HeldRequest, respond: &Respond) -> bool
+    ensures { result ≡ spec.is_sent_reliably held.now respond.now }
+{
+    may_be_reliable(held, respond.status)
+        && (is_reliable(respond.reliability) || requires_100rel(&held.request))
+}
+
+fn is_reliable(reliability: Reliability) -> bool
+    ensures { result ≡ spec.is_reliable reliability }
+{
+    match reliability {
+        Reliability::Plain => false,
+        Reliability::Reliable => true,
     }
 }
 
-/// The command by which a held request is answered.
-pub(crate) fn answer(
+/// Whether an answer of this status makes or confirms a dialog.
+pub(crate) fn is_of_dialog(held: &HeldRequest, status: u16) -> bool
+    ensures { result ≡ spec.is_of_dialog held.now status }
+{
+    is_invite(&held.request) && (is_provisional(status) || is_success(status))
+}
+
+fn has_ended(dialogs: &Dialogs, held: &HeldRequest) -> bool
+    ensures { result ≡ spec.has_ended dialogs.now.entries held.now }
+{
+    match &held.dialog {
+        Some(life) => !lives(dialogs, life),
+        None => false,
+    }
+}
+
+fn reliable_refusal(held: &HeldRequest, respond: &Respond) -> Option<Refusal>
+    ensures { result ≡ spec.reliable_refusal held.now respond.now }
+{
+    if is_sent_reliably(held, respond) {
+        return held.ledger.next_number().err().map(refusal_of_fault);
+    }
+    if is_success(respond.status) && held.ledger.body_waits() {
+        return Some(Refusal::ReliablePending);
+    }
+    None
+}
+
+fn refusal_of_fault(fault: SendFault) -> Refusal
+    ensures { result ≡ spec.refusal_of_fault fault }
+{
+    match fault {
+        SendFault::Closed => Refusal::AlreadyFinal,
+        SendFault::NotSupported => Refusal::NotSupported,
+        SendFault::Unacknowledged => Refusal::ReliablePending,
+        SendFault::NumbersUsedUp => Refusal::SequenceUsedUp,
+    }
+}
+
+/// The response by which a held request is answered.
+pub(crate) fn answer_to(
     alloc: Global,
+    local: Addr,
+    held: &HeldRequest,
+    respond: &Respond,
+) -> Result<Message, AllocError>
+    requires low { 101 ≤ respond.now.status }
+    requires high { respond.now.status ≤ 699 }
+    ensures { IfOk result (λ response. response ≡ spec.answer_to local held.now respond.now) }
+{
+    let status = StatusCode::from_code(respond.status);
+    let reason = respond.reason.clone()?;
+    let mut response = response_to(alloc, &held.request, status, reason, &held.tag)?;
+    if is_of_dialog(held, respond.status) {
+        set_routes(alloc, local, &held.request, &mut response)?;
+    }
+    if is_sent_reliably(held, respond) {
+        set_rseq(alloc, held.ledger.next_number().ok(), &mut response)?;
+    }
+    response.with_body(alloc, respond.body.clone()?)
+}
+
+fn set_routes(
+    alloc: Global,
+    local: Addr,
+    request: &Message,
+    response: &mut Message,
+) -> Result<(), AllocError>
+    ensures { OnOk result (response.new ≡ spec.with_routes local request.now response.old) }
+{
+    let record_routes = request.record_routes.clone()?;
+    let mut contacts = Series::new(alloc);
+    contacts.push(own_contact(alloc, local)?)?;
+    response.contacts = contacts;
+    response.record_routes = record_routes;
+    Ok(())
+}
+
+fn set_rseq(alloc: Global, rseq: Option<u32>, response: &mut Message) -> Result<(), AllocError>
+    ensures { OnOk result (response.new ≡ spec.with_rseq rseq response.old) }
+{
+    let mut require = Series::new(alloc);
+    require.push(option_100rel(alloc)?)?;
+    response.require = require;
+    response.rseq = rseq;
+    Ok(())
+}
+
+#[tactic(auto, unfolding(sip_text::specs::Token::is_token, sip_text::specs::Character::is_token_byte))]
+fn option_100rel(alloc: Global) -> Result<Token, AllocError>
+    ensures { IfOk result (λ option. option ≡ codes "100rel") }
+{
+    Ok(Token::from_text(Text::copy_of(alloc, b"100rel")?))
+}
+
+/// What becomes of a held request by its answer.
+pub(crate) fn note_answer(held: &mut HeldRequest, respond: &Respond, response: Message, now: u64)
+    requires { now ≤ 2 ^ 62 }
+    ensures { held.new ≡ spec.answered respond.now response now held.old }
+{
+    if is_sent_reliably(held, respond) {
+        send_reliably(held, response, now);
+    } else if is_final(respond.status) {
+        finish(held, response, respond.status, now);
+    }
+}
+
+fn send_reliably(held: &mut HeldRequest, response: Message, now: u64)
+    requires { now ≤ 2 ^ 62 }
+    ensures { held.new ≡ spec.sent_reliably response now held.old }
+{
+    let _ = held.ledger.send(now, !response.body.is_empty());
+    held.provisional = Some(response);
+}
+
+fn finish(held: &mut HeldRequest, response: Message, status: u16, now: u64)
+    requires { now ≤ 2 ^ 62 }
+    ensures { held.new ≡ spec.finished response status now held.old }
+{
+    held.ledger.close();
+    if is_invite(&held.request) && is_success(status) {
+        held.success = Some(success_sent(response, now));
+    }
+    held.removal = Some(now + 64 * T1);
+}
+
+fn success_sent(response: Message, now: u64) -> Success
+    requires { now ≤ 2 ^ 62 }
+    ensures { result ≡ spec.success_sent response now }
+{
+    Success {
+        response,
+        end: now + 64 * T1,
+        retransmission: Some(Retransmission {
+            due: now + T1,
+            interval: T1,
+        }),
+    }
+}
+
+/// The dialogs after an answer, and the ends that are told.
+pub(crate) fn dialogs_answered(
+    alloc: Global,
+    dialogs: &mut Dialogs,
+    event: Id,
+    held: &HeldRequest,
+    respond: &Respond,
+    response: &Message,
+) -> Result<Vec<CallOut>, AllocError>
+    requires low { 101 ≤ respond.now.status }
+    requires high { respond.now.status ≤ 699 }
+    ensures { IfOk result (λ outs. (dialogs.new.entries, outs.items) ≡ spec.dialogs_answered event held.now respond.now response.now dialogs.old.entries) }
+{
+    if makes_dialog(held, respond.status) {
+        make_dialog(alloc, dialogs, event, held, respond.status)?;
+        return Ok(Vec::new(alloc));
+    }
+    if confirms_dialog(held, respond.status) {
+        let name = dialog_name(alloc, &held.request, &held.tag)?;
+        confirm(dialogs, &name, response)?;
+        return Ok(Vec::new(alloc));
+    }
+    if rejects(held, respond.status) {
+        return end_early(alloc, dialogs, held.id);
+    }
+    Ok(Vec::new(alloc))
+}
+
+/// Whether an answer of this status makes a dialog.
+pub(crate) fn makes_dialog(held: &HeldRequest, status: u16) -> bool
+    ensures { result ≡ spec.makes_dialog held.now status }
+{
+    is_of_dialog(held, status) && !is_inside(&held.request) && held.dialog.is_none()
+}
+
+fn confirms_dialog(held: &HeldRequest, status: u16) -> bool
+    ensures { result ≡ spec.confirms_dialog held.now status }
+{
+    is_of_dialog(held, status) && is_success(status) && !is_inside(&held.request)
+}
+
+fn rejects(held: &HeldRequest, status: u16) -> bool
+    ensures { result ≡ spec.rejects held.now status }
+{
+    is_invite(&held.request) && FIRST_REJECTING <= status
+}
+
+fn make_dialog(
+    alloc: Global,
+    dialogs: &mut Dialogs,
+    event: Id,
+    held: &HeldRequest,
+    status: u16,
+) -> Result<(), AllocError>
+    requires low { 101 ≤ status }
+    requires high { status ≤ 699 }
+    ensures { OnOk result (dialogs.new.entries ≡ insert_entry is_named dialogs.old.entries (dialog_name held.now.request held.now.tag) (spec.made_dialog event held.now status)) }
+{
+    let name = dialog_name(alloc, &held.request, &held.tag)?;
+    let made = made_dialog(alloc, event, held, StatusCode::from_code(status))?;
+    dialogs.insert(name, made)?;
+    Ok(())
+}
+
+fn made_dialog(
+    alloc: Global,
+    event: Id,
     held: &HeldRequest,
     status: StatusCode,
-    respond: Respond,
-) -> Result<CallOut, AllocError>
-    ensures { IfOk result (λ out. out ≡ answer_command held.now status respond) }
+) -> Result<HeldDialog, AllocError>
+    ensures { IfOk result (λ made. made ≡ spec.made_dialog event held.now status) }
 {
-    let response = response_to(alloc, &held.request, status, respond.reason, &held.tag)?;
-    let message = response.with_body(alloc, respond.body)?;
+    let tag = held.tag.clone()?;
+    Ok(HeldDialog {
+        dialog: Dialog::from_request(alloc, &held.request, tag, status)?,
+        address: held.reply_to,
+        made_by: held.id,
+        born: event,
+        heard: Inbound::new(),
+        owed: Series::new(alloc),
+    })
+}
+
+/// The dialog that an answer makes is that of its request.
+pub(crate) fn note_dialog(
+    alloc: Global,
+    held: &mut HeldRequest,
+    event: Id,
+    respond: &Respond,
+) -> Result<(), AllocError>
+    ensures { OnOk result (held.new ≡ spec.with_dialog event respond.now held.old) }
+{
+    if makes_dialog(held, respond.status) {
+        let name = dialog_name(alloc, &held.request, &held.tag)?;
+        held.dialog = Some(DialogLife { name, born: event });
+    }
+    Ok(())
+}
+
+/// The command by which an answer goes to the transaction of its request.
+pub(crate) fn answer_command(held: &HeldRequest, response: &Message) -> Result<CallOut, AllocError>
+    ensures { IfOk result (λ out. out ≡ call_out.Command held.now.id (Answer held.now.key response.now)) }
+{
     let key = held.key.clone()?;
+    let message = response.clone()?;
     Ok(CallOut::Command(held.id, Command::Answer { key, message }))
 }

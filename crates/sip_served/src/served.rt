@@ -1,68 +1,73 @@
 //! The server side of one Call-ID.
 
-ghost use Rattle.std.specs.Prelude.{◌≡◌, ◌≤◌, ◌^◌, [], IfOk, OnErr, OnOk, length, nat_lt};
+ghost use Rattle.std.specs.Prelude.{◌≡◌, ◌≤◌, ◌^◌, false, Ok, Err, IfErr, IfOk, IsTrue, if◌then◌else◌};
 
-use crate::held_request::HeldRequest;
+use crate::dialogs::Dialogs;
+use crate::holdings::Holdings;
 use crate::item::{CallOut, Item};
-use crate::requests::{next_removal, take_item, without_due};
 use sip_message::{Addr, Id, Token};
 use sip_model::ShardFault;
 use std::alloc::{AllocError, Global};
 use std::marker::Model;
 
-/// The server requests of one Call-ID (RFC 3261, sections 8.2 and 17.2).
+/// The server requests and the dialogs of one Call-ID (RFC 3261, sections 8.2, 12 and 13.3; RFC 3262, section 3).
 ///
-/// A contract sees what is held, or that nothing is known any more: after a call answered `NoMemory` it holds nothing, and every
-/// later call that can fail answers `Broken`.
+/// A contract sees what is held, and whether an earlier call answered `NoMemory`: then it holds nothing, and every later call that can
+/// fail answers `Broken`.
 pub struct Served {
     alloc: Global,
     local: Addr,
-    requests: Option<Vec<HeldRequest>>,
+    broken: bool,
+    holdings: Holdings,
 }
 
 impl Model for Served {
-    ghost use Rattle.std.specs.Prelude.{option_map};
     ghost use Rattle.sip_served.specs.ServerSide.{ServerSide};
 
     ghost Value = { ServerSide };
 
-    ghost view = { λ s. record { local = s.local; requests = option_map (λ v. v.items) s.requests } };
+    ghost view = { λ s. record { broken = s.broken; local = s.local; state = s.holdings } };
 }
 
 impl Served {
-    ghost use Rattle.sip_served.specs.Removal.{after_tick, next_removal};
-    ghost use Rattle.sip_served.specs.Requests.{after_item, given_for_item};
-    ghost use Rattle.sip_served.specs.ServerSide.{all_held};
+    ghost use Rattle.std.specs.Borrow.{sem};
+    ghost use Rattle.sip_served.specs.Lending.{ServedLends};
+    ghost use Rattle.sip_served.specs.ServerSide.{after, empty_at, lost};
+    ghost use Rattle.sip_served.specs.Step.{holds, item_taken};
+    ghost use Rattle.sip_served.specs.Tick.{next_due, tick_taken};
 
     /// The server side of a Call-ID under which nothing is held, at the address `local`. Takes no memory.
     pub fn new(alloc: Global, local: Addr) -> Served
-        ensures { result ≡ record { local = local; requests = Some [] } }
+        ensures { result ≡ record { broken = false; local = local; state = empty_at local } }
     {
         Served {
             alloc,
             local,
-            requests: Some(Vec::new(alloc)),
+            broken: false,
+            holdings: Holdings::new(alloc, local),
         }
     }
 
-    /// Whether any request is held.
+    /// Whether any request or dialog is held. Takes no memory.
     pub fn holds(&self) -> bool
-        ensures { result ≡ nat_lt 0 (length (all_held self.now)) }
+        ensures { result ≡ holds self.now.state }
     {
-        match &self.requests {
-            Some(requests) => !requests.is_empty(),
-            None => false,
-        }
+        self.holdings.holds()
     }
 
     /// The first moment, in ms, at which a tick does something, if there is one. Takes no memory.
     pub fn next_due(&self) -> Option<u64>
-        ensures { result ≡ next_removal (all_held self.now) }
+        ensures { result ≡ next_due self.now.state }
     {
-        match &self.requests {
-            Some(requests) => next_removal(requests.as_slice()),
-            None => None,
-        }
+        self.holdings.next_due()
+    }
+
+    /// The held dialogs, for writing. Takes no memory.
+    pub fn dialogs(&mut self) -> &mut Dialogs
+        ensures* writes_back { sem 𝓛 (ServedLends self.entry result) }
+        ensures value { result.now.entries ≡ self.old.state.dialogs }
+    {
+        self.holdings.dialogs()
     }
 
     /// Takes what a transaction hands up, or a command of the user, at the moment `now` in ms. The id is that of its event, and
@@ -79,36 +84,59 @@ impl Served {
         now: u64,
     ) -> Result<Vec<CallOut>, ShardFault>
         requires { now ≤ 2 ^ 62 }
-        ensures broken { self.old.requests ≡ None → result ≡ Err ShardFault.Broken }
-        ensures only_broken { result ≡ Err ShardFault.Broken → self.old.requests ≡ None }
-        ensures err { OnErr result (self.new ≡ record self.old { requests = None }) }
-        ensures after { OnOk result (self.new ≡ record self.old {
-          requests = Some (after_item (all_held self.old) tag item now);
-        }) }
-        ensures given { IfOk result (λ outs. outs.items ≡ given_for_item (all_held self.old) tag id item) }
+        ensures broken { IsTrue self.old.broken → result ≡ Err ShardFault.Broken }
+        ensures only_broken { result ≡ Err ShardFault.Broken → IsTrue self.old.broken }
+        ensures broken_stays { result ≡ Err ShardFault.Broken → self.new ≡ self.old }
+        ensures no_memory { result ≡ Err ShardFault.NoMemory → self.new ≡ lost self.old }
+        ensures ok { IfOk result (λ outs. (self.new, outs.items) ≡ after self.old (item_taken self.old.state tag id item now)) }
     {
-        let held = self.requests.take().ok_or(ShardFault::Broken)?;
-        let (held, outs) = take_item(self.alloc, held, tag, id, item, now)?;
-        self.requests = Some(held);
-        Ok(outs)
+        self.check()?;
+        let taken = self.holdings.item(tag, id, item, now);
+        self.keep(taken)
     }
 
-    /// Ends what is due at the moment `now`, in ms.
+    /// Does what is due at the moment `now`, in ms.
     ///
     /// # Errors
     ///
     /// `Broken` after an earlier call answered `NoMemory`.
     pub fn tick(&mut self, now: u64) -> Result<Vec<CallOut>, ShardFault>
         requires { now ≤ 2 ^ 62 }
-        ensures broken { self.old.requests ≡ None → result ≡ Err ShardFault.Broken }
-        ensures only_broken { result ≡ Err ShardFault.Broken → self.old.requests ≡ None }
-        ensures err { OnErr result (self.new ≡ record self.old { requests = None }) }
-        ensures after { OnOk result (self.new ≡ record self.old { requests = Some (after_tick (all_held self.old) now) }) }
-        ensures given { IfOk result (λ outs. outs.items ≡ []) }
+        ensures broken { IsTrue self.old.broken → result ≡ Err ShardFault.Broken }
+        ensures only_broken { result ≡ Err ShardFault.Broken → IsTrue self.old.broken }
+        ensures broken_stays { result ≡ Err ShardFault.Broken → self.new ≡ self.old }
+        ensures no_memory { result ≡ Err ShardFault.NoMemory → self.new ≡ lost self.old }
+        ensures ok { IfOk result (λ outs. (self.new, outs.items) ≡ after self.old (tick_taken self.old.state now)) }
     {
-        let held = self.requests.take().ok_or(ShardFault::Broken)?;
-        self.requests = Some(without_due(self.alloc, held, now)?);
-        Ok(Vec::new(self.alloc))
+        self.check()?;
+        let taken = self.holdings.tick(now);
+        self.keep(taken)
+    }
+
+    // Broken is refused.
+    fn check(&self) -> Result<(), ShardFault>
+        ensures { result ≡ (if self.now.broken then Err ShardFault.Broken else Ok tt) }
+    {
+        if self.broken {
+            Err(ShardFault::Broken)
+        } else {
+            Ok(())
+        }
+    }
+
+    // After want of memory nothing is held.
+    fn keep(&mut self, taken: Result<Vec<CallOut>, AllocError>) -> Result<Vec<CallOut>, ShardFault>
+        ensures ok { IfOk result (λ outs. (taken ≡ Ok outs) × (self.new ≡ self.old)) }
+        ensures err { IfErr result (λ fault. (fault ≡ ShardFault.NoMemory) × (self.new ≡ lost self.old)) }
+    {
+        match taken {
+            Ok(outs) => Ok(outs),
+            Err(_) => {
+                self.broken = true;
+                self.holdings = Holdings::new(self.alloc, self.local);
+                Err(ShardFault::NoMemory)
+            }
+        }
     }
 }
 
@@ -117,7 +145,8 @@ impl Drop for Served {
         let Served {
             alloc: _,
             local: _,
-            requests: _,
+            broken: _,
+            holdings: _,
         } = self;
     }
 }

@@ -7,6 +7,7 @@ mod plain_fold;
 mod reading;
 mod reliable;
 mod rounds;
+mod served;
 mod table;
 mod timers;
 mod transactions;

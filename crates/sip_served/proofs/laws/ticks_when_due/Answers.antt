@@ -1,0 +1,5 @@
+use Rattle.sip_served.proofs.Calm.{busy_from, quiet_before}
+use Rattle.sip_served.proofs.laws.ticks_when_due.Goals as goal
+
+pub returns : goal.returns
+returns c = record { before = quiet_before; from = busy_from }

@@ -1,0 +1,7 @@
+use Rattle.std.proofs.Common.{take, filter}
+use Rattle.sip_served.specs.Requests.{is_unknown_option}
+use Rattle.sip_served.proofs.Joined.{SoFar}
+use Rattle.sip_served.proofs.unsupported.unknown_options.Given as goal
+
+abbrev pub invariant-loop-option : goal.invariant-loop-option
+invariant-loop-option l = SoFar l.text (filter is_unknown_option (take l.option-index l.options))

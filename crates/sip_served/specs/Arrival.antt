@@ -1,0 +1,175 @@
+-- A request that comes up: which case it is, and what becomes of it (RFC 3261, sections 8.2 and 12.2.2; RFC 3262, section 3).
+use Rattle.std.specs.Prelude.{ℕ, Bool, false, not, ◌&&◌, ◌||◌, ◌==◌, List, [], ◌∷◌, ◌++◌, Option, None, Some, codes, find, filter, if◌then◌else◌}
+use Rattle.std.specs.List.{list_any, join_by}
+use Rattle.std.specs.Option.{is_some, option_map, option_map_or}
+use Rattle.std.specs.Str.{bytes_eq, str_eq_ignore_ascii_case}
+use Rattle.sip_message.specs.declared.header.Header.{Header}
+use Rattle.sip_message.specs.declared.id.Id.{Id}
+use Rattle.sip_message.specs.declared.message.Message.{Message}
+use Rattle.sip_message.specs.declared.rack.RAck.{RAck}
+use Rattle.sip_message.specs.Party.{tag_of}
+use Rattle.sip_message.specs.Response.{response_of}
+use Rattle.sip_reliable.specs.Ledger.{acknowledged, ledger_after, waits_for}
+use Rattle.sip_transactions.specs.declared.input.Command.TheVariants.{Answer}
+use Rattle.sip_served.specs.declared.arrival.Arrival.{Arrival}
+use Rattle.sip_served.specs.declared.arrival.ArrivalCase.{ArrivalCase}
+use Rattle.sip_served.specs.declared.arrival.ArrivalCase.TheVariants.{Merged, BadExtension, NoDialog, OutOfOrder, Acknowledges, AcknowledgesNothing, ForUser}
+use Rattle.sip_served.specs.declared.held_dialog.DialogLife.{DialogLife}
+use Rattle.sip_served.specs.declared.held_dialog.DialogName.{DialogName}
+use Rattle.sip_served.specs.declared.held_dialog.HeldDialog.{HeldDialog}
+use Rattle.sip_served.specs.declared.held_request.HeldRequest.{HeldRequest}
+use Rattle.sip_served.specs.declared.item.CallOut.{CallOut}
+use Rattle.sip_served.specs.declared.item.CallOut.TheVariants.{Notice, Command}
+use Rattle.sip_served.specs.declared.notice.Notice.TheVariants.{Prack}
+use Rattle.sip_served.specs.Dialogs.{dialog_at, dialog_changed, ended_at, is_named, takes, visited}
+use Rattle.sip_served.specs.Notices.{request_notice}
+use Rattle.sip_served.specs.Requests.{dialog_name, is_bye, is_cancel, is_inside, is_invite, is_prack, is_unknown_option, supports_100rel}
+use Rattle.sip_served.specs.State.{Dialogs, State, Taken, changed_at, followed, is_id, quiet}
+
+-- ---- which case it is
+
+-- the same request came up on another way (RFC 3261, section 8.2.2.2)
+abbrev pub is_merged : Message → HeldRequest → Bool
+is_merged request held =
+    str_eq_ignore_ascii_case (tag_of held.request.from) (tag_of request.from)
+    && (held.request.cseq.number == request.cseq.number)
+    && bytes_eq held.request.cseq.method request.cseq.method
+
+-- the request belongs to this dialog
+abbrev pub is_in_dialog : DialogName → Id → HeldRequest → Bool
+is_in_dialog name born held = option_map_or (λ life. is_named life.name name && is_id life.born born) held.dialog false
+
+-- the RAck of a PRACK names a reliable provisional response to this INVITE that waits for one
+abbrev pub is_named_by : RAck → HeldRequest → Bool
+is_named_by rack held =
+    is_invite held.request && bytes_eq rack.method held.request.cseq.method
+    && (held.request.cseq.number == rack.cseq)
+    && waits_for rack.rseq held.ledger
+
+-- of several such INVITEs of the dialog it is the first
+abbrev pub named_invite : List HeldRequest → DialogName → Id → RAck → Option Id
+named_invite requests name born rack =
+    option_map (λ held. held.id) (find (λ held. is_in_dialog name born held && is_named_by rack held) requests)
+
+abbrev pub prack_case : List HeldRequest → DialogName → Id → Option RAck → ArrivalCase
+prack_case requests name born None = AcknowledgesNothing
+prack_case requests name born (Some rack) = option_map_or (λ id. Acknowledges id rack.rseq) (named_invite requests name born rack) AcknowledgesNothing
+
+-- a request in a dialog that is held, or isn't
+abbrev pub case_inside : List HeldRequest → DialogName → Message → Option HeldDialog → ArrivalCase
+case_inside requests name request None = NoDialog
+case_inside requests name request (Some held) =
+    if not (is_cancel request) && not (takes held request.cseq.number) then OutOfOrder
+    else (if is_prack request then prack_case requests name held.born request.rack
+    else ForUser)
+
+-- a request outside of any dialog
+abbrev pub case_outside : Message → ArrivalCase
+case_outside request = if is_bye request || is_prack request then NoDialog else ForUser
+
+-- the first case that fits
+abbrev pub case_of : List HeldRequest → Dialogs → DialogName → Message → ArrivalCase
+case_of requests dialogs name request =
+    if not (is_inside request) && list_any (is_merged request) requests then Merged
+    else (if not (is_cancel request) && list_any is_unknown_option request.require then BadExtension
+    else (if is_inside request then case_inside requests name request (dialog_at name dialogs)
+    else case_outside request))
+
+-- ---- what the agent answers by itself
+
+-- the command by which a response goes to the transaction of the request
+abbrev pub command_for : Arrival → Message → CallOut
+command_for arrival response = Command arrival.id (Answer arrival.key response)
+
+abbrev pub answered_with : Arrival → ℕ → List ℕ → List CallOut
+answered_with arrival status reason = command_for arrival (response_of arrival.request status reason arrival.tag) ∷ []
+
+-- `Unsupported: foo, bar`
+abbrev pub unsupported : List (List ℕ) → Header
+unsupported options = record { name = codes "Unsupported"; value = join_by (λ option. option) (codes ", ") options }
+
+abbrev pub with_header : Header → Message → Message
+with_header header message = record message { others = message.others ++ header ∷ [] }
+
+-- the options that the agent doesn't know are named (RFC 3261, section 8.2.2.3)
+abbrev pub refused_extension : Arrival → List CallOut
+refused_extension arrival =
+    command_for arrival
+    (with_header (unsupported (filter is_unknown_option arrival.request.require)) (response_of arrival.request 420 (codes "Bad Extension") arrival.tag))
+    ∷ []
+
+abbrev pub no_such_dialog : Arrival → List CallOut
+no_such_dialog arrival = answered_with arrival 481 (codes "Call/Transaction Does Not Exist")
+
+-- ---- a PRACK that names a response which waits for it
+
+abbrev pub pracked : ℕ → HeldRequest → HeldRequest
+pracked rseq held = record held { ledger = acknowledged rseq held.ledger; provisional = None }
+
+abbrev pub prack_taken : State → Arrival → Id → ℕ → Taken
+prack_taken state arrival invite rseq = (
+  record state { requests = changed_at invite (pracked rseq) state.requests },
+  command_for arrival (response_of arrival.request 200 (codes "OK") arrival.tag)
+      ∷ Notice (Prack arrival.call_id invite rseq arrival.request.body) ∷ [],
+)
+
+-- ---- a request for the user
+
+-- the dialog of this name, as it is now
+abbrev pub life_at : DialogName → Dialogs → Option DialogLife
+life_at name dialogs = option_map (λ held. record { name = name; born = held.born }) (dialog_at name dialogs)
+
+abbrev pub own_dialog : Message → DialogName → Dialogs → Option DialogLife
+own_dialog request name dialogs = if is_inside request then life_at name dialogs else None
+
+-- it is held; the first RSeq of its responses will be 1
+abbrev pub held_for : Arrival → Option DialogLife → HeldRequest
+held_for arrival dialog = record {
+  id = arrival.id;
+  key = arrival.key;
+  request = arrival.request;
+  reply_to = arrival.reply_to;
+  tag = arrival.tag;
+  dialog = dialog;
+  ledger = ledger_after 1 (supports_100rel arrival.request) [];
+  provisional = None;
+  success = None;
+  removal = None;
+}
+
+abbrev pub request_held : State → DialogName → Arrival → Taken
+request_held state name arrival = (
+  record state { requests = state.requests ++ held_for arrival (own_dialog arrival.request name state.dialogs) ∷ [] },
+  Notice (request_notice arrival.id arrival.call_id arrival.request arrival.tag) ∷ [],
+)
+
+-- a BYE ends its dialog (RFC 3261, section 15.1.2)
+abbrev pub bye_taken : Arrival → DialogName → State → Taken
+bye_taken arrival name state =
+    if is_inside arrival.request && is_bye arrival.request
+    then (record state { dialogs = (ended_at name state.dialogs).0 }, (ended_at name state.dialogs).1)
+    else quiet state
+
+abbrev pub for_user : State → DialogName → Arrival → Taken
+for_user state name arrival = followed (request_held state name arrival) (bye_taken arrival name)
+
+-- ---- all of it
+
+-- a request in a dialog is noted there
+abbrev pub noted : State → DialogName → Message → State
+noted state name request =
+    if is_inside request then record state { dialogs = dialog_changed name (visited request) state.dialogs } else state
+
+abbrev pub by_case : ArrivalCase → State → DialogName → Arrival → Taken
+by_case Merged state name arrival = (state, answered_with arrival 482 (codes "Loop Detected"))
+by_case BadExtension state name arrival = (state, refused_extension arrival)
+by_case NoDialog state name arrival = (state, no_such_dialog arrival)
+by_case OutOfOrder state name arrival = (state, answered_with arrival 500 (codes "Server Internal Error"))
+by_case (Acknowledges invite rseq) state name arrival = prack_taken (noted state name arrival.request) arrival invite rseq
+by_case AcknowledgesNothing state name arrival = (noted state name arrival.request, no_such_dialog arrival)
+by_case ForUser state name arrival = for_user (noted state name arrival.request) name arrival
+
+abbrev pub request_taken : State → Arrival → Taken
+request_taken state arrival =
+    let name = dialog_name arrival.request arrival.tag in
+    by_case (case_of state.requests state.dialogs name arrival.request) state name arrival

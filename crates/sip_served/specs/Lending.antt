@@ -1,0 +1,32 @@
+-- What the server side of a call ends as, once the dialogs that it lent for writing come back.
+use denote.RattleType.{RattleType}
+use Rattle.std.specs.Borrow.{Fml, Lends, MutBor}
+use Rattle.std.specs.contracts.alloc.Global as global
+use Rattle.std.specs.contracts.hash.BuildHasherDefault as default_builder
+use Rattle.std.specs.contracts.hash.FoldHasher as fold_hasher
+use Rattle.std.specs.contracts.impls.GlobalAllocator.TheImpl as allocator
+use Rattle.std.specs.contracts.prelude.BuildHasherDefaultBuildHasher.TheImpl as builder
+use Rattle.std.specs.contracts.prelude.FoldHasherHasher.TheImpl as hasher
+use Rattle.std.below.core.specs.contracts.clone.Clone+copy.TheImpl as copied
+use Rattle.indexmap.specs.contracts.map.IndexMap as index_map
+use Rattle.sip_served.specs.contracts.held_dialog.DialogName as dialog_name
+use Rattle.sip_served.specs.contracts.held_dialog.DialogNameHash.TheImpl as name_hash
+use Rattle.sip_served.specs.contracts.held_dialog.DialogNamePartialEq.TheImpl as name_eq
+use Rattle.sip_served.specs.contracts.held_dialog.HeldDialog as held_dialog
+use Rattle.sip_served.specs.contracts.holdings.Holdings as holdings
+use Rattle.sip_served.specs.contracts.served.Served as served
+use Rattle.sip_served.specs.ServerSide.{ServerSide}
+use Rattle.sip_served.specs.State.{State}
+
+-- the map of the held dialogs, as the logic holds it
+abbrev pub dialogs_row : RattleType
+dialogs_row =
+    index_map.the_row dialog_name.the_row held_dialog.the_row (default_builder.the_row fold_hasher.the_row) global.the_row fold_hasher.the_row name_eq.ghosts name_hash.ghosts
+    (builder.ghosts fold_hasher.the_row hasher.ghosts builder.no_dict (copied.ghosts fold_hasher.the_row) builder.no_dict) hasher.ghosts allocator.ghosts
+
+-- it holds the dialogs that were left behind the reference, and all else is as it was
+abbrev pub HoldingsLend : MutBor State → MutBor dialogs_row.Denot → Fml
+HoldingsLend s r = Lends holdings.the_row dialogs_row s r (λ dialogs. record s.now { dialogs = dialogs.entries })
+
+abbrev pub ServedLends : MutBor ServerSide → MutBor dialogs_row.Denot → Fml
+ServedLends s r = Lends served.the_row dialogs_row s r (λ dialogs. record s.now { state = record s.now.state { dialogs = dialogs.entries } })

@@ -1,0 +1,31 @@
+-- The server side of a call after all that happened to it.
+use Rattle.std.specs.Prelude.{ℕ, ◌≤◌, List, length, fold}
+use Rattle.std.specs.List.{AllByRecursion}
+use Rattle.sip_message.specs.declared.addr.Addr.{Addr}
+use Rattle.sip_message.specs.declared.id.Id.{Id}
+use Rattle.sip_served.specs.declared.held_request.HeldRequest.{HeldRequest}
+use Rattle.sip_served.specs.declared.item.Item.{Item}
+use Rattle.sip_served.specs.ServerSide.{empty_at}
+use Rattle.sip_served.specs.State.{State, Taken}
+use Rattle.sip_served.specs.Step.{item_taken}
+use Rattle.sip_served.specs.Tick.{tick_taken}
+
+-- an item with the tag that was made for it, the id of its event and its moment, or a tick
+pub data Event : Type 0 where
+  Takes : List ℕ → Id → Item → ℕ → Event
+  Ticks : ℕ → Event
+
+abbrev pub event_taken : State → Event → Taken
+event_taken state (Takes tag id item now) = item_taken state tag id item now
+event_taken state (Ticks now) = tick_taken state now
+
+-- what is held after all of them, where nothing was held before
+abbrev pub state_after : Addr → List Event → State
+state_after local events = fold (λ state event. (event_taken state event).0) (empty_at local) events
+
+-- of each held request at most one reliable provisional response waits for its PRACK
+abbrev pub OneWaits : HeldRequest → Type 0
+OneWaits held = length held.ledger.waiting ≤ 1
+
+abbrev pub OneWaitsEach : State → Type 0
+OneWaitsEach state = AllByRecursion OneWaits state.requests

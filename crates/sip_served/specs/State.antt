@@ -1,0 +1,45 @@
+-- The server side of one Call-ID: what is held, and what is told when it changes.
+use Rattle.std.specs.Prelude.{ℕ, Bool, ◌&&◌, ◌==◌, List, [], ◌∷◌, ◌++◌, if◌then◌else◌}
+use Rattle.sip_message.specs.declared.addr.Addr.{Addr}
+use Rattle.sip_message.specs.declared.id.Id.{Id}
+use Rattle.sip_served.specs.declared.held_dialog.DialogName.{DialogName}
+use Rattle.sip_served.specs.declared.held_dialog.HeldDialog.{HeldDialog}
+use Rattle.sip_served.specs.declared.held_request.HeldRequest.{HeldRequest}
+use Rattle.sip_served.specs.declared.item.CallOut.{CallOut}
+
+-- the held dialogs by name, in the order in which they were made
+abbrev pub Dialogs : Type 0
+Dialogs = List (DialogName × HeldDialog)
+
+-- the agent's own address, the held requests in the order in which they came up, and the held dialogs
+pub record State : Type 0 where
+  pub local : Addr
+  pub requests : List HeldRequest
+  pub dialogs : Dialogs
+
+-- what is held after something happened, and what is told of it
+abbrev pub Taken : Type 0
+Taken = State × List CallOut
+
+-- nothing happens
+abbrev pub quiet : State → Taken
+quiet state = (state, [])
+
+-- something happens after something else
+abbrev pub followed : Taken → (State → Taken) → Taken
+followed done more = ((more done.0).0, done.1 ++ (more done.0).1)
+
+abbrev pub is_id : Id → Id → Bool
+is_id one other = (one.round == other.round) && (one.place == other.place)
+
+abbrev pub has_id : Id → HeldRequest → Bool
+has_id id held = is_id held.id id
+
+-- the first that passes the test is changed so
+abbrev pub changed_first : {X : Type 0} → (X → Bool) → (X → X) → List X → List X
+changed_first test change [] = []
+changed_first test change (x ∷ xs) = if test x then change x ∷ xs else x ∷ changed_first test change xs
+
+-- the request of this id is changed so
+abbrev pub changed_at : Id → (HeldRequest → HeldRequest) → List HeldRequest → List HeldRequest
+changed_at id change requests = changed_first (has_id id) change requests

@@ -1,0 +1,90 @@
+//! The ACK of a 2xx, and PRACKs (RFC 3261, section 13.3.1.4; RFC 3262, section 3).
+
+ghost use Rattle.std.specs.Prelude.{◌≡◌, false};
+ghost use Rattle.std.specs.Option.{is_some, option_map_or};
+ghost use Rattle.sip_reliable.specs.Ledger.{acknowledged};
+ghost use Rattle.sip_served.specs.Acknowledgment as spec;
+ghost use Rattle.sip_served.specs.Arrival.{pracked};
+ghost use Rattle.sip_served.specs.State.{changed_at};
+
+use crate::held_request::HeldRequest;
+use crate::request::{is_invite, local_tag};
+use crate::requests::place_of;
+use sip_message::{Id, Message};
+use sip_reliable::Outbound;
+use sip_text::token_eq;
+
+/// The id of the first INVITE whose 2xx this ACK is for.
+pub(crate) fn acknowledged_invite(ack: &Message, requests: &[HeldRequest]) -> Option<Id>
+    ensures { result ≡ spec.acknowledged_invite ack.now requests.now }
+{
+    requests
+        .iter()
+        .find(|held| awaits_ack(held) && is_ack_of(ack, held))
+        .map(|held| held.id)
+}
+
+fn awaits_ack(held: &HeldRequest) -> bool
+    ensures { result ≡ spec.awaits_ack held.now }
+{
+    is_invite(&held.request) && is_repeated(held)
+}
+
+fn is_repeated(held: &HeldRequest) -> bool
+    ensures { result ≡ option_map_or (λ success. is_some success.retransmission) held.now.success false }
+{
+    match &held.success {
+        Some(success) => success.retransmission.is_some(),
+        None => false,
+    }
+}
+
+fn is_ack_of(ack: &Message, held: &HeldRequest) -> bool
+    ensures { result ≡ spec.is_ack_of ack.now held.now }
+{
+    token_eq(ack.to.tag(), local_tag(&held.request, &held.tag))
+        && token_eq(ack.from.tag(), held.request.from.tag())
+        && ack.cseq.number == held.request.cseq.number
+}
+
+/// The ACK of the 2xx to the INVITE of this id came.
+#[tactic(auto, using(std::proofs::lemmas::Option::slice_get_read))]
+pub(crate) fn acknowledge(requests: &mut Vec<HeldRequest>, invite: Id)
+    ensures { requests.new.items ≡ changed_at invite spec.acked requests.old.items }
+{
+    if let Some(index) = place_of(requests.as_slice(), invite) {
+        stop_success(&mut requests[index]);
+    }
+}
+
+/// The 2xx isn't sent again.
+pub(crate) fn stop_success(held: &mut HeldRequest)
+    ensures { held.new ≡ spec.acked held.old }
+{
+    if let Some(success) = &mut held.success {
+        success.retransmission = None;
+    }
+}
+
+/// The PRACK of a response to the INVITE of this id came.
+#[tactic(auto, using(std::proofs::lemmas::Option::slice_get_read))]
+pub(crate) fn prack(requests: &mut Vec<HeldRequest>, invite: Id, rseq: u32)
+    ensures { requests.new.items ≡ changed_at invite (pracked rseq) requests.old.items }
+{
+    if let Some(index) = place_of(requests.as_slice(), invite) {
+        prack_one(&mut requests[index], rseq);
+    }
+}
+
+fn prack_one(held: &mut HeldRequest, rseq: u32)
+    ensures { held.new ≡ pracked rseq held.old }
+{
+    acknowledge_number(&mut held.ledger, rseq);
+    held.provisional = None;
+}
+
+fn acknowledge_number(ledger: &mut Outbound, rseq: u32)
+    ensures { ledger.new ≡ acknowledged rseq ledger.old }
+{
+    let _ = ledger.acknowledge(rseq);
+}

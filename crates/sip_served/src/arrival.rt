@@ -1,0 +1,216 @@
+//! A request that comes up: which case it is.
+
+ghost use Rattle.std.specs.Prelude.{◌≡◌, find, option_map};
+ghost use Rattle.std.specs.List.{list_any};
+ghost use Rattle.std.specs.Option.{option_copied};
+ghost use Rattle.sip_served.specs.Arrival as arrival;
+ghost use Rattle.sip_served.specs.Requests.{is_unknown_option};
+
+use crate::dialogs::{Dialogs, takes};
+use crate::held_dialog::{DialogLife, DialogName, HeldDialog};
+use crate::held_request::HeldRequest;
+use crate::request::{
+    is_bye, is_cancel, is_inside, is_invite, is_prack, is_unknown_option, supports_100rel,
+};
+use sip_message::{Addr, CallId, Id, Key, Message, RAck, Token};
+use sip_reliable::Outbound;
+use sip_text::token_eq;
+
+/// A request that came up, with all that comes up with it.
+pub(crate) struct Arrival {
+    pub(crate) key: Key,
+    pub(crate) id: Id,
+    pub(crate) call_id: CallId,
+    pub(crate) request: Message,
+    /// Where its answers go.
+    pub(crate) reply_to: Addr,
+    /// The To tag that its responses get where it has none.
+    pub(crate) tag: Token,
+}
+
+/// The RSeq of the first reliable provisional response to a request.
+const FIRST_RSEQ: u32 = 1;
+
+impl Arrival {
+    /// What is held of it, in this dialog or in none.
+    pub(crate) fn into_held(self, dialog: Option<DialogLife>) -> HeldRequest
+        ensures { result ≡ arrival.held_for self dialog }
+    {
+        let Arrival {
+            key,
+            id,
+            call_id: _,
+            request,
+            reply_to,
+            tag,
+        } = self;
+        let ledger = Outbound::new(FIRST_RSEQ, supports_100rel(&request));
+        HeldRequest {
+            id,
+            key,
+            request,
+            reply_to,
+            tag,
+            dialog,
+            ledger,
+            provisional: None,
+            success: None,
+            removal: None,
+        }
+    }
+}
+
+impl Drop for Arrival {
+    fn drop(self) {
+        let Arrival {
+            key: _,
+            id: _,
+            call_id: _,
+            request: _,
+            reply_to: _,
+            tag: _,
+        } = self;
+    }
+}
+
+/// What a request that comes up is (RFC 3261, sections 8.2 and 12.2.2).
+#[derive(Clone, Copy)]
+pub(crate) enum ArrivalCase {
+    /// The same request is held already: it came on another way.
+    Merged,
+    /// It requires an option that the agent doesn't know.
+    BadExtension,
+    /// It is for a dialog that isn't held.
+    NoDialog,
+    /// Its number isn't above those that came before it in its dialog.
+    OutOfOrder,
+    /// A PRACK of this reliable provisional response to the INVITE of this id.
+    Acknowledges(Id, u32),
+    /// A PRACK of no response that waits for one.
+    AcknowledgesNothing,
+    /// The user answers it.
+    ForUser,
+}
+
+/// The first case that fits.
+pub(crate) fn case_of(
+    requests: &[HeldRequest],
+    dialogs: &Dialogs,
+    name: &DialogName,
+    request: &Message,
+) -> ArrivalCase
+    ensures { result ≡ arrival.case_of requests.now dialogs.now.entries name.now request.now }
+{
+    if !is_inside(request) && merges(requests, request) {
+        return ArrivalCase::Merged;
+    }
+    if !is_cancel(request) && requires_unknown(request) {
+        return ArrivalCase::BadExtension;
+    }
+    if is_inside(request) {
+        case_inside(requests, name, request, dialogs.get(name))
+    } else {
+        case_outside(request)
+    }
+}
+
+fn case_outside(request: &Message) -> ArrivalCase
+    ensures { result ≡ arrival.case_outside request.now }
+{
+    if is_bye(request) || is_prack(request) {
+        ArrivalCase::NoDialog
+    } else {
+        ArrivalCase::ForUser
+    }
+}
+
+fn case_inside(
+    requests: &[HeldRequest],
+    name: &DialogName,
+    request: &Message,
+    dialog: Option<&HeldDialog>,
+) -> ArrivalCase
+    ensures { result ≡ arrival.case_inside requests.now name.now request.now (option_copied dialog.entry) }
+{
+    let Some(held) = dialog else {
+        return ArrivalCase::NoDialog;
+    };
+    if !is_cancel(request) && !takes(held, request.cseq.number) {
+        return ArrivalCase::OutOfOrder;
+    }
+    if is_prack(request) {
+        return prack_case(requests, name, held.born, &request.rack);
+    }
+    ArrivalCase::ForUser
+}
+
+fn prack_case(
+    requests: &[HeldRequest],
+    name: &DialogName,
+    born: Id,
+    rack: &Option<RAck>,
+) -> ArrivalCase
+    ensures { result ≡ arrival.prack_case requests.now name.now born rack.now }
+{
+    let Some(rack) = rack else {
+        return ArrivalCase::AcknowledgesNothing;
+    };
+    match named_invite(requests, name, born, rack) {
+        Some(invite) => ArrivalCase::Acknowledges(invite, rack.rseq),
+        None => ArrivalCase::AcknowledgesNothing,
+    }
+}
+
+// The first INVITE of the dialog of which a response waits that the RAck names.
+fn named_invite(requests: &[HeldRequest], name: &DialogName, born: Id, rack: &RAck) -> Option<Id>
+    ensures { result ≡ arrival.named_invite requests.now name.now born rack.now }
+{
+    requests
+        .iter()
+        .find(|held| is_in_dialog(held, name, born) && is_named_by(held, rack))
+        .map(|held| held.id)
+}
+
+fn is_in_dialog(held: &HeldRequest, name: &DialogName, born: Id) -> bool
+    ensures { result ≡ arrival.is_in_dialog name.now born held.now }
+{
+    match &held.dialog {
+        Some(life) => life.name == *name && life.born == born,
+        None => false,
+    }
+}
+
+fn is_named_by(held: &HeldRequest, rack: &RAck) -> bool
+    ensures { result ≡ arrival.is_named_by rack.now held.now }
+{
+    is_invite(&held.request)
+        && rack.method == held.request.cseq.method
+        && held.request.cseq.number == rack.cseq
+        && held.ledger.waits_for(rack.rseq)
+}
+
+// Whether the same request is held.
+fn merges(requests: &[HeldRequest], request: &Message) -> bool
+    ensures { result ≡ list_any (arrival.is_merged request.now) requests.now }
+{
+    requests.iter().any(|held| is_merged(held, request))
+}
+
+fn is_merged(held: &HeldRequest, request: &Message) -> bool
+    ensures { result ≡ arrival.is_merged request.now held.now }
+{
+    token_eq(held.request.from.tag(), request.from.tag())
+        && held.request.cseq.number == request.cseq.number
+        && held.request.cseq.method == request.cseq.method
+}
+
+// Whether it requires an option that the agent doesn't know.
+fn requires_unknown(request: &Message) -> bool
+    ensures { result ≡ list_any is_unknown_option request.now.require }
+{
+    request
+        .require
+        .as_slice()
+        .iter()
+        .any(|option| is_unknown_option(option))
+}

@@ -1,0 +1,334 @@
+//! What the server side of one Call-ID holds, and what each item makes of it.
+
+ghost use Rattle.std.specs.Prelude.{◌≡◌, ◌<◌, ◌≤◌, ◌^◌, ◌∷◌, IfOk, OnOk, Some, filter, length, slice_set};
+ghost use Rattle.sip_served.specs.Acknowledgment.{ack_taken};
+ghost use Rattle.sip_served.specs.Arrival as arrived;
+ghost use Rattle.sip_served.specs.Respond as answers;
+ghost use Rattle.sip_served.specs.Step as step;
+ghost use Rattle.std.specs.List.{slice_get};
+ghost use Rattle.sip_served.specs.Tick.{tick_taken, next_due, is_kept_at};
+ghost use Rattle.sip_served.specs.declared.held_request.HeldRequest.{HeldRequest};
+
+use crate::acknowledgment::{acknowledge, acknowledged_invite, prack};
+use crate::arrival::{Arrival, ArrivalCase, case_of};
+use crate::command::{Respond, UserCommand};
+use crate::dialogs::{Dialogs, end, own_dialog, visit};
+use crate::held_dialog::DialogName;
+use crate::held_request::HeldRequest;
+use crate::item::{CallOut, Item};
+use crate::notice::Notice;
+use crate::outputs::{
+    bad_extension, loop_detected, no_such_dialog, notice_of_request, ok, one, out_of_order, tell,
+};
+use crate::refusal::Refusal;
+use crate::request::{dialog_name, is_bye, is_inside};
+use crate::requests::place_of;
+use crate::respond::{
+    answer_command, answer_to, dialogs_answered, note_answer, note_dialog, refusal_for,
+};
+use crate::tick::{is_kept, next_due, tick_requests};
+use indexmap::IndexMap;
+use sip_message::{Addr, CallId, Id, Message, Token};
+use sip_transactions::{Kind, Up};
+use std::alloc::{AllocError, Global};
+use std::marker::Model;
+
+/// The held requests in the order in which they came up, and the held dialogs in the order in which they were made.
+///
+/// Where a method answers an error, it is not known what is held.
+pub(crate) struct Holdings {
+    alloc: Global,
+    local: Addr,
+    requests: Vec<HeldRequest>,
+    dialogs: Dialogs,
+}
+
+impl Model for Holdings {
+    ghost use Rattle.sip_served.specs.State.{State};
+
+    ghost Value = { State };
+
+    ghost view = { λ h. record { local = h.local; requests = h.requests.items; dialogs = h.dialogs.entries } };
+}
+
+impl Holdings {
+    ghost use Rattle.std.specs.Borrow.{sem};
+    ghost use Rattle.sip_served.specs.Lending.{HoldingsLend};
+    ghost use Rattle.sip_served.specs.ServerSide.{empty_at};
+    ghost use Rattle.sip_served.specs.State.{State};
+
+    pub(crate) fn new(alloc: Global, local: Addr) -> Holdings
+        ensures { result ≡ empty_at local }
+    {
+        Holdings {
+            alloc,
+            local,
+            requests: Vec::new(alloc),
+            dialogs: IndexMap::new(alloc),
+        }
+    }
+
+    pub(crate) fn holds(&self) -> bool
+        ensures { result ≡ step.holds self.now }
+    {
+        !self.requests.is_empty() || !self.dialogs.is_empty()
+    }
+
+    pub(crate) fn next_due(&self) -> Option<u64>
+        ensures { result ≡ next_due self.now }
+    {
+        next_due(self.requests.as_slice())
+    }
+
+    pub(crate) fn dialogs(&mut self) -> &mut Dialogs
+        ensures* writes_back { sem 𝓛 (HoldingsLend self.entry result) }
+        ensures value { result.now.entries ≡ self.old.dialogs }
+    {
+        &mut self.dialogs
+    }
+
+    /// An item of the event of this id, at the moment `now` in ms. `tag` is the To tag that the answers to a request without one get.
+    pub(crate) fn item(
+        &mut self,
+        tag: Token,
+        id: Id,
+        item: Item,
+        now: u64,
+    ) -> Result<Vec<CallOut>, AllocError>
+        requires { now ≤ 2 ^ 62 }
+        ensures { IfOk result (λ outs. (self.new, outs.items) ≡ step.item_taken self.old tag id item now) }
+    {
+        match item {
+            Item::Up(up) => self.come_up(tag, up),
+            Item::User(UserCommand::Respond(respond)) => self.respond(id, respond, now),
+            Item::User(_) => Ok(Vec::new(self.alloc)),
+        }
+    }
+
+    // What a transaction hands up.
+    fn come_up(&mut self, tag: Token, up: Up) -> Result<Vec<CallOut>, AllocError>
+        ensures { IfOk result (λ outs. (self.new, outs.items) ≡ step.kind_taken self.old tag up up.kind) }
+    {
+        let Up {
+            key,
+            id,
+            call_id,
+            kind,
+        } = up;
+        match kind {
+            Kind::Request(request, reply_to) => self.request(Arrival {
+                key,
+                id,
+                call_id,
+                request,
+                reply_to,
+                tag,
+            }),
+            Kind::Ack(ack) => self.ack(call_id, ack),
+            Kind::Response(_) => Ok(Vec::new(self.alloc)),
+            Kind::Timeout => tell(self.alloc, Notice::Timeout { call_id, id }),
+            Kind::Failed => tell(self.alloc, Notice::Failed { call_id, id }),
+        }
+    }
+
+    // A request.
+    fn request(&mut self, arrival: Arrival) -> Result<Vec<CallOut>, AllocError>
+        ensures { IfOk result (λ outs. (self.new, outs.items) ≡ arrived.request_taken self.old arrival) }
+    {
+        let name = dialog_name(self.alloc, &arrival.request, &arrival.tag)?;
+        let case = case_of(
+            self.requests.as_slice(),
+            &self.dialogs,
+            &name,
+            &arrival.request,
+        );
+        self.by_case(case, name, arrival)
+    }
+
+    fn by_case(
+        &mut self,
+        case: ArrivalCase,
+        name: DialogName,
+        arrival: Arrival,
+    ) -> Result<Vec<CallOut>, AllocError>
+        ensures { IfOk result (λ outs. (self.new, outs.items) ≡ arrived.by_case case self.old name arrival) }
+    {
+        match case {
+            ArrivalCase::Merged => loop_detected(self.alloc, &arrival),
+            ArrivalCase::BadExtension => bad_extension(self.alloc, &arrival),
+            ArrivalCase::NoDialog => no_such_dialog(self.alloc, &arrival),
+            ArrivalCase::OutOfOrder => out_of_order(self.alloc, &arrival),
+            ArrivalCase::Acknowledges(invite, rseq) => {
+                self.note(&name, &arrival.request)?;
+                self.prack(arrival, invite, rseq)
+            }
+            ArrivalCase::AcknowledgesNothing => {
+                self.note(&name, &arrival.request)?;
+                no_such_dialog(self.alloc, &arrival)
+            }
+            ArrivalCase::ForUser => {
+                self.note(&name, &arrival.request)?;
+                self.for_user(name, arrival)
+            }
+        }
+    }
+
+    // A request in a dialog is noted there.
+    fn note(&mut self, name: &DialogName, request: &Message) -> Result<(), AllocError>
+        ensures { OnOk result (self.new ≡ arrived.noted self.old name.now request.now) }
+    {
+        if is_inside(request) {
+            visit(&mut self.dialogs, name, request)?;
+        }
+        Ok(())
+    }
+
+    // A PRACK that names a response which waits for it.
+    fn prack(&mut self, arrival: Arrival, invite: Id, rseq: u32) -> Result<Vec<CallOut>, AllocError>
+        ensures { IfOk result (λ outs. (self.new, outs.items) ≡ arrived.prack_taken self.old arrival invite rseq) }
+    {
+        let mut outs = one(self.alloc, ok(self.alloc, &arrival)?)?;
+        outs.push(CallOut::Notice(Notice::Prack {
+            call_id: arrival.call_id.clone()?,
+            id: invite,
+            rseq,
+            body: arrival.request.body.clone()?,
+        }))?;
+        prack(&mut self.requests, invite, rseq);
+        Ok(outs)
+    }
+
+    // A request for the user. A BYE ends its dialog.
+    fn for_user(&mut self, name: DialogName, arrival: Arrival) -> Result<Vec<CallOut>, AllocError>
+        ensures { IfOk result (λ outs. (self.new, outs.items) ≡ arrived.for_user self.old name arrival) }
+    {
+        let ends = is_inside(&arrival.request) && is_bye(&arrival.request);
+        let mut outs = self.hold(&name, arrival)?;
+        if ends {
+            outs.append(&mut end(self.alloc, &mut self.dialogs, &name)?)?;
+        }
+        Ok(outs)
+    }
+
+    // It is held and told.
+    fn hold(&mut self, name: &DialogName, arrival: Arrival) -> Result<Vec<CallOut>, AllocError>
+        ensures { IfOk result (λ outs. (self.new, outs.items) ≡ arrived.request_held self.old name.now arrival) }
+    {
+        let notice = notice_of_request(self.alloc, &arrival)?;
+        let dialog = own_dialog(&self.dialogs, &arrival.request, name)?;
+        self.requests.push(arrival.into_held(dialog))?;
+        tell(self.alloc, notice)
+    }
+
+    // An ACK.
+    fn ack(&mut self, call_id: CallId, ack: Message) -> Result<Vec<CallOut>, AllocError>
+        ensures { IfOk result (λ outs. (self.new, outs.items) ≡ ack_taken self.old call_id ack) }
+    {
+        let Some(invite) = acknowledged_invite(&ack, self.requests.as_slice()) else {
+            return Ok(Vec::new(self.alloc));
+        };
+        let body = ack.body.clone()?;
+        acknowledge(&mut self.requests, invite);
+        let notice = Notice::Ack {
+            call_id,
+            id: invite,
+            body,
+        };
+        tell(self.alloc, notice)
+    }
+
+    // The user answers a request.
+    #[tactic(auto, using(std::proofs::lemmas::Option::slice_get_read))]
+    fn respond(&mut self, event: Id, respond: Respond, now: u64) -> Result<Vec<CallOut>, AllocError>
+        requires { now ≤ 2 ^ 62 }
+        ensures { IfOk result (λ outs. (self.new, outs.items) ≡ answers.respond_taken self.old event respond now) }
+    {
+        let Some(index) = place_of(self.requests.as_slice(), respond.id) else {
+            return refused(self.alloc, event, respond, Refusal::NoSuchRequest);
+        };
+        match refusal_for(&self.dialogs, &respond, &self.requests[index]) {
+            Some(refusal) => refused(self.alloc, event, respond, refusal),
+            None => self.give(index, event, respond, now),
+        }
+    }
+
+    // An answer goes out.
+    #[tactic(auto, using(std::proofs::lemmas::Option::slice_get_read))]
+    fn give(
+        &mut self,
+        index: usize,
+        event: Id,
+        respond: Respond,
+        now: u64,
+    ) -> Result<Vec<CallOut>, AllocError>
+        requires moment { now ≤ 2 ^ 62 }
+        requires within { index < length self.old.requests }
+        requires low { 101 ≤ respond.status }
+        requires high { respond.status ≤ 699 }
+        ensures { IfOk result (λ outs. (held : HeldRequest) → slice_get self.old.requests index ≡ Some held
+            → (self.new, outs.items) ≡ answers.answer_given_at (λ change. slice_set self.old.requests index (change held)) self.old event respond now held) }
+    {
+        let held = &mut self.requests[index];
+        let response = answer_to(self.alloc, self.local, held, &respond)?;
+        let mut outs = one(self.alloc, answer_command(held, &response)?)?;
+        let mut ends = dialogs_answered(
+            self.alloc,
+            &mut self.dialogs,
+            event,
+            held,
+            &respond,
+            &response,
+        )?;
+        note_dialog(self.alloc, held, event, &respond)?;
+        note_answer(held, &respond, response, now);
+        outs.append(&mut ends)?;
+        Ok(outs)
+    }
+
+    /// The moment `now`, in ms, has come.
+    pub(crate) fn tick(&mut self, now: u64) -> Result<Vec<CallOut>, AllocError>
+        requires { now ≤ 2 ^ 62 }
+        ensures { IfOk result (λ outs. (self.new, outs.items) ≡ tick_taken self.old now) }
+    {
+        let mut outs = Vec::new(self.alloc);
+        tick_requests(&mut self.requests, now, &mut outs)?;
+        remove_over(&mut self.requests, now);
+        Ok(outs)
+    }
+}
+
+fn refused(
+    alloc: Global,
+    event: Id,
+    respond: Respond,
+    refusal: Refusal,
+) -> Result<Vec<CallOut>, AllocError>
+    ensures { IfOk result (λ outs. outs.items ≡ answers.refused_notice event respond refusal) }
+{
+    tell(
+        alloc,
+        Notice::Refused {
+            call_id: respond.call_id,
+            place: event.place,
+            refusal,
+        },
+    )
+}
+
+// What is due to be removed goes.
+fn remove_over(requests: &mut Vec<HeldRequest>, now: u64)
+    ensures { requests.new.items ≡ filter (is_kept_at now) requests.old.items }
+{
+    requests.retain(|held| is_kept(held, now));
+}
+
+impl Drop for Holdings {
+    fn drop(self) {
+        let Holdings {
+            alloc: _,
+            local: _,
+            requests: _,
+            dialogs: _,
+        } = self;
+    }
+}

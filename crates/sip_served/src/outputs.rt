@@ -1,0 +1,156 @@
+//! What a call gives.
+
+ghost use Rattle.std.specs.Prelude.{◌≡◌, ◌≤◌, ◌∷◌, [], IfOk, OnOk, filter, codes, IsTrue};
+ghost use Rattle.sip_message.specs.Response.{response_of};
+ghost use Rattle.sip_parts.specs.Reason.{is_reason};
+ghost use Rattle.sip_served.specs.Arrival as arrived;
+ghost use Rattle.sip_served.specs.Notices.{request_notice};
+ghost use Rattle.sip_served.specs.Requests.{is_unknown_option};
+ghost use Rattle.sip_served.specs.declared.item.CallOut.TheVariants as call_out;
+
+use crate::arrival::Arrival;
+use crate::item::CallOut;
+use crate::notice::Notice;
+use crate::request::local_tag;
+use crate::unsupported::unsupported;
+use sip_message::{Header, Message, Reason, StatusCode, response_to};
+use sip_text::Text;
+use sip_transactions::Command;
+use std::alloc::{AllocError, Global};
+
+/// One output.
+pub(crate) fn one(alloc: Global, out: CallOut) -> Result<Vec<CallOut>, AllocError>
+    ensures { IfOk result (λ outs. outs.items ≡ out ∷ []) }
+{
+    let mut outs = Vec::new(alloc);
+    outs.push(out)?;
+    Ok(outs)
+}
+
+/// One notice.
+pub(crate) fn tell(alloc: Global, notice: Notice) -> Result<Vec<CallOut>, AllocError>
+    ensures { IfOk result (λ outs. outs.items ≡ call_out.Notice notice ∷ []) }
+{
+    one(alloc, CallOut::Notice(notice))
+}
+
+fn command_for(arrival: &Arrival, message: Message) -> Result<CallOut, AllocError>
+    ensures { IfOk result (λ out. out ≡ arrived.command_for arrival.now message) }
+{
+    let key = arrival.key.clone()?;
+    Ok(CallOut::Command(arrival.id, Command::Answer { key, message }))
+}
+
+fn response_with(
+    alloc: Global,
+    arrival: &Arrival,
+    status: u16,
+    reason: &[u8],
+) -> Result<Message, AllocError>
+    requires low { 100 ≤ status }
+    requires high { status ≤ 699 }
+    requires reason { IsTrue (is_reason reason.now) }
+    ensures { IfOk result (λ response. response ≡ response_of arrival.now.request status reason.now arrival.now.tag) }
+{
+    let reason = Reason::from_text(Text::copy_of(alloc, reason)?);
+    let status = StatusCode::from_code(status);
+    response_to(alloc, &arrival.request, status, reason, &arrival.tag)
+}
+
+/// The agent's own answer to a request.
+pub(crate) fn reply(
+    alloc: Global,
+    arrival: &Arrival,
+    status: u16,
+    reason: &[u8],
+) -> Result<CallOut, AllocError>
+    requires low { 100 ≤ status }
+    requires high { status ≤ 699 }
+    requires reason { IsTrue (is_reason reason.now) }
+    ensures { IfOk result (λ out. out ≡ arrived.command_for arrival.now (response_of arrival.now.request status reason.now arrival.now.tag)) }
+{
+    command_for(arrival, response_with(alloc, arrival, status, reason)?)
+}
+
+/// The agent's own answer to a request, alone.
+pub(crate) fn answered_with(
+    alloc: Global,
+    arrival: &Arrival,
+    status: u16,
+    reason: &[u8],
+) -> Result<Vec<CallOut>, AllocError>
+    requires low { 100 ≤ status }
+    requires high { status ≤ 699 }
+    requires reason { IsTrue (is_reason reason.now) }
+    ensures { IfOk result (λ outs. outs.items ≡ arrived.answered_with arrival.now status reason.now) }
+{
+    one(alloc, reply(alloc, arrival, status, reason)?)
+}
+
+/// The 482 to a request that came on another way too (RFC 3261, section 8.2.2.2).
+pub(crate) fn loop_detected(alloc: Global, arrival: &Arrival) -> Result<Vec<CallOut>, AllocError>
+    ensures { IfOk result (λ outs. outs.items ≡ arrived.answered_with arrival.now 482 (codes "Loop Detected")) }
+{
+    answered_with(alloc, arrival, 482, b"Loop Detected")
+}
+
+/// The 500 to a request whose number is out of order (RFC 3261, section 12.2.2).
+pub(crate) fn out_of_order(alloc: Global, arrival: &Arrival) -> Result<Vec<CallOut>, AllocError>
+    ensures { IfOk result (λ outs. outs.items ≡ arrived.answered_with arrival.now 500 (codes "Server Internal Error")) }
+{
+    answered_with(alloc, arrival, 500, b"Server Internal Error")
+}
+
+/// The 481 to a request for a dialog that isn't held, or to a PRACK for nothing that waits for it.
+pub(crate) fn no_such_dialog(alloc: Global, arrival: &Arrival) -> Result<Vec<CallOut>, AllocError>
+    ensures { IfOk result (λ outs. outs.items ≡ arrived.no_such_dialog arrival.now) }
+{
+    answered_with(alloc, arrival, 481, b"Call/Transaction Does Not Exist")
+}
+
+/// The 200 to a PRACK.
+pub(crate) fn ok(alloc: Global, arrival: &Arrival) -> Result<CallOut, AllocError>
+    ensures { IfOk result (λ out. out ≡ arrived.command_for arrival.now (response_of arrival.now.request 200 (codes "OK") arrival.now.tag)) }
+{
+    reply(alloc, arrival, 200, b"OK")
+}
+
+/// The 420 to a request that requires options that the agent doesn't know; it names them (RFC 3261, section 8.2.2.3).
+pub(crate) fn bad_extension(alloc: Global, arrival: &Arrival) -> Result<Vec<CallOut>, AllocError>
+    ensures { IfOk result (λ outs. outs.items ≡ arrived.refused_extension arrival.now) }
+{
+    one(
+        alloc,
+        command_for(arrival, bad_extension_response(alloc, arrival)?)?,
+    )
+}
+
+fn bad_extension_response(alloc: Global, arrival: &Arrival) -> Result<Message, AllocError>
+    ensures { IfOk result (λ response. response ≡ arrived.with_header (arrived.unsupported (filter is_unknown_option arrival.now.request.require)) (response_of arrival.now.request 420 (codes "Bad Extension") arrival.now.tag)) }
+{
+    let header = unsupported(alloc, arrival.request.require.as_slice())?;
+    let mut response = response_with(alloc, arrival, 420, b"Bad Extension")?;
+    add_header(&mut response, header)?;
+    Ok(response)
+}
+
+fn add_header(response: &mut Message, header: Header) -> Result<(), AllocError>
+    ensures { OnOk result (response.new ≡ arrived.with_header header response.old) }
+{
+    response.others.push(header)
+}
+
+/// How the user is told of a request.
+pub(crate) fn notice_of_request(alloc: Global, arrival: &Arrival) -> Result<Notice, AllocError>
+    ensures { IfOk result (λ notice. notice ≡ request_notice arrival.now.id arrival.now.call_id arrival.now.request arrival.now.tag) }
+{
+    let request = &arrival.request;
+    Ok(Notice::Request {
+        call_id: arrival.call_id.clone()?,
+        id: arrival.id,
+        method: request.cseq.method.clone()?,
+        local_tag: Text::copy_of(alloc, local_tag(request, &arrival.tag))?,
+        remote_tag: Text::copy_of(alloc, request.from.tag())?,
+        body: request.body.clone()?,
+    })
+}

@@ -1,0 +1,129 @@
+//! What a request says.
+
+ghost use Rattle.std.specs.Prelude.{◌≡◌, IfOk};
+ghost use Rattle.std.specs.List.{list_any};
+ghost use Rattle.std.specs.Str.{str_to_ascii_lowercase};
+ghost use Rattle.sip_served.specs.Requests as requests;
+
+use crate::held_dialog::DialogName;
+use sip_message::{Message, Token};
+use sip_text::{Text, token_eq};
+use std::alloc::{AllocError, Global};
+
+/// The least status of a final response.
+const FIRST_FINAL: u16 = 200;
+
+/// The least status that is above those of success.
+const FIRST_REJECTING: u16 = 300;
+
+pub(crate) fn is_invite(request: &Message) -> bool
+    ensures { result ≡ requests.is_invite request.now }
+{
+    request.method().as_slice() == b"INVITE".as_slice()
+}
+
+pub(crate) fn is_bye(request: &Message) -> bool
+    ensures { result ≡ requests.is_bye request.now }
+{
+    request.method().as_slice() == b"BYE".as_slice()
+}
+
+pub(crate) fn is_cancel(request: &Message) -> bool
+    ensures { result ≡ requests.is_cancel request.now }
+{
+    request.method().as_slice() == b"CANCEL".as_slice()
+}
+
+pub(crate) fn is_prack(request: &Message) -> bool
+    ensures { result ≡ requests.is_prack request.now }
+{
+    request.method().as_slice() == b"PRACK".as_slice()
+}
+
+/// Whether it has a To tag, and so was sent inside a dialog.
+pub(crate) fn is_inside(request: &Message) -> bool
+    ensures { result ≡ requests.is_inside request.now }
+{
+    !request.to.tag().is_empty()
+}
+
+fn is_100rel(option: &Token) -> bool
+    ensures { result ≡ requests.is_100rel option.now }
+{
+    token_eq(option.as_slice(), b"100rel")
+}
+
+/// Whether the agent doesn't know an option.
+pub(crate) fn is_unknown_option(option: &Token) -> bool
+    ensures { result ≡ requests.is_unknown_option option.now }
+{
+    !is_100rel(option)
+}
+
+pub(crate) fn requires_100rel(request: &Message) -> bool
+    ensures { result ≡ requests.requires_100rel request.now }
+{
+    has_100rel(request.require.as_slice())
+}
+
+pub(crate) fn supports_100rel(request: &Message) -> bool
+    ensures { result ≡ requests.supports_100rel request.now }
+{
+    has_100rel(request.supported.as_slice()) || requires_100rel(request)
+}
+
+fn has_100rel(options: &[Token]) -> bool
+    ensures { result ≡ list_any requests.is_100rel options.now }
+{
+    options.iter().any(|option| is_100rel(option))
+}
+
+/// The tag that the answers to a request carry in To.
+pub(crate) fn local_tag<'a>(request: &'a Message, made: &'a Token) -> &'a [u8]
+    ensures { result.now ≡ requests.local_tag_of request.now made.now }
+{
+    let own = request.to.tag();
+    if own.is_empty() { made.as_slice() } else { own }
+}
+
+/// The name of the dialog that a request is in, or that its answer makes.
+pub(crate) fn dialog_name(
+    alloc: Global,
+    request: &Message,
+    made: &Token,
+) -> Result<DialogName, AllocError>
+    ensures { IfOk result (λ name. name ≡ requests.dialog_name request.now made.now) }
+{
+    Ok(DialogName {
+        local: lower_case(alloc, local_tag(request, made))?,
+        remote: lower_case(alloc, request.from.tag())?,
+    })
+}
+
+fn lower_case(alloc: Global, text: &[u8]) -> Result<Text, AllocError>
+    ensures { IfOk result (λ lower. lower ≡ str_to_ascii_lowercase text.now) }
+{
+    let bytes = text
+        .iter()
+        .map(|byte| byte.to_ascii_lowercase())
+        .collect(alloc)?;
+    Ok(Text::from_vec(bytes))
+}
+
+pub(crate) fn is_provisional(status: u16) -> bool
+    ensures { result ≡ requests.is_provisional status }
+{
+    status < FIRST_FINAL
+}
+
+pub(crate) fn is_success(status: u16) -> bool
+    ensures { result ≡ requests.is_success status }
+{
+    FIRST_FINAL <= status && status < FIRST_REJECTING
+}
+
+pub(crate) fn is_final(status: u16) -> bool
+    ensures { result ≡ requests.is_final status }
+{
+    FIRST_FINAL <= status
+}

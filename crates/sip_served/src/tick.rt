@@ -1,0 +1,198 @@
+//! A tick: what is sent again, given up and removed.
+
+ghost use Rattle.std.specs.Prelude.{◌≡◌, ◌≤◌, ◌^◌, ◌++◌, [], IfOk, OnOk, map, None};
+ghost use Rattle.std.specs.List.{flat_map};
+ghost use Rattle.std.specs.Option.{option_and_then, option_map, option_map_or};
+ghost use Rattle.sip_reliable.specs.Ledger.{next_moment};
+ghost use Rattle.sip_served.specs.Tick as spec;
+ghost use Rattle.sip_served.specs.declared.notice.Notice.TheVariants as notices;
+
+use crate::acknowledgment::stop_success;
+use crate::held_request::{HeldRequest, Retransmission, Success};
+use crate::item::CallOut;
+use crate::notice::Notice;
+use crate::respond::answer_command;
+use sip_reliable::Tick;
+use sip_timers::earlier;
+use std::alloc::AllocError;
+
+/// T2, the greatest interval between two sendings of a 2xx, in ms (RFC 3261, section 17.1.2.2).
+const T2: u64 = 4_000;
+
+/// Does what is due of each held request at the moment `now`, in ms.
+pub(crate) fn tick_requests(
+    requests: &mut Vec<HeldRequest>,
+    now: u64,
+    outs: &mut Vec<CallOut>,
+) -> Result<(), AllocError>
+    requires { now ≤ 2 ^ 62 }
+    ensures requests { OnOk result (requests.new.items ≡ map (λ held. (spec.request_ticked now held).0) requests.old.items) }
+    ensures outs { OnOk result (outs.new.items ≡ outs.old.items ++ flat_map (λ held. (spec.request_ticked now held).1) requests.old.items) }
+{
+    for held in requests.iter_mut() {
+        tick_request(held, now, outs)?;
+    }
+    Ok(())
+}
+
+// First the 2xx, and then the reliable provisional response.
+fn tick_request(held: &mut HeldRequest, now: u64, outs: &mut Vec<CallOut>) -> Result<(), AllocError>
+    requires { now ≤ 2 ^ 62 }
+    ensures held { OnOk result (held.new ≡ (spec.request_ticked now held.old).0) }
+    ensures outs { OnOk result (outs.new.items ≡ outs.old.items ++ (spec.request_ticked now held.old).1) }
+{
+    tick_success(held, now, outs)?;
+    tick_provisional(held, now, outs)
+}
+
+// What is due of the 2xx to an INVITE.
+fn tick_success(held: &mut HeldRequest, now: u64, outs: &mut Vec<CallOut>) -> Result<(), AllocError>
+    requires { now ≤ 2 ^ 62 }
+    ensures held { OnOk result (held.new ≡ (spec.success_ticked now held.old).0) }
+    ensures outs { OnOk result (outs.new.items ≡ outs.old.items ++ (spec.success_ticked now held.old).1) }
+{
+    let Some(success) = &held.success else {
+        return Ok(());
+    };
+    match success_answer(success, now) {
+        Tick::Nothing => Ok(()),
+        Tick::Again => {
+            outs.push(answer_command(held, &success.response)?)?;
+            repeat_success(held, now);
+            Ok(())
+        }
+        Tick::GivenUp => {
+            outs.push(CallOut::Notice(no_ack(held)?))?;
+            stop_success(held);
+            Ok(())
+        }
+    }
+}
+
+fn success_answer(success: &Success, now: u64) -> Tick
+    ensures { result ≡ spec.success_answer now success.now }
+{
+    match success.retransmission {
+        None => Tick::Nothing,
+        Some(_) if success.end <= now => Tick::GivenUp,
+        Some(retransmission) if retransmission.due <= now => Tick::Again,
+        Some(_) => Tick::Nothing,
+    }
+}
+
+fn repeat_success(held: &mut HeldRequest, now: u64)
+    requires { now ≤ 2 ^ 62 }
+    ensures { held.new ≡ record held.old { success = option_map (λ success. spec.with_retransmission success (option_map (spec.next_retransmission now) success.retransmission)) held.old.success } }
+{
+    if let Some(success) = &mut held.success {
+        success.retransmission = next_of(success.retransmission, now);
+    }
+}
+
+fn next_of(last: Option<Retransmission>, now: u64) -> Option<Retransmission>
+    requires { now ≤ 2 ^ 62 }
+    ensures { result ≡ option_map (spec.next_retransmission now) last }
+{
+    let last = last?;
+    let interval = last.interval.saturating_mul(2).min(T2);
+    Some(Retransmission {
+        due: now + interval,
+        interval,
+    })
+}
+
+fn no_ack(held: &HeldRequest) -> Result<Notice, AllocError>
+    ensures { IfOk result (λ notice. notice ≡ notices.NoAck held.now.request.call_id held.now.id) }
+{
+    Ok(Notice::NoAck {
+        call_id: held.request.call_id.clone()?,
+        id: held.id,
+    })
+}
+
+// What is due of the reliable provisional response that waits.
+fn tick_provisional(
+    held: &mut HeldRequest,
+    now: u64,
+    outs: &mut Vec<CallOut>,
+) -> Result<(), AllocError>
+    requires { now ≤ 2 ^ 62 }
+    ensures held { OnOk result (held.new ≡ (spec.provisional_ticked now held.old).0) }
+    ensures outs { OnOk result (outs.new.items ≡ outs.old.items ++ (spec.provisional_ticked now held.old).1) }
+{
+    if held.provisional.is_none() {
+        return Ok(());
+    }
+    let tick = held.ledger.tick(now);
+    tell_provisional(held, tick, outs)
+}
+
+fn tell_provisional(
+    held: &HeldRequest,
+    tick: Tick,
+    outs: &mut Vec<CallOut>,
+) -> Result<(), AllocError>
+    ensures { OnOk result (outs.new.items ≡ outs.old.items ++ option_map_or (λ response. spec.told_of tick held.now response (notices.NoPrack held.now.request.call_id held.now.id)) held.now.provisional []) }
+{
+    let Some(response) = &held.provisional else {
+        return Ok(());
+    };
+    match tick {
+        Tick::Nothing => {}
+        Tick::Again => outs.push(answer_command(held, response)?)?,
+        Tick::GivenUp => outs.push(CallOut::Notice(no_prack(held)?))?,
+    }
+    Ok(())
+}
+
+fn no_prack(held: &HeldRequest) -> Result<Notice, AllocError>
+    ensures { IfOk result (λ notice. notice ≡ notices.NoPrack held.now.request.call_id held.now.id) }
+{
+    Ok(Notice::NoPrack {
+        call_id: held.request.call_id.clone()?,
+        id: held.id,
+    })
+}
+
+/// Whether a request isn't due to be removed.
+pub(crate) fn is_kept(held: &HeldRequest, now: u64) -> bool
+    ensures { result ≡ spec.is_kept_at now held.now }
+{
+    held.removal.is_none_or(|moment| now < moment)
+}
+
+/// The first moment, in ms, at which something of a request is due, if there is one.
+pub(crate) fn next_due(requests: &[HeldRequest]) -> Option<u64>
+    ensures { result ≡ spec.next_due_of requests.now }
+{
+    requests
+        .iter()
+        .fold(None, |due, held| earlier(due, request_due(held)))
+}
+
+fn request_due(held: &HeldRequest) -> Option<u64>
+    ensures { result ≡ spec.request_due held.now }
+{
+    earlier(
+        earlier(success_due(held), provisional_due(held)),
+        held.removal,
+    )
+}
+
+fn success_due(held: &HeldRequest) -> Option<u64>
+    ensures { result ≡ option_and_then spec.success_moment held.now.success }
+{
+    let success = held.success.as_ref()?;
+    let retransmission = success.retransmission?;
+    Some(success.end.min(retransmission.due))
+}
+
+fn provisional_due(held: &HeldRequest) -> Option<u64>
+    ensures { result ≡ option_and_then (λ _. next_moment held.now.ledger) held.now.provisional }
+{
+    if held.provisional.is_some() {
+        held.ledger.next_due()
+    } else {
+        None
+    }
+}
