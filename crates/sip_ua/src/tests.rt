@@ -205,7 +205,7 @@ fn two_requests_of_one_call_are_answered_by_id(rt: HostRuntime) -> Result<(), Fa
         LOCAL,
         "round 0",
         OPTIONS,
-        "datagram 192.0.2.9:5060 INFO sip:192.0.2.1 SIP/2.0\\r\\nVia: SIP/2.0/UDP 192.0.2.9;branch=z9hG4bKa2\\r\\nFrom: <sip:a@192.0.2.9>;tag=f1\\r\\nTo: <sip:192.0.2.1>;tag=t1\\r\\nCall-ID: c1\\r\\nCSeq: 8 INFO\\r\\n\\r\\nhi",
+        "datagram 192.0.2.9:5060 INFO sip:192.0.2.1 SIP/2.0\\r\\nVia: SIP/2.0/UDP 192.0.2.9;branch=z9hG4bKa2\\r\\nFrom: <sip:a@192.0.2.9>;tag=f1\\r\\nTo: <sip:192.0.2.1>\\r\\nCall-ID: c1\\r\\nCSeq: 8 INFO\\r\\n\\r\\nhi",
         "round 10",
         "respond c1 0.2 404 plain - ",
         RESPOND,
@@ -214,9 +214,9 @@ fn two_requests_of_one_call_are_answered_by_id(rt: HostRuntime) -> Result<(), Fa
         "sip-outputs 1",
         "round 0",
         NOTICE,
-        "notice c1 request 0.2 INFO t1 f1 hi",
+        "notice c1 request 0.2 INFO 000000000000000000000000000000020e6a0092d f1 hi",
         "round 10",
-        "send 192.0.2.9:5060 SIP/2.0 404 \\r\\nVia: SIP/2.0/UDP 192.0.2.9;branch=z9hG4bKa2\\r\\nFrom: <sip:a@192.0.2.9>;tag=f1\\r\\nTo: <sip:192.0.2.1>;tag=t1\\r\\nCall-ID: c1\\r\\nCSeq: 8 INFO\\r\\nContent-Length: 0\\r\\n\\r\\n",
+        "send 192.0.2.9:5060 SIP/2.0 404 \\r\\nVia: SIP/2.0/UDP 192.0.2.9;branch=z9hG4bKa2\\r\\nFrom: <sip:a@192.0.2.9>;tag=f1\\r\\nTo: <sip:192.0.2.1>;tag=000000000000000000000000000000020e6a0092d\\r\\nCall-ID: c1\\r\\nCSeq: 8 INFO\\r\\nContent-Length: 0\\r\\n\\r\\n",
         SENT,
     ];
     replays(&rt, rt.alloc(), &input, &output)?;

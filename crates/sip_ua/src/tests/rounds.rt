@@ -32,12 +32,14 @@ const CONFIG: Config = Config {
 };
 
 // The last words of the made names, each after its round and its place, as another program computes them.
-const WORDS: [(u64, u32, u32); 10] = [
+const WORDS: [(u64, u32, u32); 12] = [
     (100, 1, 0xbc879c78),
+    (100, 2, 0x1f7bf2cd),
     (100, 3, 0x3ceb7ad9),
     (102, 4, 0x3f110f7e),
     (104, 3, 0xa44c9229),
     (110, 2, 0x85b6acbe),
+    (112, 3, 0xb5a7d4fe),
     (112, 4, 0x008a7076),
     (113, 2, 0xb3170ac2),
     (117, 2, 0x2a4f465b),
@@ -56,7 +58,7 @@ const B: &str = "192.0.2.9:5070;branch=z9hG4bKb";
 
 const C: &str = "example.org:5080;branch=z9hG4bKc";
 
-const D: &str = "192.0.2.9;branch=z9hG4bKd";
+const D: &str = "192.0.2.9;branch=z9hG4bKd;d";
 
 const OLD: &str = "192.0.2.9;branch=1";
 
@@ -69,8 +71,8 @@ const OUR_PORT: &str = "192.0.2.1:5070;branch=z9hG4bKa";
 enum Line {
     /// A round begins, at this moment. It gives these: a letter for each send, notice and drop, in order.
     At(u64, &'static str),
-    /// A request: source, method, top Via, Call-ID, parameters of To, body.
-    Request(Addr, &'static str, &'static str, &'static str, &'static str, &'static str),
+    /// A request: source, method, top Via, Call-ID, body. Requests of different top Vias have different CSeq numbers.
+    Request(Addr, &'static str, &'static str, &'static str, &'static str),
     /// A response to an OPTIONS: top Via.
     Response(&'static str),
     /// A datagram that is no message.
@@ -83,19 +85,19 @@ enum Line {
 
 const TABLE: [Line; 105] = [
     At(0, "dnnn"),
-    Request(PEER, "OPTIONS", A, "c1", "", ""),
-    Request(PEER, "INFO", B, "c1", ";tag=t1", "hi"),
-    Request(ELSEWHERE, "MESSAGE", C, "c2", "", "hello"),
+    Request(PEER, "OPTIONS", A, "c1", ""),
+    Request(PEER, "INFO", B, "c1", "hi"),
+    Request(ELSEWHERE, "MESSAGE", C, "c2", "hello"),
     Bytes("OPTIONS"),
     At(0, "s"),
-    Request(PEER, "OPTIONS", A, "c1", "", ""),
+    Request(PEER, "OPTIONS", A, "c1", ""),
     Respond("c1", (100, 1), 180, Plain, "", "Ringing"),
-    Request(ELSEWHERE, "OPTIONS", A, "c1", "", ""),
+    Request(ELSEWHERE, "OPTIONS", A, "c1", ""),
     At(3, "snn"),
-    Request(ELSEWHERE, "OPTIONS", A, "c1", "", ""),
+    Request(ELSEWHERE, "OPTIONS", A, "c1", ""),
     Failed("z9hG4bKa", "192.0.2.9", 5060, "OPTIONS"),
-    Request(PEER, "ACK", A, "c1", "", ""),
-    Request(PEER, "INFO", A, "c1", "", ""),
+    Request(PEER, "ACK", A, "c1", ""),
+    Request(PEER, "INFO", A, "c1", ""),
     At(10, "snnnnnnnns"),
     Respond("c9", (100, 1), 200, Plain, "", "OK"),
     Respond("c1", (100, 7), 200, Plain, "", "OK"),
@@ -106,11 +108,11 @@ const TABLE: [Line; 105] = [
     Respond("c1", (100, 1), 200, Plain, "", "OK"),
     Respond("c1", (100, 1), 99, Plain, "", "OK"),
     Respond("c1", (100, 1), 486, Reliable, "", "OK"),
-    Request(PEER, "OPTIONS", A, "c1", "", ""),
+    Request(PEER, "OPTIONS", A, "c1", ""),
     At(10, "ssn"),
-    Request(PEER, "OPTIONS", A, "c1", "", ""),
-    Request(PEER, "OPTIONS", A_SPELLED, "c9", "", ""),
-    Request(PEER, "OPTIONS", A_PORT, "c3", "", ""),
+    Request(PEER, "OPTIONS", A, "c1", ""),
+    Request(PEER, "OPTIONS", A_SPELLED, "c9", ""),
+    Request(PEER, "OPTIONS", A_PORT, "c3", ""),
     At(11, "ddd"),
     Response(A),
     Response(OURS),
@@ -124,28 +126,28 @@ const TABLE: [Line; 105] = [
     At(20, ""),
     At(9_000, "sdn"),
     Failed("z9hG4bKa", "192.0.2.9", 5060, "OPTIONS"),
-    Request(ELSEWHERE, "INFO", B, "c1", ";tag=t1", "hi"),
-    Request(PEER, "OPTIONS", OLD, "c1", "", ""),
+    Request(ELSEWHERE, "INFO", B, "c1", "hi"),
+    Request(PEER, "OPTIONS", OLD, "c1", ""),
     At(32_009, "sn"),
-    Request(PEER, "OPTIONS", A, "c1", "", ""),
+    Request(PEER, "OPTIONS", A, "c1", ""),
     Respond("c1", (100, 1), 200, Plain, "", "OK"),
     At(32_010, "nnns"),
     Respond("c1", (100, 1), 200, Plain, "", "OK"),
-    Request(PEER, "OPTIONS", A, "c1", "", ""),
+    Request(PEER, "OPTIONS", A, "c1", ""),
     Respond("c1", (110, 2), 183, Plain, "", "OK"),
-    Request(PEER, "OPTIONS", A, "c1", "", ""),
+    Request(PEER, "OPTIONS", A, "c1", ""),
     Respond("c1", (110, 5), 200, Plain, "", "OK"),
     At(32_019, "sn"),
-    Request(ELSEWHERE, "MESSAGE", C, "c2", "", "hello"),
+    Request(ELSEWHERE, "MESSAGE", C, "c2", "hello"),
     Respond("c2", (100, 3), 200, Plain, "", "OK"),
     At(32_020, "nnn"),
     Respond("c2", (100, 3), 200, Plain, "", "OK"),
     Failed("z9hG4bKc", "example.org", 5080, "MESSAGE"),
-    Request(PEER, "INFO", B, "c4", ";tag=t1", "again"),
-    Request(ELSEWHERE, "MESSAGE", C, "c2", "", ""),
+    Request(PEER, "INFO", B, "c4", "again"),
+    Request(ELSEWHERE, "MESSAGE", C, "c2", ""),
     At(32_020, "nnns"),
     Respond("c5", (113, 2), 200, Plain, "", "OK"),
-    Request(PEER, "OPTIONS", D, "c5", "", ""),
+    Request(PEER, "OPTIONS", D, "c5", ""),
     Respond("c5", (113, 2), 200, Plain, "", "OK"),
     Respond("c5", (113, 2), 200, Plain, "", "OK"),
     At(40_000, "ssss"),
@@ -154,20 +156,20 @@ const TABLE: [Line; 105] = [
     Respond("c1", (110, 2), 181, Plain, "", "OK"),
     Respond("c1", (102, 4), 481, Plain, "", "OK"),
     At(40_001, "ssssn"),
-    Request(PEER, "OPTIONS", A, "c1", "", ""),
-    Request(PEER, "INFO", A, "c1", "", ""),
-    Request(PEER, "INFO", B, "c1", "", ""),
-    Request(PEER, "MESSAGE", C, "c2", "", ""),
+    Request(PEER, "OPTIONS", A, "c1", ""),
+    Request(PEER, "INFO", A, "c1", ""),
+    Request(PEER, "INFO", B, "c1", ""),
+    Request(PEER, "MESSAGE", C, "c2", ""),
     Failed("z9hG4bKd", "192.0.2.9", 5060, "OPTIONS"),
     At(64_019, "s"),
-    Request(PEER, "OPTIONS", D, "c5", "", ""),
+    Request(PEER, "OPTIONS", D, "c5", ""),
     At(64_020, "nn"),
     Respond("c5", (113, 2), 200, Plain, "", "OK"),
-    Request(PEER, "OPTIONS", D, "c1", "", ""),
+    Request(PEER, "OPTIONS", D, "c1", ""),
     At(72_000, "nnss"),
     Failed("z9hG4bKc", "example.org", 5080, "MESSAGE"),
     Respond("c2", (112, 4), 200, Plain, "", "OK"),
-    Request(PEER, "INFO", A, "c1", "", ""),
+    Request(PEER, "INFO", A, "c1", ""),
     Respond("c4", (112, 3), 200, Plain, "", "OK"),
     Respond("c1", (110, 2), 200, Plain, "", "OK"),
     At(1_000_000, "nsss"),
@@ -176,15 +178,15 @@ const TABLE: [Line; 105] = [
     Respond("c1", (117, 2), 699, Plain, "", "OK"),
     Respond("c1", (118, 3), 101, Plain, "", "OK"),
     At(1_000_000, "ssn"),
-    Request(PEER, "OPTIONS", A_PORT, "c9", "", ""),
+    Request(PEER, "OPTIONS", A_PORT, "c9", ""),
     Failed("z9hG4bKa", "192.0.2.9", 5061, "OPTIONS"),
-    Request(PEER, "OPTIONS", D, "c1", "", ""),
+    Request(PEER, "OPTIONS", D, "c1", ""),
     At(1_031_999, "sn"),
     Respond("c3", (104, 3), 200, Plain, "", "OK"),
-    Request(PEER, "OPTIONS", D, "c1", "", ""),
+    Request(PEER, "OPTIONS", D, "c1", ""),
     At(1_032_000, "nnss"),
     Respond("c3", (104, 3), 200, Plain, "", "OK"),
-    Request(PEER, "OPTIONS", D, "c1", "", ""),
+    Request(PEER, "OPTIONS", D, "c1", ""),
     Respond("c1", (118, 3), 200, Plain, "", "OK"),
     Respond("c1", (122, 2), 200, Plain, "", "OK"),
 ];
@@ -202,9 +204,10 @@ fn datagram(alloc: Global, from: Addr, bytes: &str) -> Result<Event, Fail> {
 fn event_of(alloc: Global, line: &Line) -> Result<Option<Event>, Fail> {
     let event = match *line {
         At(..) => return Ok(None),
-        Request(from, method, via, call_id, to, body) => {
+        Request(from, method, via, call_id, body) => {
+            let number = via.len();
             let request = format!(in alloc;
-                "{method} sip:192.0.2.1 SIP/2.0\r\nVia: SIP/2.0/UDP {via}\r\nFrom: <sip:a@192.0.2.9>;tag=f1\r\nTo: <sip:192.0.2.1>{to}\r\nCall-ID: {call_id}\r\nCSeq: 7 {method}\r\n\r\n{body}"
+                "{method} sip:192.0.2.1 SIP/2.0\r\nVia: SIP/2.0/UDP {via}\r\nFrom: <sip:a@192.0.2.9>;tag=f1\r\nTo: <sip:192.0.2.1>\r\nCall-ID: {call_id}\r\nCSeq: {number} {method}\r\n\r\n{body}"
             )?;
             datagram(alloc, from, request.as_str())
         }
