@@ -206,8 +206,7 @@ impl Outbound {
     pub fn waits_for(&self, rseq: u32) -> bool
         ensures { result ≡ waits_for rseq self.now }
     {
-        self.waiting
-            .is_some_and(|waiting| waiting.number == rseq)
+        self.waiting.is_some_and(|waiting| waiting.number == rseq)
     }
 
     /// Whether a response that waits for its PRACK has a body.
