@@ -6,9 +6,9 @@ use Rattle.std.specs.Prelude.{unwrap_or, replicate}
 use Rattle.std.proofs.lemmas.List.{append-nil}
 use Rattle.std.proofs.lemmas.List.Concat.{flat_map-append, flat_map-cons}
 use Rattle.sip_message.specs.declared.addr.Addr.{Addr}
-use Rattle.sip_files.specs.declared.config.Config.{Config}
-use Rattle.sip_files.specs.declared.round.Event.{Event}
-use Rattle.sip_files.specs.declared.round.Round.{Round}
+use Rattle.sip_round.specs.declared.config.Config.{Config}
+use Rattle.sip_round.specs.declared.round.Event.{Event}
+use Rattle.sip_round.specs.declared.round.Round.{Round}
 use Rattle.sip_files.specs.declared.event_line.EventLine.{EventLine}
 use Rattle.sip_files.specs.declared.event_line.EventLine.TheVariants as line
 use Rattle.sip_files.specs.declared.draft.Stage.{Stage}

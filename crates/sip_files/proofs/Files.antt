@@ -6,8 +6,8 @@ use Rattle.std.proofs.lemmas.List.Concat.{flat_map-append}
 use Rattle.std.proofs.lemmas.Option.{some_pair_parts}
 use Rattle.sip_text.specs.Cut.{cut_at}
 use Rattle.sip_message.specs.declared.addr.Addr.{Addr}
-use Rattle.sip_files.specs.declared.config.Config.{Config}
-use Rattle.sip_files.specs.declared.round.Round.{Round}
+use Rattle.sip_round.specs.declared.config.Config.{Config}
+use Rattle.sip_round.specs.declared.round.Round.{Round}
 use Rattle.sip_files.specs.declared.event_line.EventLine.{EventLine}
 use Rattle.sip_files.specs.declared.event_line.EventLine.TheVariants as line
 use Rattle.sip_files.specs.declared.draft.Stage.{Stage}

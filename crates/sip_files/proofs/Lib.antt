@@ -6,6 +6,7 @@ pub mod Pushed
 pub mod WordLaws
 pub mod Cuts
 pub mod Shown
+pub mod Streams
 pub mod NumberLaws
 pub mod LineLaws
 pub mod Drafts

@@ -14,8 +14,8 @@ use Rattle.sip_served.specs.declared.command.Reliability.{Reliability}
 use Rattle.sip_served.specs.declared.command.Reliability.TheVariants.{Plain, Reliable}
 use Rattle.sip_served.specs.declared.command.UserCommand.{UserCommand}
 use Rattle.sip_served.specs.declared.command.UserCommand.TheVariants as command
-use Rattle.sip_files.specs.declared.round.Event.{Event}
-use Rattle.sip_files.specs.declared.round.Event.TheVariants.{Datagram, Failed, Command}
+use Rattle.sip_round.specs.declared.round.Event.{Event}
+use Rattle.sip_round.specs.declared.round.Event.TheVariants.{Datagram, Failed, Command}
 use Rattle.sip_files.specs.declared.event_line.EventLine.{EventLine}
 use Rattle.sip_files.specs.declared.event_line.EventLine.TheVariants as line
 use Rattle.sip_files.specs.Word.{hex_pair, are_bytes, spelled_word, spelled_rest}

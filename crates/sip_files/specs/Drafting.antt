@@ -2,8 +2,8 @@
 use Rattle.std.specs.Prelude.{ℕ, Bool, true, false, List, [], ◌∷◌, ◌++◌, Option, Some, None, replicate}
 use Rattle.std.specs.Option.{option_map}
 use Rattle.sip_message.specs.declared.addr.Addr.{Addr}
-use Rattle.sip_files.specs.declared.round.Event.{Event}
-use Rattle.sip_files.specs.declared.round.Round.{Round}
+use Rattle.sip_round.specs.declared.round.Event.{Event}
+use Rattle.sip_round.specs.declared.round.Round.{Round}
 use Rattle.sip_files.specs.declared.event_line.EventLine.{EventLine}
 use Rattle.sip_files.specs.declared.event_line.EventLine.TheVariants as line
 use Rattle.sip_files.specs.declared.draft.Stage.{Stage}

@@ -2,8 +2,8 @@
 use Rattle.std.specs.Prelude.{◌≡◌, ℕ, ◌+◌, ◌≤◌, ◌<◌, ◌^◌, List, [], ◌∷◌, ◌++◌, length, map, Option, Some, None, Result, IsTrue, MatchResult, codes, unwrap_or, replicate, not, ◌==◌, ◌⊎◌}
 use Rattle.std.specs.List.{flat_map, list_all, AllByRecursion}
 use Rattle.sip_message.specs.declared.addr.Addr.{Addr}
-use Rattle.sip_files.specs.declared.config.Config.{Config}
-use Rattle.sip_files.specs.declared.round.Round.{Round}
+use Rattle.sip_round.specs.declared.config.Config.{Config}
+use Rattle.sip_round.specs.declared.round.Round.{Round}
 use Rattle.sip_files.specs.declared.event_line.EventLine.{EventLine}
 use Rattle.sip_files.specs.declared.event_line.EventLine.TheVariants as line
 use Rattle.sip_files.specs.declared.events_fault.EventsFault.{EventsFault}

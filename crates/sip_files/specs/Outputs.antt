@@ -9,8 +9,8 @@ use Rattle.sip_transactions.specs.declared.output.DropReason.TheVariants.{NotOur
 use Rattle.sip_served.specs.declared.notice.Notice.{Notice}
 use Rattle.sip_served.specs.declared.notice.Notice.TheVariants as notice
 use Rattle.sip_served.specs.Refusal.{number_of}
-use Rattle.sip_files.specs.declared.output.Output.{Output}
-use Rattle.sip_files.specs.declared.output.Output.TheVariants as output
+use Rattle.sip_round.specs.declared.output.Output.{Output}
+use Rattle.sip_round.specs.declared.output.Output.TheVariants as output
 use Rattle.sip_files.specs.Field.{plain_field, number_field, id_field, address_field, word_field, rest_field}
 
 abbrev pub reason_text : DropReason → List ℕ

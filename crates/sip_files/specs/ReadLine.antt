@@ -8,8 +8,8 @@ use Rattle.sip_parts.specs.Reason.{is_reason}
 use Rattle.sip_served.specs.declared.command.Reliability.{Reliability}
 use Rattle.sip_served.specs.declared.command.Reliability.TheVariants.{Plain, Reliable}
 use Rattle.sip_served.specs.declared.command.UserCommand.TheVariants.{Respond}
-use Rattle.sip_files.specs.declared.round.Event.{Event}
-use Rattle.sip_files.specs.declared.round.Event.TheVariants.{Datagram, Command}
+use Rattle.sip_round.specs.declared.round.Event.{Event}
+use Rattle.sip_round.specs.declared.round.Event.TheVariants.{Datagram, Command}
 use Rattle.sip_files.specs.declared.event_line.EventLine.{EventLine}
 use Rattle.sip_files.specs.declared.event_line.EventLine.TheVariants as line
 use Rattle.sip_files.specs.Reading.{◌>>=◌, word_at, rest_at, number_at, field_at, id_at, address_at, seed_at}

@@ -3,9 +3,9 @@
 ghost use Rattle.std.specs.Prelude.{◌≡◌, IfOk};
 ghost use Rattle.sip_files.specs.Drafting as drafting;
 
-use crate::config::Config;
+use sip_round::Config;
 use crate::event_line::EventLine;
-use crate::round::{Event, Round};
+use sip_round::{Event, Round};
 use sip_message::Addr;
 use sip_text::Series;
 use std::alloc::{AllocError, Global};

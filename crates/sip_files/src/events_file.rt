@@ -4,16 +4,16 @@
 //! then the rounds: `round MOMENT`, each followed by the lines of its events.
 
 ghost use Rattle.std.specs.Prelude.{◌≡◌, ℕ, List, ◌≤◌, ◌^◌, IfErr, IfOk, MatchResult, length};
-ghost use Rattle.sip_files.specs.declared.config.Config as config;
-ghost use Rattle.sip_files.specs.declared.round.Round as round;
+ghost use Rattle.sip_round.specs.declared.config.Config as config;
+ghost use Rattle.sip_round.specs.declared.round.Round as round;
 ghost use Rattle.sip_files.specs.EventFile as spelling;
 ghost use Rattle.sip_files.specs.Lines as lines;
 
-use crate::config::Config;
+use sip_round::Config;
 use crate::draft::{Draft, with_line};
 use crate::event_line::read_line;
 use crate::events_fault::EventsFault;
-use crate::round::Round;
+use sip_round::Round;
 use sip_text::{Series, cut};
 use std::alloc::Global;
 

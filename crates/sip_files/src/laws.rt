@@ -3,8 +3,8 @@
 ghost use Rattle.std.specs.Prelude.{◌≡◌, ℕ, List, IsTrue};
 ghost use Rattle.sip_files.specs.declared.event_line.EventLine.{EventLine};
 ghost use Rattle.sip_files.specs.Word.{are_bytes, spelled_rest, spelled_word};
-ghost use Rattle.sip_files.specs.declared.config.Config.{Config};
-ghost use Rattle.sip_files.specs.declared.round.Round.{Round};
+ghost use Rattle.sip_round.specs.declared.config.Config.{Config};
+ghost use Rattle.sip_round.specs.declared.round.Round.{Round};
 ghost use Rattle.sip_files.specs.EventFile.{SpellsEvents};
 ghost use Rattle.sip_files.specs.Events.{IsLine, line_text};
 

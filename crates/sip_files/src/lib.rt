@@ -1,21 +1,17 @@
-//! The event file and the output file, and the types that they speak of.
+//! The event file and the output file, and the replay of the one into the other.
 #![tactic(auto)]
 
-mod config;
 mod draft;
 mod event_line;
 mod events_fault;
 mod events_file;
+mod file_replay;
 pub mod laws;
 mod numbers;
-mod output;
 mod outputs_file;
-mod round;
 mod words;
 
-pub use config::Config;
 pub use events_fault::EventsFault;
 pub use events_file::{MAX_EVENTS, read_events};
-pub use output::Output;
+pub use file_replay::{ReplayFault, replay};
 pub use outputs_file::write_outputs;
-pub use round::{Event, Round};

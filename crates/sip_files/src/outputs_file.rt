@@ -7,7 +7,7 @@ ghost use Rattle.sip_served.specs.declared.notice.Notice.TheVariants as notice;
 ghost use Rattle.sip_files.specs.Field as field;
 ghost use Rattle.sip_files.specs.Outputs as written;
 
-use crate::output::Output;
+use sip_round::Output;
 use crate::words::{push_rest, push_word};
 use sip_message::{Addr, CallId, Id, ReadFault, ip_text};
 use sip_served::{Notice, Refusal};

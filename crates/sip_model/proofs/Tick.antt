@@ -105,7 +105,7 @@ module _ {K S I O : Type 0} {cmp : K → K → Ordering} (total : IsTotalOrder c
 -- ---- all that was told, joined
 
 module _ {K O : Type 0} where
-  flat_map-groups : {Z : Type 0} (told : List (K × Vec O Z)) → flat_map (λ group. group.1.items) told ≡ flat_map (λ (group : K × List O). group.1) (groups told)
+  pub flat_map-groups : {Z : Type 0} (told : List (K × Vec O Z)) → flat_map (λ group. group.1.items) told ≡ flat_map (λ (group : K × List O). group.1) (groups told)
   flat_map-groups [] = refl
   flat_map-groups (g ∷ gs) = ap (λ rest. g.1.items ++ rest) (flat_map-groups gs)
 

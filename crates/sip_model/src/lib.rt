@@ -20,3 +20,4 @@ pub use machine::StateMachine;
 pub use merge::by_label;
 pub use replies::Replies;
 pub use table::Table;
+pub use ticks::joined;

@@ -1,6 +1,14 @@
 //! What the keys of a table say in a phase.
 
+ghost use Rattle.std.specs.Prelude.{◌≡◌, ◌++◌, IfOk};
+ghost use Rattle.std.specs.List.{flat_map};
+ghost use Rattle.sip_model.specs.Told.{groups};
+
+use crate::ticks::joined;
+use std::alloc::{AllocError, Global};
+
 /// What was said in a phase.
+#[derive(Drop)]
 pub struct Replies<K, O> {
     /// What each key says to the tick, where it says something, in key order.
     pub ticks: Vec<(K, Vec<O>)>,
@@ -8,8 +16,15 @@ pub struct Replies<K, O> {
     pub items: Vec<(usize, Vec<O>)>,
 }
 
-impl<K: Drop, O: Drop> Drop for Replies<K, O> {
-    fn drop(self) {
-        let Replies { ticks: _, items: _ } = self;
+impl<K: Drop, O: Drop> Replies<K, O> {
+    /// All that was said: to the tick, in the order of keys, and then by the items.
+    pub fn joined(self, alloc: Global) -> Result<Vec<O>, AllocError>
+        ensures { IfOk result (λ said. said.items ≡ flat_map (λ group. group.1) (groups self.ticks.items) ++ flat_map (λ group. group.1) (groups self.items.items)) }
+    {
+        let Replies { ticks, items } = self;
+        let mut said = joined(alloc, ticks)?;
+        let mut rest = joined(alloc, items)?;
+        said.append(&mut rest)?;
+        Ok(said)
     }
 }

@@ -78,9 +78,9 @@ fn tell<K: Drop, O: Drop>(
 }
 
 /// All that was said, one after the other.
-pub(crate) fn joined<K: Drop, O: Drop>(
+pub fn joined<L: Drop, O: Drop>(
     alloc: Global,
-    told: Vec<(K, Vec<O>)>,
+    told: Vec<(L, Vec<O>)>,
 ) -> Result<Vec<O>, AllocError>
     ensures { IfOk result (λ outputs. outputs.items ≡ flat_map (λ group. group.1.items) told.items) }
 {

@@ -2,14 +2,13 @@
 use Rattle.std.proofs.Common.{◌≡◌, ℕ, suc, ◌+◌, List, [], ◌∷◌, ◌++◌, length, refl, sym, ◌∙◌, ap, subst, arith}
 use Rattle.std.proofs.lemmas.List.{length_push}
 use Rattle.std.specs.Prelude.{Option, None, Some}
-use Rattle.sip_files.specs.declared.config.Config.{Config}
-use Rattle.sip_files.specs.declared.output.Output.{Output}
-use Rattle.sip_files.specs.declared.round.Round.{Round}
+use Rattle.sip_round.specs.declared.config.Config.{Config}
+use Rattle.sip_round.specs.declared.output.Output.{Output}
+use Rattle.sip_round.specs.declared.round.Round.{Round}
 use Rattle.sip_round.specs.declared.round_fault.RoundFault.{RoundFault}
-use Rattle.sip_round.specs.AgentState.{AgentState, round_fault}
-use Rattle.sip_round.specs.Answers.{past_after, answer, past_from, answers_from, last_moment_from, past_of, answers, last_moment, refused_or, refused_from, calls_of, Knows, Deals, StandsFor}
-use Rattle.sip_round.specs.Feeding.{HoldsLives, HoldsCalls}
-use Rattle.sip_round.specs.Past.{Past, no_past}
+use Rattle.sip_round.specs.AgentState.{AgentState, ShardTables, round_fault}
+use Rattle.sip_round.specs.Answers.{HoldCalls, HoldTransactions, Past, StandsFor, answer, answers, answers_from, calls_of, last_moment, last_moment_from, no_past, past_after, past_from, past_of, refused_from, refused_or}
+use Rattle.sip_round.specs.Led.{Deals}
 
 later : (number n : ℕ) → suc number + n ≡ number + suc n
 later number n = omega arith
@@ -39,40 +38,35 @@ one_later : (next first n more : ℕ) → next ≡ first + n → more ≡ n + 1 
 one_later next first n more e f = omega (arith, e, f)
 
 -- an agent that stands for rounds and dealt with one more stands for these, and its outputs are the last of the answers
-pub record StandsLonger (new : AgentState) (config : Config) (rounds : List Round) (round : Round) (outputs : List Output) : Type 0 where
-  pub stands : StandsFor new config (rounds ++ round ∷ [])
-  pub answered : answers config (rounds ++ round ∷ []) ≡ answers config rounds ++ outputs ∷ []
-
--- what an agent knows is in its two layers
-known_by_parts : (a b : AgentState) (config : Config) (past : Past) → b.transactions ≡ a.transactions → b.calls ≡ a.calls → Knows a config past → Knows b config past
-known_by_parts a b config past transactions calls known = record {
-  local = ap (λ t. t.local) transactions ∙ known.local;
-  shared = ap (λ k. k.calls) calls ∙ known.shared;
-  transactions = subst (λ t. HoldsLives t past.transactions) (sym transactions) known.transactions;
-  calls = subst (λ k. HoldsCalls (calls_of config) k past.calls) (sym calls) known.calls;
-}
-
-pub stands_longer : (old dealt new : AgentState) (config : Config) (rounds : List Round) (round : Round) (outputs : List Output)
-    → Deals old dealt round outputs → dealt.broken ≡ old.broken → dealt.next_round ≡ old.next_round
-    → new.broken ≡ dealt.broken → new.next_round ≡ dealt.next_round + 1 → new.last_moment ≡ round.moment → new.transactions ≡ dealt.transactions → new.calls ≡ dealt.calls
-    → StandsFor old config rounds → StandsLonger new config rounds round outputs
+pub stands_longer : {C : Type 0} (shard_of : C → List ℕ → ℕ → ℕ) (old new : AgentState C) (config : Config) (rounds : List Round) (round : Round) (outputs : List Output)
+    → ((shards : ShardTables) → old.shards ≡ Some shards → (led : ShardTables) × (new.shards ≡ Some led) × Deals old.calls (shard_of old.cut) old.next_round round shards led outputs)
+    → new.calls ≡ old.calls → new.cut ≡ old.cut → new.next_round ≡ old.next_round + 1 → new.last_moment ≡ round.moment → StandsFor shard_of old config rounds
+    → StandsFor shard_of new config (rounds ++ round ∷ []) × (answers config (rounds ++ round ∷ []) ≡ answers config rounds ++ outputs ∷ [])
 unfolding past_of answers last_moment
-stands_longer old dealt new config rounds round outputs deals same_broken same_number broken number moment transactions calls before =
-    let known = deals config (past_of config rounds) before.knows in
-    let same_past : past_after config old.next_round (past_of config rounds) round ≡ past_of config (rounds ++ round ∷ []) =
-    ap (λ n. past_after config n (past_of config rounds) round) before.number ∙ sym (past_from-push config config.first no_past rounds round) in
-    record {
-      stands = record {
-        sound = broken ∙ same_broken ∙ before.sound;
-        number = number ∙ ap (λ n. n + 1) same_number ∙ one_later old.next_round config.first (length rounds) _ before.number (length_push rounds round);
+stands_longer shard_of old new config rounds round outputs leads same_calls same_cut number moment before =
+    let led = leads before.shards before.sound in
+    let past : Past = past_of config rounds in
+    let same_past : past_after config old.next_round past round ≡ past_of config (rounds ++ round ∷ []) =
+    ap (λ n. past_after config n past round) before.number ∙ sym (past_from-push config config.first no_past rounds round) in
+    (
+      record {
+        shards = led.0;
+        sound = led.1;
+        shared = same_calls ∙ before.shared;
+        number = number ∙ one_later old.next_round config.first (length rounds) _ before.number (length_push rounds round);
         moment = moment ∙ sym (last_moment_from-push 0 rounds round);
-        knows = subst (λ past. Knows new config past) same_past (known_by_parts dealt new config (past_after config old.next_round (past_of config rounds) round) transactions calls known.0);
-      };
-      answered =
-          answers_from-push config config.first no_past rounds round
-          ∙ ap (λ n. answers config rounds ++ answer config n (past_of config rounds) round ∷ []) (sym before.number)
-          ∙ ap (λ os. answers config rounds ++ os ∷ []) (sym known.1);
-    }
+        transactions =
+            subst (λ cut. HoldTransactions (shard_of cut) led.0 (past_of config (rounds ++ round ∷ [])).transactions) (sym same_cut)
+            (subst (λ p. HoldTransactions (shard_of old.cut) led.0 p.transactions) same_past (led.2.transactions config past before.shared before.transactions before.calls));
+        calls =
+            subst (λ calls. HoldCalls calls (shard_of new.cut) led.0 (past_of config (rounds ++ round ∷ [])).calls) (sym same_calls)
+            (subst (λ cut. HoldCalls old.calls (shard_of cut) led.0 (past_of config (rounds ++ round ∷ [])).calls) (sym same_cut)
+            (subst (λ p. HoldCalls old.calls (shard_of old.cut) led.0 p.calls) same_past (led.2.calls config past before.shared before.transactions before.calls)));
+      },
+      answers_from-push config config.first no_past rounds round
+      ∙ ap (λ n. answers config rounds ++ answer config n past round ∷ []) (sym before.number)
+      ∙ ap (λ os. answers config rounds ++ os ∷ []) (sym (led.2.answered config past before.shared before.transactions before.calls)),
+    )
 
 -- ---- the first round that is refused
 

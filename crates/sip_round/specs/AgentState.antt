@@ -1,18 +1,30 @@
 -- What an agent shows between its rounds, and when it refuses one before anything is done.
-use Rattle.std.specs.Prelude.{ℕ, ◌^◌, Bool, nat_lt, Option, None, Some, length, if◌then◌else◌}
-use Rattle.sip_calls.specs.CallShard.{HeldCalls}
-use Rattle.sip_transactions.specs.Shard.{Lives}
+use Rattle.std.specs.Prelude.{◌≡◌, ℕ, ◌<◌, ◌≤◌, ◌^◌, nat_lt, List, Option, None, Some, length, is_some, if◌then◌else◌}
+use Rattle.sip_calls.specs.declared.call.Call.{Call}
+use Rattle.sip_calls.specs.declared.calls.Calls.{Calls}
+use Rattle.sip_message.specs.declared.key.Key.{Key}
+use Rattle.sip_model.specs.Table.{Held}
+use Rattle.sip_transactions.specs.declared.life.Life.{Life}
 use Rattle.sip_round.specs.declared.round_fault.RoundFault.{RoundFault}
 use Rattle.sip_round.specs.declared.round_fault.RoundFault.TheVariants.{Broken, MomentBackwards, MomentTooLarge, TooManyEvents, RoundsUsedUp}
-use Rattle.sip_files.specs.declared.round.Round.{Round}
+use Rattle.sip_round.specs.declared.round.Round.{Round}
 
--- the number of the next round, the moment of the last one, and what is held
-pub record AgentState : Type 0 where
+-- the tables of the shards, in order
+pub record ShardTables : Type 0 where
+  pub transactions : List (Held Key Life)
+  pub calls : List (Held (List ℕ) Call)
+
+-- at least one shard, and at most 256; each has a table of both kinds
+abbrev pub AreShards : ShardTables → Type 0
+AreShards shards = (0 < length shards.transactions) × (length shards.transactions ≤ 256) × (length shards.calls ≡ length shards.transactions)
+
+-- what the calls share, how names are cut, the number of the next round, the moment of the last one, and the shards; a broken agent has none
+pub record AgentState (C : Type 0) : Type 0 where
+  pub calls : Calls
+  pub cut : C
   pub next_round : ℕ
   pub last_moment : ℕ
-  pub broken : Bool
-  pub transactions : Lives
-  pub calls : HeldCalls
+  pub shards : Option ShardTables
 
 -- why a round is no round after that moment and of that number: the first fault that fits; moments and numbers of rounds are at most 2^62
 abbrev pub round_fault : ℕ → ℕ → Round → Option RoundFault
@@ -24,5 +36,5 @@ round_fault last number round =
     else None
 
 -- the first refusal that fits
-abbrev pub refusal_of : AgentState → Round → Option RoundFault
-refusal_of agent round = if agent.broken then Some Broken else round_fault agent.last_moment agent.next_round round
+abbrev pub refusal_of : {C : Type 0} → AgentState C → Round → Option RoundFault
+refusal_of agent round = if is_some agent.shards then round_fault agent.last_moment agent.next_round round else Some Broken

@@ -1,68 +1,96 @@
 -- What rounds answer: the tables folded over each transaction's and each call's own inputs alone, in stamp order.
-use Rattle.std.specs.Prelude.{suc, ◌≡◌, ℕ, ◌+◌, false, List, [], ◌∷◌, ◌++◌, length, Option, Some, None}
+use Rattle.std.specs.Prelude.{suc, ◌≡◌, ℕ, ◌+◌, zero, List, [], ◌∷◌, ◌++◌, length, Option, Some, None}
 use Rattle.std.specs.List.{flat_map}
+use Rattle.sip_message.specs.declared.addr.Addr.{Addr}
 use Rattle.sip_message.specs.declared.id.Id.{Id}
-use Rattle.sip_message.specs.Key.{key_cmp}
+use Rattle.sip_message.specs.declared.key.Key.{Key}
+use Rattle.sip_message.specs.Key.{key_cmp, branch_in}
+use Rattle.sip_model.specs.Phase.{Phase, Told, told_next}
+use Rattle.sip_model.specs.Shards.{HoldFrom}
 use Rattle.sip_transactions.specs.declared.input.Command.{Command}
 use Rattle.sip_transactions.specs.declared.input.Timed.{Timed}
+use Rattle.sip_transactions.specs.declared.output.Out.{Out}
+use Rattle.sip_transactions.specs.Machine.{transaction_machine, tick_at}
 use Rattle.sip_served.specs.declared.item.Item.{Item}
 use Rattle.sip_served.specs.declared.item.CallOut.{CallOut}
 use Rattle.sip_calls.specs.declared.calls.Calls.{Calls}
 use Rattle.sip_calls.specs.declared.calls.CallInput.{CallInput}
+use Rattle.sip_calls.specs.Call.{call_machine, tick_input}
 use Rattle.sip_calls.specs.CallShard.{call_cmp}
 use Rattle.sip_round.specs.declared.arrival.Arrival.{Arrival}
-use Rattle.sip_files.specs.declared.config.Config.{Config}
-use Rattle.sip_files.specs.declared.output.Output.{Output}
-use Rattle.sip_files.specs.declared.round.Round.{Round}
+use Rattle.sip_round.specs.declared.config.Config.{Config}
+use Rattle.sip_round.specs.declared.output.Output.{Output}
+use Rattle.sip_round.specs.declared.round.Round.{Round}
 use Rattle.sip_round.specs.declared.round_fault.RoundFault.{RoundFault}
-use Rattle.sip_round.specs.AgentState.{AgentState, round_fault}
+use Rattle.sip_round.specs.AgentState.{AgentState, ShardTables, round_fault}
 use Rattle.sip_round.specs.Arrivals.{arrivals_from}
-use Rattle.sip_round.specs.Feeding.{HoldsLives, HoldsCalls}
-use Rattle.sip_model.specs.Inputs.{Inputs}
-use Rattle.sip_round.specs.Past.{Past, no_past}
-use Rattle.sip_round.specs.Phases.{sent_of, raised_of, shown_of, command_of, with_arrivals, sent_by_arrivals, items_by_arrivals, ticked_transactions, added_by_ticks, tick_id, with_call_items, added_by_call_items, ticked_calls, added_by_call_ticks, with_commands, added_by_commands}
+use Rattle.sip_round.specs.Outputs.{sent_of, raised_of, shown_of, command_of, joined, all_said, said_at, outs_of, user_items}
+use Rattle.sip_round.specs.Parts.{owner_of}
+use Rattle.sip_round.specs.Phases.{first_phase, second_phase, third_phase}
 
 -- what all calls of an agent share
 abbrev pub calls_of : Config → Calls
 calls_of config = record { local = config.local; seed = config.seed }
 
+-- all phases that the transactions and the calls were led through, oldest first
+pub record Past : Type 0 where
+  pub transactions : List (Phase Key Timed)
+  pub calls : List (Phase (List ℕ) CallInput)
+
+-- ---- one phase, after others
+
+abbrev pub said_by_transactions : List (Phase Key Timed) → Phase Key Timed → Told Key Out
+said_by_transactions = told_next key_cmp transaction_machine tick_at
+
+abbrev pub said_by_calls : Calls → List (Phase (List ℕ) CallInput) → Phase (List ℕ) CallInput → Told (List ℕ) CallOut
+said_by_calls calls = told_next call_cmp (call_machine calls) tick_input
+
+-- what the first phase sends and drops: at the ticks, and then by place
+abbrev pub sent_first : Told Key Out → List (Id × Arrival) → List Output
+sent_first told arrivals = flat_map sent_of (joined told.ticks) ++ flat_map (λ a. flat_map sent_of (outs_of (said_at told) a.0 a.1)) arrivals
+
+-- the items of the calls: what comes up at the ticks, with place 0, and then what comes up and the user's commands, by place
+abbrev pub items_first : ℕ → Told Key Out → List (Id × Arrival) → List (Id × Item)
+items_first number told arrivals =
+    flat_map (raised_of (record { round = number; place = 0 })) (joined told.ticks)
+    ++ flat_map (λ a. flat_map (raised_of a.0) (outs_of (said_at told) a.0 a.1) ++ user_items a.0 a.1) arrivals
+
 -- ---- one round of this number, after a past
 
 module _ (config : Config) (number : ℕ) (past : Past) (round : Round) where
   abbrev pub arrivals : List (Id × Arrival)
-  arrivals = arrivals_from number 1 round.events
+  arrivals = arrivals_from config.local number 1 round.events
 
-  -- the transactions after the first phase, and what they send and drop
-  unfoldable pub after_first : Inputs key_cmp Timed
-  after_first = with_arrivals config.local round.moment (ticked_transactions round.moment past.transactions) arrivals
+  unfoldable pub first : Phase Key Timed
+  first = first_phase round.moment arrivals
 
-  unfoldable pub sent_first : List Output
-  sent_first = flat_map sent_of (added_by_ticks round.moment past.transactions) ++ sent_by_arrivals config.local round.moment (ticked_transactions round.moment past.transactions) arrivals
-
-  -- what comes up at ticks, with place 0, and then what comes up and the user's commands, by place
   unfoldable pub items_of_round : List (Id × Item)
-  items_of_round = flat_map (raised_of (tick_id number)) (added_by_ticks round.moment past.transactions) ++ items_by_arrivals config.local round.moment (ticked_transactions round.moment past.transactions) arrivals
+  items_of_round = items_first number (said_by_transactions past.transactions first) arrivals
 
-  -- the calls after the second phase, and all that they give
-  unfoldable pub after_second : Inputs call_cmp CallInput
-  after_second = with_call_items (calls_of config) round.moment (ticked_calls (calls_of config) round.moment past.calls) items_of_round
+  unfoldable pub second : Phase (List ℕ) CallInput
+  second = second_phase round.moment items_of_round
 
   unfoldable pub given_second : List CallOut
-  given_second = added_by_call_ticks (calls_of config) round.moment past.calls ++ added_by_call_items (calls_of config) round.moment (ticked_calls (calls_of config) round.moment past.calls) items_of_round
+  given_second = all_said (said_by_calls (calls_of config) past.calls second)
 
   -- the commands for transactions, in the order in which the calls give them
-  unfoldable pub commands_of_round : List (Id × Command)
-  commands_of_round = flat_map command_of given_second
+  unfoldable pub third : Phase Key Timed
+  third = third_phase round.moment (flat_map command_of given_second)
 
-  -- all that was given after the round: the commands come last
+  -- all phases so far: the transactions had two in this round
   unfoldable pub past_after : Past
-  past_after = record { transactions = with_commands round.moment after_first commands_of_round; calls = after_second }
+  past_after = record { transactions = (past.transactions ++ first ∷ []) ++ third ∷ []; calls = past.calls ++ second ∷ [] }
 
   -- sends and drops of the first phase, notices and direct sends of the second, sends of the third
   unfoldable pub answer : List Output
-  answer = (sent_first ++ flat_map shown_of given_second) ++ flat_map sent_of (added_by_commands round.moment after_first commands_of_round)
+  answer =
+      (sent_first (said_by_transactions past.transactions first) arrivals ++ flat_map shown_of given_second)
+      ++ flat_map sent_of (all_said (said_by_transactions (past.transactions ++ first ∷ []) third))
 
 -- ---- whole lists of rounds
+
+abbrev pub no_past : Past
+no_past = record { transactions = []; calls = [] }
 
 -- the past after rounds of which the first has this number, and their answers
 abbrev pub past_from : Config → ℕ → Past → List Round → Past
@@ -101,21 +129,19 @@ refused config rounds = refused_from config.first 0 0 rounds
 
 -- ---- what an agent is after rounds
 
--- the two layers hold just the states after this past
-pub record Knows (agent : AgentState) (config : Config) (past : Past) : Type 0 where
-  pub local : agent.transactions.local ≡ config.local
-  pub shared : agent.calls.calls ≡ calls_of config
-  pub transactions : HoldsLives agent.transactions past.transactions
-  pub calls : HoldsCalls (calls_of config) agent.calls past.calls
+-- each shard's tables hold the states that the past leaves of the keys that the cut names for it, and nothing else: transactions are cut by their branch, calls by their Call-ID
+abbrev pub HoldTransactions : (List ℕ → ℕ → ℕ) → ShardTables → List (Phase Key Timed) → Type 0
+HoldTransactions shard_of shards past = HoldFrom key_cmp transaction_machine tick_at (owner_of shard_of branch_in (length shards.transactions)) zero shards.transactions past
 
--- whatever past the agent knew, it knows that past with this round, and the outputs are those of the round
-abbrev pub Deals : AgentState → AgentState → Round → List Output → Type 0
-Deals old new round outputs = (config : Config) (past : Past) → Knows old config past
-    → Knows new config (past_after config old.next_round past round) × (outputs ≡ answer config old.next_round past round)
+abbrev pub HoldCalls : Calls → (List ℕ → ℕ → ℕ) → ShardTables → List (Phase (List ℕ) CallInput) → Type 0
+HoldCalls calls shard_of shards past = HoldFrom call_cmp (call_machine calls) tick_input (owner_of shard_of (λ call_id. call_id) (length shards.calls)) zero shards.calls past
 
 -- the agent isn't broken, is at the round and the moment after these rounds, and holds just what their past leaves
-pub record StandsFor (agent : AgentState) (config : Config) (rounds : List Round) : Type 0 where
-  pub sound : agent.broken ≡ false
+pub record StandsFor {C : Type 0} (shard_of : C → List ℕ → ℕ → ℕ) (agent : AgentState C) (config : Config) (rounds : List Round) : Type 0 where
+  pub shards : ShardTables
+  pub sound : agent.shards ≡ Some shards
+  pub shared : agent.calls ≡ calls_of config
   pub number : agent.next_round ≡ config.first + length rounds
   pub moment : agent.last_moment ≡ last_moment rounds
-  pub knows : Knows agent config (past_of config rounds)
+  pub transactions : HoldTransactions (shard_of agent.cut) shards (past_of config rounds).transactions
+  pub calls : HoldCalls agent.calls (shard_of agent.cut) shards (past_of config rounds).calls

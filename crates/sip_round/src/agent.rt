@@ -1,16 +1,26 @@
 //! An agent: its transactions and its calls, led through rounds.
 
-ghost use Rattle.std.specs.Prelude.{◌≡◌, ◌+◌, ◌++◌, ◌∷◌, ◌≤◌, ◌^◌, IfOk, IfSome, OnErr, OnOk, Some, None, Err, List, [], false, true, length};
+ghost use Rattle.std.specs.Prelude.{◌≡◌, ◌⊎◌, ◌+◌, ◌++◌, ◌∷◌, ◌<◌, ◌≤◌, ◌^◌, IfOk, IfSome, OnErr, OnOk, Some, None, Err, List, [], false, true, length, map};
+ghost use Rattle.sip_message.specs.Key.{branch_in};
+ghost use Rattle.sip_round.specs.Arrivals.{arrivals_from};
+ghost use Rattle.sip_round.specs.Arrived.{IsArrived};
+ghost use Rattle.sip_round.specs.Parts.{owner_of};
 
 use crate::arrival::arrivals_of;
-use crate::phases::{first_phase, second_phase, third_phase};
+use crate::config::Config;
+use crate::output::Output;
+use crate::parts::parts_of;
+use crate::phases::{Arrived, Ground};
+use crate::round::Round;
 use crate::round_fault::RoundFault;
-use sip_calls::CallShard;
-use sip_files::{Config, Output, Round};
-use sip_model::ShardFault;
-use sip_transactions::Shard;
-use std::alloc::Global;
+use crate::shards::Shards;
+use crate::waiting::split;
+use sip_calls::Calls;
+use sip_message::Cut;
+use sip_workers::{Gate, NoMemory};
+use std::alloc::{AllocError, Global};
 use std::marker::Model;
+use std::thread::Threads;
 
 /// The greatest moment in ms, and the greatest round number.
 pub const MAX_MOMENT: u64 = 1 << 62;
@@ -18,101 +28,130 @@ pub const MAX_MOMENT: u64 = 1 << 62;
 /// How many events a round has at most.
 pub const MAX_EVENTS_OF_ROUND: usize = 65_536;
 
-/// The transactions and the calls of one user agent, led through rounds.
+/// The transactions and the calls of one user agent, in shards, led through rounds.
 ///
 /// After a round answered `NoMemory` with `broken` it holds nothing, and every later round is refused as `Broken`.
-#[derive(Drop)]
-pub struct Agent {
+pub struct Agent<C: Cut> {
     alloc: Global,
+    cut: C,
+    calls: Calls,
     next_round: u64,
     last_moment: u64,
-    broken: bool,
-    transactions: Shard,
-    calls: CallShard,
+    shards: Option<Shards>,
 }
 
-impl Model for Agent {
+impl<C: Cut> Model for Agent<C> {
     ghost use Rattle.sip_round.specs.AgentState.{AgentState};
 
-    ghost Value = { AgentState };
+    ghost Value = { AgentState C };
 
     ghost view = { λ a. record {
+      calls = a.calls;
+      cut = a.cut;
       next_round = a.next_round;
       last_moment = a.last_moment;
-      broken = a.broken;
-      transactions = a.transactions;
-      calls = a.calls;
+      shards = a.shards;
     } };
 }
 
-impl Agent {
-    ghost use Rattle.sip_round.specs.AgentState.{refusal_of};
-    ghost use Rattle.sip_round.specs.Answers.{Deals, StandsFor, answers, past_of};
-    ghost use Rattle.sip_round.specs.Live.{live_of};
-    ghost use Rattle.sip_files.specs.declared.config.Config.{Config};
-    ghost use Rattle.sip_files.specs.declared.round.Round.{Round};
+impl<C: Cut + Drop> Drop for Agent<C> {
+    fn drop(self) {
+        let Agent {
+            alloc: _,
+            cut: _,
+            calls: _,
+            next_round: _,
+            last_moment: _,
+            shards: _,
+        } = self;
+    }
+}
 
-    /// An agent before its first round. Takes no memory.
-    pub fn new(alloc: Global, config: Config) -> Agent
-        ensures first { result.next_round ≡ config.first }
-        ensures unmoved { result.last_moment ≡ 0 }
-        ensures sound { result.broken ≡ false }
-        ensures transactions { result.transactions ≡ record { local = config.local; held = Some [] } }
-        ensures calls { result.calls ≡ record { calls = record { local = config.local; seed = config.seed }; held = Some [] } }
+impl<C: Cut + Drop> Agent<C> {
+    ghost use Rattle.sip_round.specs.AgentState.{ShardTables, refusal_of};
+    ghost use Rattle.sip_round.specs.Answers.{StandsFor, answers, past_of};
+    ghost use Rattle.sip_round.specs.Led.{Deals};
+    ghost use Rattle.sip_round.specs.Live.{live_of};
+    ghost use Rattle.sip_round.specs.declared.config.Config.{Config};
+    ghost use Rattle.sip_round.specs.declared.round.Round.{Round};
+    ghost use Rattle.sip_round.specs.declared.round_fault.RoundFault.TheVariants as round_fault;
+
+    /// An agent before its first round, of so many shards, among which names are cut so.
+    ///
+    /// # Errors
+    ///
+    /// `NoMemory`.
+    pub fn new(
+        alloc: Global,
+        config: Config,
+        shards: usize,
+        cut: C,
+    ) -> Result<Agent<C>, NoMemory>
+        requires some { 0 < shards }
+        requires most { shards ≤ 256 }
+        ensures { IfOk result (λ agent. StandsFor C.shard_of agent config []) }
     {
-        Agent {
+        let shards = Shards::new(alloc, shards)?;
+        let Config { local, seed, first } = config;
+        Ok(Agent {
             alloc,
-            next_round: config.first,
+            cut,
+            calls: Calls { local, seed },
+            next_round: first,
             last_moment: 0,
-            broken: false,
-            transactions: Shard::new(alloc, config.local),
-            calls: CallShard::new(alloc, config.local, config.seed),
-        }
+            shards: Some(shards),
+        })
     }
 
     /// How many transactions and how many calls are held.
     pub fn live(&self) -> (u128, u128)
-        ensures broken { self.now.broken ≡ true → result ≡ (0, 0) }
+        ensures broken { self.now.shards ≡ None → result ≡ (0, 0) }
 
         // Of an agent that stands for rounds: those that have begun and not ended.
-        ensures counts { (config : Config) (rounds : List Round) → StandsFor self.now config rounds → result ≡ live_of config (past_of config rounds) }
+        ensures counts { (config : Config) (rounds : List Round) → StandsFor C.shard_of self.now config rounds → result ≡ live_of config (past_of config rounds) }
     {
-        if self.broken {
-            return (0, 0);
+        match &self.shards {
+            None => (0, 0),
+            Some(shards) => shards.live(),
         }
-        (self.transactions.live() as u128, self.calls.live() as u128)
     }
 
-    /// Deals with the events of a round, and answers its outputs in stamp order.
+    /// Deals with the events of a round, on up to so many workers, and answers its outputs in stamp order. One worker starts no thread.
     ///
     /// # Errors
     ///
-    /// The first fault that fits. All but `NoMemory` leave the agent as it is.
-    pub fn run_round(&mut self, round: &Round) -> Result<Vec<Output>, RoundFault>
+    /// The first fault that fits. All but `NoMemory` with `broken` leave the agent as it is.
+    pub fn run_round<R: Threads + Sync, G: Gate>(
+        &mut self,
+        rt: &R,
+        round: &Round,
+        workers: usize,
+        gate: &G,
+    ) -> Result<Vec<Output>, RoundFault>
+        requires some { 0 < workers }
+        requires most { workers ≤ 64 }
         ensures refused { IfSome (refusal_of self.old round.now) (λ fault. (result ≡ Err fault) × (self.new ≡ self.old)) }
-        ensures counted { refusal_of self.old round.now ≡ None → OnOk result (self.new.next_round ≡ self.old.next_round + 1) }
-        ensures moved { refusal_of self.old round.now ≡ None → OnOk result (self.new.last_moment ≡ round.now.moment) }
-        ensures sound { refusal_of self.old round.now ≡ None → OnOk result (self.new.broken ≡ false) }
-        ensures memory { refusal_of self.old round.now ≡ None → OnErr result (result ≡ Err (RoundFault.NoMemory true)) }
-        ensures broken { refusal_of self.old round.now ≡ None → OnErr result (self.new.broken ≡ true) }
+        ensures memory { refusal_of self.old round.now ≡ None → OnErr result ((result ≡ Err (round_fault.NoMemory false)) ⊎ (result ≡ Err (round_fault.NoMemory true))) }
+        ensures unbroken { result ≡ Err (round_fault.NoMemory false) → self.new ≡ self.old }
+        ensures broken { result ≡ Err (round_fault.NoMemory true) → self.new.shards ≡ None }
 
         // Whatever rounds the agent stood for, it stands for these and this one, and answers as this one is answered after them.
-        ensures answers { IfOk result (λ outputs. (config : Config) (rounds : List Round) → StandsFor self.old config rounds
-            → StandsFor self.new config (rounds ++ round.now ∷ []) × (answers config (rounds ++ round.now ∷ []) ≡ answers config rounds ++ outputs.items ∷ [])) }
+        ensures answers { IfOk result (λ outputs. (config : Config) (rounds : List Round) → StandsFor C.shard_of self.old config rounds
+            → StandsFor C.shard_of self.new config (rounds ++ round.now ∷ []) × (answers config (rounds ++ round.now ∷ []) ≡ answers config rounds ++ outputs.items ∷ [])) }
     {
         if let Some(fault) = self.refusal(round) {
             return Err(fault);
         }
-        match self.deal(round) {
+        let Ok(arrived) = self.arrived(round) else {
+            return Err(RoundFault::NoMemory { broken: false });
+        };
+        match self.deal(rt, round, arrived, workers, gate) {
             Ok(outputs) => {
                 self.next_round += 1;
                 self.last_moment = round.moment;
                 Ok(outputs)
             }
-            Err(_) => {
-                self.broken = true;
-                Err(RoundFault::NoMemory { broken: true })
-            }
+            Err(_) => Err(RoundFault::NoMemory { broken: true }),
         }
     }
 
@@ -120,7 +159,7 @@ impl Agent {
     fn refusal(&self, round: &Round) -> Option<RoundFault>
         ensures { result ≡ refusal_of self.now round.now }
     {
-        if self.broken {
+        if self.shards.is_none() {
             Some(RoundFault::Broken)
         } else if round.moment < self.last_moment {
             Some(RoundFault::MomentBackwards)
@@ -135,36 +174,56 @@ impl Agent {
         }
     }
 
-    // The three phases: the transactions take ticks, datagrams and failures; the calls take ticks, what came up and the user's
-    // commands; the transactions take the commands of the calls.
-    fn deal(&mut self, round: &Round) -> Result<Vec<Output>, ShardFault>
-        requires moment { round.now.moment ≤ 2 ^ 62 }
+    // What arrived in the round, read and stamped, and cut into the parts of the shards.
+    fn arrived(&self, round: &Round) -> Result<Arrived, AllocError>
         requires places { length round.now.events ≤ 65536 }
+        ensures { IfOk result (λ arrived. IfSome self.now.shards (λ shards. IsArrived (owner_of (C.shard_of self.now.cut) branch_in (length shards.transactions)) (length shards.transactions) round.now.moment
+            (arrivals_from self.now.calls.local self.now.next_round 1 round.now.events) (map (λ part. part.items) arrived.parts.items) arrived.waiting.items)) }
+    {
+        let Some(shards) = &self.shards else {
+            return Err(AllocError);
+        };
+        let events = round.events.as_slice();
+        let arrivals = arrivals_of(self.alloc, self.calls.local, self.next_round, events)?;
+        let (items, waiting) = split(self.alloc, round.moment, arrivals)?;
+        let parts = parts_of(self.alloc, &self.cut, items, shards.count())?;
+        Ok(Arrived { parts, waiting })
+    }
+
+    // Leads the shards through the three phases. Where memory is refused they are lost.
+    fn deal<R: Threads + Sync, G: Gate>(
+        &mut self,
+        rt: &R,
+        round: &Round,
+        arrived: Arrived,
+        workers: usize,
+        gate: &G,
+    ) -> Result<Vec<Output>, NoMemory>
+        requires some { 0 < workers }
+        requires most { workers ≤ 64 }
+        requires moment { round.now.moment ≤ 2 ^ 62 }
+        requires arrived { IfSome self.old.shards (λ shards. IsArrived (owner_of (C.shard_of self.old.cut) branch_in (length shards.transactions)) (length shards.transactions) round.now.moment
+            (arrivals_from self.old.calls.local self.old.next_round 1 round.now.events) (map (λ part. part.items) arrived.parts.items) arrived.waiting.items) }
+        ensures calls { self.new.calls ≡ self.old.calls }
+        ensures cut { self.new.cut ≡ self.old.cut }
         ensures number { self.new.next_round ≡ self.old.next_round }
         ensures moment { self.new.last_moment ≡ self.old.last_moment }
-        ensures broken { self.new.broken ≡ self.old.broken }
-        ensures answers { IfOk result (λ outputs. Deals self.old self.new round.now outputs.items) }
+        ensures lost { OnErr result (self.new.shards ≡ None) }
+        ensures deals { IfOk result (λ outputs. (shards : ShardTables) → self.old.shards ≡ Some shards → (led : ShardTables) × (self.new.shards ≡ Some led) × Deals self.old.calls (C.shard_of self.old.cut) self.old.next_round round.now shards led outputs.items) }
     {
-        let now = round.moment;
-        let number = self.next_round;
-        let arrivals = arrivals_of(self.alloc, number, round.events.as_slice())?;
-        let mut outputs = Vec::new(self.alloc);
-        let items = first_phase(
-            self.alloc,
-            &mut self.transactions,
-            number,
-            now,
-            arrivals,
-            &mut outputs,
-        )?;
-        let commands = second_phase(self.alloc, &mut self.calls, now, items, &mut outputs)?;
-        third_phase(
-            self.alloc,
-            &mut self.transactions,
-            now,
-            commands,
-            &mut outputs,
-        )?;
+        let Some(shards) = self.shards.take() else {
+            return Err(NoMemory);
+        };
+        let ground = Ground {
+            rt,
+            alloc: self.alloc,
+            cut: &self.cut,
+            workers,
+            gate,
+        };
+        let (shards, outputs) =
+            ground.round(self.calls, self.next_round, round, shards, arrived)?;
+        self.shards = Some(shards);
         Ok(outputs)
     }
 }

@@ -4,69 +4,94 @@ ghost use Rattle.std.specs.Prelude.{◌≡◌, ◌≤◌, IfOk, length};
 ghost use Rattle.sip_reader.specs.ReadMessage.{message_at};
 ghost use Rattle.sip_round.specs.Arrivals as arrivals;
 
-use sip_files::Event;
-use sip_message::{Addr, Id, Key, Message, ReadFault, stamp_source};
+use crate::round::Event;
+use sip_message::{Addr, Id, Key, Message, ReadFault, key_of, stamp_source};
 use sip_reader::read;
 use sip_served::UserCommand;
+use sip_transactions::{DropReason, Input, is_stray};
 use std::alloc::{AllocError, Global};
 
-/// An event, with its datagram read and stamped.
+/// What an event is for the transactions and the calls, with its datagram read and stamped.
 #[derive(Drop)]
 pub(crate) enum Arrival {
-    /// A message, a request with its source stamped, and the address that its answers go to.
-    Message(Message, Addr),
-    /// A datagram that is no message.
-    Unreadable(ReadFault),
-    Failed(Key),
-    Command(UserCommand),
+    /// An input of the transaction of this key: a message, or a failed send.
+    Transaction(Key, Input),
+    /// A datagram that is no message, or a response to another sender.
+    Dropped(DropReason),
+    /// A command of the user, for its call.
+    User(UserCommand),
 }
 
 /// The arrivals of the events of the round of this number, each with the id of its event, by place.
 pub(crate) fn arrivals_of(
     alloc: Global,
+    local: Addr,
     round: u64,
     events: &[Event],
 ) -> Result<Vec<(Id, Arrival)>, AllocError>
     requires { length events.now ≤ 65536 }
-    ensures { IfOk result (λ made. made.items ≡ arrivals.arrivals_from round 1 events.now) }
+    ensures { IfOk result (λ made. made.items ≡ arrivals.arrivals_from local round 1 events.now) }
 {
     let mut made = Vec::with_capacity(alloc, events.len())?;
     let mut place = 0;
     for event in events {
         place += 1;
-        made.push((Id { round, place }, arrival_of(alloc, event)?))?;
+        let id = Id { round, place };
+        made.push((id, arrival_of(alloc, local, id, event)?))?;
     }
     Ok(made)
 }
 
 #[tactic(auto, unfolding(crate::specs::Arrivals::arrival_of))]
-fn arrival_of(alloc: Global, event: &Event) -> Result<Arrival, AllocError>
-    ensures { IfOk result (λ arrival. arrival ≡ arrivals.arrival_of event.now) }
+fn arrival_of(alloc: Global, local: Addr, id: Id, event: &Event) -> Result<Arrival, AllocError>
+    ensures { IfOk result (λ arrival. arrival ≡ arrivals.arrival_of local id event.now) }
 {
     match event {
-        Event::Datagram { from, bytes } => arrived(alloc, *from, bytes.as_slice()),
-        Event::Failed(key) => Ok(Arrival::Failed(key.clone()?)),
-        Event::Command(command) => Ok(Arrival::Command(command.clone()?)),
+        Event::Datagram { from, bytes } => arrived(alloc, local, id, *from, bytes.as_slice()),
+        Event::Failed(key) => Ok(Arrival::Transaction(key.clone()?, Input::Failed { id })),
+        Event::Command(command) => Ok(Arrival::User(command.clone()?)),
     }
 }
 
-fn arrived(alloc: Global, from: Addr, bytes: &[u8]) -> Result<Arrival, AllocError>
-    ensures { IfOk result (λ arrival. arrival ≡ arrivals.datagram_arrival from (message_at bytes.now)) }
+fn arrived(
+    alloc: Global,
+    local: Addr,
+    id: Id,
+    from: Addr,
+    bytes: &[u8],
+) -> Result<Arrival, AllocError>
+    ensures { IfOk result (λ arrival. arrival ≡ arrivals.datagram_arrival local id from (message_at bytes.now)) }
 {
     match read(alloc, bytes) {
-        Ok(message) => stamped(alloc, from, message),
+        Ok(message) => taken(alloc, local, id, from, message),
         Err(ReadFault::NoMemory) => Err(AllocError),
-        Err(fault) => Ok(Arrival::Unreadable(fault)),
+        Err(fault) => Ok(Arrival::Dropped(DropReason::Unreadable(fault))),
     }
 }
 
 // The source is stamped on requests alone.
-fn stamped(alloc: Global, from: Addr, mut message: Message) -> Result<Arrival, AllocError>
-    ensures { IfOk result (λ arrival. arrival ≡ arrivals.stamped_arrival from message) }
+#[tactic(auto, unfolding(crate::specs::Arrivals::message_arrival))]
+fn taken(
+    alloc: Global,
+    local: Addr,
+    id: Id,
+    from: Addr,
+    mut message: Message,
+) -> Result<Arrival, AllocError>
+    ensures { IfOk result (λ arrival. arrival ≡ arrivals.message_arrival local id from message) }
 {
-    if !message.is_request() {
-        return Ok(Arrival::Message(message, from));
+    if is_stray(local, &message) {
+        return Ok(Arrival::Dropped(DropReason::NotOurs));
     }
-    let reply_to = stamp_source(alloc, &mut message, from)?;
-    Ok(Arrival::Message(message, reply_to))
+    let mut reply_to = from;
+    if message.is_request() {
+        reply_to = stamp_source(alloc, &mut message, from)?;
+    }
+    let key = key_of(alloc, &message)?;
+    let input = Input::Receive {
+        id,
+        message,
+        reply_to,
+    };
+    Ok(Arrival::Transaction(key, input))
 }

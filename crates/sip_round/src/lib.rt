@@ -1,19 +1,28 @@
-//! Rounds of events, and the replay of event files.
+//! Rounds of events, over any number of shards and workers.
 #![tactic(auto)]
 
 mod agent;
 mod arrival;
-mod file_replay;
+mod config;
+mod dealing;
+mod inputs;
 mod laws;
+mod output;
+mod outs;
+mod parts;
+mod phase;
 mod phases;
+mod round;
 mod round_fault;
+mod shards;
+mod waiting;
 mod whole_run;
 
 pub use agent::{Agent, MAX_EVENTS_OF_ROUND, MAX_MOMENT};
-pub use file_replay::{ReplayFault, replay};
-pub use laws::one_request_up_in_rounds;
+pub use config::Config;
+pub use laws::one_request_in_each_life;
+pub use output::Output;
+pub use round::{Event, Round};
 pub use round_fault::RoundFault;
-pub use sip_files::{
-    Config, Event, EventsFault, MAX_EVENTS, Output, Round, read_events, write_outputs,
-};
+pub use sip_workers::{Gate, NoMemory};
 pub use whole_run::run;

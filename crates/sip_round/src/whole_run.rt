@@ -1,32 +1,49 @@
 //! A run: all rounds of one agent.
 
-ghost use Rattle.std.specs.Prelude.{◌≡◌, ◌⊎◌, IfOk, IfErr, None, Some, map, true};
+ghost use Rattle.std.specs.Prelude.{◌≡◌, ◌⊎◌, ◌<◌, ◌≤◌, Bool, IfOk, IfErr, None, Some, map};
 ghost use Rattle.sip_round.specs.Answers as answers;
 ghost use Rattle.sip_round.specs.declared.round_fault.RoundFault.TheVariants as round_fault;
 
 use crate::agent::Agent;
+use crate::config::Config;
+use crate::output::Output;
+use crate::round::Round;
 use crate::round_fault::RoundFault;
-use sip_files::{Config, Output, Round};
-use std::alloc::{AllocError, Global};
+use sip_message::Cut;
+use sip_workers::Gate;
+use std::alloc::Global;
+use std::thread::Threads;
 
-/// The outputs of each round, from an agent that begins with this configuration.
+/// The outputs of each round, from an agent that begins with this configuration, of so many shards among which names are cut so, on
+/// up to so many workers.
 ///
 /// # Errors
 ///
-/// The first round that is refused, by its index from 0, with its fault.
-pub fn run(
+/// The first round that is refused, by its index from 0, with its fault. Where the agent itself found no memory, the index is 0.
+pub fn run<R: Threads + Sync, C: Cut + Drop, G: Gate>(
+    rt: &R,
     alloc: Global,
     config: Config,
+    shards: usize,
+    workers: usize,
+    cut: C,
+    gate: &G,
     rounds: &[Round],
 ) -> Result<Vec<Vec<Output>>, (usize, RoundFault)>
+    requires some_shard { 0 < shards }
+    requires most_shards { shards ≤ 256 }
+    requires some_worker { 0 < workers }
+    requires most_workers { workers ≤ 64 }
     ensures answers { IfOk result (λ made. map (λ outputs. outputs.items) made.items ≡ answers.answers config rounds.now) }
     ensures unrefused { IfOk result (λ made. answers.refused config rounds.now ≡ None) }
-    ensures refused { IfErr result (λ fault. (fault.1 ≡ round_fault.NoMemory true) ⊎ (answers.refused config rounds.now ≡ Some fault)) }
+    ensures refused { IfErr result (λ fault. ((broken : Bool) × (fault.1 ≡ round_fault.NoMemory broken)) ⊎ (answers.refused config rounds.now ≡ Some fault)) }
 {
-    let mut agent = Agent::new(alloc, config);
+    let Ok(mut agent) = Agent::new(alloc, config, shards, cut) else {
+        return Err((0, RoundFault::NoMemory { broken: true }));
+    };
     let mut made = Vec::new(alloc);
     for (index, round) in rounds.iter().enumerate() {
-        let outputs = match agent.run_round(round) {
+        let outputs = match agent.run_round(rt, round, workers, gate) {
             Ok(outputs) => outputs,
             Err(fault) => return Err((index, fault)),
         };

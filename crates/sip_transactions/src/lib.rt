@@ -16,8 +16,10 @@ mod stray;
 mod timers;
 mod trigger;
 
-pub use input::Command;
+pub use input::{Command, Input, Timed};
+pub use machine::Transactions;
 pub use output::{DropReason, Kind, Out, Up};
 pub use shard::Shard;
 pub use sip_model::ShardFault;
 pub use state::State;
+pub use stray::is_stray;

@@ -193,6 +193,7 @@ fn begin_by_message(
 }
 
 /// The machine of every transaction.
+#[derive(Clone, Copy)]
 pub struct Transactions;
 
 impl StateMachine for Transactions {

@@ -3,8 +3,8 @@ use Rattle.std.proofs.Common.{◌≡◌, ◌≢◌, ℕ, Ok, Err, Result, sym, �
 use Rattle.std.specs.Prelude.{MatchResult, OnOk, IfErr}
 use Rattle.sip_files.specs.declared.events_fault.EventsFault.TheVariants.{TooLong, BadVersion, BadLine, NoMemory}
 use Rattle.sip_round.specs.declared.round_fault.RoundFault.TheVariants as round_fault
-use Rattle.sip_round.specs.declared.file_replay.ReplayFault.{ReplayFault}
-use Rattle.sip_round.specs.declared.file_replay.ReplayFault.TheVariants as replay_fault
+use Rattle.sip_files.specs.declared.file_replay.ReplayFault.{ReplayFault}
+use Rattle.sip_files.specs.declared.file_replay.ReplayFault.TheVariants as replay_fault
 use Rattle.sip_ua.specs.Status.{fault_status}
 
 -- no fault has the status of success

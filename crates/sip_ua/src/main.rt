@@ -12,6 +12,7 @@ use std::process::ExitCode;
 fn main(rt: HostRuntime) -> ExitCode {
     let status = match words(&rt) {
         Ok(words) => ua(
+            &rt,
             rt.alloc(),
             words.as_slice(),
             &mut rt.stdin(),

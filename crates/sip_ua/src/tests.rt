@@ -19,6 +19,7 @@ use std::alloc::{AllocError, Global};
 use std::io::{self, Read, Write};
 use std::process::Abort;
 use std::test::Fail;
+use std::thread::Threads;
 
 const VERSION: &str = "sip-events 1";
 
@@ -53,10 +54,15 @@ fn lines(alloc: Global, lines: &[&str]) -> Result<Vec<u8>, AllocError> {
 }
 
 // The program, with these words and this input.
-fn run_on<R: Read>(alloc: Global, words: &[&str], input: &mut R) -> Ended {
+fn run_on<T: Threads + Sync, R: Read>(
+    rt: &T,
+    alloc: Global,
+    words: &[&str],
+    input: &mut R,
+) -> Ended {
     let mut output = Vec::new(alloc);
     let mut errors = Vec::new(alloc);
-    let status = ua(alloc, words, input, &mut output, &mut errors);
+    let status = ua(rt, alloc, words, input, &mut output, &mut errors);
     Ended {
         status,
         output,
@@ -65,15 +71,15 @@ fn run_on<R: Read>(alloc: Global, words: &[&str], input: &mut R) -> Ended {
 }
 
 // A run on the lines of an event file that ends well and writes the lines of this output file.
-fn replays(
-    rt: &impl Abort,
+fn replays<T: Abort + Threads + Sync>(
+    rt: &T,
     alloc: Global,
     input: &[&str],
     output: &[&str],
 ) -> Result<(), AllocError> {
     let input = lines(alloc, input)?;
     let output = lines(alloc, output)?;
-    let ended = run_on(alloc, ["replay"].as_slice(), &mut input.as_slice());
+    let ended = run_on(rt, alloc, ["replay"].as_slice(), &mut input.as_slice());
     assert!(rt; ended.status == 0);
     assert!(rt; ended.output.as_slice() == output.as_slice());
     assert!(rt; ended.errors.is_empty());
@@ -81,8 +87,14 @@ fn replays(
 }
 
 // A run that ends in this status, tells this fault and writes nothing.
-fn fails(rt: &impl Abort, alloc: Global, input: &str, status: u8, errors: &str) {
-    let ended = run_on(alloc, ["replay"].as_slice(), &mut input.as_bytes());
+fn fails<T: Abort + Threads + Sync>(
+    rt: &T,
+    alloc: Global,
+    input: &str,
+    status: u8,
+    errors: &str,
+) {
+    let ended = run_on(rt, alloc, ["replay"].as_slice(), &mut input.as_bytes());
     assert!(rt; ended.status == status);
     assert!(rt; ended.output.is_empty());
     assert!(rt; ended.errors.as_slice() == errors.as_bytes());
@@ -356,7 +368,7 @@ fn event_files_with_a_fault_are_refused(rt: HostRuntime) {
 
 #[test]
 fn words_that_name_no_command_are_refused(rt: HostRuntime) {
-    let ended = run_on(rt.alloc(), ["record"].as_slice(), &mut b"".as_slice());
+    let ended = run_on(&rt, rt.alloc(), ["record"].as_slice(), &mut b"".as_slice());
     assert!(rt; ended.status == 2);
     assert!(rt; ended.output.is_empty());
     assert!(rt; ended.errors.as_slice().starts_with(b"error: "));
@@ -405,7 +417,7 @@ fn a_reader_that_fails_is_told_and_nothing_written(rt: HostRuntime) {
             calls_left,
             bytes: Vec::new(rt.alloc()),
         };
-        let ended = run_on(rt.alloc(), ["replay"].as_slice(), &mut reader);
+        let ended = run_on(&rt, rt.alloc(), ["replay"].as_slice(), &mut reader);
         assert!(rt; ended.status == 4);
         assert!(rt; ended.output.is_empty());
         assert!(rt; ended.errors.as_slice() == b"ua: input failed\n".as_slice());
@@ -423,6 +435,7 @@ fn a_writer_that_fails_is_told_and_a_prefix_written(rt: HostRuntime) {
         };
         let mut errors = Vec::new(alloc);
         let status = ua(
+            &rt,
             alloc,
             ["replay"].as_slice(),
             &mut b"sip-events 1\nlocal 192.0.2.1:5060\n".as_slice(),

@@ -2,8 +2,9 @@
 
 use self::Line::{At, Bytes, Failed, Request, Respond, Response};
 use super::plain_fold::Past;
-use sip_message::{Addr, CallId, Id, Key, Reason, Token};
-use sip_round::{Config, Event, Output, Round, run, write_outputs};
+use sip_files::write_outputs;
+use sip_message::{Addr, CallId, Id, Key, Reason, Spread, Token};
+use sip_round::{Config, Event, Gate, Output, Round, run};
 use sip_served::Reliability::{self, Plain, Reliable};
 use sip_served::UserCommand;
 use sip_text::{Series, Text};
@@ -347,12 +348,19 @@ fn difference(
     Ok(None)
 }
 
+/// A gate that holds no piece of work up.
+struct Open;
+
+impl Gate for Open {
+    fn begin(&self, _shard: usize) {}
+}
+
 // `run` answers each round as the plain folds do: the same lines of an output file, sent by the same transactions.
 #[test]
 fn a_table_of_rounds_beside_plain_folds(rt: HostRuntime) -> Result<(), Fail> {
     let alloc = rt.alloc();
     let rounds = rounds(alloc)?;
-    let answers = run(alloc, CONFIG, rounds.as_slice())
+    let answers = run(&rt, alloc, CONFIG, 1, 1, Spread, &Open, rounds.as_slice())
         .ok()
         .ok_or("a round is refused")?;
     assert!(rt; answers.len() == rounds.len());

@@ -1,6 +1,6 @@
 use Rattle.std.proofs.Common.{◌≡◌, List, ◌++◌, ◌∷◌, [], Some, ap, sym, ◌∙◌}
-use Rattle.sip_files.specs.declared.round.Event.{Event}
-use Rattle.sip_files.specs.declared.round.Round.{Round}
+use Rattle.sip_round.specs.declared.round.Event.{Event}
+use Rattle.sip_round.specs.declared.round.Round.{Round}
 use Rattle.sip_files.proofs.Drafts.{with_event-last}
 use Rattle.sip_files.proofs.draft.in_last.Goals as goal
 

@@ -5,25 +5,24 @@ use Rattle.sip_round.proofs.SoFar.{at_start, one_more, ends, fine_where_ok}
 use Rattle.sip_round.proofs.whole_run.run.Goals as goal
 
 pub loop-index-init : goal.loop-index-init
-loop-index-init c =
-    at_start c.args.config c.args.rounds.now c.new-agent.result c.new-made.result.items c.new-agent.ensures.first c.new-agent.ensures.unmoved c.new-agent.ensures.sound c.new-agent.ensures.transactions c.new-agent.ensures.calls c.new-made.ensures.items
+loop-index-init g c = at_start g.C.Cut.shard_of c.args.config c.args.rounds.now c.in-Ok.agent c.new-made.result.items c.in-Ok.ensures c.new-made.ensures.items
 
 pub loop-index-preserved : goal.loop-index-preserved
-loop-index-preserved c =
-    one_more c.args.config c.args.rounds.now c.loop-index.index c.index-rounds-index.result c.loop-index.agent c.run_round.new.self c.loop-index.made.items c.push.new.self.items c.in-Ok.outputs
-    c.loop-index.invariant c.loop-index-test.true c.index-rounds-index.is (fine_where_ok _ _ c.run_round.result c.in-Ok.outputs c.in-Ok.is c.run_round.ensures.refused) c.in-Ok.ensures.answers c.in-Ok-push.ensures.items
+loop-index-preserved g c =
+    one_more g.C.Cut.shard_of c.args.config c.args.rounds.now c.loop-index.index c.index-rounds-index.result c.loop-index.agent c.run_round.new.self c.loop-index.made.items c.push.new.self.items c.in-Ok-run_round.outputs
+    c.loop-index.invariant c.loop-index-test.true c.index-rounds-index.is (fine_where_ok g.C.Cut.shard_of _ _ c.run_round.result c.in-Ok-run_round.outputs c.in-Ok-run_round.is c.run_round.ensures.refused) c.in-Ok-run_round.ensures.answers c.in-Ok-push.ensures.items
 
 pub returns-in-Err-clause-refused : goal.returns-in-Err-clause-refused
-returns-in-Err-clause-refused c =
-    ends _ c.args.config c.args.rounds.now c.loop-index.index c.index-rounds-index.result c.loop-index.agent c.loop-index.made.items c.run_round.result c.in-Err.fault
+returns-in-Err-clause-refused g c =
+    ends g.C.Cut.shard_of _ c.args.config c.args.rounds.now c.loop-index.index c.index-rounds-index.result c.loop-index.agent c.loop-index.made.items c.run_round.result c.in-Err.fault
     c.loop-index.invariant c.loop-index-test.true c.index-rounds-index.is c.run_round.ensures.refused c.run_round.ensures.memory c.in-Err.is
 
 pub returns-clause-answers : goal.returns-clause-answers
-returns-clause-answers c =
+returns-clause-answers g c =
     let over : length c.args.rounds.now ≤ c.loop-index.index = omega (arith, c.loop-index-test.false) in
     c.loop-index.invariant.answered ∙ ap (answers c.args.config) (take_all c.loop-index.index c.args.rounds.now over)
 
 pub returns-clause-unrefused : goal.returns-clause-unrefused
-returns-clause-unrefused c =
+returns-clause-unrefused g c =
     let over : length c.args.rounds.now ≤ c.loop-index.index = omega (arith, c.loop-index-test.false) in
     ap (refused c.args.config) (sym (take_all c.loop-index.index c.args.rounds.now over)) ∙ c.loop-index.invariant.unrefused

@@ -1,5 +1,5 @@
-use Rattle.std.proofs.Common.{refl}
+use Rattle.sip_round.proofs.Beginning.{begins}
 use Rattle.sip_round.proofs.agent.Agent.new.Goals as goal
 
-pub returns-clause-first : goal.returns-clause-first
-returns-clause-first c = refl
+pub returns : goal.returns
+returns g c = begins g.C.Cut.shard_of c.args.cut c.args.config c.in_ok-shards.shards c.in_ok-shards.ensures.transactions c.in_ok-shards.ensures.calls

@@ -1,0 +1,12 @@
+use Rattle.std.proofs.Common.{◌≡◌, ◌≢◌, refl, Result, Ok, Err, IfErr}
+use Rattle.sip_files.specs.declared.file_replay.ReplayFault.{ReplayFault}
+use Rattle.sip_files.specs.declared.file_replay.ReplayFault.TheVariants as replay_fault
+use Rattle.sip_files.proofs.file_replay.replay.Goals as goal
+
+-- a writer that nobody touched is as it was
+untouched : {T W : Type 0} (result : Result T ReplayFault) (writer : W) → IfErr result (λ fault. fault ≢ replay_fault.Output → writer ≡ writer)
+untouched (Ok value) writer = tt
+untouched (Err fault) writer = λ _. refl
+
+pub returns-in_err-file-clause-unwritten : goal.returns-in_err-file-clause-unwritten
+returns-in_err-file-clause-unwritten g c = untouched _ c.args.writer.now

@@ -1,0 +1,44 @@
+-- An agent before its first round.
+use Rattle.std.proofs.Common.{◌≡◌, ℕ, zero, suc, ◌+◌, List, [], ◌∷◌, length, refl, sym, subst, arith, All}
+use Rattle.std.specs.Prelude.{Option, None, Some, IsSome}
+use Rattle.std.specs.declared.cmp.Ordering.{Ordering}
+use Rattle.std.proofs.lemmas.List.Elements.{All-head, All-tail}
+use Rattle.sip_message.specs.Key.{branch_in, key_cmp}
+use Rattle.sip_model.specs.Machine.{Machine}
+use Rattle.sip_model.specs.Table.{Held, state_at}
+use Rattle.sip_model.specs.Phase.{HoldsAfter}
+use Rattle.sip_model.specs.Shards.{HoldFrom}
+use Rattle.sip_calls.specs.Call.{call_machine, tick_input}
+use Rattle.sip_calls.specs.CallShard.{call_cmp}
+use Rattle.sip_transactions.specs.Machine.{transaction_machine, tick_at}
+use Rattle.sip_round.specs.declared.config.Config.{Config}
+use Rattle.sip_round.specs.AgentState.{AgentState, ShardTables}
+use Rattle.sip_round.specs.Answers.{StandsFor, calls_of, last_moment, past_of}
+use Rattle.sip_round.specs.Parts.{owner_of}
+
+module _ {K S I O : Type 0} (cmp : K → K → Ordering) (machine : Machine K S I O) (tick : ℕ → I) (owner : K → ℕ) where
+  hold_nothing : (number : ℕ) (tables : List (Held K S)) → All (λ table. table ≡ Some []) tables → HoldFrom cmp machine tick owner number tables []
+  hold_nothing number [] empty = tt
+  hold_nothing number (t ∷ ts) empty = (
+    record {
+      sound = subst IsSome (sym (All-head (λ table. table ≡ Some []) t ts empty)) refl;
+      states = λ key. subst (λ table. state_at cmp table key ≡ None) (sym (All-head (λ table. table ≡ Some []) t ts empty)) refl;
+    },
+    hold_nothing (suc number) ts (All-tail (λ table. table ≡ Some []) t ts empty),
+  )
+
+at_first : (number : ℕ) → number ≡ number + 0
+at_first number = omega arith
+
+pub begins : {C : Type 0} (shard_of : C → List ℕ → ℕ → ℕ) (cut : C) (config : Config) (made : ShardTables) → All (λ table. table ≡ Some []) made.transactions → All (λ table. table ≡ Some []) made.calls
+    → StandsFor shard_of (record { calls = calls_of config; cut = cut; next_round = config.first; last_moment = 0; shards = Some made }) config []
+unfolding past_of last_moment
+begins shard_of cut config made no_lives no_calls = record {
+  shards = made;
+  sound = refl;
+  shared = refl;
+  number = at_first config.first;
+  moment = refl;
+  transactions = hold_nothing key_cmp transaction_machine tick_at (owner_of (shard_of cut) branch_in (length made.transactions)) zero made.transactions no_lives;
+  calls = hold_nothing call_cmp (call_machine (calls_of config)) tick_input (owner_of (shard_of cut) (λ call_id. call_id) (length made.calls)) zero made.calls no_calls;
+}

@@ -1,0 +1,9 @@
+use Rattle.std.proofs.Common.{map}
+use Rattle.std.specs.Vec.Iter.{into_iter_items}
+use Rattle.sip_round.specs.Parts.{owner_of}
+use Rattle.sip_round.proofs.Cutting.{PartsLeft}
+use Rattle.sip_round.proofs.parts.parts_of.Given as goal
+
+abbrev pub invariant-loop-item : goal.invariant-loop-item
+invariant-loop-item g l =
+    PartsLeft (owner_of (g.C.Cut.shard_of l.cut) g.K.Named.name l.shards) l.shards l.fn.items.items (into_iter_items l.item-iterator) (map (λ part. part.items) l.parts.items)

@@ -1,0 +1,10 @@
+use Rattle.std.proofs.Common.{◌≡◌}
+use Rattle.std.specs.Vec.Iter.{into_iter_items}
+use Rattle.sip_model.specs.Told.{groups}
+use Rattle.sip_round.proofs.Piled.{DonesLeft}
+use Rattle.sip_round.proofs.phase.apart.Given as goal
+
+abbrev pub invariant-loop-done : goal.invariant-loop-done
+invariant-loop-done g l =
+    DonesLeft (λ dealt. dealt.table) (λ dealt. groups dealt.replies.ticks.items) (λ dealt. groups dealt.replies.items.items)
+    l.fn.dones.items (into_iter_items l.done-iterator) l.tables.items (groups l.ticks.items) (groups l.items.items)

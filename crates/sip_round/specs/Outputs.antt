@@ -1,0 +1,64 @@
+-- What leaves the agent, and what goes on inside it.
+use Rattle.std.specs.Prelude.{ℕ, nat_eq, List, [], ◌∷◌, ◌++◌, Some, None, map, filter}
+use Rattle.std.specs.List.{flat_map}
+use Rattle.sip_message.specs.declared.id.Id.{Id}
+use Rattle.sip_transactions.specs.declared.input.Command.{Command}
+use Rattle.sip_transactions.specs.declared.output.Out.{Out}
+use Rattle.sip_transactions.specs.declared.output.Out.TheVariants as out
+use Rattle.sip_served.specs.declared.item.Item.{Item}
+use Rattle.sip_served.specs.declared.item.Item.TheVariants as item
+use Rattle.sip_served.specs.declared.item.CallOut.{CallOut}
+use Rattle.sip_served.specs.declared.item.CallOut.TheVariants as call_out
+use Rattle.sip_model.specs.Phase.{Told}
+use Rattle.sip_round.specs.declared.arrival.Arrival.{Arrival}
+use Rattle.sip_round.specs.declared.arrival.Arrival.TheVariants as arrival
+use Rattle.sip_round.specs.declared.output.Output.{Output}
+use Rattle.sip_round.specs.declared.output.Output.TheVariants as output
+
+-- what a transaction sends or drops
+abbrev pub sent_of : Out → List Output
+sent_of (out.Up up) = []
+sent_of (out.Send key to bytes) = output.Send (Some key) to bytes ∷ []
+sent_of (out.Dropped place why) = output.Dropped place why ∷ []
+
+-- what a transaction hands up is an item of a call
+abbrev pub raised_of : Id → Out → List (Id × Item)
+raised_of id (out.Up up) = (id, item.Up up) ∷ []
+raised_of id (out.Send key to bytes) = []
+raised_of id (out.Dropped place why) = []
+
+-- what a call tells the user, or sends outside of any transaction
+abbrev pub shown_of : CallOut → List Output
+shown_of (call_out.Notice notice) = output.Notice notice ∷ []
+shown_of (call_out.Command id command) = []
+shown_of (call_out.Direct to bytes) = output.Send None to bytes ∷ []
+
+-- what a call asks of a transaction
+abbrev pub command_of : CallOut → List (Id × Command)
+command_of (call_out.Notice notice) = []
+command_of (call_out.Command id command) = (id, command) ∷ []
+command_of (call_out.Direct to bytes) = []
+
+-- all that groups of outputs say, in their order
+abbrev pub joined : {L O : Type 0} → List (L × List O) → List O
+joined groups = flat_map (λ group. group.1) groups
+
+-- all that is said in a phase: to the tick in key order, and then by the items in their order
+abbrev pub all_said : {K O : Type 0} → Told K O → List O
+all_said told = joined told.ticks ++ joined told.items
+
+-- what is said of the item at a place
+abbrev pub said_at : {K O : Type 0} → Told K O → ℕ → List O
+said_at told place = joined (filter (λ said. nat_eq (said.0).0 place) told.items)
+
+-- what comes of an arrival in the first phase, where the transactions say this by place
+abbrev pub outs_of : (ℕ → List Out) → Id → Arrival → List Out
+outs_of said id (arrival.Transaction key input) = said id.place
+outs_of said id (arrival.Dropped why) = out.Dropped id.place why ∷ []
+outs_of said id (arrival.User command) = []
+
+-- a command of the user is an item of its call
+abbrev pub user_items : Id → Arrival → List (Id × Item)
+user_items id (arrival.Transaction key input) = []
+user_items id (arrival.Dropped why) = []
+user_items id (arrival.User command) = (id, item.User command) ∷ []

@@ -1,0 +1,65 @@
+//! The items of a phase, cut into the parts of the shards.
+
+ghost use Rattle.std.specs.Prelude.{◌≡◌, ◌<◌, ◌≤◌, ℕ, List, [], IfOk, map, vec_len, All};
+ghost use Rattle.sip_message.specs.Key.{branch_in};
+ghost use Rattle.sip_round.specs.Parts.{cut_by, owner_of};
+
+use sip_message::{CallId, Cut, Key};
+use sip_model::Item;
+use std::alloc::{AllocError, Global};
+
+/// A key that is cut among shards by a name.
+pub(crate) trait Named {
+    ghost name: { Self → List ℕ };
+
+    fn name(&self) -> &[u8]
+        ensures { result.now ≡ name self.now };
+}
+
+impl Named for Key {
+    ghost name = { branch_in };
+
+    fn name(&self) -> &[u8] {
+        match self {
+            Key::Client { branch, .. } | Key::Server { branch, .. } => branch.as_slice(),
+        }
+    }
+}
+
+impl Named for CallId {
+    ghost name = { λ call_id. call_id };
+
+    fn name(&self) -> &[u8] {
+        self.as_slice()
+    }
+}
+
+/// The part of each of so many shards: the items of the keys that it owns, in their order.
+pub(crate) fn parts_of<C: Cut, K: Named + Drop, I: Drop>(
+    alloc: Global,
+    cut: &C,
+    items: Vec<Item<K, I>>,
+    shards: usize,
+) -> Result<Vec<Vec<Item<K, I>>>, AllocError>
+    requires some { 0 < shards }
+    requires most { shards ≤ 256 }
+    ensures { IfOk result (λ parts. map (λ part. part.items) parts.items ≡ cut_by (owner_of (C.shard_of cut.now) K.name shards) 0 shards items.items) }
+{
+    let mut parts = empty_parts(alloc, shards)?;
+    for item in items {
+        let shard = cut.shard(item.key.name(), shards);
+        parts[shard].push(item)?;
+    }
+    Ok(parts)
+}
+
+fn empty_parts<X: Drop>(alloc: Global, shards: usize) -> Result<Vec<Vec<X>>, AllocError>
+    ensures count { IfOk result (λ parts. vec_len parts ≡ shards) }
+    ensures empty { IfOk result (λ parts. All (λ part. part.items ≡ []) parts.items) }
+{
+    let mut parts = Vec::with_capacity(alloc, shards)?;
+    for _ in 0..shards {
+        parts.push(Vec::new(alloc))?;
+    }
+    Ok(parts)
+}

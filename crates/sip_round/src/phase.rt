@@ -1,0 +1,114 @@
+//! A phase of all shards.
+
+ghost use Rattle.std.specs.Prelude.{◌≡◌, ◌<◌, ◌≤◌, ℕ, List, [], IfOk, IsTrue, All, true, map, vec_len, length};
+ghost use Rattle.std.specs.Option.{option_map_or};
+ghost use Rattle.std.specs.List.{AllByRecursion};
+ghost use Rattle.std.specs.List.Sorted.{IsStrictlySortedBy};
+ghost use Rattle.std.specs.Ordering.{nat_cmp};
+ghost use Rattle.sip_model.specs.Told.{groups};
+ghost use Rattle.sip_model.specs.declared.item.Item.{Item as AnItem};
+ghost use Rattle.sip_workers.specs.Ran.{IsNumbered};
+ghost use Rattle.sip_round.specs.Parts.{cut_by};
+ghost use Rattle.sip_round.specs.Dealt.{DealsAll, IsApart};
+
+use crate::dealing::{Dealing, Dealt};
+use sip_model::{Item, Replies, ShardFault, StateMachine, Table, by_label, laws_of_phases};
+use sip_workers::{Gate, NoMemory, Piece, dones_in_order, gather, run_pieces};
+use std::alloc::{AllocError, Global};
+use std::thread::Threads;
+
+/// Deals with a phase: each shard with its part, on up to so many workers. Gives the tables back, in order, and what was said, in
+/// the order of keys and of places.
+///
+/// # Errors
+///
+/// `NoMemory`, and then the tables are lost.
+pub(crate) fn deal_phase<R: Threads + Sync, M: StateMachine + Copy + Send, G: Gate>(
+    rt: &R,
+    alloc: Global,
+    machine: M,
+    tables: Vec<Table<M>>,
+    moment: Option<u64>,
+    parts: Vec<Vec<Item<M::Key, M::Input>>>,
+    workers: usize,
+    gate: &G,
+) -> Result<(Vec<Table<M>>, Replies<M::Key, M::Output>), NoMemory>
+where
+    M::Key: Send,
+    M::State: Send,
+    M::Input: Send,
+    M::Output: Send,
+    requires some { 0 < workers }
+    requires most { workers ≤ 64 }
+    requires moment { IsTrue (option_map_or (λ now. M.admits (M.tick now)) moment true) }
+    requires items { All (λ part. All (λ item. IsTrue (M.admits item.input)) part.items) parts.items }
+    requires count { vec_len parts ≡ vec_len tables }
+    ensures { IfOk result (λ dealt. (owner : M.Key → ℕ) (items : List (AnItem M.Key M.Input)) → ((key : M.Key) → owner key < length tables.items)
+        → map (λ part. part.items) parts.items ≡ cut_by owner 0 (length tables.items) items → IsStrictlySortedBy nat_cmp (map (λ item. item.place) items)
+        → DealsAll M.Key.cmp (M.machine machine) M.tick owner tables.items dealt.0.items (record { moment = moment; items = items }) (groups dealt.1.ticks.items) (groups dealt.1.items.items)) }
+{
+    laws_of_phases(&machine);
+    dones_in_order::<Dealing<M>>();
+    let pieces = pieces_of(alloc, machine, tables, moment, parts)?;
+    let dones = run_pieces(rt, alloc, pieces, workers, gate)?;
+    let (tables, replies) = apart(alloc, gather(alloc, dones)?)?;
+    let Replies { ticks, items } = replies;
+    let ticks = by_label(ticks);
+    let items = by_label(items);
+    Ok((tables, Replies { ticks, items }))
+}
+
+// Each table with its part, under the number of its shard.
+fn pieces_of<M: StateMachine + Copy>(
+    alloc: Global,
+    machine: M,
+    tables: Vec<Table<M>>,
+    moment: Option<u64>,
+    parts: Vec<Vec<Item<M::Key, M::Input>>>,
+) -> Result<Vec<Piece<Dealing<M>>>, AllocError>
+    requires moment { IsTrue (option_map_or (λ now. M.admits (M.tick now)) moment true) }
+    requires items { All (λ part. All (λ item. IsTrue (M.admits item.input)) part.items) parts.items }
+    requires count { vec_len parts ≡ vec_len tables }
+    ensures numbered { IfOk result (λ pieces. IsNumbered pieces.items) }
+    ensures tables { IfOk result (λ pieces. map (λ piece. piece.job.table) pieces.items ≡ tables.items) }
+    ensures parts { IfOk result (λ pieces. map (λ piece. piece.job.items.items) pieces.items ≡ map (λ part. part.items) parts.items) }
+    ensures shared { IfOk result (λ pieces. AllByRecursion (λ piece. (piece.job.machine ≡ machine) × (piece.job.moment ≡ moment)) pieces.items) }
+{
+    let mut pieces = Vec::with_capacity(alloc, tables.len())?;
+    let mut left = parts.into_iter();
+    for table in tables {
+        let Some(items) = left.next() else {
+            unreachable!();
+        };
+        let shard = pieces.len();
+        let job = Dealing {
+            machine,
+            table,
+            moment,
+            items,
+        };
+        pieces.push(Piece { shard, job })?;
+    }
+    Ok(pieces)
+}
+
+// The tables of the shards, and all that was said, shard by shard.
+fn apart<M: StateMachine>(
+    alloc: Global,
+    dones: Vec<Result<Dealt<M>, ShardFault>>,
+) -> Result<(Vec<Table<M>>, Replies<M::Key, M::Output>), NoMemory>
+    ensures { IfOk result (λ all. IsApart (λ dealt. dealt.table) (λ dealt. groups dealt.replies.ticks.items) (λ dealt. groups dealt.replies.items.items) dones.items all.0.items (groups all.1.ticks.items) (groups all.1.items.items)) }
+{
+    let mut tables = Vec::with_capacity(alloc, dones.len())?;
+    let mut ticks = Vec::new(alloc);
+    let mut items = Vec::new(alloc);
+    for done in dones {
+        let Ok(Dealt { table, mut replies }) = done else {
+            return Err(NoMemory);
+        };
+        tables.push(table)?;
+        ticks.append(&mut replies.ticks)?;
+        items.append(&mut replies.items)?;
+    }
+    Ok((tables, Replies { ticks, items }))
+}

@@ -1,0 +1,130 @@
+//! The tables of all shards.
+
+ghost use Rattle.std.specs.Prelude.{◌≡◌, ◌<◌, ◌≤◌, ℕ, List, Some, [], IfOk, All, count_by, is_some, length, sum_by, vec_len};
+ghost use Rattle.sip_calls.specs.CallShard.{call_cmp};
+ghost use Rattle.sip_message.specs.Key.{key_cmp};
+ghost use Rattle.sip_message.specs.declared.key.Key.{Key};
+ghost use Rattle.sip_model.specs.Table.{Covers, state_at};
+
+use sip_calls::Calls;
+use sip_model::{StateMachine, Table};
+use sip_transactions::Transactions;
+use std::alloc::{AllocError, Global};
+use std::marker::Model;
+
+/// The tables of the transactions and of the calls: as many of these as of those, at least one and at most 256.
+pub(crate) struct Shards {
+    transactions: Vec<Table<Transactions>>,
+    calls: Vec<Table<Calls>>,
+}
+
+impl Model for Shards {
+    ghost use Rattle.sip_round.specs.AgentState.{ShardTables, AreShards};
+
+    ghost Value = { ShardTables };
+
+    ghost view = { λ s. record { transactions = s.transactions.items; calls = s.calls.items } };
+
+    ghost invariant = { λ s. AreShards (record { transactions = s.transactions.items; calls = s.calls.items }) };
+}
+
+impl Drop for Shards {
+    fn drop(self) {
+        let Shards {
+            transactions: _,
+            calls: _,
+        } = self;
+    }
+}
+
+impl Shards {
+    ghost use Rattle.sip_round.specs.AgentState.{ShardTables, AreShards};
+
+    /// So many shards that hold nothing.
+    pub(crate) fn new(alloc: Global, shards: usize) -> Result<Shards, AllocError>
+        requires some { 0 < shards }
+        requires most { shards ≤ 256 }
+        ensures count { IfOk result (λ made. length made.transactions ≡ shards) }
+        ensures transactions { IfOk result (λ made. All (λ table. table ≡ Some []) made.transactions) }
+        ensures calls { IfOk result (λ made. All (λ table. table ≡ Some []) made.calls) }
+    {
+        let transactions = empty_tables(alloc, shards)?;
+        let calls = empty_tables(alloc, shards)?;
+        Ok(Shards {
+            transactions,
+            calls,
+        })
+    }
+
+    /// The shards of these tables.
+    pub(crate) fn of(transactions: Vec<Table<Transactions>>, calls: Vec<Table<Calls>>) -> Shards
+        requires { AreShards (record { transactions = transactions.items; calls = calls.items }) }
+        ensures { result ≡ record { transactions = transactions.items; calls = calls.items } }
+    {
+        Shards {
+            transactions,
+            calls,
+        }
+    }
+
+    /// The tables.
+    pub(crate) fn apart(self) -> (Vec<Table<Transactions>>, Vec<Table<Calls>>)
+        ensures tables { record { transactions = result.0.items; calls = result.1.items } ≡ self }
+        ensures shards { AreShards (record { transactions = result.0.items; calls = result.1.items }) }
+    {
+        let Shards {
+            transactions,
+            calls,
+        } = self;
+        (transactions, calls)
+    }
+
+    /// How many shards there are.
+    pub(crate) fn count(&self) -> usize
+        ensures count { result ≡ length self.now.transactions }
+        ensures some { 0 < result }
+        ensures few { result ≤ 256 }
+    {
+        self.transactions.len()
+    }
+
+    /// How many transactions and how many calls are held.
+    pub(crate) fn live(&self) -> (u128, u128)
+        ensures shards { AreShards self.now }
+        ensures transactions { (keys : List Key) → All (λ table. Covers key_cmp keys (state_at key_cmp table)) self.now.transactions
+            → result.0 ≡ sum_by (λ table. count_by (λ key. is_some (state_at key_cmp table key)) keys) self.now.transactions }
+        ensures calls { (keys : List (List ℕ)) → All (λ table. Covers call_cmp keys (state_at call_cmp table)) self.now.calls
+            → result.1 ≡ sum_by (λ table. count_by (λ key. is_some (state_at call_cmp table key)) keys) self.now.calls }
+    {
+        (
+            live_in(self.transactions.as_slice()),
+            live_in(self.calls.as_slice()),
+        )
+    }
+}
+
+fn empty_tables<M: StateMachine>(
+    alloc: Global,
+    shards: usize,
+) -> Result<Vec<Table<M>>, AllocError>
+    ensures count { IfOk result (λ tables. vec_len tables ≡ shards) }
+    ensures empty { IfOk result (λ tables. All (λ table. table ≡ Some []) tables.items) }
+{
+    let mut tables = Vec::with_capacity(alloc, shards)?;
+    for _ in 0..shards {
+        tables.push(Table::new(alloc))?;
+    }
+    Ok(tables)
+}
+
+fn live_in<M: StateMachine>(tables: &[Table<M>]) -> u128
+    requires { length tables.now ≤ 256 }
+    ensures { (keys : List M.Key) → All (λ table. Covers M.Key.cmp keys (state_at M.Key.cmp table)) tables.now
+        → result ≡ sum_by (λ table. count_by (λ key. is_some (state_at M.Key.cmp table key)) keys) tables.now }
+{
+    let mut live = 0u128;
+    for table in tables {
+        live += table.live() as u128;
+    }
+    live
+}

@@ -1,0 +1,131 @@
+//! Arrivals, split into the inputs of transactions and what waits for what these say.
+
+ghost use Rattle.std.specs.Prelude.{◌≡◌, ◌≤◌, ◌^◌, ◌++◌, IfOk, OnOk};
+ghost use Rattle.std.specs.List.{flat_map};
+ghost use Rattle.std.specs.Vec.Iter.{into_iter_items};
+ghost use Rattle.sip_model.specs.Told.{groups};
+ghost use Rattle.sip_round.specs.Outputs.{joined, raised_of, sent_of};
+ghost use Rattle.sip_round.specs.Phases.{transaction_item};
+ghost use Rattle.sip_round.specs.Waiting.{all_waiting, items_waiting, outs_next, said_rest, waiting_of, woven};
+
+use crate::arrival::Arrival;
+use crate::output::Output;
+use crate::outs::part;
+use sip_message::{Id, Key};
+use sip_model::{self as model, Replies, joined};
+use sip_served::{Item, UserCommand};
+use sip_transactions::{DropReason, Out, Timed};
+use std::alloc::{AllocError, Global};
+use std::vec::IntoIter;
+
+/// What is left of an arrival when its input is on its way.
+#[derive(Drop)]
+pub(crate) enum Waiting {
+    /// What its transaction says comes of it.
+    Transaction,
+    /// It is dropped.
+    Dropped(DropReason),
+    /// It is an item of a call.
+    User(UserCommand),
+}
+
+/// The inputs of transactions at this moment in ms, and what is left of the arrivals.
+pub(crate) fn split(
+    alloc: Global,
+    now: u64,
+    arrivals: Vec<(Id, Arrival)>,
+) -> Result<(Vec<model::Item<Key, Timed>>, Vec<(Id, Waiting)>), AllocError>
+    ensures items { IfOk result (λ both. both.0.items ≡ flat_map (λ a. transaction_item now a.0 a.1) arrivals.items) }
+    ensures waiting { IfOk result (λ both. both.1.items ≡ all_waiting arrivals.items) }
+{
+    let mut items = Vec::with_capacity(alloc, arrivals.len())?;
+    let mut waiting = Vec::with_capacity(alloc, arrivals.len())?;
+    for (id, arrival) in arrivals {
+        let left = set_out(now, id, arrival, &mut items)?;
+        waiting.push((id, left))?;
+    }
+    Ok((items, waiting))
+}
+
+// Puts the input of an arrival on its way, and gives what is left of it.
+fn set_out(
+    now: u64,
+    id: Id,
+    arrival: Arrival,
+    items: &mut Vec<model::Item<Key, Timed>>,
+) -> Result<Waiting, AllocError>
+    ensures items { OnOk result (items.new.items ≡ items.old.items ++ transaction_item now id arrival) }
+    ensures left { IfOk result (λ left. left ≡ waiting_of arrival) }
+{
+    match arrival {
+        Arrival::Transaction(key, input) => {
+            let place = id.place as usize;
+            let input = Timed { moment: now, input };
+            items.push(model::Item { place, key, input })?;
+            Ok(Waiting::Transaction)
+        }
+        Arrival::Dropped(reason) => Ok(Waiting::Dropped(reason)),
+        Arrival::User(command) => Ok(Waiting::User(command)),
+    }
+}
+
+/// The outputs of the first phase of the round of this number, and the items of the calls: those of the ticks, and then by place.
+pub(crate) fn weave(
+    alloc: Global,
+    round: u64,
+    replies: Replies<Key, Out>,
+    waiting: Vec<(Id, Waiting)>,
+) -> Result<(Vec<Output>, Vec<(Id, Item)>), AllocError>
+    ensures outputs { IfOk result (λ both. both.0.items ≡ flat_map sent_of (joined (groups replies.ticks.items)) ++ flat_map (λ w. flat_map sent_of w.1) (woven waiting.items (groups replies.items.items))) }
+    ensures items { IfOk result (λ both. both.1.items ≡ flat_map (raised_of (record { round = round; place = 0 })) (joined (groups replies.ticks.items)) ++ flat_map (λ w. flat_map (raised_of w.0) w.1 ++ w.2) (woven waiting.items (groups replies.items.items))) }
+{
+    let Replies { ticks, items: said } = replies;
+    let ticked = joined(alloc, ticks)?;
+    let mut outputs = Vec::new(alloc);
+    let mut items = Vec::new(alloc);
+    part(ticked, Id { round, place: 0 }, &mut outputs, &mut items)?;
+    weave_all(waiting, said, &mut outputs, &mut items)?;
+    Ok((outputs, items))
+}
+
+fn weave_all(
+    waiting: Vec<(Id, Waiting)>,
+    said: Vec<(usize, Vec<Out>)>,
+    outputs: &mut Vec<Output>,
+    items: &mut Vec<(Id, Item)>,
+) -> Result<(), AllocError>
+    ensures outputs { OnOk result (outputs.new.items ≡ outputs.old.items ++ flat_map (λ w. flat_map sent_of w.1) (woven waiting.items (groups said.items))) }
+    ensures items { OnOk result (items.new.items ≡ items.old.items ++ flat_map (λ w. flat_map (raised_of w.0) w.1 ++ w.2) (woven waiting.items (groups said.items))) }
+{
+    let mut said = said.into_iter();
+    for (id, left) in waiting {
+        weave_one(id, left, &mut said, outputs, items)?;
+    }
+    Ok(())
+}
+
+fn weave_one(
+    id: Id,
+    left: Waiting,
+    said: &mut IntoIter<(usize, Vec<Out>)>,
+    outputs: &mut Vec<Output>,
+    items: &mut Vec<(Id, Item)>,
+) -> Result<(), AllocError>
+    ensures said { OnOk result (groups (into_iter_items said.new) ≡ said_rest left (groups (into_iter_items said.old))) }
+    ensures outputs { OnOk result (outputs.new.items ≡ outputs.old.items ++ flat_map sent_of (outs_next id left (groups (into_iter_items said.old)))) }
+    ensures items { OnOk result (items.new.items ≡ items.old.items ++ (flat_map (raised_of id) (outs_next id left (groups (into_iter_items said.old))) ++ items_waiting id left)) }
+{
+    match left {
+        Waiting::Transaction => {
+            if let Some((_, outs)) = said.next() {
+                part(outs, id, outputs, items)?;
+            }
+        }
+        Waiting::Dropped(reason) => {
+            let place = id.place;
+            outputs.push(Output::Dropped { place, reason })?;
+        }
+        Waiting::User(command) => items.push((id, Item::User(command)))?,
+    }
+    Ok(())
+}
