@@ -1,11 +1,11 @@
 -- What holds of every machine over any phases.
-use Rattle.std.specs.Prelude.{◌≡◌, ℕ, Bool, List, [], ◌∷◌, ◌++◌, None, map, filter}
+use Rattle.std.specs.Prelude.{◌≡◌, ℕ, Bool, List, [], ◌∷◌, ◌++◌, None, cond, map, filter}
 use Rattle.std.specs.declared.cmp.Ordering.{Ordering}
 use Rattle.std.specs.BTreeMap.{is_at}
 use Rattle.std.specs.List.{flat_map}
 use Rattle.std.specs.List.Sorted.{IsStrictlySortedBy}
 use Rattle.sip_model.specs.Machine.{Machine, outputs_from}
-use Rattle.sip_model.specs.Phase.{Phase, Told, history, told_next}
+use Rattle.sip_model.specs.Phase.{Phase, Told, history, states_after, told_next}
 
 -- ---- shards
 
@@ -22,6 +22,12 @@ module _ {K S I O : Type 0} (cmp : K → K → Ordering) (machine : Machine K S 
   abbrev pub ShardsWorkApart : Type 0
   ShardsWorkApart = (owns : K → Bool) (phases : List (Phase K I)) (phase : Phase K I)
       → told_next cmp machine tick (map (owned_phase owns) phases) (owned_phase owns phase) ≡ owned_told owns (told_next cmp machine tick phases phase)
+
+  -- and its part leaves of its own keys what all phases leave of them, and of the others nothing
+  abbrev pub ShardsHoldApart : Type 0
+  ShardsHoldApart = (owns : K → Bool) (phases : List (Phase K I)) (key : K)
+      → states_after cmp machine tick (map (owned_phase owns) phases) key
+        ≡ cond (owns key) (states_after cmp machine tick phases key) None
 
   -- what is said to a tick is in the order of the keys, and what items add in the order of their places
   pub record InOrder (phases : List (Phase K I)) (phase : Phase K I) : Type 0 where

@@ -1,6 +1,6 @@
 //! One input of one key, among the states that are held and their due moments.
 
-ghost use Rattle.std.specs.Prelude.{◌≡◌, Option, None, true, IfOk, IfSome, OnOk, IsTrue, cond};
+ghost use Rattle.std.specs.Prelude.{◌≡◌, Option, None, Some, true, IfOk, IfSome, OnOk, IsTrue, cond};
 ghost use Rattle.std.specs.declared.cmp.Ordering.TheVariants.{Equal};
 ghost use Rattle.std.specs.Option.{option_copied};
 ghost use Rattle.std.specs.BTreeMap.{get, is_at};
@@ -33,6 +33,22 @@ pub(crate) fn step_key<M: StateMachine>(
     rearm::<M>(dues, key, due_moment(machine, after.as_ref()))?;
     put_back::<M>(states, key, held, after)?;
     Ok(outputs)
+}
+
+/// Holds a key with this state.
+pub(crate) fn hold_key<M: StateMachine>(
+    machine: &M,
+    states: &mut BTreeMap<M::Key, M::State>,
+    dues: &mut Queue<M::Key>,
+    key: M::Key,
+    state: M::State,
+) -> Result<(), AllocError>
+    ensures states { OnOk result ((q : M.Key) → get M.Key.cmp states.new q ≡ cond (is_at (M.Key.cmp key) q) (Some state) (get M.Key.cmp states.old q)) }
+    ensures dues { OnOk result ((q : M.Key) → moment M.Key.cmp dues.new q ≡ cond (is_at (M.Key.cmp key) q) (M.due state) (moment M.Key.cmp dues.old q)) }
+{
+    rearm::<M>(dues, &key, machine.due_of(&state))?;
+    states.insert(key, state)?;
+    Ok(())
 }
 
 // The key and the state that are held for a key, taken out.

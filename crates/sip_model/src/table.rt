@@ -1,7 +1,7 @@
 //! The table of the held keys.
 
-ghost use Rattle.std.specs.Prelude.{◌≡◌, ℕ, List, Option, Some, None, [], IfOk, OnOk, OnErr, IsTrue, cond, length, true, count_by, is_some, IsErr, All};
-ghost use Rattle.std.specs.Option.{option_copied, option_map_or};
+ghost use Rattle.std.specs.Prelude.{◌≡◌, ℕ, List, Option, Some, None, [], IfOk, OnOk, OnErr, IsTrue, cond, length, true, count_by, is_some, IsErr, IsSome, All};
+ghost use Rattle.std.specs.Option.{option_copied, option_map, option_map_or};
 ghost use Rattle.std.specs.BTreeMap.{get, is_at, BTreeMap};
 ghost use Rattle.sip_model.specs.Machine.{next, adds};
 ghost use Rattle.sip_model.specs.Table.{AreDues, Held, state_at, state_in, entries_of, Covers, StepsKey, StepsAll};
@@ -13,7 +13,7 @@ use crate::fault::ShardFault;
 use crate::item::Item;
 use crate::items::deal_items;
 use crate::machine::StateMachine;
-use crate::one_key::step_key;
+use crate::one_key::{hold_key, step_key};
 use crate::replies::Replies;
 use crate::ticks::{joined, tick_due, tick_if};
 use sip_timers::Queue;
@@ -107,6 +107,35 @@ impl<M: StateMachine> Table<M> {
         ensures { option_copied result ≡ state_at M.Key.cmp self.now key.now }
     {
         self.live.as_ref()?.states.get(key)
+    }
+
+    /// The held keys with their states; a broken table has none to give.
+    pub fn into_states(self) -> Option<BTreeMap<M::Key, M::State>>
+        ensures { option_map (λ states. states.entries) result ≡ self }
+    {
+        let (states, _) = self.apart()?.apart();
+        Some(states)
+    }
+
+    fn apart(self) -> Option<Live<M>>
+        ensures { result ≡ self }
+    {
+        let Table { alloc: _, live } = self;
+        live
+    }
+
+    /// Holds a key with this state, in place of any other of it.
+    pub fn put(&mut self, machine: &M, key: M::Key, state: M::State) -> Result<(), ShardFault>
+        ensures broken { self.old ≡ None → result ≡ Err ShardFault.Broken }
+        ensures only_broken { result ≡ Err ShardFault.Broken → self.old ≡ None }
+        ensures err { OnErr result (self.new ≡ None) }
+        ensures sound { OnOk result (IsSome self.new) }
+        ensures states { OnOk result ((q : M.Key) → state_at M.Key.cmp self.new q ≡ cond (is_at (M.Key.cmp key) q) (Some state) (state_at M.Key.cmp self.old q)) }
+    {
+        let (mut states, mut dues) = self.live.take().ok_or(ShardFault::Broken)?.apart();
+        hold_key(machine, &mut states, &mut dues, key, state)?;
+        self.live = Some(Live { states, dues });
+        Ok(())
     }
 
     /// Passes on what was made outside the table. Where memory was refused, the table is broken from then on.

@@ -12,4 +12,5 @@ pub mod Placed
 pub mod Runs
 pub mod SoFar
 pub mod Together
+pub mod Transferred
 pub mod Weaving

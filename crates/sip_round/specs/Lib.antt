@@ -9,4 +9,5 @@ pub mod Live
 pub mod Outputs
 pub mod Parts
 pub mod Phases
+pub mod Transfer
 pub mod Waiting

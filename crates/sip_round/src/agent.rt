@@ -1,6 +1,6 @@
 //! An agent: its transactions and its calls, led through rounds.
 
-ghost use Rattle.std.specs.Prelude.{◌≡◌, ◌⊎◌, ◌+◌, ◌++◌, ◌∷◌, ◌<◌, ◌≤◌, ◌^◌, IfOk, IfSome, OnErr, OnOk, Some, None, Err, List, [], false, true, length, map};
+ghost use Rattle.std.specs.Prelude.{◌≡◌, ◌⊎◌, ◌+◌, ◌++◌, ◌∷◌, ◌<◌, ◌≤◌, ◌^◌, IfOk, IfSome, IsSome, OnErr, OnOk, Some, None, Err, List, [], false, true, length, map};
 ghost use Rattle.sip_message.specs.Key.{branch_in};
 ghost use Rattle.sip_round.specs.Arrivals.{arrivals_from};
 ghost use Rattle.sip_round.specs.Arrived.{IsArrived};
@@ -153,6 +153,35 @@ impl<C: Cut + Drop> Agent<C> {
             }
             Err(_) => Err(RoundFault::NoMemory { broken: true }),
         }
+    }
+
+    /// Moves all that is held to so many shards. The agent stands for the same rounds as before.
+    ///
+    /// # Errors
+    ///
+    /// `Broken` after an earlier call answered `NoMemory` with `broken`. `NoMemory`: without `broken` nothing has changed.
+    pub fn reshard(&mut self, shards: usize) -> Result<(), RoundFault>
+        requires some { 0 < shards }
+        requires most { shards ≤ 256 }
+        ensures refused { self.old.shards ≡ None → (result ≡ Err round_fault.Broken) × (self.new ≡ self.old) }
+        ensures memory { IsSome self.old.shards → OnErr result ((result ≡ Err (round_fault.NoMemory false)) ⊎ (result ≡ Err (round_fault.NoMemory true))) }
+        ensures unbroken { result ≡ Err (round_fault.NoMemory false) → self.new ≡ self.old }
+        ensures broken { result ≡ Err (round_fault.NoMemory true) → self.new.shards ≡ None }
+        ensures count { OnOk result (IfSome self.new.shards (λ held. length held.transactions ≡ shards)) }
+        ensures stands { OnOk result ((config : Config) (rounds : List Round) → StandsFor C.shard_of self.old config rounds → StandsFor C.shard_of self.new config rounds) }
+    {
+        let Some(held) = self.shards.take() else {
+            return Err(RoundFault::Broken);
+        };
+        let Ok(others) = Shards::new(self.alloc, shards) else {
+            self.shards = Some(held);
+            return Err(RoundFault::NoMemory { broken: false });
+        };
+        let Ok(moved) = held.transfer(&self.cut, &self.calls, others) else {
+            return Err(RoundFault::NoMemory { broken: true });
+        };
+        self.shards = Some(moved);
+        Ok(())
     }
 
     // Why this round is refused before anything is done.

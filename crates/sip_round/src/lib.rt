@@ -15,6 +15,7 @@ mod phases;
 mod round;
 mod round_fault;
 mod shards;
+mod transfer;
 mod waiting;
 mod whole_run;
 

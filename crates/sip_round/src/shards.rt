@@ -6,9 +6,12 @@ ghost use Rattle.sip_message.specs.Key.{key_cmp};
 ghost use Rattle.sip_message.specs.declared.key.Key.{Key};
 ghost use Rattle.sip_model.specs.Table.{Covers, state_at};
 
+use crate::transfer::transfer;
 use sip_calls::Calls;
+use sip_message::Cut;
 use sip_model::{StateMachine, Table};
 use sip_transactions::Transactions;
+use sip_workers::NoMemory;
 use std::alloc::{AllocError, Global};
 use std::marker::Model;
 
@@ -38,7 +41,11 @@ impl Drop for Shards {
 }
 
 impl Shards {
+    ghost use Rattle.sip_calls.specs.declared.calls.CallInput.{CallInput};
+    ghost use Rattle.sip_model.specs.Phase.{Phase};
     ghost use Rattle.sip_round.specs.AgentState.{ShardTables, AreShards};
+    ghost use Rattle.sip_round.specs.Answers.{HoldCalls, HoldTransactions};
+    ghost use Rattle.sip_transactions.specs.declared.input.Timed.{Timed};
 
     /// So many shards that hold nothing.
     pub(crate) fn new(alloc: Global, shards: usize) -> Result<Shards, AllocError>
@@ -77,6 +84,32 @@ impl Shards {
             calls,
         } = self;
         (transactions, calls)
+    }
+
+    /// Moves all that is held to other shards, which hold nothing: each key to the shard that the cut names for it.
+    ///
+    /// # Errors
+    ///
+    /// `NoMemory`, and then what was held is lost.
+    pub(crate) fn transfer<C: Cut>(
+        self,
+        cut: &C,
+        calls: &Calls,
+        others: Shards,
+    ) -> Result<Shards, NoMemory>
+        requires transactions { All (λ table. table ≡ Some []) others.transactions }
+        requires calls { All (λ table. table ≡ Some []) others.calls }
+        ensures count { IfOk result (λ moved. length moved.transactions ≡ length others.transactions) }
+        ensures transactions { IfOk result (λ moved. (past : List (Phase Key Timed))
+            → HoldTransactions (C.shard_of cut.now) self past → HoldTransactions (C.shard_of cut.now) moved past) }
+        ensures calls { IfOk result (λ moved. (past : List (Phase (List ℕ) CallInput))
+            → HoldCalls calls.now (C.shard_of cut.now) self past → HoldCalls calls.now (C.shard_of cut.now) moved past) }
+    {
+        let (transactions, tables) = self.apart();
+        let (other_transactions, other_tables) = others.apart();
+        let transactions = transfer(cut, &Transactions, transactions, other_transactions)?;
+        let tables = transfer(cut, calls, tables, other_tables)?;
+        Ok(Shards::of(transactions, tables))
     }
 
     /// How many shards there are.

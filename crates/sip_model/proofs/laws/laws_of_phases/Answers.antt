@@ -1,5 +1,5 @@
 use Rattle.sip_model.proofs.Alone.{in_order, said_alone}
-use Rattle.sip_model.proofs.Apart.{works_apart}
+use Rattle.sip_model.proofs.Apart.{owned_states, works_apart}
 use Rattle.sip_model.proofs.Shards.{tell_all}
 use Rattle.sip_model.proofs.laws.laws_of_phases.Goals as goal
 
@@ -18,3 +18,7 @@ returns-clause-told_in_order g c =
 pub returns-clause-shards_tell_all : goal.returns-clause-shards_tell_all
 returns-clause-shards_tell_all g c = λ owner phases phase all.
     tell_all g.met.M.Key.Ord.total g.met.M.StateMachine.exact (g.M.StateMachine.machine c.args._machine.now) g.M.StateMachine.due g.M.StateMachine.tick (g.met.M.StateMachine.idle c.args._machine.now) owner phase all phases
+
+pub returns-clause-shards_hold_apart : goal.returns-clause-shards_hold_apart
+returns-clause-shards_hold_apart g c =
+    owned_states g.met.M.Key.Ord.total g.met.M.StateMachine.exact (g.M.StateMachine.machine c.args._machine.now) g.M.StateMachine.due g.M.StateMachine.tick (g.met.M.StateMachine.idle c.args._machine.now)
