@@ -1,17 +1,16 @@
 -- Held keys, moved one by one to the tables of their owners.
-use Rattle.std.proofs.Common.{◌≡◌, ℕ, zero, suc, ◌+◌, ◌<◌, Bool, true, false, cond, List, [], ◌∷◌, length, get_or, nat_eq, nat_lt, refl, sym, ◌∙◌, ap, subst, arith}
-use Rattle.std.specs.Prelude.{All, Option, None, Some, IsSome, slice_set, map}
+use Rattle.std.proofs.Common.{◌≡◌, ℕ, zero, suc, ◌+◌, ◌<◌, true, false, cond, List, [], ◌∷◌, length, get_or, nat_eq, nat_lt, refl, sym, ◌∙◌, ap, subst, arith}
+use Rattle.std.specs.Prelude.{All, Option, None, Some, IsSome, slice_set}
 use Rattle.std.specs.Option.{option_or}
 use Rattle.std.specs.declared.cmp.Ordering.{Ordering}
 use Rattle.std.specs.Cmp.{IsTotalOrder}
 use Rattle.std.specs.BTreeMap.{is_at}
-use Rattle.std.proofs.lemmas.Bool.{false≢true}
 use Rattle.std.proofs.lemmas.Grind.{common_steps}
 use Rattle.std.proofs.lemmas.List.{get_or-set_same, get_or-set_other}
 use Rattle.std.proofs.lemmas.Map.Lookups.{CmpEqualImpliesEq}
-use Rattle.sip_model.specs.Laws.{ShardsHoldApart, owned_phase}
+use Rattle.sip_model.specs.Laws.{ShardsHoldApart}
 use Rattle.sip_model.specs.Machine.{Machine}
-use Rattle.sip_model.specs.Phase.{Phase, HoldsAfter, states_after}
+use Rattle.sip_model.specs.Phase.{Phase, states_after}
 use Rattle.sip_model.specs.Shards.{HoldFrom, is_owned}
 use Rattle.sip_model.specs.Table.{Held, state_at}
 use Rattle.sip_model.proofs.Ordered.{by_bool, exact_at}
@@ -27,6 +26,9 @@ set_long : {X : Type 0} (xs : List X) (i : ℕ) (x : X) → length (slice_set xs
 set_long [] i x = refl
 set_long (y ∷ xs) zero x = refl
 set_long (y ∷ xs) (suc i) x = ap suc (set_long xs i x)
+
+pub none_left : (n : ℕ) → (0 < n → ⊥) → n ≡ 0
+none_left n none = grind (arith, common_steps, none)
 
 -- the tables after a key was put into its owner's
 pub record OnePut {K S : Type 0} (cmp : K → K → Ordering) (owner : K → ℕ) (key : K) (state : S) (old new : List (Held K S)) : Type 0 where
@@ -91,6 +93,24 @@ module _ {K S : Type 0} {cmp : K → K → Ordering} (total : IsTotalOrder cmp) 
       (λ miss.
       ap (λ r. option_or r (moved_new q)) (left q ∙ ap (λ b. cond b None (rest_old q)) miss)
       ∙ ap (option_or (rest_old q)) (put q ∙ ap (λ b. cond b (Some state) (moved q)) miss))
+
+  -- what is left of one table, and what was moved of it
+  pub record TableLeft (shards : ℕ) (all rest : K → Option S) (old moved : List (Held K S)) : Type 0 where
+    pub count : length moved ≡ shards
+    pub owners : AreOwners cmp owner moved
+    pub both : (q : K) → option_or (rest q) (held_by_owner cmp owner moved q) ≡ option_or (all q) (held_by_owner cmp owner old q)
+
+  pub one_less : (shards : ℕ) (all rest_old rest : K → Option S) (old tables : List (Held K S)) (k : ℕ) (key : K) (state : S) (newer : Held K S) → k ≡ owner key → k < shards → IsSome newer
+      → ((q : K) → state_at cmp newer q ≡ cond (is_at (cmp key) q) (Some state) (state_at cmp (get_or tables k None) q))
+      → rest_old key ≡ Some state → ((q : K) → rest q ≡ cond (is_at (cmp key) q) None (rest_old q))
+      → TableLeft shards all rest_old old tables → TableLeft shards all rest old (slice_set tables k newer)
+  one_less shards all rest_old rest old tables k key state newer at inside sound put has left_is left =
+      let after = one_put tables k key state newer at (omega (arith, inside, left.count)) sound put left.owners in
+      record {
+        count = after.count ∙ left.count;
+        owners = after.owners;
+        both = λ q. still_all rest rest_old (held_by_owner cmp owner tables) (held_by_owner cmp owner (slice_set tables k newer)) key state has left_is after.states q ∙ left.both q;
+      }
 
 -- ---- all tables
 
