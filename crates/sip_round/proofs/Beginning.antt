@@ -1,18 +1,17 @@
 -- An agent before its first round.
 use Rattle.std.proofs.Common.{◌≡◌, ℕ, zero, suc, ◌+◌, List, [], ◌∷◌, length, refl, sym, subst, arith, All}
-use Rattle.std.specs.Prelude.{Option, None, Some, IsSome}
+use Rattle.std.specs.Prelude.{None, Some, IsSome}
 use Rattle.std.specs.declared.cmp.Ordering.{Ordering}
 use Rattle.std.proofs.lemmas.List.Elements.{All-head, All-tail}
 use Rattle.sip_message.specs.Key.{branch_in, key_cmp}
 use Rattle.sip_model.specs.Machine.{Machine}
 use Rattle.sip_model.specs.Table.{Held, state_at}
-use Rattle.sip_model.specs.Phase.{HoldsAfter}
 use Rattle.sip_model.specs.Shards.{HoldFrom}
 use Rattle.sip_calls.specs.Call.{call_machine, tick_input}
 use Rattle.sip_calls.specs.CallShard.{call_cmp}
 use Rattle.sip_transactions.specs.Machine.{transaction_machine, tick_at}
 use Rattle.sip_round.specs.declared.config.Config.{Config}
-use Rattle.sip_round.specs.AgentState.{AgentState, ShardTables}
+use Rattle.sip_round.specs.AgentState.{ShardTables}
 use Rattle.sip_round.specs.Answers.{StandsFor, calls_of, last_moment, past_of}
 use Rattle.sip_round.specs.Parts.{owner_of}
 

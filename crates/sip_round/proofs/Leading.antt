@@ -17,7 +17,6 @@ use Rattle.sip_served.specs.declared.item.Item.{Item}
 use Rattle.sip_served.specs.declared.item.CallOut.{CallOut}
 use Rattle.sip_calls.specs.declared.call.Call.{Call}
 use Rattle.sip_calls.specs.declared.calls.Calls.{Calls}
-use Rattle.sip_calls.specs.declared.calls.CallInput.{CallInput}
 use Rattle.sip_calls.specs.Call.{call_machine, tick_input}
 use Rattle.sip_calls.specs.CallShard.{call_cmp}
 use Rattle.sip_round.specs.declared.arrival.Arrival.{Arrival}
@@ -25,8 +24,7 @@ use Rattle.sip_round.specs.declared.config.Config.{Config}
 use Rattle.sip_round.specs.declared.output.Output.{Output}
 use Rattle.sip_round.specs.declared.round.Round.{Round}
 use Rattle.sip_round.specs.declared.waiting.Waiting.{Waiting}
-use Rattle.sip_round.specs.AgentState.{ShardTables}
-use Rattle.sip_round.specs.Answers.{Past, HoldCalls, HoldTransactions, answer, arrivals, calls_of, first, given_second, items_first, items_of_round, past_after, said_by_transactions, said_by_calls, second, sent_first, third}
+use Rattle.sip_round.specs.Answers.{Past, answer, arrivals, calls_of, first, given_second, items_of_round, past_after, said_by_transactions, said_by_calls, second, third}
 use Rattle.sip_round.specs.Arrivals.{arrivals_from}
 use Rattle.sip_round.specs.Arrived.{ArePlaced}
 use Rattle.sip_round.specs.Dealt.{DealsAll}

@@ -1,6 +1,6 @@
 -- How much the shards of an agent hold that stands for rounds.
 use Rattle.std.proofs.Common.{◌≡◌, ◌<◌, ℕ, List, All, Some, sym, ◌∙◌, ap, subst, length, is_some}
-use Rattle.std.specs.Prelude.{Option, count_by, sum_by, unwrap_or}
+use Rattle.std.specs.Prelude.{count_by, sum_by, unwrap_or}
 use Rattle.std.proofs.lemmas.Map.Lookups.{exact_bytes}
 use Rattle.std.proofs.lemmas.Cmp.{nat_list_cmp_total}
 use Rattle.sip_calls.specs.Call.{call_due, call_machine, tick_input}

@@ -1,6 +1,6 @@
 -- How many keys the tables of all shards hold.
 use Rattle.std.proofs.Common.{◌≡◌, ℕ, zero, suc, ◌+◌, ◌<◌, Bool, true, false, cond, ◌&&◌, List, [], ◌∷◌, length, get_or, take, ◌++◌, nat_eq, nat_le, nat_lt, refl, sym, ◌∙◌, ap, subst, arith, All}
-use Rattle.std.specs.Prelude.{Option, None, Some, is_some, IsSome, count_by, sum_by}
+use Rattle.std.specs.Prelude.{Option, None, is_some, IsSome, count_by, sum_by}
 use Rattle.std.specs.declared.cmp.Ordering.{Ordering}
 use Rattle.std.specs.Cmp.{IsTotalOrder}
 use Rattle.std.proofs.lemmas.Grind.{common_steps}

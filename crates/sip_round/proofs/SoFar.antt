@@ -10,7 +10,7 @@ use Rattle.sip_round.specs.declared.round_fault.RoundFault.{RoundFault}
 use Rattle.sip_round.specs.declared.round_fault.RoundFault.TheVariants.{Broken, NoMemory}
 use Rattle.sip_round.specs.AgentState.{AgentState, round_fault, refusal_of}
 use Rattle.sip_round.specs.Answers.{answers, last_moment, last_moment_from, refused, refused_or, refused_from, StandsFor}
-use Rattle.sip_round.proofs.Runs.{at_first, refused_from-push}
+use Rattle.sip_round.proofs.Runs.{refused_from-push}
 
 -- the agent stands for the first rounds, whose answers were made, and none of which was refused
 pub record RunsSoFar {C : Type 0} (shard_of : C → List ℕ → ℕ → ℕ) (config : Config) (rounds : List Round) (index : ℕ) (agent : AgentState C) (made : List (Vec Output Global)) : Type 0 where

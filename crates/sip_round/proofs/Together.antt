@@ -1,6 +1,6 @@
 -- A phase of all shards, from what each of them did.
 use Rattle.std.proofs.Common.{◌≡◌, ℕ, zero, suc, ◌<◌, List, [], ◌∷◌, ◌++◌, length, map, refl, sym, ◌∙◌, ap, subst}
-use Rattle.std.specs.Prelude.{Option, Result, Ok}
+use Rattle.std.specs.Prelude.{Result, Ok}
 use Rattle.std.specs.declared.cmp.Ordering.{Ordering}
 use Rattle.std.specs.Ordering.{nat_cmp}
 use Rattle.std.specs.List.{AllByRecursion, AllZip, flat_map, zip}
@@ -9,7 +9,7 @@ use Rattle.sip_model.specs.declared.item.Item.{Item}
 use Rattle.sip_model.specs.Machine.{Machine}
 use Rattle.sip_model.specs.Table.{Held}
 use Rattle.sip_model.specs.Told.{Sorts}
-use Rattle.sip_model.specs.Phase.{Phase, AddsPhase, by_place, told_next}
+use Rattle.sip_model.specs.Phase.{Phase, AddsPhase}
 use Rattle.sip_model.specs.Shards.{AllDealt, Dealt, HoldFrom, ShardsTellAll, TellAll}
 use Rattle.sip_round.specs.Parts.{cut_by}
 use Rattle.sip_round.specs.Dealt.{DealsAll, IsApart}

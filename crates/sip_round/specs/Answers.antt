@@ -1,13 +1,11 @@
 -- What rounds answer: the tables folded over each transaction's and each call's own inputs alone, in stamp order.
 use Rattle.std.specs.Prelude.{suc, ◌≡◌, ℕ, ◌+◌, zero, List, [], ◌∷◌, ◌++◌, length, Option, Some, None}
 use Rattle.std.specs.List.{flat_map}
-use Rattle.sip_message.specs.declared.addr.Addr.{Addr}
 use Rattle.sip_message.specs.declared.id.Id.{Id}
 use Rattle.sip_message.specs.declared.key.Key.{Key}
 use Rattle.sip_message.specs.Key.{key_cmp, branch_in}
 use Rattle.sip_model.specs.Phase.{Phase, Told, told_next}
 use Rattle.sip_model.specs.Shards.{HoldFrom}
-use Rattle.sip_transactions.specs.declared.input.Command.{Command}
 use Rattle.sip_transactions.specs.declared.input.Timed.{Timed}
 use Rattle.sip_transactions.specs.declared.output.Out.{Out}
 use Rattle.sip_transactions.specs.Machine.{transaction_machine, tick_at}

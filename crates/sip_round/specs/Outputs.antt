@@ -1,5 +1,5 @@
 -- What leaves the agent, and what goes on inside it.
-use Rattle.std.specs.Prelude.{ℕ, nat_eq, List, [], ◌∷◌, ◌++◌, Some, None, map, filter}
+use Rattle.std.specs.Prelude.{ℕ, nat_eq, List, [], ◌∷◌, ◌++◌, Some, None, filter}
 use Rattle.std.specs.List.{flat_map}
 use Rattle.sip_message.specs.declared.id.Id.{Id}
 use Rattle.sip_transactions.specs.declared.input.Command.{Command}

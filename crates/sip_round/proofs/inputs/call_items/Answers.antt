@@ -1,4 +1,4 @@
-use Rattle.std.proofs.Common.{◌≡◌, ◌++◌, suc, ap, sym, ◌∙◌, refl, length, arith}
+use Rattle.std.proofs.Common.{◌++◌, ap, sym, ◌∙◌, refl, length, arith}
 use Rattle.std.specs.Vec.Iter.{into_iter_items}
 use Rattle.sip_served.specs.Command.{call_of_item}
 use Rattle.sip_calls.specs.CallShard.{item_input}

@@ -1,4 +1,4 @@
-use Rattle.std.proofs.Common.{◌≡◌, ◌++◌, suc, ap, sym, ◌∙◌, refl, length, arith}
+use Rattle.std.proofs.Common.{◌++◌, ap, sym, ◌∙◌, length, arith}
 use Rattle.std.specs.Vec.Iter.{into_iter_items}
 use Rattle.sip_transactions.specs.Shard.{command_key, order}
 use Rattle.sip_round.specs.Phases.{command_items}

@@ -1,4 +1,4 @@
-use Rattle.std.proofs.Common.{◌≡◌, ◌∙◌, ap}
+use Rattle.std.proofs.Common.{◌∙◌, ap}
 use Rattle.std.specs.Prelude.{None}
 use Rattle.sip_model.specs.Machine.{outputs_from}
 use Rattle.sip_transactions.specs.Machine.{transaction_machine}

@@ -1,4 +1,4 @@
-use Rattle.std.proofs.Common.{◌≡◌, ◌<◌, ℕ, [], ◌∷◌, List, map, sym, ◌∙◌, ap, subst, arith, length, ◌++◌}
+use Rattle.std.proofs.Common.{◌≡◌, ◌<◌, [], ◌∷◌, map, sym, ◌∙◌, ap, subst, arith, length, ◌++◌}
 use Rattle.std.proofs.lemmas.List.{nil_from_length, map-set, get_or-map}
 use Rattle.std.specs.Vec.Iter.{into_iter_items}
 use Rattle.sip_round.specs.Parts.{owner_of}

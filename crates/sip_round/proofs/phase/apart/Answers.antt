@@ -1,9 +1,8 @@
-use Rattle.std.proofs.Common.{◌≡◌, [], ◌∷◌, ◌++◌, map, refl, sym, ◌∙◌, ap, subst}
+use Rattle.std.proofs.Common.{◌≡◌, [], ◌∷◌, refl, sym, ◌∙◌, ap}
 use Rattle.std.proofs.lemmas.List.{nil_from_length, map-append}
-use Rattle.std.specs.Prelude.{Ok}
 use Rattle.std.specs.Vec.Iter.{into_iter_items}
 use Rattle.sip_model.specs.Told.{groups}
-use Rattle.sip_round.proofs.Piled.{DonesLeft, no_dones, one_done, all_dones}
+use Rattle.sip_round.proofs.Piled.{no_dones, one_done, all_dones}
 use Rattle.sip_round.proofs.phase.apart.Goals as goal
 
 pub loop-done-init : goal.loop-done-init

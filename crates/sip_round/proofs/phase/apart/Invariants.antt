@@ -1,4 +1,3 @@
-use Rattle.std.proofs.Common.{◌≡◌}
 use Rattle.std.specs.Vec.Iter.{into_iter_items}
 use Rattle.sip_model.specs.Told.{groups}
 use Rattle.sip_round.proofs.Piled.{DonesLeft}

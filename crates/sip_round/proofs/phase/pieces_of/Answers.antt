@@ -1,10 +1,9 @@
-use Rattle.std.proofs.Common.{◌≡◌, [], ◌∷◌, ◌++◌, map, All, IsTrue, refl, sym, ◌∙◌, ap, subst, arith}
-use Rattle.std.proofs.lemmas.List.{nil_from_length}
+use Rattle.std.proofs.Common.{◌≡◌, map, All, IsTrue, refl, sym, ap, subst, arith}
 use Rattle.std.proofs.lemmas.List.Elements.{All-head, All-tail}
 use Rattle.std.specs.Vec.Iter.{into_iter_items}
 use Rattle.sip_workers.specs.Ran.{IsNumbered}
 use Rattle.sip_workers.proofs.Gathers.{numbered_more}
-use Rattle.sip_round.proofs.Piled.{PiecesLeft, no_pieces, one_piece, all_pieces}
+use Rattle.sip_round.proofs.Piled.{one_piece}
 use Rattle.sip_round.proofs.phase.pieces_of.Goals as goal
 
 pub invariant_of-job : goal.invariant_of-job

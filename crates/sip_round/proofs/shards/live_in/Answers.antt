@@ -1,4 +1,4 @@
-use Rattle.std.proofs.Common.{◌≡◌, ◌≤◌, ◌<◌, ◌+◌, ◌*◌, ◌^◌, List, All, length, take, is_some, ap, ◌∙◌, refl, sym, subst, arith, get_or}
+use Rattle.std.proofs.Common.{◌≤◌, ◌+◌, length, is_some, ap, ◌∙◌, refl, sym, subst, arith}
 use Rattle.std.specs.Prelude.{count_by, sum_by}
 use Rattle.std.proofs.lemmas.List.{take_all}
 use Rattle.sip_model.specs.Table.{Covers, state_at}

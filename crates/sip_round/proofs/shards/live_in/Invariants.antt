@@ -1,4 +1,4 @@
-use Rattle.std.proofs.Common.{◌≡◌, ◌≤◌, ◌*◌, ◌^◌, List, take, length, All, is_some}
+use Rattle.std.proofs.Common.{◌≡◌, ◌≤◌, ◌*◌, ◌^◌, List, take, All, is_some}
 use Rattle.std.specs.Prelude.{count_by, sum_by}
 use Rattle.sip_model.specs.Table.{Covers, state_at}
 use Rattle.sip_round.proofs.shards.live_in.Given as goal

@@ -1,5 +1,4 @@
 use Rattle.std.proofs.Common.{◌+◌, ◌∙◌, ap, refl}
-use Rattle.sip_round.specs.AgentState.{AgentState}
 use Rattle.sip_round.proofs.Runs.{stands_longer}
 use Rattle.sip_round.proofs.agent.Agent.run_round.Goals as goal
 

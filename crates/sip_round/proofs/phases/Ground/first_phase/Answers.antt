@@ -1,10 +1,8 @@
-use Rattle.std.proofs.Common.{◌≡◌, ◌^◌, map, nat_le, IsTrue, All, sym, ◌∙◌, ap, subst, length, arith}
+use Rattle.std.proofs.Common.{◌^◌, map, nat_le, IsTrue, All, sym, ◌∙◌, ap, subst, length, arith}
 use Rattle.sip_message.specs.Key.{branch_in}
 use Rattle.sip_model.specs.Told.{groups}
-use Rattle.sip_round.specs.Outputs.{joined, raised_of, sent_of}
 use Rattle.sip_round.specs.Parts.{owner_of}
 use Rattle.sip_round.specs.Phases.{first_phase}
-use Rattle.sip_round.specs.Waiting.{woven}
 use Rattle.sip_round.proofs.Climbing.{climbs_in_order}
 use Rattle.sip_round.proofs.Leading.{led_first}
 use Rattle.sip_round.proofs.Numbered.{arrivals_admitted, in_bounds, parts_admit, parts_counted}

@@ -1,4 +1,4 @@
-use Rattle.std.proofs.Common.{◌≡◌, sym, ◌∙◌, ap, subst, length, map}
+use Rattle.std.proofs.Common.{sym, subst, length, map}
 use Rattle.sip_message.specs.Key.{branch_in}
 use Rattle.sip_round.specs.Arrivals.{arrivals_from}
 use Rattle.sip_round.specs.Arrived.{IsArrived}

@@ -1,6 +1,5 @@
-use Rattle.std.proofs.Common.{◌≡◌, ◌^◌, [], map, nat_le, IsTrue, sym, ◌∙◌, ap, subst, length, arith}
+use Rattle.std.proofs.Common.{◌≡◌, ◌^◌, map, nat_le, IsTrue, sym, ◌∙◌, ap, subst, length, arith}
 use Rattle.std.specs.List.{AllByRecursion}
-use Rattle.sip_message.specs.Key.{branch_in}
 use Rattle.sip_model.specs.Told.{groups}
 use Rattle.sip_round.specs.Parts.{cut_by, owner_of}
 use Rattle.sip_round.specs.Phases.{call_items}

@@ -1,4 +1,4 @@
-use Rattle.std.proofs.Common.{◌≡◌, List, All, is_some, ap, ◌∙◌, sym, subst}
+use Rattle.std.proofs.Common.{All, is_some, ap, ◌∙◌, sym, subst}
 use Rattle.std.specs.Prelude.{count_by, sum_by}
 use Rattle.sip_calls.specs.CallShard.{call_cmp}
 use Rattle.sip_message.specs.Key.{key_cmp}
