@@ -154,19 +154,25 @@ fn replay_command<'a>(alloc: Global) -> Result<Command<'a>, AllocError> {
         .value_name("N")
         .value_parser(value_parser!(usize).range(1..=256))
         .default_value("1")
-        .help("Into how many parts transactions and calls are cut, from 1 to 256; each part is dealt with by one thread at a time");
+        .help(
+            "Into how many parts transactions and calls are cut, from 1 to 256; each part is dealt with by one thread at a time",
+        );
     let workers = Arg::new(alloc, "workers")
         .long("workers")
         .value_name("N")
         .value_parser(value_parser!(usize).range(1..=64))
         .default_value("1")
-        .help("On how many threads at most the parts are dealt with, from 1 to 64; with 1 no thread is started");
+        .help(
+            "On how many threads at most the parts are dealt with, from 1 to 64; with 1 no thread is started",
+        );
     let cut = Arg::new(alloc, "cut")
         .long("cut")
         .value_name("CUT")
         .value_parser(["spread", "first"].as_slice())
         .default_value("spread")
-        .help("How the parts are cut: by the sum of the bytes of a branch or a Call-ID, or all into the first");
+        .help(
+            "How the parts are cut: by the sum of the bytes of a branch or a Call-ID, or all into the first",
+        );
     Command::new(alloc, "replay")
         .about("Runs the rounds of an event file on standard input, and writes its output file")
         .arg(shards)?

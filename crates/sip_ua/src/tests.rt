@@ -8,6 +8,7 @@ mod reading;
 mod reliable;
 mod rounds;
 mod served;
+mod shards;
 mod table;
 mod timers;
 mod transactions;
@@ -87,13 +88,7 @@ fn replays<T: Abort + Threads + Sync>(
 }
 
 // A run that ends in this status, tells this fault and writes nothing.
-fn fails<T: Abort + Threads + Sync>(
-    rt: &T,
-    alloc: Global,
-    input: &str,
-    status: u8,
-    errors: &str,
-) {
+fn fails<T: Abort + Threads + Sync>(rt: &T, alloc: Global, input: &str, status: u8, errors: &str) {
     let ended = run_on(rt, alloc, ["replay"].as_slice(), &mut input.as_bytes());
     assert!(rt; ended.status == status);
     assert!(rt; ended.output.is_empty());

@@ -1,8 +1,8 @@
 //! Worked examples of both files, and the texts that are none.
 
 use sip_files::{EventsFault, read_events, write_outputs};
-use sip_round::{Event, Output, Round};
 use sip_message::{Addr, CallId, HeaderName, Id, ReadFault, StatusCode, Token};
+use sip_round::{Event, Output, Round};
 use sip_served::{Notice, Refusal, UserCommand};
 use sip_text::{Series, Text};
 use sip_transactions::DropReason;
