@@ -2,7 +2,9 @@ pub mod Calm
 pub mod Changes
 pub mod Dues
 pub mod Joined
+pub mod Mapped
 pub mod Numbers
 pub mod OneWaits
 pub mod Places
+pub mod Stories
 pub mod Ticks

@@ -157,7 +157,7 @@ command_one state id (command.Ack i) now all = all
 command_one state id (command.Prack i) now all = all
 command_one state id (command.Cancel i) now all = all
 
-event_one : (state : State) (event : Event) → OneWaitsEach state → OneWaitsEach (event_taken state event).0
+pub event_one : (state : State) (event : Event) → OneWaitsEach state → OneWaitsEach (event_taken state event).0
 event_one state (Takes tag id (item.Up up) now) all = kind_one state tag up up.kind all
 event_one state (Takes tag id (item.User c) now) all = command_one state id c now all
 event_one state (Ticks now) all = mapped_all OneWaits (is_kept_at now) (λ held. (request_ticked now held).0) (request_one now) state.requests all

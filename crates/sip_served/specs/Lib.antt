@@ -11,4 +11,6 @@ pub mod Run
 pub mod ServerSide
 pub mod State
 pub mod Step
+pub mod Story
+pub mod Telling
 pub mod Tick

@@ -28,6 +28,7 @@ use Rattle.sip_served.specs.declared.item.CallOut.{CallOut}
 use Rattle.sip_served.specs.declared.item.CallOut.TheVariants.{Notice, Command}
 use Rattle.sip_served.specs.declared.notice.Notice.TheVariants.{Refused}
 use Rattle.sip_served.specs.declared.refusal.Refusal.{Refusal}
+use Rattle.sip_served.specs.declared.timers.TheConstants.{LIFETIME, T1}
 use Rattle.sip_served.specs.declared.refusal.Refusal.TheVariants.{NoSuchRequest, AlreadyFinal, BadStatus, ReliablePending, NotSupported, SequenceUsedUp, DialogEnded}
 use Rattle.sip_served.specs.Dialogs.{confirmed, dialog_changed, early_ended, is_named, lives}
 use Rattle.sip_served.specs.Requests.{dialog_name, is_final, is_inside, is_invite, is_provisional, is_success, requires_100rel, supports_100rel}
@@ -116,14 +117,14 @@ sent_reliably response now held =
 
 -- A 2xx to an INVITE is sent again after T1, and given up 64*T1 after it was sent, where its ACK doesn't come.
 abbrev pub success_sent : Message → ℕ → Success
-success_sent response now = record { response = response; end = now + 32000; retransmission = Some record { due = now + 500; interval = 500 } }
+success_sent response now = record { response = response; end = now + LIFETIME; retransmission = Some record { due = now + T1; interval = T1 } }
 
 -- a final response is the last one; 64*T1 later the request is removed (RFC 3261, section 17.2.2)
 abbrev pub finished : Message → ℕ → ℕ → HeldRequest → HeldRequest
 finished response status now held = record held {
   ledger = closed_now held.ledger;
   success = if is_invite held.request && is_success status then Some (success_sent response now) else held.success;
-  removal = Some (now + 32000);
+  removal = Some (now + LIFETIME);
 }
 
 abbrev pub answered : Respond → Message → ℕ → HeldRequest → HeldRequest

@@ -1,5 +1,5 @@
 -- A tick: what is sent again, given up and removed, and when something of it is due (RFC 3261, section 13.3.1.4; RFC 3262,
--- section 3). Moments are in ms; T1 is 500 and T2 is 4000.
+-- section 3). Moments are in ms.
 use Rattle.std.specs.Prelude.{ℕ, ◌+◌, ◌*◌, Bool, true, false, not, nat_le, nat_lt, min, List, [], ◌∷◌, ◌++◌, map, filter, fold, Option, None, Some, if◌then◌else◌}
 use Rattle.std.specs.List.{flat_map}
 use Rattle.std.specs.Option.{option_map, option_map_or, option_and_then}
@@ -17,6 +17,7 @@ use Rattle.sip_served.specs.declared.item.CallOut.TheVariants as out
 use Rattle.sip_served.specs.declared.item.CallOut.TheVariants.{Command}
 use Rattle.sip_served.specs.declared.notice.Notice.{Notice}
 use Rattle.sip_served.specs.declared.notice.Notice.TheVariants.{NoAck, NoPrack}
+use Rattle.sip_served.specs.declared.timers.TheConstants.{T2}
 use Rattle.sip_served.specs.State.{State, Taken}
 
 -- a held request after a tick, and what is told
@@ -45,7 +46,7 @@ success_answer now success = due_with now success.end success.retransmission
 -- the next interval is twice the last, up to T2, and counts from this moment
 abbrev pub next_retransmission : ℕ → Retransmission → Retransmission
 next_retransmission now last =
-    record { due = now + min (2 * last.interval) 4000; interval = min (2 * last.interval) 4000 }
+    record { due = now + min (2 * last.interval) T2; interval = min (2 * last.interval) T2 }
 
 abbrev pub retransmission_after : Tick → ℕ → Option Retransmission → Option Retransmission
 retransmission_after tick.Nothing now last = last

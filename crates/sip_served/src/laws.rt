@@ -4,6 +4,8 @@ ghost use Rattle.std.specs.Prelude.{◌≡◌, ◌≢◌, ℕ, List, true, false
 ghost use Rattle.sip_message.specs.declared.addr.Addr.{Addr};
 ghost use Rattle.sip_timers.specs.Queue.{is_due};
 ghost use Rattle.sip_served.specs.Run.{Event, OneWaitsEach, state_after};
+ghost use Rattle.sip_served.specs.Story.{held_by};
+ghost use Rattle.sip_served.specs.Telling.{story_after};
 ghost use Rattle.sip_served.specs.State.{State, quiet};
 ghost use Rattle.sip_served.specs.Tick.{next_due, tick_taken};
 
@@ -18,4 +20,11 @@ pub fn ticks_when_due()
 /// (RFC 3262, section 3).
 pub fn at_most_one_waits()
     ensures { (local : Addr) (events : List Event) → OneWaitsEach (state_after local events) }
+{}
+
+/// Whatever happened to the server side of a call, what is held is what its story says: each dialog
+/// by how it began and what happened in it since, and each request by what came for it.
+pub fn holds_what_its_story_says()
+    ensures { (local : Addr) (events : List Event)
+        → state_after local events ≡ held_by (story_after local events) }
 {}

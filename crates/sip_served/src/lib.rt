@@ -19,6 +19,7 @@ mod requests;
 mod respond;
 mod served;
 mod tick;
+mod timers;
 mod unsupported;
 
 pub use command::{
@@ -30,7 +31,7 @@ pub use dialogs::Dialogs;
 pub use held_dialog::{DialogLife, DialogName, HeldDialog};
 pub use held_request::{HeldRequest, Retransmission, Success};
 pub use item::{CallOut, Item};
-pub use laws::{at_most_one_waits, ticks_when_due};
+pub use laws::{at_most_one_waits, holds_what_its_story_says, ticks_when_due};
 pub use notice::Notice;
 pub use refusal::Refusal;
 pub use served::Served;

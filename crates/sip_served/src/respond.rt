@@ -18,15 +18,13 @@ use crate::request::{
     dialog_name, is_final, is_inside, is_invite, is_provisional, is_success, requires_100rel,
     supports_100rel,
 };
+use crate::timers::{LIFETIME, T1};
 use sip_dialog::{Dialog, own_contact};
 use sip_message::{Addr, Id, Message, StatusCode, Token, response_to};
 use sip_reliable::{Inbound, SendFault};
 use sip_text::{Series, Text};
 use sip_transactions::Command;
 use std::alloc::{AllocError, Global};
-
-/// T1, the first interval, in ms (RFC 3261, section 17.1.1.1).
-const T1: u64 = 500;
 
 /// The least status that the user may answer with.
 const LEAST_STATUS: u16 = 101;
@@ -211,7 +209,7 @@ fn finish(held: &mut HeldRequest, response: Message, status: u16, now: u64)
     if is_invite(&held.request) && is_success(status) {
         held.success = Some(success_sent(response, now));
     }
-    held.removal = Some(now + 64 * T1);
+    held.removal = Some(now + LIFETIME);
 }
 
 fn success_sent(response: Message, now: u64) -> Success
@@ -220,7 +218,7 @@ fn success_sent(response: Message, now: u64) -> Success
 {
     Success {
         response,
-        end: now + 64 * T1,
+        end: now + LIFETIME,
         retransmission: Some(Retransmission {
             due: now + T1,
             interval: T1,

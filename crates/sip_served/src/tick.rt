@@ -12,12 +12,10 @@ use crate::held_request::{HeldRequest, Retransmission, Success};
 use crate::item::CallOut;
 use crate::notice::Notice;
 use crate::respond::answer_command;
+use crate::timers::T2;
 use sip_reliable::Tick;
 use sip_timers::earlier;
 use std::alloc::AllocError;
-
-/// T2, the greatest interval between two sendings of a 2xx, in ms (RFC 3261, section 17.1.2.2).
-const T2: u64 = 4_000;
 
 /// Does what is due of each held request at the moment `now`, in ms.
 pub(crate) fn tick_requests(
