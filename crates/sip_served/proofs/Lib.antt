@@ -6,5 +6,6 @@ pub mod Mapped
 pub mod Numbers
 pub mod OneWaits
 pub mod Places
+pub mod Shows
 pub mod Stories
 pub mod Ticks

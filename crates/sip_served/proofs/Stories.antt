@@ -57,7 +57,7 @@ use Rattle.sip_served.specs.Run.{Event, Takes, Ticks, OneWaits, OneWaitsEach, ev
 use Rattle.sip_served.specs.ServerSide.{empty_at}
 use Rattle.sip_served.specs.State.{Dialogs, State, Taken, changed_at, changed_first, has_id}
 use Rattle.sip_served.specs.Step.{command_taken, kind_taken}
-use Rattle.sip_served.specs.Story.{DialogStories, DialogStory, RequestStory, Story, SuccessStory, dialog_of, dialogs_of, held_by, is_open, is_open_by, next_sending, request_of, success_of}
+use Rattle.sip_served.specs.Story.{DialogStories, DialogStory, RequestStory, Story, SuccessStory, dialog_of, dialogs_of, greatest_accepted, held_by, is_open, is_open_by, next_sending, request_of, success_of}
 use Rattle.sip_served.specs.Telling.{ack_told, answer_told, answers, at_dialog, at_request, begins, begun, command_told, ends_at, ends_early, dialogs_told, ends_by, event_told, finishes, is_acked, is_confirmed, is_held, is_noted, is_numbered, is_refreshed, is_retargeted, is_visited, kind_told, lives_on, provisionals_go, provisionals_pass, request_passes, sends, story_after, success_goes, success_over, success_passes, takes_dialog, tick_told, told_by_case, told_by_refusal, told_by_request}
 use Rattle.sip_served.specs.Tick.{tick_taken, is_kept_at, next_retransmission, provisional_of, provisional_ticked, request_ticked, retransmission_after, success_after, success_answer, success_of as success_at, success_ticked, with_retransmission}
 use Rattle.sip_served.proofs.Mapped.{append_mapped, changed_mapped, entry_mapped, filter_mapped, found_mapped, inserted_mapped, map_mapped, removed_mapped}
@@ -363,3 +363,11 @@ from_on (event ∷ events) story all =
 
 pub held_after : (local : Addr) (events : List Event) → state_after local events ≡ held_by (story_after local events)
 held_after local events = from_on events record { local = local; requests = []; dialogs = [] } tt
+
+remote_of : (stories : DialogStories) → map (λ entry. entry.1.dialog.remote_cseq) (dialogs_of stories) ≡ map (λ entry. greatest_accepted entry.1) stories
+remote_of [] = refl
+remote_of (entry ∷ stories) = ap (λ rest. greatest_accepted entry.1 ∷ rest) (remote_of stories)
+
+pub remote_after : (local : Addr) (events : List Event) → map (λ entry. entry.1.dialog.remote_cseq) (state_after local events).dialogs ≡ map (λ entry. greatest_accepted entry.1) (story_after local events).dialogs
+remote_after local events =
+    ap (λ (state : State). map (λ entry. entry.1.dialog.remote_cseq) state.dialogs) (held_after local events) ∙ remote_of (story_after local events).dialogs

@@ -31,7 +31,10 @@ pub use dialogs::Dialogs;
 pub use held_dialog::{DialogLife, DialogName, HeldDialog};
 pub use held_request::{HeldRequest, Retransmission, Success};
 pub use item::{CallOut, Item};
-pub use laws::{at_most_one_waits, holds_what_its_story_says, ticks_when_due};
+pub use laws::{
+    at_most_one_waits, each_request_is_told_once, holds_what_its_story_says,
+    the_remote_cseq_is_the_greatest_accepted, ticks_when_due,
+};
 pub use notice::Notice;
 pub use refusal::Refusal;
 pub use served::Served;
