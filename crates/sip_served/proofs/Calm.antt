@@ -15,7 +15,7 @@ use Rattle.sip_served.specs.declared.held_request.Success.{Success}
 use Rattle.sip_served.specs.declared.item.CallOut.{CallOut}
 use Rattle.sip_served.specs.declared.notice.Notice.TheVariants.{NoAck, NoPrack}
 use Rattle.sip_served.specs.State.{State, Taken, quiet}
-use Rattle.sip_served.specs.Tick.{Ticked, is_kept_at, next_due, next_due_of, provisional_of, request_due, request_ticked, retransmission_after, success_answer, success_moment, success_of, success_ticked, provisional_ticked, tick_taken, told_of, with_retransmission}
+use Rattle.sip_served.specs.Tick.{is_kept_at, next_due, provisional_of, request_due, request_ticked, retransmission_after, success_answer, success_moment, success_of, success_ticked, provisional_ticked, tick_taken, told_of, with_retransmission}
 use Rattle.sip_served.proofs.Dues.{earlier_due, ledger_due, nothing_from, removal_kept, request_told, requests_due, success_due}
 
 neither : (x y : Bool) → (x || y) ≡ false → (x ≡ false) × (y ≡ false)

@@ -1,6 +1,6 @@
 -- When something of a held request is due: a tick says something or removes it just then.
-use Rattle.std.proofs.Common.{◌≡◌, ℕ, ◌+◌, ◌<◌, ◌≤◌, Bool, true, false, not, cond, ◌&&◌, ◌||◌, min, nat_le, nat_lt, List, [], ◌∷◌, ◌++◌, map, length, refl, sym, ap, ◌∙◌, arith}
-use Rattle.std.specs.Prelude.{Option, None, Some, fold, filter, if◌then◌else◌}
+use Rattle.std.proofs.Common.{◌≡◌, ℕ, ◌+◌, Bool, true, false, not, ◌&&◌, ◌||◌, min, nat_le, nat_lt, List, [], ◌∷◌, ◌++◌, refl, sym, ap, ◌∙◌, arith}
+use Rattle.std.specs.Prelude.{Option, None, Some, fold, if◌then◌else◌}
 use Rattle.std.specs.List.{flat_map, list_any, reduce}
 use Rattle.std.specs.Option.{is_some, option_and_then, option_map, option_map_or, option_to_list}
 use Rattle.std.proofs.lemmas.Grind.{common_steps}
@@ -15,7 +15,6 @@ use Rattle.sip_reliable.specs.Ledger.{Ledger, Provisional, Retransmission as Res
 use Rattle.sip_served.specs.declared.held_request.HeldRequest.{HeldRequest}
 use Rattle.sip_served.specs.declared.held_request.Retransmission.{Retransmission}
 use Rattle.sip_served.specs.declared.held_request.Success.{Success}
-use Rattle.sip_served.specs.declared.item.CallOut.{CallOut}
 use Rattle.sip_served.specs.declared.notice.Notice.{Notice}
 use Rattle.sip_served.specs.Tick.{due_with, is_kept_at, next_due_of, provisional_of, provisional_ticked, request_due, request_ticked, success_answer, success_moment, success_of, success_ticked, told_of}
 

@@ -1,9 +1,9 @@
 -- What is held after a list of events is what the story of the list says.
-use Rattle.std.proofs.Common.{◌≡◌, ℕ, ◌+◌, ◌*◌, ◌^◌, ◌≤◌, nat_le, nat_lt, min, Bool, true, false, not, cond, ◌&&◌, List, [], ◌∷◌, ◌++◌, map, length, refl, sym, ap, subst, ◌∙◌, arith, add-one, append-nil, append_assoc, length-append}
+use Rattle.std.proofs.Common.{◌≡◌, ℕ, ◌+◌, ◌*◌, ◌^◌, ◌≤◌, nat_lt, min, Bool, true, false, not, cond, ◌&&◌, List, [], ◌∷◌, ◌++◌, map, length, refl, sym, ap, subst, ◌∙◌, arith, add-one, append-nil, length-append}
 use Rattle.std.specs.Prelude.{Option, None, Some, Ok, is_some, filter, find, fold}
-use Rattle.std.specs.List.{AllByRecursion, last_or}
-use Rattle.std.specs.Map.{lookup, remove_entry}
-use Rattle.std.specs.Option.{option_map, option_map_or}
+use Rattle.std.specs.List.{last_or}
+use Rattle.std.specs.Map.{remove_entry}
+use Rattle.std.specs.Option.{option_map}
 use Rattle.std.specs.Result.{is_ok}
 use Rattle.std.proofs.Math.Nat.{two-pow-succ}
 use Rattle.std.proofs.lemmas.List.Sums.{fold-append, fold_push}
@@ -14,17 +14,16 @@ use Rattle.sip_message.specs.declared.addr.Addr.{Addr}
 use Rattle.sip_message.specs.declared.id.Id.{Id}
 use Rattle.sip_message.specs.declared.message.Message.{Message}
 use Rattle.sip_dialog.specs.Fault.{accept_fault, ended_fault, ok_unless as dialog_ok}
-use Rattle.sip_dialog.specs.Life.{Happening, Accepts, Refreshes, Confirms, dialog_after}
-use Rattle.sip_dialog.specs.Opening.{Opening, contact_uri}
+use Rattle.sip_dialog.specs.Life.{dialog_after}
+use Rattle.sip_dialog.specs.Opening.{contact_uri}
 use Rattle.sip_dialog.specs.Step.{with_accepted, with_target, confirmed_by}
 use Rattle.sip_dialog.specs.declared.dialog.Dialog.{Dialog}
-use Rattle.sip_dialog.specs.declared.fault.DialogFault.{DialogFault}
 use Rattle.sip_dialog.proofs.Lives.{accept_stands, refresh_stands, confirm_stands}
 use Rattle.sip_reliable.specs.declared.send_fault.SendFault.{SendFault}
 use Rattle.sip_reliable.specs.declared.tick.Tick.{Tick}
 use Rattle.sip_reliable.specs.declared.tick.Tick.TheVariants as tick
 use Rattle.sip_reliable.specs.Happening as reliable
-use Rattle.sip_reliable.specs.Ledger.{Ledger, Provisional, acknowledged, closed_now, happenings_of, is_repeated, ledger_after, ok_unless, send_answer, send_fault, tick_answer, ticked, with_sent}
+use Rattle.sip_reliable.specs.Ledger.{Ledger, Provisional, acknowledged, closed_now, happenings_of, is_repeated, ledger_after, ok_unless, send_fault, tick_answer, ticked, with_sent}
 use Rattle.sip_reliable.proofs.Ledgers.{acknowledge_stands, close_stands, send_stands, tick_stands}
 use Rattle.sip_transactions.specs.declared.output.Kind.{Kind}
 use Rattle.sip_transactions.specs.declared.output.Kind.TheVariants.{Request, Ack, Response, Timeout, Failed}
@@ -40,25 +39,23 @@ use Rattle.sip_served.specs.declared.command.UserCommand.TheVariants as command
 use Rattle.sip_served.specs.declared.held_dialog.DialogName.{DialogName}
 use Rattle.sip_served.specs.declared.held_dialog.HeldDialog.{HeldDialog}
 use Rattle.sip_served.specs.declared.held_request.HeldRequest.{HeldRequest}
-use Rattle.sip_served.specs.declared.held_request.Retransmission.{Retransmission}
 use Rattle.sip_served.specs.declared.held_request.Success.{Success}
 use Rattle.sip_served.specs.declared.item.Item.TheVariants as item
 use Rattle.sip_served.specs.declared.item.CallOut.{CallOut}
 use Rattle.sip_served.specs.declared.refusal.Refusal.{Refusal}
 use Rattle.sip_served.specs.declared.refusal.Refusal.TheVariants as bad
 use Rattle.sip_served.specs.declared.arrival.TheConstants.{FIRST_RSEQ}
-use Rattle.sip_served.specs.declared.timers.TheConstants.{LIFETIME, T1, T2}
+use Rattle.sip_served.specs.declared.timers.TheConstants.{LIFETIME, T2}
 use Rattle.sip_served.specs.Acknowledgment.{ack_noted, acked, acknowledged_invite}
 use Rattle.sip_served.specs.Arrival.{by_case, case_of, noted, pracked, bye_taken, request_held}
 use Rattle.sip_served.specs.Dialogs.{confirmed, dialog_changed, early_ended, ended_at, is_early_of, is_named, numbered, refreshed, retargeted, takes, visited}
 use Rattle.sip_served.specs.Requests.{dialog_name, is_bye, is_cancel, is_final, is_inside, is_invite, is_success, supports_100rel}
-use Rattle.sip_served.specs.Respond.{answer_given, answer_to, made_dialog, answered, by_refusal, by_request, confirms_dialog, dialogs_answered, finished, has_ended, is_of_dialog, is_reliable, is_sent_reliably, is_user_status, ledger_sent, makes_dialog, may_be_reliable, refusal_for, refusal_of_fault, rejects, sent_reliably, with_dialog}
+use Rattle.sip_served.specs.Respond.{answer_given, answer_to, made_dialog, answered, by_refusal, by_request, confirms_dialog, finished, has_ended, is_of_dialog, is_reliable, is_sent_reliably, is_user_status, ledger_sent, makes_dialog, may_be_reliable, refusal_for, refusal_of_fault, rejects, sent_reliably, with_dialog}
 use Rattle.sip_served.specs.Run.{Event, Takes, Ticks, OneWaits, OneWaitsEach, event_taken, state_after}
-use Rattle.sip_served.specs.ServerSide.{empty_at}
-use Rattle.sip_served.specs.State.{Dialogs, State, Taken, changed_at, changed_first, has_id}
+use Rattle.sip_served.specs.State.{Dialogs, State, Taken, changed_at, has_id}
 use Rattle.sip_served.specs.Step.{command_taken, kind_taken}
 use Rattle.sip_served.specs.Story.{DialogStories, DialogStory, RequestStory, Story, SuccessStory, dialog_of, dialogs_of, greatest_accepted, held_by, is_open, is_open_by, next_sending, request_of, success_of}
-use Rattle.sip_served.specs.Telling.{ack_told, answer_told, answers, at_dialog, at_request, begins, begun, command_told, ends_at, ends_early, dialogs_told, ends_by, event_told, finishes, is_acked, is_confirmed, is_held, is_noted, is_numbered, is_refreshed, is_retargeted, is_visited, kind_told, lives_on, provisionals_go, provisionals_pass, request_passes, sends, story_after, success_goes, success_over, success_passes, takes_dialog, tick_told, told_by_case, told_by_refusal, told_by_request}
+use Rattle.sip_served.specs.Telling.{ack_told, answer_told, answers, at_dialog, at_request, begins, begun, command_told, ends_at, ends_early, event_told, finishes, acks, confirms, holds_one, notes, numbers, refreshes, retargets, visits, kind_told, provisionals_go, request_passes, sends, story_after, success_goes, success_passes, takes_dialog, tick_told, told_by_case, told_by_refusal, told_by_request}
 use Rattle.sip_served.specs.Tick.{tick_taken, is_kept_at, next_retransmission, provisional_of, provisional_ticked, request_ticked, retransmission_after, success_after, success_answer, success_of as success_at, success_ticked, with_retransmission}
 use Rattle.sip_served.proofs.Mapped.{append_mapped, changed_mapped, entry_mapped, filter_mapped, found_mapped, inserted_mapped, map_mapped, removed_mapped}
 use Rattle.sip_served.proofs.OneWaits.{event_one}
@@ -76,7 +73,7 @@ negated : (b : Bool) → not b ≡ true → b ≡ false
 negated true e = absurd cc
 negated false e = refl
 
-numbered_on : (story : DialogStory) (number : ℕ) → dialog_of (is_numbered number story) ≡ numbered number (dialog_of story)
+numbered_on : (story : DialogStory) (number : ℕ) → dialog_of (numbers number story) ≡ numbered number (dialog_of story)
 numbered_on story number =
     by_bool (takes (dialog_of story) number)
     (λ e.
@@ -85,27 +82,27 @@ numbered_on story number =
         rw e (ap (with (dialog_of story)) (sym (accept_stands dialog (with_accepted dialog number) (Ok tt) number (ap dialog_ok (sym fits)) refl story.opening story.life refl))))
     (λ e. rw e refl)
 
-retargeted_on : (story : DialogStory) (o : Option (List ℕ)) → dialog_of (is_retargeted o story) ≡ retargeted o (dialog_of story)
+retargeted_on : (story : DialogStory) (o : Option (List ℕ)) → dialog_of (retargets o story) ≡ retargeted o (dialog_of story)
 retargeted_on story None = refl
 retargeted_on story (Some uri) =
     let dialog = dialog_after story.opening story.life in
     by_bool (is_some (ended_fault dialog)) (λ e. rw e refl)
     (λ e. rw e (ap (with (dialog_of story)) (sym (refresh_stands dialog (with_target dialog uri) (Ok tt) uri refl story.opening story.life refl))))
 
-confirmed_on : (story : DialogStory) (response : Message) → dialog_of (is_confirmed response story) ≡ confirmed response (dialog_of story)
+confirmed_on : (story : DialogStory) (response : Message) → dialog_of (confirms response story) ≡ confirmed response (dialog_of story)
 confirmed_on story response =
     let dialog = dialog_after story.opening story.life in
     by_bool (is_some (ended_fault dialog)) (λ e. rw e refl)
     (λ e. rw e (ap (with (dialog_of story)) (sym (confirm_stands dialog (confirmed_by dialog response) (Ok tt) response (unfaulted (ended_fault dialog) e) refl story.opening story.life refl))))
 
-refreshed_on : (story : DialogStory) (request : Message) → dialog_of (is_refreshed request story) ≡ refreshed request (dialog_of story)
+refreshed_on : (story : DialogStory) (request : Message) → dialog_of (refreshes request story) ≡ refreshed request (dialog_of story)
 refreshed_on story request =
     by_bool (is_invite request) (λ e. rw e (retargeted_on story (contact_uri request))) (λ e. rw e refl)
 
-visited_on : (request : Message) (story : DialogStory) → dialog_of (is_visited request story) ≡ visited request (dialog_of story)
+visited_on : (request : Message) (story : DialogStory) → dialog_of (visits request story) ≡ visited request (dialog_of story)
 visited_on request story =
     by_bool (is_cancel request) (λ e. rw e refl)
-    (λ e. rw e (refreshed_on (is_numbered request.cseq.number story) request ∙ ap (refreshed request) (numbered_on story request.cseq.number)))
+    (λ e. rw e (refreshed_on (numbers request.cseq.number story) request ∙ ap (refreshed request) (numbered_on story request.cseq.number)))
 
 -- ---- the 2xx
 
@@ -156,10 +153,10 @@ kept stays responses = cond stays (last_or None responses) None
 
 -- ---- what happens to a request
 
-acked_on : (request : RequestStory) → request_of (is_acked request) ≡ acked (request_of request)
+acked_on : (request : RequestStory) → request_of (acks request) ≡ acked (request_of request)
 acked_on request = over request.success
   where
-    over : (o : Option SuccessStory) → request_of (is_acked (record request { success = o })) ≡ acked (request_of (record request { success = o }))
+    over : (o : Option SuccessStory) → request_of (acks (record request { success = o })) ≡ acked (request_of (record request { success = o }))
     over None = refl
     over (Some success) = refl
 
@@ -219,19 +216,19 @@ last_on r response now request true = finishes_on response r.status now request
 last_on r response now request false = refl
 
 answers_on : (r : Answer) (response : Message) (now : ℕ) (request : RequestStory) → Numbered r (request_of request) → request_of (answers r response now request) ≡ answered r response now (request_of request)
-answers_on r response now request numbered =
-    by_bool (is_sent_reliably (request_of request) r) (λ e. rw e (sends_on response now request (numbered e))) (λ e. rw e (last_on r response now request (is_final r.status)))
+answers_on r response now request has_number =
+    by_bool (is_sent_reliably (request_of request) r) (λ e. rw e (sends_on response now request (has_number e))) (λ e. rw e (last_on r response now request (is_final r.status)))
 
 takes_on : (event : Id) (r : Answer) (request : RequestStory) → request_of (takes_dialog event r request) ≡ with_dialog event r (request_of request)
 takes_on event r request = by_bool (makes_dialog (request_of request) r.status) (λ e. rw e refl) (λ e. rw e refl)
 
 still_numbered : (event : Id) (r : Answer) (request : RequestStory) → Numbered r (request_of request) → Numbered r (request_of (takes_dialog event r request))
-still_numbered event r request numbered = by_bool (makes_dialog (request_of request) r.status) (λ e. rw e numbered) (λ e. rw e numbered)
+still_numbered event r request has_number = by_bool (makes_dialog (request_of request) r.status) (λ e. rw e has_number) (λ e. rw e has_number)
 
 given_on : (event : Id) (r : Answer) (response : Message) (now : ℕ) (request : RequestStory) → Numbered r (request_of request)
     → request_of (answers r response now (takes_dialog event r request)) ≡ answered r response now (with_dialog event r (request_of request))
-given_on event r response now request numbered =
-    answers_on r response now (takes_dialog event r request) (still_numbered event r request numbered) ∙ ap (answered r response now) (takes_on event r request)
+given_on event r response now request has_number =
+    answers_on r response now (takes_dialog event r request) (still_numbered event r request has_number) ∙ ap (answered r response now) (takes_on event r request)
 
 -- ---- a request at a tick
 
@@ -262,12 +259,12 @@ request_ticks now request one =
 abbrev state_with : Addr → List HeldRequest → Dialogs → State
 state_with local requests dialogs = record { local = local; requests = requests; dialogs = dialogs }
 
-noted_on : (story : Story) (name : DialogName) (request : Message) → held_by (is_noted name request story) ≡ noted (held_by story) name request
+noted_on : (story : Story) (name : DialogName) (request : Message) → held_by (notes name request story) ≡ noted (held_by story) name request
 noted_on story name request = by_bool (is_inside request)
-    (λ e. rw e (ap (state_with story.local (held_by story).requests) (entry_mapped dialog_of (is_named name) story.dialogs (visited request) (is_visited request) (visited_on request))))
+    (λ e. rw e (ap (state_with story.local (held_by story).requests) (entry_mapped dialog_of (is_named name) story.dialogs (visited request) (visits request) (visited_on request))))
     (λ e. rw e refl)
 
-held_on : (story : Story) (name : DialogName) (arrival : Arrival) → held_by (is_held name arrival story) ≡ (request_held (held_by story) name arrival).0
+held_on : (story : Story) (name : DialogName) (arrival : Arrival) → held_by (holds_one name arrival story) ≡ (request_held (held_by story) name arrival).0
 held_on story name arrival = ap (λ requests. state_with story.local requests (held_by story).dialogs) (append_mapped request_of story.requests _)
 
 bye_on : (story : Story) (name : DialogName) (arrival : Arrival) (b : Bool)
@@ -285,24 +282,24 @@ case_on BadExtension story name arrival = refl
 case_on NoDialog story name arrival = refl
 case_on OutOfOrder story name arrival = refl
 case_on (Acknowledges invite rseq) story name arrival =
-    pracked_at (is_noted name arrival.request story) invite rseq ∙ ap (λ (state : State). record state { requests = changed_at invite (pracked rseq) state.requests }) (noted_on story name arrival.request)
+    pracked_at (notes name arrival.request story) invite rseq ∙ ap (λ (state : State). record state { requests = changed_at invite (pracked rseq) state.requests }) (noted_on story name arrival.request)
 case_on AcknowledgesNothing story name arrival = noted_on story name arrival.request
 case_on ForUser story name arrival =
-    let before = is_noted name arrival.request story in
-    bye_on (is_held name arrival before) name arrival (is_inside arrival.request && is_bye arrival.request)
+    let before = notes name arrival.request story in
+    bye_on (holds_one name arrival before) name arrival (is_inside arrival.request && is_bye arrival.request)
     ∙ ap (λ (state : State). (bye_taken arrival name state).0) (held_on before name arrival ∙ ap (λ (state : State). (request_held state name arrival).0) (noted_on story name arrival.request))
 
 ack_on : (story : Story) (call_id : List ℕ) (ack : Message) (o : Option Id) → held_by (ack_told story o) ≡ (ack_noted (held_by story) call_id ack o).0
 ack_on story call_id ack None = refl
 ack_on story call_id ack (Some invite) =
-    ap (λ requests. state_with story.local requests (held_by story).dialogs) (changed_mapped request_of (has_id invite) acked is_acked acked_on story.requests)
+    ap (λ requests. state_with story.local requests (held_by story).dialogs) (changed_mapped request_of (has_id invite) acked acks acked_on story.requests)
 
-dialogs_on : (event : Id) (held : HeldRequest) (r : Answer) (response : Message) (stories : DialogStories) (makes confirms ends : Bool)
+dialogs_on : (event : Id) (held : HeldRequest) (r : Answer) (response : Message) (stories : DialogStories) (fresh success rejected : Bool)
     → let name = dialog_name held.request held.tag in
-    dialogs_of (cond makes (begins name (begun event held r.status) stories) (cond confirms (at_dialog name (is_confirmed response) stories) (cond ends (ends_early held.id stories) stories)))
-    ≡ (cond {A = Dialogs × List CallOut} makes (insert_entry is_named (dialogs_of stories) name (made_dialog event held r.status), []) (cond confirms (dialog_changed name (confirmed response) (dialogs_of stories), []) (cond ends (early_ended held.id (dialogs_of stories)) (dialogs_of stories, [])))).0
-dialogs_on event held r response stories true confirms ends = inserted_mapped dialog_of is_named stories (dialog_name held.request held.tag) (begun event held r.status)
-dialogs_on event held r response stories false true ends = entry_mapped dialog_of (is_named (dialog_name held.request held.tag)) stories (confirmed response) (is_confirmed response) (λ dialog. confirmed_on dialog response)
+    dialogs_of (cond fresh (begins name (begun event held r.status) stories) (cond success (at_dialog name (confirms response) stories) (cond rejected (ends_early held.id stories) stories)))
+    ≡ (cond {A = Dialogs × List CallOut} fresh (insert_entry is_named (dialogs_of stories) name (made_dialog event held r.status), []) (cond success (dialog_changed name (confirmed response) (dialogs_of stories), []) (cond rejected (early_ended held.id (dialogs_of stories)) (dialogs_of stories, [])))).0
+dialogs_on event held r response stories true success rejected = inserted_mapped dialog_of is_named stories (dialog_name held.request held.tag) (begun event held r.status)
+dialogs_on event held r response stories false true rejected = entry_mapped dialog_of (is_named (dialog_name held.request held.tag)) stories (confirmed response) (confirms response) (λ dialog. confirmed_on dialog response)
 dialogs_on event held r response stories false false true = sym (filter_mapped _ (λ entry. not (is_early_of held.id entry.1)) stories)
 dialogs_on event held r response stories false false false = refl
 

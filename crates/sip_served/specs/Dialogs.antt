@@ -1,6 +1,6 @@
 -- The held dialogs (RFC 3261, section 12).
 use Rattle.std.specs.Prelude.{ℕ, Bool, false, not, ◌&&◌, List, [], ◌∷◌, Option, None, Some, map, filter, if◌then◌else◌}
-use Rattle.std.specs.Option.{is_some, option_map, option_map_or}
+use Rattle.std.specs.Option.{is_some, option_map_or}
 use Rattle.std.specs.Map.{lookup, set_value, remove_entry, values_of}
 use Rattle.std.specs.Cmp.Lexicographic.{pointwise}
 use Rattle.std.specs.Prelude.{nat_eq, unwrap_or}

@@ -1,5 +1,5 @@
 -- What each event adds to the story of a call. Which case it is, is read from what the story holds.
-use Rattle.std.specs.Prelude.{ℕ, ◌+◌, Bool, true, false, not, ◌&&◌, nat_lt, List, [], ◌∷◌, ◌++◌, length, map, filter, find, fold, Option, None, Some, is_some, if◌then◌else◌}
+use Rattle.std.specs.Prelude.{ℕ, true, false, not, ◌&&◌, nat_lt, List, [], ◌∷◌, ◌++◌, length, map, filter, find, fold, Option, None, Some, is_some, if◌then◌else◌}
 use Rattle.std.specs.Map.{lookup, remove_entry, set_value}
 use Rattle.std.specs.Option.{option_map, option_map_or}
 use Rattle.indexmap.specs.IndexMap.{insert_entry}
@@ -43,27 +43,27 @@ abbrev pub lives_on : Happening → DialogStory → DialogStory
 lives_on happening story = record story { life = story.life ++ happening ∷ [] }
 
 -- a request in it has a number above the last
-abbrev pub is_numbered : ℕ → DialogStory → DialogStory
-is_numbered number story =
+abbrev pub numbers : ℕ → DialogStory → DialogStory
+numbers number story =
     if takes (dialog_of story) number then lives_on (Accepts number) story else story
 
 -- a re-INVITE in it may have a Contact
-abbrev pub is_retargeted : Option (List ℕ) → DialogStory → DialogStory
-is_retargeted None story = story
-is_retargeted (Some uri) story =
+abbrev pub retargets : Option (List ℕ) → DialogStory → DialogStory
+retargets None story = story
+retargets (Some uri) story =
     if is_some (ended_fault (dialog_of story).dialog) then story else lives_on (Refreshes uri) story
 
-abbrev pub is_refreshed : Message → DialogStory → DialogStory
-is_refreshed request story =
-    if is_invite request then is_retargeted (contact_uri request) story else story
+abbrev pub refreshes : Message → DialogStory → DialogStory
+refreshes request story =
+    if is_invite request then retargets (contact_uri request) story else story
 
-abbrev pub is_visited : Message → DialogStory → DialogStory
-is_visited request story =
+abbrev pub visits : Message → DialogStory → DialogStory
+visits request story =
     if is_cancel request then story
-    else is_refreshed request (is_numbered request.cseq.number story)
+    else refreshes request (numbers request.cseq.number story)
 
-abbrev pub is_confirmed : Message → DialogStory → DialogStory
-is_confirmed response story =
+abbrev pub confirms : Message → DialogStory → DialogStory
+confirms response story =
     if is_some (ended_fault (dialog_of story).dialog) then story
     else lives_on (Confirms response) story
 
@@ -107,11 +107,11 @@ provisionals_go happenings request =
     record request { provisionals = request.provisionals ++ happenings }
 
 -- its 2xx isn't sent again
-abbrev pub success_over : SuccessStory → SuccessStory
-success_over story = record story { is_over = true }
+abbrev pub success_ends : SuccessStory → SuccessStory
+success_ends story = record story { is_over = true }
 
-abbrev pub is_acked : RequestStory → RequestStory
-is_acked request = record request { success = option_map success_over request.success }
+abbrev pub acks : RequestStory → RequestStory
+acks request = record request { success = option_map success_ends request.success }
 
 -- a reliable provisional response is sent, with the next number
 abbrev pub sends : Message → ℕ → RequestStory → RequestStory
@@ -149,14 +149,14 @@ takes_dialog event respond request =
 
 -- ---- a request that comes up
 
-abbrev pub is_noted : DialogName → Message → Story → Story
-is_noted name request story =
+abbrev pub notes : DialogName → Message → Story → Story
+notes name request story =
     if is_inside request
-    then record story { dialogs = at_dialog name (is_visited request) story.dialogs }
+    then record story { dialogs = at_dialog name (visits request) story.dialogs }
     else story
 
-abbrev pub is_held : DialogName → Arrival → Story → Story
-is_held name arrival story = record story {
+abbrev pub holds_one : DialogName → Arrival → Story → Story
+holds_one name arrival story = record story {
   requests = story.requests ++ record {
     arrival = arrival;
     dialog = own_dialog arrival.request name (held_by story).dialogs;
@@ -167,8 +167,8 @@ is_held name arrival story = record story {
   } ∷ [];
 }
 
-abbrev pub ends_by : DialogName → Message → Story → Story
-ends_by name request story =
+abbrev pub ends_by_bye : DialogName → Message → Story → Story
+ends_by_bye name request story =
     if is_inside request && is_bye request
     then record story { dialogs = ends_at name story.dialogs }
     else story
@@ -179,10 +179,10 @@ told_by_case BadExtension story name arrival = story
 told_by_case NoDialog story name arrival = story
 told_by_case OutOfOrder story name arrival = story
 told_by_case (Acknowledges invite rseq) story name arrival =
-    at_request invite (provisionals_go (reliable.Acknowledges rseq ∷ [])) (is_noted name arrival.request story)
-told_by_case AcknowledgesNothing story name arrival = is_noted name arrival.request story
+    at_request invite (provisionals_go (reliable.Acknowledges rseq ∷ [])) (notes name arrival.request story)
+told_by_case AcknowledgesNothing story name arrival = notes name arrival.request story
 told_by_case ForUser story name arrival =
-    ends_by name arrival.request (is_held name arrival (is_noted name arrival.request story))
+    ends_by_bye name arrival.request (holds_one name arrival (notes name arrival.request story))
 
 abbrev pub request_told : Story → Arrival → Story
 request_told story arrival =
@@ -193,7 +193,7 @@ request_told story arrival =
 
 abbrev pub ack_told : Story → Option Id → Story
 ack_told story None = story
-ack_told story (Some invite) = at_request invite is_acked story
+ack_told story (Some invite) = at_request invite acks story
 
 -- ---- an answer of the user
 
@@ -201,7 +201,7 @@ abbrev pub dialogs_told : Id → HeldRequest → Respond → Message → DialogS
 dialogs_told event held respond response dialogs =
     let name = dialog_name held.request held.tag in
     if makes_dialog held respond.status then begins name (begun event held respond.status) dialogs
-    else (if confirms_dialog held respond.status then at_dialog name (is_confirmed response) dialogs
+    else (if confirms_dialog held respond.status then at_dialog name (confirms response) dialogs
     else (if rejects held respond.status then ends_early held.id dialogs
     else dialogs))
 
@@ -226,7 +226,7 @@ told_by_request story event respond now (Some held) =
 abbrev pub success_goes : Tick → ℕ → SuccessStory → SuccessStory
 success_goes tick.Nothing now story = story
 success_goes tick.Again now story = record story { repeats = story.repeats ++ now ∷ [] }
-success_goes tick.GivenUp now story = success_over story
+success_goes tick.GivenUp now story = success_ends story
 
 abbrev pub success_passes : ℕ → SuccessStory → SuccessStory
 success_passes now story = success_goes (success_answer now (success_of story)) now story

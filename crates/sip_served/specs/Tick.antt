@@ -1,12 +1,12 @@
 -- A tick: what is sent again, given up and removed, and when something of it is due (RFC 3261, section 13.3.1.4; RFC 3262,
 -- section 3). Moments are in ms.
-use Rattle.std.specs.Prelude.{ℕ, ◌+◌, ◌*◌, Bool, true, false, not, nat_le, nat_lt, min, List, [], ◌∷◌, ◌++◌, map, filter, fold, Option, None, Some, if◌then◌else◌}
+use Rattle.std.specs.Prelude.{ℕ, ◌+◌, ◌*◌, Bool, true, nat_le, nat_lt, min, List, [], ◌∷◌, ◌++◌, map, filter, fold, Option, None, Some, if◌then◌else◌}
 use Rattle.std.specs.List.{flat_map}
 use Rattle.std.specs.Option.{option_map, option_map_or, option_and_then}
 use Rattle.sip_message.specs.declared.message.Message.{Message}
 use Rattle.sip_reliable.specs.declared.tick.Tick.{Tick}
 use Rattle.sip_reliable.specs.declared.tick.Tick.TheVariants as tick
-use Rattle.sip_reliable.specs.Ledger.{Ledger, next_moment, tick_answer, ticked}
+use Rattle.sip_reliable.specs.Ledger.{next_moment, tick_answer, ticked}
 use Rattle.sip_timers.specs.Earlier.{earlier}
 use Rattle.sip_transactions.specs.declared.input.Command.TheVariants.{Answer}
 use Rattle.sip_served.specs.declared.held_request.HeldRequest.{HeldRequest}
