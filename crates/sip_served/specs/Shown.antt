@@ -24,7 +24,8 @@ request_in _ = None
 abbrev pub told_from : State → List Event → List Id
 told_from state [] = []
 told_from state (event ∷ events) =
-    filter_map request_in (event_taken state event).1 ++ told_from (event_taken state event).0 events
+    filter_map request_in (event_taken state event).1
+    ++ told_from (event_taken state event).0 events
 
 -- the request that comes up by an event, where it is one for the user
 abbrev pub if_for_user : Id → ArrivalCase → List Id

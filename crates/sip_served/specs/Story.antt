@@ -52,7 +52,8 @@ greatest_accepted story =
 
 -- ---- the 2xx to an INVITE
 
--- when it was sent, when it was sent again, and whether that is over: its ACK came, or it was given up
+-- when it was sent, when it was sent again, and whether that is over: its ACK came, or it was given
+-- up
 pub record SuccessStory : Type 0 where
   pub response : Message
   pub sent : ℕ

@@ -117,7 +117,8 @@ acks request = record request { success = option_map success_ends request.succes
 abbrev pub sends : Message → ℕ → RequestStory → RequestStory
 sends response now request =
     let next = (request_of request).ledger.next in
-    record (provisionals_go (reliable.Sends next (nat_lt 0 (length response.body)) now ∷ []) request) {
+    record (provisionals_go (reliable.Sends next (nat_lt 0 (length response.body)) now
+    ∷ []) request) {
       responses = request.responses ++ response ∷ [];
     }
 
@@ -179,7 +180,8 @@ told_by_case BadExtension story name arrival = story
 told_by_case NoDialog story name arrival = story
 told_by_case OutOfOrder story name arrival = story
 told_by_case (Acknowledges invite rseq) story name arrival =
-    at_request invite (provisionals_go (reliable.Acknowledges rseq ∷ [])) (notes name arrival.request story)
+    at_request invite (provisionals_go (reliable.Acknowledges rseq ∷ []))
+    (notes name arrival.request story)
 told_by_case AcknowledgesNothing story name arrival = notes name arrival.request story
 told_by_case ForUser story name arrival =
     ends_by_bye name arrival.request (holds_one name arrival (notes name arrival.request story))
@@ -187,7 +189,8 @@ told_by_case ForUser story name arrival =
 abbrev pub request_told : Story → Arrival → Story
 request_told story arrival =
     let name = dialog_name arrival.request arrival.tag in
-    told_by_case (case_of (held_by story).requests (held_by story).dialogs name arrival.request) story name arrival
+    told_by_case (case_of (held_by story).requests (held_by story).dialogs name arrival.request)
+    story name arrival
 
 -- ---- an ACK
 
@@ -208,7 +211,8 @@ dialogs_told event held respond response dialogs =
 abbrev pub answer_told : Story → Id → Respond → ℕ → HeldRequest → Story
 answer_told story event respond now held =
     let response = answer_to story.local held respond in
-    record (at_request respond.id (λ request. answers respond response now (takes_dialog event respond request)) story) {
+    record (at_request respond.id (λ request. answers respond response now
+    (takes_dialog event respond request)) story) {
       dialogs = dialogs_told event held respond response story.dialogs;
     }
 
@@ -234,7 +238,8 @@ success_passes now story = success_goes (success_answer now (success_of story)) 
 -- the reliable provisional response that waits is sent again, or given up
 abbrev pub provisionals_pass : ℕ → HeldRequest → List reliable.Happening
 provisionals_pass now held =
-    if is_some held.provisional then happenings_of (tick_answer held.ledger now) held.ledger now else []
+    if is_some held.provisional then happenings_of (tick_answer held.ledger now) held.ledger now
+    else []
 
 abbrev pub request_passes : ℕ → RequestStory → RequestStory
 request_passes now request =
@@ -244,14 +249,23 @@ request_passes now request =
 
 abbrev pub tick_told : Story → ℕ → Story
 tick_told story now = record story {
-  requests = filter (λ request. is_kept_at now (request_of request)) (map (request_passes now) story.requests);
+  requests =
+      filter (λ request. is_kept_at now (request_of request))
+      (map (request_passes now) story.requests);
 }
 
 -- ---- all of it
 
 abbrev pub kind_told : Story → List ℕ → Up → Kind → Story
 kind_told story tag up (Request request reply_to) =
-    request_told story record { key = up.key; id = up.id; call_id = up.call_id; request = request; reply_to = reply_to; tag = tag }
+    request_told story record {
+      key = up.key;
+      id = up.id;
+      call_id = up.call_id;
+      request = request;
+      reply_to = reply_to;
+      tag = tag;
+    }
 kind_told story tag up (Ack ack) = ack_told story (acknowledged_invite ack (held_by story).requests)
 kind_told story tag up (Response response) = story
 kind_told story tag up Timeout = story

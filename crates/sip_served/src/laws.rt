@@ -12,15 +12,17 @@ ghost use Rattle.sip_served.specs.Telling.{story_after};
 ghost use Rattle.sip_served.specs.State.{State, is_id, quiet};
 ghost use Rattle.sip_served.specs.Tick.{next_due, tick_taken};
 
-/// Before the moment at which something is due a tick does nothing and says nothing; from then on it does or says something. Where
-/// nothing is ever due no tick does anything.
+/// Before the moment at which something is due a tick does nothing and says nothing; from then on
+/// it does or says something. Where nothing is ever due no tick does anything.
 pub fn ticks_when_due()
-    ensures before { (state : State) (now : ℕ) → is_due now (next_due state) ≡ false → tick_taken state now ≡ quiet state }
-    ensures from { (state : State) (now : ℕ) → is_due now (next_due state) ≡ true → tick_taken state now ≢ quiet state }
+    ensures before { (state : State) (now : ℕ) → is_due now (next_due state) ≡ false
+        → tick_taken state now ≡ quiet state }
+    ensures from { (state : State) (now : ℕ) → is_due now (next_due state) ≡ true
+        → tick_taken state now ≢ quiet state }
 {}
 
-/// Whatever happened to the server side of a call, of each held request at most one reliable provisional response waits for its PRACK
-/// (RFC 3262, section 3).
+/// Whatever happened to the server side of a call, of each held request at most one reliable
+/// provisional response waits for its PRACK (RFC 3262, section 3).
 pub fn at_most_one_waits()
     ensures { (local : Addr) (events : List Event) → OneWaitsEach (state_after local events) }
 {}

@@ -1,4 +1,5 @@
-//! The server side of one Call-ID: the requests that came up and wait for, or keep, their answers, and the dialogs.
+//! The server side of one Call-ID: the requests that came up and wait for, or keep, their answers,
+//! and the dialogs.
 #![tactic(auto)]
 
 mod acknowledgment;

@@ -237,7 +237,8 @@ pub(crate) fn dialogs_answered(
 ) -> Result<Vec<CallOut>, AllocError>
     requires low { 101 ≤ respond.now.status }
     requires high { respond.now.status ≤ 699 }
-    ensures { IfOk result (λ outs. (dialogs.new.entries, outs.items) ≡ spec.dialogs_answered event held.now respond.now response.now dialogs.old.entries) }
+    ensures { IfOk result (λ outs. (dialogs.new.entries, outs.items)
+        ≡ spec.dialogs_answered event held.now respond.now response.now dialogs.old.entries) }
 {
     if makes_dialog(held, respond.status) {
         make_dialog(alloc, dialogs, event, held, respond.status)?;
@@ -282,7 +283,9 @@ fn make_dialog(
 ) -> Result<(), AllocError>
     requires low { 101 ≤ status }
     requires high { status ≤ 699 }
-    ensures { OnOk result (dialogs.new.entries ≡ insert_entry is_named dialogs.old.entries (dialog_name held.now.request held.now.tag) (spec.made_dialog event held.now status)) }
+    ensures { OnOk result (dialogs.new.entries
+        ≡ insert_entry is_named dialogs.old.entries (dialog_name held.now.request held.now.tag)
+        (spec.made_dialog event held.now status)) }
 {
     let name = dialog_name(alloc, &held.request, &held.tag)?;
     let made = made_dialog(alloc, event, held, StatusCode::from_code(status))?;
@@ -327,7 +330,8 @@ pub(crate) fn note_dialog(
 
 /// The command by which an answer goes to the transaction of its request.
 pub(crate) fn answer_command(held: &HeldRequest, response: &Message) -> Result<CallOut, AllocError>
-    ensures { IfOk result (λ out. out ≡ call_out.Command held.now.id (Answer held.now.key response.now)) }
+    ensures { IfOk result (λ out. out ≡ call_out.Command held.now.id
+        (Answer held.now.key response.now)) }
 {
     let key = held.key.clone()?;
     let message = response.clone()?;
