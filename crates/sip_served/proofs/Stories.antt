@@ -1,7 +1,7 @@
 -- What is held after a list of events is what the story of the list says.
 use Rattle.std.proofs.Common.{◌≡◌, ℕ, ◌+◌, ◌*◌, ◌^◌, ◌≤◌, nat_lt, min, Bool, true, false, not, cond, ◌&&◌, List, [], ◌∷◌, ◌++◌, map, length, refl, sym, ap, subst, ◌∙◌, arith, add-one, append-nil, length-append}
 use Rattle.std.specs.Prelude.{Option, None, Some, Ok, is_some, filter, find, fold}
-use Rattle.std.specs.List.{last_or}
+use Rattle.std.specs.List.{AllByRecursion, last_or}
 use Rattle.std.specs.Map.{remove_entry}
 use Rattle.std.specs.Option.{option_map}
 use Rattle.std.specs.Result.{is_ok}
@@ -44,21 +44,20 @@ use Rattle.sip_served.specs.declared.item.Item.TheVariants as item
 use Rattle.sip_served.specs.declared.item.CallOut.{CallOut}
 use Rattle.sip_served.specs.declared.refusal.Refusal.{Refusal}
 use Rattle.sip_served.specs.declared.refusal.Refusal.TheVariants as bad
-use Rattle.sip_served.specs.declared.arrival.TheConstants.{FIRST_RSEQ}
 use Rattle.sip_served.specs.declared.timers.TheConstants.{LIFETIME, T2}
 use Rattle.sip_served.specs.Acknowledgment.{ack_noted, acked, acknowledged_invite}
-use Rattle.sip_served.specs.Arrival.{by_case, case_of, noted, pracked, bye_taken, request_held}
+use Rattle.sip_served.specs.Arrival.{first_rseq, by_case, case_of, noted, pracked, bye_taken, request_held}
 use Rattle.sip_served.specs.Dialogs.{confirmed, dialog_changed, early_ended, ended_at, is_early_of, is_named, numbered, refreshed, retargeted, takes, visited}
 use Rattle.sip_served.specs.Requests.{dialog_name, is_bye, is_cancel, is_final, is_inside, is_invite, is_success, supports_100rel}
 use Rattle.sip_served.specs.Respond.{answer_given, answer_to, made_dialog, answered, by_refusal, by_request, confirms_dialog, finished, has_ended, is_of_dialog, is_reliable, is_sent_reliably, is_user_status, ledger_sent, makes_dialog, may_be_reliable, refusal_for, refusal_of_fault, rejects, sent_reliably, with_dialog}
 use Rattle.sip_served.specs.Run.{Event, Takes, Ticks, OneWaits, OneWaitsEach, event_taken, state_after}
 use Rattle.sip_served.specs.State.{Dialogs, State, Taken, changed_at, has_id}
 use Rattle.sip_served.specs.Step.{command_taken, kind_taken}
-use Rattle.sip_served.specs.Story.{DialogStories, DialogStory, RequestStory, Story, SuccessStory, dialog_of, dialogs_of, greatest_accepted, held_by, is_open, is_open_by, next_sending, request_of, success_of}
+use Rattle.sip_served.specs.Story.{DialogStories, DialogStory, RequestStory, Story, SuccessStory, dialog_of, dialogs_of, greatest_accepted, held_by, is_open, is_open_by, next_sending, request_of, success_of, unacknowledged}
 use Rattle.sip_served.specs.Telling.{ack_told, answer_told, answers, at_dialog, at_request, begins, begun, command_told, ends_at, ends_early, event_told, finishes, acks, confirms, holds_one, notes, numbers, refreshes, retargets, visits, kind_told, provisionals_go, request_passes, sends, story_after, success_goes, success_passes, takes_dialog, tick_told, told_by_case, told_by_refusal, told_by_request}
 use Rattle.sip_served.specs.Tick.{tick_taken, is_kept_at, next_retransmission, provisional_of, provisional_ticked, request_ticked, retransmission_after, success_after, success_answer, success_of as success_at, success_ticked, with_retransmission}
 use Rattle.sip_served.proofs.Mapped.{append_mapped, changed_mapped, entry_mapped, filter_mapped, found_mapped, inserted_mapped, map_mapped, removed_mapped}
-use Rattle.sip_served.proofs.OneWaits.{event_one}
+use Rattle.sip_served.proofs.OneWaits.{event_one, one_waits}
 
 -- ---- a dialog
 
@@ -203,7 +202,7 @@ pracked_on rseq request =
     let held = request_of request in
     let ledger =
     acknowledge_stands {E = Unit {0}} held.ledger (acknowledged rseq held.ledger)
-    (Ok tt) rseq refl FIRST_RSEQ (supports_100rel request.arrival.request) request.provisionals
+    (Ok tt) rseq refl first_rseq (supports_100rel request.arrival.request) request.provisionals
     refl in
     λ i. held_so held (sym ledger i) (kept
     (open_more request.provisionals (reliable.Acknowledges rseq) i) request.responses)
@@ -246,10 +245,10 @@ sends_on response now request none =
     let held = request_of request in
     let body = nat_lt 0 (length response.body) in
     let happening = reliable.Sends held.ledger.next body now in
-    let ledger : ledger_after FIRST_RSEQ (supports_100rel request.arrival.request)
+    let ledger : ledger_after first_rseq (supports_100rel request.arrival.request)
     (request.provisionals ++ happening ∷ []) ≡ ledger_sent body now held.ledger =
     sym (send_stands held.ledger (with_sent body now held.ledger)
-    (Ok held.ledger.next) body now refl refl FIRST_RSEQ
+    (Ok held.ledger.next) body now refl refl first_rseq
     (supports_100rel request.arrival.request) request.provisionals refl)
     ∙ sym (ledger_with body now held.ledger none) in
     let stays : kept (is_open (request.provisionals ++ happening ∷ [])) (request.responses
@@ -264,7 +263,7 @@ finishes_on : (response : Message) (status now : ℕ) (request : RequestStory)
 finishes_on response status now request =
     let held = request_of request in
     let ledger =
-    close_stands held.ledger (closed_now held.ledger) refl FIRST_RSEQ
+    close_stands held.ledger (closed_now held.ledger) refl first_rseq
     (supports_100rel request.arrival.request) request.provisionals refl in
     let stays =
     ap (λ b. kept b request.responses) (open_more request.provisionals reliable.Closes) in
@@ -335,7 +334,7 @@ provisional_ticks now request (Some response) is one =
     let held = request_of request in
     let t = tick_answer held.ledger now in
     let ledger =
-    tick_stands held.ledger (ticked t held.ledger now) t now one refl FIRST_RSEQ
+    tick_stands held.ledger (ticked t held.ledger now) t now one refl first_rseq
     (supports_100rel request.arrival.request) request.provisionals refl in
     λ i. held_so held (sym ledger i) (kept
     (ticks_leave t held.ledger now request.provisionals i) request.responses) held.success
@@ -549,3 +548,17 @@ pub remote_after : (local : Addr) (events : List Event)
 remote_after local events =
     ap (λ (state : State). map (λ entry. entry.1.dialog.remote_cseq) state.dialogs)
     (held_after local events) ∙ remote_of (story_after local events).dialogs
+
+unacknowledged_of : (requests : List RequestStory)
+    → AllByRecursion OneWaits (map request_of requests)
+    → AllByRecursion (λ request. length (unacknowledged request) ≤ 1) requests
+unacknowledged_of [] all = tt
+unacknowledged_of (request ∷ requests) all = (all.0, unacknowledged_of requests all.1)
+
+pub one_unacknowledged : (local : Addr) (events : List Event)
+    → AllByRecursion (λ request. length (unacknowledged request) ≤ 1)
+    (story_after local events).requests
+one_unacknowledged local events =
+    unacknowledged_of (story_after local events).requests
+    (subst (λ (state : State). OneWaitsEach state) (held_after local events)
+    (one_waits local events))

@@ -13,7 +13,6 @@ use Rattle.sip_message.specs.Response.{response_of}
 use Rattle.sip_reliable.specs.Ledger.{acknowledged, ledger_after, waits_for}
 use Rattle.sip_transactions.specs.declared.input.Command.TheVariants.{Answer}
 use Rattle.sip_served.specs.declared.arrival.Arrival.{Arrival}
-use Rattle.sip_served.specs.declared.arrival.TheConstants.{FIRST_RSEQ}
 use Rattle.sip_served.specs.declared.arrival.ArrivalCase.{ArrivalCase}
 use Rattle.sip_served.specs.declared.arrival.ArrivalCase.TheVariants.{Merged, BadExtension, NoDialog, OutOfOrder, Acknowledges, AcknowledgesNothing, ForUser}
 use Rattle.sip_served.specs.declared.held_dialog.DialogLife.{DialogLife}
@@ -132,7 +131,11 @@ life_at name dialogs =
 abbrev pub own_dialog : Message → DialogName → Dialogs → Option DialogLife
 own_dialog request name dialogs = if is_inside request then life_at name dialogs else None
 
--- it is held, and none of its answers was sent
+-- the RSeq of the first reliable provisional response to a request
+abbrev pub first_rseq : ℕ
+first_rseq = 1
+
+-- it is held, and no answer to it was sent
 abbrev pub held_for : Arrival → Option DialogLife → HeldRequest
 held_for arrival dialog = record {
   id = arrival.id;
@@ -141,7 +144,7 @@ held_for arrival dialog = record {
   reply_to = arrival.reply_to;
   tag = arrival.tag;
   dialog = dialog;
-  ledger = ledger_after FIRST_RSEQ (supports_100rel arrival.request) [];
+  ledger = ledger_after first_rseq (supports_100rel arrival.request) [];
   provisional = None;
   success = None;
   removal = None;

@@ -9,7 +9,7 @@ use Rattle.sip_message.specs.declared.message.Message.{Message}
 use Rattle.sip_dialog.specs.Life.{Happening, accepted_number, dialog_after, greater}
 use Rattle.sip_dialog.specs.Opening.{Opening, opened}
 use Rattle.sip_reliable.specs.Happening as reliable
-use Rattle.sip_reliable.specs.Ledger.{ledger_after}
+use Rattle.sip_reliable.specs.Ledger.{Provisional, ledger_after, waiting_after}
 use Rattle.sip_transactions.specs.declared.step.Pace.TheVariants.{Capped}
 use Rattle.sip_transactions.specs.Timers.{interval}
 use Rattle.sip_served.specs.declared.arrival.Arrival.{Arrival}
@@ -19,9 +19,8 @@ use Rattle.sip_served.specs.declared.held_dialog.HeldDialog.{HeldDialog}
 use Rattle.sip_served.specs.declared.held_request.HeldRequest.{HeldRequest}
 use Rattle.sip_served.specs.declared.held_request.Retransmission.{Retransmission}
 use Rattle.sip_served.specs.declared.held_request.Success.{Success}
-use Rattle.sip_served.specs.declared.arrival.TheConstants.{FIRST_RSEQ}
 use Rattle.sip_served.specs.declared.timers.TheConstants.{LIFETIME}
-use Rattle.sip_served.specs.Arrival.{held_for}
+use Rattle.sip_served.specs.Arrival.{first_rseq, held_for}
 use Rattle.sip_served.specs.Requests.{supports_100rel}
 use Rattle.sip_served.specs.State.{Dialogs, State}
 
@@ -96,9 +95,13 @@ is_open_by was reliable.Closes = was
 abbrev pub is_open : List reliable.Happening → Bool
 is_open life = fold is_open_by false life
 
+-- the reliable provisional responses that were sent and have no PRACK after them
+abbrev pub unacknowledged : RequestStory → List Provisional
+unacknowledged story = waiting_after story.provisionals
+
 abbrev pub request_of : RequestStory → HeldRequest
 request_of story = record (held_for story.arrival story.dialog) {
-  ledger = ledger_after FIRST_RSEQ (supports_100rel story.arrival.request) story.provisionals;
+  ledger = ledger_after first_rseq (supports_100rel story.arrival.request) story.provisionals;
   provisional = if is_open story.provisionals then last_or None story.responses else None;
   success = option_map success_of story.success;
   removal = option_map (λ moment. moment + LIFETIME) story.answered;

@@ -57,11 +57,13 @@ abbrev pub refreshes : Message → DialogStory → DialogStory
 refreshes request story =
     if is_invite request then retargets (contact_uri request) story else story
 
+-- a CANCEL has the number of the request that it cancels
 abbrev pub visits : Message → DialogStory → DialogStory
 visits request story =
     if is_cancel request then story
     else refreshes request (numbers request.cseq.number story)
 
+-- a 2xx confirms a dialog that hasn't ended
 abbrev pub confirms : Message → DialogStory → DialogStory
 confirms response story =
     if is_some (ended_fault (dialog_of story).dialog) then story
@@ -73,9 +75,11 @@ at_dialog name change dialogs =
     option_map_or (λ dialog. set_value (is_named name) dialogs (change dialog))
     (lookup (is_named name) dialogs) dialogs
 
+-- the dialog of a name ends
 abbrev pub ends_at : DialogName → DialogStories → DialogStories
 ends_at name dialogs = remove_entry (is_named name) dialogs
 
+-- the early dialogs that an INVITE made end
 abbrev pub ends_early : Id → DialogStories → DialogStories
 ends_early invite dialogs =
     filter (λ entry. not (is_early_of invite (dialog_of entry.1))) dialogs
@@ -110,6 +114,7 @@ provisionals_go happenings request =
 abbrev pub success_ends : SuccessStory → SuccessStory
 success_ends story = record story { is_over = true }
 
+-- its ACK comes
 abbrev pub acks : RequestStory → RequestStory
 acks request = record request { success = option_map success_ends request.success }
 
@@ -117,11 +122,12 @@ acks request = record request { success = option_map success_ends request.succes
 abbrev pub sends : Message → ℕ → RequestStory → RequestStory
 sends response now request =
     let next = (request_of request).ledger.next in
-    record (provisionals_go (reliable.Sends next (nat_lt 0 (length response.body)) now
-    ∷ []) request) {
+    let sending = reliable.Sends next (nat_lt 0 (length response.body)) now in
+    record (provisionals_go (sending ∷ []) request) {
       responses = request.responses ++ response ∷ [];
     }
 
+-- a final response is the last one, and a 2xx to an INVITE waits for its ACK
 abbrev pub finishes : Message → ℕ → ℕ → RequestStory → RequestStory
 finishes response status now request =
     record (provisionals_go (reliable.Closes ∷ []) request) {
@@ -150,12 +156,14 @@ takes_dialog event respond request =
 
 -- ---- a request that comes up
 
+-- a request in a dialog is noted there
 abbrev pub notes : DialogName → Message → Story → Story
 notes name request story =
     if is_inside request
     then record story { dialogs = at_dialog name (visits request) story.dialogs }
     else story
 
+-- it is held, and nothing came for it
 abbrev pub holds_one : DialogName → Arrival → Story → Story
 holds_one name arrival story = record story {
   requests = story.requests ++ record {
@@ -168,6 +176,7 @@ holds_one name arrival story = record story {
   } ∷ [];
 }
 
+-- a BYE ends its dialog
 abbrev pub ends_by_bye : DialogName → Message → Story → Story
 ends_by_bye name request story =
     if is_inside request && is_bye request
@@ -211,8 +220,9 @@ dialogs_told event held respond response dialogs =
 abbrev pub answer_told : Story → Id → Respond → ℕ → HeldRequest → Story
 answer_told story event respond now held =
     let response = answer_to story.local held respond in
-    record (at_request respond.id (λ request. answers respond response now
-    (takes_dialog event respond request)) story) {
+    let change = λ (request : RequestStory).
+    answers respond response now (takes_dialog event respond request) in
+    record (at_request respond.id change story) {
       dialogs = dialogs_told event held respond response story.dialogs;
     }
 
@@ -227,6 +237,7 @@ told_by_request story event respond now (Some held) =
 
 -- ---- a tick
 
+-- the 2xx is sent again, or given up
 abbrev pub success_goes : Tick → ℕ → SuccessStory → SuccessStory
 success_goes tick.Nothing now story = story
 success_goes tick.Again now story = record story { repeats = story.repeats ++ now ∷ [] }

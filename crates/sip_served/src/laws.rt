@@ -1,13 +1,14 @@
 //! Laws of the server side of a call.
 
-ghost use Rattle.std.specs.Prelude.{◌≡◌, ◌≢◌, ◌≤◌, ℕ, List, count_by, map, true, false};
+ghost use Rattle.std.specs.Prelude.{◌≡◌, ◌≢◌, ◌≤◌, ℕ, List, count_by, length, map, true, false};
+ghost use Rattle.std.specs.List.{AllByRecursion};
 ghost use Rattle.sip_message.specs.declared.id.Id.{Id};
 ghost use Rattle.sip_message.specs.declared.addr.Addr.{Addr};
 ghost use Rattle.sip_timers.specs.Queue.{is_due};
 ghost use Rattle.sip_served.specs.Run.{Event, OneWaitsEach, state_after};
 ghost use Rattle.sip_served.specs.ServerSide.{empty_at};
 ghost use Rattle.sip_served.specs.Shown.{brings, came_from, told_from};
-ghost use Rattle.sip_served.specs.Story.{greatest_accepted, held_by};
+ghost use Rattle.sip_served.specs.Story.{greatest_accepted, held_by, unacknowledged};
 ghost use Rattle.sip_served.specs.Telling.{story_after};
 ghost use Rattle.sip_served.specs.State.{State, is_id, quiet};
 ghost use Rattle.sip_served.specs.Tick.{next_due, tick_taken};
@@ -22,9 +23,13 @@ pub fn ticks_when_due()
 {}
 
 /// Whatever happened to the server side of a call, of each held request at most one reliable
-/// provisional response waits for its PRACK (RFC 3262, section 3).
+/// provisional response waits for its PRACK; of those that were sent at most one has no PRACK after
+/// it (RFC 3262, section 3).
 pub fn at_most_one_waits()
-    ensures { (local : Addr) (events : List Event) → OneWaitsEach (state_after local events) }
+    ensures held { (local : Addr) (events : List Event) → OneWaitsEach (state_after local events) }
+    ensures sent { (local : Addr) (events : List Event)
+        → AllByRecursion (λ request. length (unacknowledged request) ≤ 1)
+        (story_after local events).requests }
 {}
 
 /// Whatever happened to the server side of a call, what is held is what its story says: each dialog
