@@ -3,6 +3,7 @@ pub mod Changes
 pub mod Dues
 pub mod Joined
 pub mod Mapped
+pub mod Names
 pub mod Numbers
 pub mod OneWaits
 pub mod Places

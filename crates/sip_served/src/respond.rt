@@ -174,7 +174,7 @@ fn set_rseq(alloc: Global, rseq: Option<u32>, response: &mut Message) -> Result<
     Ok(())
 }
 
-#[tactic(auto, unfolding(sip_text::specs::Token::is_token, sip_text::specs::Character::is_token_byte))]
+#[tactic(auto, using(crate::proofs::Names::option_100rel))]
 fn option_100rel(alloc: Global) -> Result<Token, AllocError>
     ensures { IfOk result (λ option. option ≡ codes "100rel") }
 {

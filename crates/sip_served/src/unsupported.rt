@@ -21,7 +21,6 @@ pub(crate) fn unsupported(alloc: Global, options: &[Token]) -> Result<Header, Al
     })
 }
 
-#[tactic(auto, unfolding(sip_parts::specs::OtherName::is_other_name, sip_parts::specs::OtherName::is_compact_name, sip_parts::specs::HeaderEntry::is_named, sip_text::specs::Token::is_token, sip_text::specs::Character::is_token_byte))]
 fn unsupported_name(alloc: Global) -> Result<OtherName, AllocError>
     ensures { IfOk result (λ name. name ≡ codes "Unsupported") }
 {
