@@ -1,6 +1,6 @@
 -- One held request changed in its place.
 use Rattle.std.proofs.Common.{◌≡◌, ℕ, ◌<◌, List, length, get_or, refl, sym, ap, subst, ◌∙◌}
-use Rattle.std.specs.Prelude.{Option, None, Some, Result, Ok, Err, IfOk, find}
+use Rattle.std.specs.Prelude.{None, Some, Result, Ok, Err, IfOk, find}
 use Rattle.std.specs.List.{slice_get, slice_set}
 use Rattle.std.proofs.lemmas.Option.{slice_get_read}
 use Rattle.sip_message.specs.declared.id.Id.{Id}

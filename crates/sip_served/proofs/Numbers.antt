@@ -4,7 +4,7 @@ use Rattle.std.specs.Prelude.{Result, Ok, Err, IsOk, OnOk, OnErr, IsTrue, ◌↔
 use Rattle.std.specs.List.{list_any}
 use Rattle.std.proofs.lemmas.Bool.{false≢true}
 use Rattle.sip_reliable.specs.declared.no_match.NoMatch.{NoMatch}
-use Rattle.sip_reliable.specs.Ledger.{Ledger, Provisional, acknowledged, waits_for}
+use Rattle.sip_reliable.specs.Ledger.{Ledger, acknowledged, waits_for}
 
 module _ {X : Type 0} (p : X → Bool) where
   kept_step : (x : X) (xs rest : List X) (b : Bool) (any : Bool) → (b || any) ≡ false

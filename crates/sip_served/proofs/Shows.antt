@@ -1,8 +1,8 @@
 -- Each request that comes up for the user is told once, as it comes up.
 use Rattle.std.proofs.Common.{◌≡◌, ℕ, ◌+◌, ◌≤◌, Bool, true, false, cond, ◌&&◌, List, [], ◌∷◌, ◌++◌, map, length, refl, sym, ap, subst, ◌∙◌, arith}
-use Rattle.std.specs.Prelude.{Option, None, Some, count_by, find, filter, fold}
+use Rattle.std.specs.Prelude.{Option, None, Some, count_by, find, filter}
 use Rattle.std.specs.List.{filter_map, flat_map}
-use Rattle.std.specs.Map.{lookup, values_of}
+use Rattle.std.specs.Map.{values_of}
 use Rattle.std.proofs.lemmas.List.Elements.{filter_map-append}
 use Rattle.std.proofs.lemmas.List.Sums.{length-filter}
 use Rattle.sip_model.proofs.Ordered.{by_bool}
@@ -30,7 +30,7 @@ use Rattle.sip_served.specs.declared.notice.Notice.TheVariants.{NoAck, NoPrack}
 use Rattle.sip_served.specs.declared.refusal.Refusal.{Refusal}
 use Rattle.sip_served.specs.Acknowledgment.{ack_noted, acknowledged_invite}
 use Rattle.sip_served.specs.Arrival.{by_case, bye_taken, case_of}
-use Rattle.sip_served.specs.Dialogs.{dialog_at, early_ended, ended_at, ended_notice, is_early_of}
+use Rattle.sip_served.specs.Dialogs.{dialog_at, ended_at, ended_notice, is_early_of}
 use Rattle.sip_served.specs.Requests.{dialog_name, is_bye, is_inside}
 use Rattle.sip_served.specs.Respond.{answer_to, by_refusal, by_request, confirms_dialog, dialogs_answered, makes_dialog, refusal_for, rejects}
 use Rattle.sip_served.specs.Run.{Event, Takes, Ticks, event_taken}

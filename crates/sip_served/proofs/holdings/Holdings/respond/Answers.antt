@@ -3,7 +3,6 @@ use Rattle.std.specs.Prelude.{None, Some, find}
 use Rattle.std.specs.List.{slice_get, slice_set}
 use Rattle.std.proofs.lemmas.Option.{slice_get_read}
 use Rattle.sip_served.specs.declared.held_request.HeldRequest.{HeldRequest}
-use Rattle.sip_served.specs.declared.item.CallOut.{CallOut}
 use Rattle.sip_served.specs.Respond.{answer_given_at, refusal_for, respond_taken}
 use Rattle.sip_served.specs.State.{State, changed_at, has_id}
 use Rattle.sip_served.proofs.Changes.{given, ok_mapped}
