@@ -2,7 +2,11 @@ pub mod Calm
 pub mod Changes
 pub mod Dues
 pub mod Joined
+pub mod Mapped
+pub mod Names
 pub mod Numbers
 pub mod OneWaits
 pub mod Places
+pub mod Shows
+pub mod Stories
 pub mod Ticks

@@ -7,7 +7,6 @@ use Rattle.sip_message.specs.declared.message.Message.{Message}
 use Rattle.sip_message.specs.Party.{tag_of}
 use Rattle.sip_served.specs.declared.held_request.HeldRequest.{HeldRequest}
 use Rattle.sip_served.specs.declared.held_request.Success.{Success}
-use Rattle.sip_served.specs.declared.item.CallOut.{CallOut}
 use Rattle.sip_served.specs.declared.item.CallOut.TheVariants.{Notice}
 use Rattle.sip_served.specs.declared.notice.Notice.TheVariants.{Ack}
 use Rattle.sip_served.specs.Requests.{is_invite, local_tag_of}
@@ -15,7 +14,9 @@ use Rattle.sip_served.specs.State.{State, Taken, changed_at, quiet}
 
 -- an INVITE that was answered with a 2xx, whose ACK hasn't come
 abbrev pub awaits_ack : HeldRequest → Bool
-awaits_ack held = is_invite held.request && option_map_or (λ success. is_some success.retransmission) held.success false
+awaits_ack held =
+    is_invite held.request
+    && option_map_or (λ success. is_some success.retransmission) held.success false
 
 -- the ACK is of the dialog and the number of the request
 abbrev pub is_ack_of : Message → HeldRequest → Bool
@@ -26,7 +27,8 @@ is_ack_of ack held =
 
 -- of several such INVITEs it is that of the first
 abbrev pub acknowledged_invite : Message → List HeldRequest → Option Id
-acknowledged_invite ack requests = option_map (λ held. held.id) (find (λ held. awaits_ack held && is_ack_of ack held) requests)
+acknowledged_invite ack requests =
+    option_map (λ held. held.id) (find (λ held. awaits_ack held && is_ack_of ack held) requests)
 
 -- its 2xx isn't sent again
 abbrev pub stopped : Success → Success
@@ -37,8 +39,10 @@ acked held = record held { success = option_map stopped held.success }
 
 abbrev pub ack_noted : State → List ℕ → Message → Option Id → Taken
 ack_noted state call_id ack None = quiet state
-ack_noted state call_id ack (Some invite) =
-    (record state { requests = changed_at invite acked state.requests }, Notice (Ack call_id invite ack.body) ∷ [])
+ack_noted state call_id ack (Some invite) = (
+  record state { requests = changed_at invite acked state.requests },
+  Notice (Ack call_id invite ack.body) ∷ [],
+)
 
 abbrev pub ack_taken : State → List ℕ → Message → Taken
 ack_taken state call_id ack = ack_noted state call_id ack (acknowledged_invite ack state.requests)

@@ -1,7 +1,8 @@
--- A request that comes up: which case it is, and what becomes of it (RFC 3261, sections 8.2 and 12.2.2; RFC 3262, section 3).
+-- A request that comes up: which case it is, and what becomes of it (RFC 3261, sections 8.2 and
+-- 12.2.2; RFC 3262, section 3).
 use Rattle.std.specs.Prelude.{ℕ, Bool, false, not, ◌&&◌, ◌||◌, ◌==◌, List, [], ◌∷◌, ◌++◌, Option, None, Some, codes, find, filter, if◌then◌else◌}
 use Rattle.std.specs.List.{list_any, join_by}
-use Rattle.std.specs.Option.{is_some, option_map, option_map_or}
+use Rattle.std.specs.Option.{option_map, option_map_or}
 use Rattle.std.specs.Str.{bytes_eq, str_eq_ignore_ascii_case}
 use Rattle.sip_message.specs.declared.header.Header.{Header}
 use Rattle.sip_message.specs.declared.id.Id.{Id}
@@ -37,7 +38,8 @@ is_merged request held =
 
 -- the request belongs to this dialog
 abbrev pub is_in_dialog : DialogName → Id → HeldRequest → Bool
-is_in_dialog name born held = option_map_or (λ life. is_named life.name name && is_id life.born born) held.dialog false
+is_in_dialog name born held =
+    option_map_or (λ life. is_named life.name name && is_id life.born born) held.dialog false
 
 -- the RAck of a PRACK names a reliable provisional response to this INVITE that waits for one
 abbrev pub is_named_by : RAck → HeldRequest → Bool
@@ -49,11 +51,14 @@ is_named_by rack held =
 -- of several such INVITEs of the dialog it is the first
 abbrev pub named_invite : List HeldRequest → DialogName → Id → RAck → Option Id
 named_invite requests name born rack =
-    option_map (λ held. held.id) (find (λ held. is_in_dialog name born held && is_named_by rack held) requests)
+    option_map (λ held. held.id)
+    (find (λ held. is_in_dialog name born held && is_named_by rack held) requests)
 
 abbrev pub prack_case : List HeldRequest → DialogName → Id → Option RAck → ArrivalCase
 prack_case requests name born None = AcknowledgesNothing
-prack_case requests name born (Some rack) = option_map_or (λ id. Acknowledges id rack.rseq) (named_invite requests name born rack) AcknowledgesNothing
+prack_case requests name born (Some rack) =
+    option_map_or (λ id. Acknowledges id rack.rseq) (named_invite requests name born rack)
+    AcknowledgesNothing
 
 -- a request in a dialog that is held, or isn't
 abbrev pub case_inside : List HeldRequest → DialogName → Message → Option HeldDialog → ArrivalCase
@@ -82,11 +87,13 @@ abbrev pub command_for : Arrival → Message → CallOut
 command_for arrival response = Command arrival.id (Answer arrival.key response)
 
 abbrev pub answered_with : Arrival → ℕ → List ℕ → List CallOut
-answered_with arrival status reason = command_for arrival (response_of arrival.request status reason arrival.tag) ∷ []
+answered_with arrival status reason =
+    command_for arrival (response_of arrival.request status reason arrival.tag) ∷ []
 
 -- `Unsupported: foo, bar`
 abbrev pub unsupported : List (List ℕ) → Header
-unsupported options = record { name = codes "Unsupported"; value = join_by (λ option. option) (codes ", ") options }
+unsupported options =
+    record { name = codes "Unsupported"; value = join_by (λ option. option) (codes ", ") options }
 
 abbrev pub with_header : Header → Message → Message
 with_header header message = record message { others = message.others ++ header ∷ [] }
@@ -95,7 +102,8 @@ with_header header message = record message { others = message.others ++ header 
 abbrev pub refused_extension : Arrival → List CallOut
 refused_extension arrival =
     command_for arrival
-    (with_header (unsupported (filter is_unknown_option arrival.request.require)) (response_of arrival.request 420 (codes "Bad Extension") arrival.tag))
+    (with_header (unsupported (filter is_unknown_option arrival.request.require))
+    (response_of arrival.request 420 (codes "Bad Extension") arrival.tag))
     ∷ []
 
 abbrev pub no_such_dialog : Arrival → List CallOut
@@ -117,12 +125,17 @@ prack_taken state arrival invite rseq = (
 
 -- the dialog of this name, as it is now
 abbrev pub life_at : DialogName → Dialogs → Option DialogLife
-life_at name dialogs = option_map (λ held. record { name = name; born = held.born }) (dialog_at name dialogs)
+life_at name dialogs =
+    option_map (λ held. record { name = name; born = held.born }) (dialog_at name dialogs)
 
 abbrev pub own_dialog : Message → DialogName → Dialogs → Option DialogLife
 own_dialog request name dialogs = if is_inside request then life_at name dialogs else None
 
--- it is held; the first RSeq of its responses will be 1
+-- the RSeq of the first reliable provisional response to a request
+abbrev pub first_rseq : ℕ
+first_rseq = 1
+
+-- it is held, and no answer to it was sent
 abbrev pub held_for : Arrival → Option DialogLife → HeldRequest
 held_for arrival dialog = record {
   id = arrival.id;
@@ -131,7 +144,7 @@ held_for arrival dialog = record {
   reply_to = arrival.reply_to;
   tag = arrival.tag;
   dialog = dialog;
-  ledger = ledger_after 1 (supports_100rel arrival.request) [];
+  ledger = ledger_after first_rseq (supports_100rel arrival.request) [];
   provisional = None;
   success = None;
   removal = None;
@@ -139,7 +152,10 @@ held_for arrival dialog = record {
 
 abbrev pub request_held : State → DialogName → Arrival → Taken
 request_held state name arrival = (
-  record state { requests = state.requests ++ held_for arrival (own_dialog arrival.request name state.dialogs) ∷ [] },
+  record state {
+    requests = state.requests
+        ++ held_for arrival (own_dialog arrival.request name state.dialogs) ∷ [];
+  },
   Notice (request_notice arrival.id arrival.call_id arrival.request arrival.tag) ∷ [],
 )
 
@@ -147,7 +163,10 @@ request_held state name arrival = (
 abbrev pub bye_taken : Arrival → DialogName → State → Taken
 bye_taken arrival name state =
     if is_inside arrival.request && is_bye arrival.request
-    then (record state { dialogs = (ended_at name state.dialogs).0 }, (ended_at name state.dialogs).1)
+    then (
+      record state { dialogs = (ended_at name state.dialogs).0 },
+      (ended_at name state.dialogs).1,
+    )
     else quiet state
 
 abbrev pub for_user : State → DialogName → Arrival → Taken
@@ -158,15 +177,20 @@ for_user state name arrival = followed (request_held state name arrival) (bye_ta
 -- a request in a dialog is noted there
 abbrev pub noted : State → DialogName → Message → State
 noted state name request =
-    if is_inside request then record state { dialogs = dialog_changed name (visited request) state.dialogs } else state
+    if is_inside request
+    then record state { dialogs = dialog_changed name (visited request) state.dialogs }
+    else state
 
 abbrev pub by_case : ArrivalCase → State → DialogName → Arrival → Taken
 by_case Merged state name arrival = (state, answered_with arrival 482 (codes "Loop Detected"))
 by_case BadExtension state name arrival = (state, refused_extension arrival)
 by_case NoDialog state name arrival = (state, no_such_dialog arrival)
-by_case OutOfOrder state name arrival = (state, answered_with arrival 500 (codes "Server Internal Error"))
-by_case (Acknowledges invite rseq) state name arrival = prack_taken (noted state name arrival.request) arrival invite rseq
-by_case AcknowledgesNothing state name arrival = (noted state name arrival.request, no_such_dialog arrival)
+by_case OutOfOrder state name arrival =
+    (state, answered_with arrival 500 (codes "Server Internal Error"))
+by_case (Acknowledges invite rseq) state name arrival =
+    prack_taken (noted state name arrival.request) arrival invite rseq
+by_case AcknowledgesNothing state name arrival =
+    (noted state name arrival.request, no_such_dialog arrival)
 by_case ForUser state name arrival = for_user (noted state name arrival.request) name arrival
 
 abbrev pub request_taken : State → Arrival → Taken

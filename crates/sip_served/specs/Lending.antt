@@ -21,12 +21,18 @@ use Rattle.sip_served.specs.State.{State}
 -- the map of the held dialogs, as the logic holds it
 abbrev pub dialogs_row : RattleType
 dialogs_row =
-    index_map.the_row dialog_name.the_row held_dialog.the_row (default_builder.the_row fold_hasher.the_row) global.the_row fold_hasher.the_row name_eq.ghosts name_hash.ghosts
-    (builder.ghosts fold_hasher.the_row hasher.ghosts builder.no_dict (copied.ghosts fold_hasher.the_row) builder.no_dict) hasher.ghosts allocator.ghosts
+    index_map.the_row dialog_name.the_row held_dialog.the_row
+    (default_builder.the_row fold_hasher.the_row) global.the_row fold_hasher.the_row
+    name_eq.ghosts name_hash.ghosts
+    (builder.ghosts fold_hasher.the_row hasher.ghosts builder.no_dict
+    (copied.ghosts fold_hasher.the_row) builder.no_dict) hasher.ghosts allocator.ghosts
 
 -- it holds the dialogs that were left behind the reference, and all else is as it was
 abbrev pub HoldingsLend : MutBor State → MutBor dialogs_row.Denot → Fml
-HoldingsLend s r = Lends holdings.the_row dialogs_row s r (λ dialogs. record s.now { dialogs = dialogs.entries })
+HoldingsLend s r =
+    Lends holdings.the_row dialogs_row s r (λ dialogs. record s.now { dialogs = dialogs.entries })
 
 abbrev pub ServedLends : MutBor ServerSide → MutBor dialogs_row.Denot → Fml
-ServedLends s r = Lends served.the_row dialogs_row s r (λ dialogs. record s.now { state = record s.now.state { dialogs = dialogs.entries } })
+ServedLends s r =
+    Lends served.the_row dialogs_row s r
+    (λ dialogs. record s.now { state = record s.now.state { dialogs = dialogs.entries } })

@@ -9,6 +9,9 @@ pub mod Requests
 pub mod Respond
 pub mod Run
 pub mod ServerSide
+pub mod Shown
 pub mod State
 pub mod Step
+pub mod Story
+pub mod Telling
 pub mod Tick

@@ -9,4 +9,5 @@ use Rattle.sip_served.specs.Requests.{local_tag_of}
 
 abbrev pub request_notice : Id → List ℕ → Message → List ℕ → Notice
 request_notice id call_id request made =
-    Request call_id id request.cseq.method (local_tag_of request made) (tag_of request.from) request.body
+    Request call_id id request.cseq.method (local_tag_of request made)
+    (tag_of request.from) request.body

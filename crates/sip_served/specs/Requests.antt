@@ -1,5 +1,5 @@
--- What a request says (RFC 3261, sections 7.3.1, 8.1.1 and 12; RFC 3262, section 3). Tags and options are compared without case,
--- methods byte by byte.
+-- What a request says (RFC 3261, sections 7.3.1, 8.1.1 and 12; RFC 3262, section 3). Tags and
+-- options are compared without case, methods byte by byte.
 use Rattle.std.specs.Prelude.{ℕ, Bool, not, ◌&&◌, ◌||◌, ◌==◌, nat_lt, nat_le, List, length, codes, if◌then◌else◌}
 use Rattle.std.specs.List.{list_any}
 use Rattle.std.specs.Str.{bytes_eq, str_eq_ignore_ascii_case, str_to_ascii_lowercase}
@@ -40,13 +40,15 @@ supports_100rel request = list_any is_100rel request.supported || requires_100re
 abbrev pub is_unknown_option : List ℕ → Bool
 is_unknown_option option = not (is_100rel option)
 
--- the tag that the answers to a request carry in To: its own, or where it has none the one made for it (RFC 3261, section 8.2.6.2)
+-- the tag that the answers to a request carry in To: its own, or where it has none the one made for
+-- it (RFC 3261, section 8.2.6.2)
 abbrev pub local_tag_of : Message → List ℕ → List ℕ
 local_tag_of request made = if length (tag_of request.to) == 0 then made else tag_of request.to
 
 -- the name of a dialog of these tags
 abbrev pub name_of_tags : List ℕ → List ℕ → DialogName
-name_of_tags local remote = record { local = str_to_ascii_lowercase local; remote = str_to_ascii_lowercase remote }
+name_of_tags local remote =
+    record { local = str_to_ascii_lowercase local; remote = str_to_ascii_lowercase remote }
 
 -- the name of the dialog that a request is in, or that its answer makes
 abbrev pub dialog_name : Message → List ℕ → DialogName

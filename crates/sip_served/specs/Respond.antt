@@ -1,6 +1,6 @@
--- The user's answer to a held request: when it is refused, what is sent, and what is held then (RFC 3261, sections 8.2.6, 12.1.1
--- and 13.3.1; RFC 3262, section 3).
-use Rattle.std.specs.Prelude.{ℕ, ◌+◌, Bool, true, false, not, ◌&&◌, ◌||◌, nat_lt, nat_le, List, [], ◌∷◌, ◌++◌, length, Option, None, Some, codes, find, is_some, is_none, if◌then◌else◌}
+-- The user's answer to a held request: when it is refused, what is sent, and what is held then (RFC
+-- 3261, sections 8.2.6, 12.1.1 and 13.3.1; RFC 3262, section 3).
+use Rattle.std.specs.Prelude.{ℕ, ◌+◌, Bool, true, false, not, ◌&&◌, ◌||◌, nat_lt, nat_le, List, [], ◌∷◌, length, Option, None, Some, codes, find, is_some, is_none, if◌then◌else◌}
 use Rattle.std.specs.List.{list_any}
 use Rattle.std.specs.Option.{option_map, option_map_or}
 use Rattle.std.specs.Result.{is_ok, result_ok}
@@ -19,8 +19,6 @@ use Rattle.sip_transactions.specs.declared.input.Command.TheVariants.{Answer}
 use Rattle.sip_served.specs.declared.command.Reliability.{Reliability}
 use Rattle.sip_served.specs.declared.command.Reliability.TheVariants.{Plain, Reliable}
 use Rattle.sip_served.specs.declared.command.Respond.{Respond}
-use Rattle.sip_served.specs.declared.held_dialog.DialogLife.{DialogLife}
-use Rattle.sip_served.specs.declared.held_dialog.DialogName.{DialogName}
 use Rattle.sip_served.specs.declared.held_dialog.HeldDialog.{HeldDialog}
 use Rattle.sip_served.specs.declared.held_request.HeldRequest.{HeldRequest}
 use Rattle.sip_served.specs.declared.held_request.Success.{Success}
@@ -28,6 +26,7 @@ use Rattle.sip_served.specs.declared.item.CallOut.{CallOut}
 use Rattle.sip_served.specs.declared.item.CallOut.TheVariants.{Notice, Command}
 use Rattle.sip_served.specs.declared.notice.Notice.TheVariants.{Refused}
 use Rattle.sip_served.specs.declared.refusal.Refusal.{Refusal}
+use Rattle.sip_served.specs.declared.timers.TheConstants.{LIFETIME, T1}
 use Rattle.sip_served.specs.declared.refusal.Refusal.TheVariants.{NoSuchRequest, AlreadyFinal, BadStatus, ReliablePending, NotSupported, SequenceUsedUp, DialogEnded}
 use Rattle.sip_served.specs.Dialogs.{confirmed, dialog_changed, early_ended, is_named, lives}
 use Rattle.sip_served.specs.Requests.{dialog_name, is_final, is_inside, is_invite, is_provisional, is_success, requires_100rel, supports_100rel}
@@ -45,12 +44,14 @@ is_reliable Reliable = true
 
 -- a provisional response to an INVITE whose sender has 100rel
 abbrev pub may_be_reliable : HeldRequest → ℕ → Bool
-may_be_reliable held status = is_invite held.request && is_provisional status && supports_100rel held.request
+may_be_reliable held status =
+    is_invite held.request && is_provisional status && supports_100rel held.request
 
 -- It is sent reliably where that was asked for, and always where the INVITE requires it.
 abbrev pub is_sent_reliably : HeldRequest → Respond → Bool
 is_sent_reliably held respond =
-    may_be_reliable held respond.status && (is_reliable respond.reliability || requires_100rel held.request)
+    may_be_reliable held respond.status
+    && (is_reliable respond.reliability || requires_100rel held.request)
 
 -- it makes or confirms a dialog, or is one of a dialog
 abbrev pub is_of_dialog : HeldRequest → ℕ → Bool
@@ -70,7 +71,8 @@ refusal_of_fault send.NumbersUsedUp = SequenceUsedUp
 abbrev pub reliable_refusal : HeldRequest → Respond → Option Refusal
 reliable_refusal held respond =
     if is_sent_reliably held respond then option_map refusal_of_fault (send_fault held.ledger)
-    else (if is_success respond.status && list_any (λ p. p.has_body) held.ledger.waiting then Some ReliablePending
+    else (if is_success respond.status && list_any (λ p. p.has_body) held.ledger.waiting
+    then Some ReliablePending
     else None)
 
 -- the first that fits
@@ -78,7 +80,8 @@ abbrev pub refusal_for : Dialogs → Respond → HeldRequest → Option Refusal
 refusal_for dialogs respond held =
     if not (is_user_status respond.status) then Some BadStatus
     else (if is_some held.removal then Some AlreadyFinal
-    else (if is_reliable respond.reliability && not (may_be_reliable held respond.status) then Some NotSupported
+    else (if is_reliable respond.reliability && not (may_be_reliable held respond.status)
+    then Some NotSupported
     else (if is_of_dialog held respond.status && has_ended dialogs held then Some DialogEnded
     else reliable_refusal held respond)))
 
@@ -90,7 +93,8 @@ with_rseq rseq response = record response { require = codes "100rel" ∷ []; rse
 
 -- the Record-Route of the INVITE and one's own Contact (RFC 3261, section 12.1.1)
 abbrev pub with_routes : Addr → Message → Message → Message
-with_routes local request response = record response { contacts = contact_of local ∷ []; record_routes = request.record_routes }
+with_routes local request response =
+    record response { contacts = contact_of local ∷ []; record_routes = request.record_routes }
 
 abbrev pub if_so : Bool → (Message → Message) → Message → Message
 if_so so change message = if so then change message else message
@@ -107,23 +111,35 @@ answer_to local held respond =
 
 -- a number is taken where one is left
 abbrev pub ledger_sent : Bool → ℕ → Ledger → Ledger
-ledger_sent has_body now ledger = if is_ok (send_answer ledger) then with_sent has_body now ledger else ledger
+ledger_sent has_body now ledger =
+    if is_ok (send_answer ledger) then with_sent has_body now ledger else ledger
 
 -- a reliable provisional response waits for its PRACK
 abbrev pub sent_reliably : Message → ℕ → HeldRequest → HeldRequest
 sent_reliably response now held =
-    record held { ledger = ledger_sent (nat_lt 0 (length response.body)) now held.ledger; provisional = Some response }
+    record held {
+      ledger = ledger_sent (nat_lt 0 (length response.body)) now held.ledger;
+      provisional = Some response;
+    }
 
--- A 2xx to an INVITE is sent again after T1, and given up 64*T1 after it was sent, where its ACK doesn't come.
+-- A 2xx to an INVITE is sent again after T1, and given up 64*T1 after it was sent, where its ACK
+-- doesn't come.
 abbrev pub success_sent : Message → ℕ → Success
-success_sent response now = record { response = response; end = now + 32000; retransmission = Some record { due = now + 500; interval = 500 } }
+success_sent response now =
+    record {
+      response = response;
+      end = now + LIFETIME;
+      retransmission = Some record { due = now + T1; interval = T1 };
+    }
 
 -- a final response is the last one; 64*T1 later the request is removed (RFC 3261, section 17.2.2)
 abbrev pub finished : Message → ℕ → ℕ → HeldRequest → HeldRequest
 finished response status now held = record held {
   ledger = closed_now held.ledger;
-  success = if is_invite held.request && is_success status then Some (success_sent response now) else held.success;
-  removal = Some (now + 32000);
+  success =
+      if is_invite held.request && is_success status then Some (success_sent response now)
+      else held.success;
+  removal = Some (now + LIFETIME);
 }
 
 abbrev pub answered : Respond → Message → ℕ → HeldRequest → HeldRequest
@@ -134,9 +150,11 @@ answered respond response now held =
 
 -- ---- the dialogs after it
 
--- it makes a dialog where the request is outside of any, and has made none (RFC 3261, section 12.1.1)
+-- it makes a dialog where the request is outside of any, and has made none (RFC 3261, section
+-- 12.1.1)
 abbrev pub makes_dialog : HeldRequest → ℕ → Bool
-makes_dialog held status = is_of_dialog held status && not (is_inside held.request) && is_none held.dialog
+makes_dialog held status =
+    is_of_dialog held status && not (is_inside held.request) && is_none held.dialog
 
 abbrev pub made_dialog : Id → HeldRequest → ℕ → HeldDialog
 made_dialog event held status = record {
@@ -150,17 +168,21 @@ made_dialog event held status = record {
 
 -- a 2xx confirms the dialog that an earlier response made
 abbrev pub confirms_dialog : HeldRequest → ℕ → Bool
-confirms_dialog held status = is_of_dialog held status && is_success status && not (is_inside held.request)
+confirms_dialog held status =
+    is_of_dialog held status && is_success status && not (is_inside held.request)
 
 -- any other final response ends the early dialogs
 abbrev pub rejects : HeldRequest → ℕ → Bool
 rejects held status = is_invite held.request && nat_le 300 status
 
-abbrev pub dialogs_answered : Id → HeldRequest → Respond → Message → Dialogs → Dialogs × List CallOut
+abbrev pub dialogs_answered : Id → HeldRequest → Respond → Message → Dialogs
+    → Dialogs × List CallOut
 dialogs_answered event held respond response dialogs =
     let name = dialog_name held.request held.tag in
-    if makes_dialog held respond.status then (insert_entry is_named dialogs name (made_dialog event held respond.status), [])
-    else (if confirms_dialog held respond.status then (dialog_changed name (confirmed response) dialogs, [])
+    if makes_dialog held respond.status
+    then (insert_entry is_named dialogs name (made_dialog event held respond.status), [])
+    else (if confirms_dialog held respond.status
+    then (dialog_changed name (confirmed response) dialogs, [])
     else (if rejects held respond.status then early_ended held.id dialogs
     else (dialogs, [])))
 
@@ -168,13 +190,20 @@ dialogs_answered event held respond response dialogs =
 abbrev pub with_dialog : Id → Respond → HeldRequest → HeldRequest
 with_dialog event respond held =
     if makes_dialog held respond.status
-    then record held { dialog = Some record { name = dialog_name held.request held.tag; born = event } }
+    then record held {
+      dialog = Some record {
+        name = dialog_name held.request held.tag;
+        born = event;
+      };
+    }
     else held
 
 -- ---- all of it
 
--- An answer goes to the transaction of its request. `changed` are the held requests with this one changed so.
-abbrev pub answer_given_at : ((HeldRequest → HeldRequest) → List HeldRequest) → State → Id → Respond → ℕ → HeldRequest → Taken
+-- An answer goes to the transaction of its request. `changed` are the held requests with this one
+-- changed so.
+abbrev pub answer_given_at : ((HeldRequest → HeldRequest) → List HeldRequest) → State → Id → Respond
+    → ℕ → HeldRequest → Taken
 answer_given_at changed state event respond now held =
     let response = answer_to state.local held respond in
     let dialogs = dialogs_answered event held respond response state.dialogs in (
@@ -186,20 +215,25 @@ answer_given_at changed state event respond now held =
     )
 
 abbrev pub answer_given : State → Id → Respond → ℕ → HeldRequest → Taken
-answer_given state event respond now held = answer_given_at (λ change. changed_at respond.id change state.requests) state event respond now held
+answer_given state event respond now held =
+    answer_given_at (λ change. changed_at respond.id change state.requests) state event respond now
+    held
 
 -- a refusal is told, and nothing changes
 abbrev pub refused_notice : Id → Respond → Refusal → List CallOut
 refused_notice event respond refusal = Notice (Refused respond.call_id event.place refusal) ∷ []
 
 abbrev pub by_refusal : State → Id → Respond → ℕ → HeldRequest → Option Refusal → Taken
-by_refusal state event respond now held (Some refusal) = (state, refused_notice event respond refusal)
+by_refusal state event respond now held (Some refusal) =
+    (state, refused_notice event respond refusal)
 by_refusal state event respond now held None = answer_given state event respond now held
 
 abbrev pub by_request : State → Id → Respond → ℕ → Option HeldRequest → Taken
 by_request state event respond now None = (state, refused_notice event respond NoSuchRequest)
-by_request state event respond now (Some held) = by_refusal state event respond now held (refusal_for state.dialogs respond held)
+by_request state event respond now (Some held) =
+    by_refusal state event respond now held (refusal_for state.dialogs respond held)
 
 -- the answer to the request of its id
 abbrev pub respond_taken : State → Id → Respond → ℕ → Taken
-respond_taken state event respond now = by_request state event respond now (find (has_id respond.id) state.requests)
+respond_taken state event respond now =
+    by_request state event respond now (find (has_id respond.id) state.requests)

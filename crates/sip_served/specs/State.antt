@@ -1,5 +1,5 @@
 -- The server side of one Call-ID: what is held, and what is told when it changes.
-use Rattle.std.specs.Prelude.{ℕ, Bool, ◌&&◌, ◌==◌, List, [], ◌∷◌, ◌++◌, if◌then◌else◌}
+use Rattle.std.specs.Prelude.{Bool, ◌&&◌, ◌==◌, List, [], ◌∷◌, ◌++◌, if◌then◌else◌}
 use Rattle.sip_message.specs.declared.addr.Addr.{Addr}
 use Rattle.sip_message.specs.declared.id.Id.{Id}
 use Rattle.sip_served.specs.declared.held_dialog.DialogName.{DialogName}
@@ -11,7 +11,8 @@ use Rattle.sip_served.specs.declared.item.CallOut.{CallOut}
 abbrev pub Dialogs : Type 0
 Dialogs = List (DialogName × HeldDialog)
 
--- the agent's own address, the held requests in the order in which they came up, and the held dialogs
+-- the agent's own address, the held requests in the order in which they came up, and the held
+-- dialogs
 pub record State : Type 0 where
   pub local : Addr
   pub requests : List HeldRequest
@@ -38,7 +39,8 @@ has_id id held = is_id held.id id
 -- the first that passes the test is changed so
 abbrev pub changed_first : {X : Type 0} → (X → Bool) → (X → X) → List X → List X
 changed_first test change [] = []
-changed_first test change (x ∷ xs) = if test x then change x ∷ xs else x ∷ changed_first test change xs
+changed_first test change (x ∷ xs) =
+    if test x then change x ∷ xs else x ∷ changed_first test change xs
 
 -- the request of this id is changed so
 abbrev pub changed_at : Id → (HeldRequest → HeldRequest) → List HeldRequest → List HeldRequest

@@ -1,12 +1,12 @@
--- A tick: what is sent again, given up and removed, and when something of it is due (RFC 3261, section 13.3.1.4; RFC 3262,
--- section 3). Moments are in ms; T1 is 500 and T2 is 4000.
-use Rattle.std.specs.Prelude.{ℕ, ◌+◌, ◌*◌, Bool, true, false, not, nat_le, nat_lt, min, List, [], ◌∷◌, ◌++◌, map, filter, fold, Option, None, Some, if◌then◌else◌}
+-- A tick: what is sent again, given up and removed, and when something of it is due (RFC 3261,
+-- section 13.3.1.4; RFC 3262, section 3). Moments are in ms.
+use Rattle.std.specs.Prelude.{ℕ, ◌+◌, ◌*◌, Bool, true, nat_le, nat_lt, min, List, [], ◌∷◌, ◌++◌, map, filter, fold, Option, None, Some, if◌then◌else◌}
 use Rattle.std.specs.List.{flat_map}
 use Rattle.std.specs.Option.{option_map, option_map_or, option_and_then}
 use Rattle.sip_message.specs.declared.message.Message.{Message}
 use Rattle.sip_reliable.specs.declared.tick.Tick.{Tick}
 use Rattle.sip_reliable.specs.declared.tick.Tick.TheVariants as tick
-use Rattle.sip_reliable.specs.Ledger.{Ledger, next_moment, tick_answer, ticked}
+use Rattle.sip_reliable.specs.Ledger.{next_moment, tick_answer, ticked}
 use Rattle.sip_timers.specs.Earlier.{earlier}
 use Rattle.sip_transactions.specs.declared.input.Command.TheVariants.{Answer}
 use Rattle.sip_served.specs.declared.held_request.HeldRequest.{HeldRequest}
@@ -17,6 +17,7 @@ use Rattle.sip_served.specs.declared.item.CallOut.TheVariants as out
 use Rattle.sip_served.specs.declared.item.CallOut.TheVariants.{Command}
 use Rattle.sip_served.specs.declared.notice.Notice.{Notice}
 use Rattle.sip_served.specs.declared.notice.Notice.TheVariants.{NoAck, NoPrack}
+use Rattle.sip_served.specs.declared.timers.TheConstants.{T2}
 use Rattle.sip_served.specs.State.{State, Taken}
 
 -- a held request after a tick, and what is told
@@ -45,7 +46,7 @@ success_answer now success = due_with now success.end success.retransmission
 -- the next interval is twice the last, up to T2, and counts from this moment
 abbrev pub next_retransmission : ℕ → Retransmission → Retransmission
 next_retransmission now last =
-    record { due = now + min (2 * last.interval) 4000; interval = min (2 * last.interval) 4000 }
+    record { due = now + min (2 * last.interval) T2; interval = min (2 * last.interval) T2 }
 
 abbrev pub retransmission_after : Tick → ℕ → Option Retransmission → Option Retransmission
 retransmission_after tick.Nothing now last = last
@@ -56,12 +57,16 @@ abbrev pub with_retransmission : Success → Option Retransmission → Success
 with_retransmission success retransmission = record success { retransmission = retransmission }
 
 abbrev pub success_after : ℕ → Success → Success
-success_after now success = with_retransmission success (retransmission_after (success_answer now success) now success.retransmission)
+success_after now success =
+    with_retransmission success
+    (retransmission_after (success_answer now success) now success.retransmission)
 
 abbrev pub success_of : ℕ → HeldRequest → Option Success → Ticked
 success_of now held None = (held, [])
-success_of now held (Some success) =
-    (record held { success = Some (success_after now success) }, told_of (success_answer now success) held success.response (NoAck held.request.call_id held.id))
+success_of now held (Some success) = (
+  record held { success = Some (success_after now success) },
+  told_of (success_answer now success) held success.response (NoAck held.request.call_id held.id),
+)
 
 abbrev pub success_ticked : ℕ → HeldRequest → Ticked
 success_ticked now held = success_of now held held.success
@@ -70,8 +75,10 @@ success_ticked now held = success_of now held held.success
 
 abbrev pub provisional_of : ℕ → HeldRequest → Option Message → Ticked
 provisional_of now held None = (held, [])
-provisional_of now held (Some response) =
-    (record held { ledger = ticked (tick_answer held.ledger now) held.ledger now }, told_of (tick_answer held.ledger now) held response (NoPrack held.request.call_id held.id))
+provisional_of now held (Some response) = (
+  record held { ledger = ticked (tick_answer held.ledger now) held.ledger now },
+  told_of (tick_answer held.ledger now) held response (NoPrack held.request.call_id held.id),
+)
 
 abbrev pub provisional_ticked : ℕ → HeldRequest → Ticked
 provisional_ticked now held = provisional_of now held held.provisional
@@ -91,19 +98,24 @@ is_kept_at now held = option_map_or (λ moment. nat_lt now moment) held.removal 
 
 abbrev pub tick_taken : State → ℕ → Taken
 tick_taken state now = (
-  record state { requests = filter (is_kept_at now) (map (λ held. (request_ticked now held).0) state.requests) },
+  record state {
+    requests = filter (is_kept_at now)
+        (map (λ held. (request_ticked now held).0) state.requests);
+  },
   flat_map (λ held. (request_ticked now held).1) state.requests,
 )
 
 -- ---- when something is due
 
 abbrev pub success_moment : Success → Option ℕ
-success_moment success = option_map (λ retransmission. min success.end retransmission.due) success.retransmission
+success_moment success =
+    option_map (λ retransmission. min success.end retransmission.due) success.retransmission
 
 -- the first moment at which something of a request is due
 abbrev pub request_due : HeldRequest → Option ℕ
 request_due held =
-    earlier (earlier (option_and_then success_moment held.success) (option_and_then (λ _. next_moment held.ledger) held.provisional)) held.removal
+    earlier (earlier (option_and_then success_moment held.success)
+    (option_and_then (λ _. next_moment held.ledger) held.provisional)) held.removal
 
 -- the first moment at which a tick does something
 abbrev pub next_due_of : List HeldRequest → Option ℕ

@@ -31,7 +31,8 @@ fn awaits_ack(held: &HeldRequest) -> bool
 }
 
 fn is_repeated(held: &HeldRequest) -> bool
-    ensures { result ≡ option_map_or (λ success. is_some success.retransmission) held.now.success false }
+    ensures { result
+        ≡ option_map_or (λ success. is_some success.retransmission) held.now.success false }
 {
     match &held.success {
         Some(success) => success.retransmission.is_some(),

@@ -130,7 +130,8 @@ fn case_inside(
     request: &Message,
     dialog: Option<&HeldDialog>,
 ) -> ArrivalCase
-    ensures { result ≡ arrival.case_inside requests.now name.now request.now (option_copied dialog.entry) }
+    ensures { result ≡ arrival.case_inside requests.now name.now request.now
+        (option_copied dialog.entry) }
 {
     let Some(held) = dialog else {
         return ArrivalCase::NoDialog;

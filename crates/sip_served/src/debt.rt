@@ -7,6 +7,7 @@ use sip_message::Id;
 pub enum Debt {
     /// The ACK of a 2xx, to the INVITE of this id and CSeq number (RFC 3261, section 13.2.2.4).
     Ack { invite: Id, number: u32 },
-    /// The PRACK of a reliable provisional response with this RSeq, to the INVITE of this CSeq number (RFC 3262, section 4).
+    /// The PRACK of a reliable provisional response with this RSeq, to the INVITE of this CSeq
+    /// number (RFC 3262, section 4).
     Prack { rseq: u32, number: u32 },
 }

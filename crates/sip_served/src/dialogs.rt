@@ -72,7 +72,8 @@ pub(crate) fn visit(
     name: &DialogName,
     request: &Message,
 ) -> Result<(), AllocError>
-    ensures { OnOk result (dialogs.new.entries ≡ spec.dialog_changed name.now (spec.visited request.now) dialogs.old.entries) }
+    ensures { OnOk result (dialogs.new.entries
+        ≡ spec.dialog_changed name.now (spec.visited request.now) dialogs.old.entries) }
 {
     let Some(held) = dialogs.get_mut(name) else {
         return Ok(());
@@ -117,7 +118,8 @@ pub(crate) fn confirm(
     name: &DialogName,
     response: &Message,
 ) -> Result<(), AllocError>
-    ensures { OnOk result (dialogs.new.entries ≡ spec.dialog_changed name.now (spec.confirmed response.now) dialogs.old.entries) }
+    ensures { OnOk result (dialogs.new.entries
+        ≡ spec.dialog_changed name.now (spec.confirmed response.now) dialogs.old.entries) }
 {
     let Some(held) = dialogs.get_mut(name) else {
         return Ok(());
@@ -140,7 +142,8 @@ pub(crate) fn end(
     dialogs: &mut Dialogs,
     name: &DialogName,
 ) -> Result<Vec<CallOut>, AllocError>
-    ensures { IfOk result (λ outs. (dialogs.new.entries, outs.items) ≡ spec.ended_at name.now dialogs.old.entries) }
+    ensures { IfOk result (λ outs. (dialogs.new.entries, outs.items)
+        ≡ spec.ended_at name.now dialogs.old.entries) }
 {
     let mut outs = Vec::new(alloc);
     if let Some(held) = dialogs.shift_remove(name) {
@@ -155,7 +158,8 @@ pub(crate) fn end_early(
     dialogs: &mut Dialogs,
     invite: Id,
 ) -> Result<Vec<CallOut>, AllocError>
-    ensures { IfOk result (λ outs. (dialogs.new.entries, outs.items) ≡ spec.early_ended invite dialogs.old.entries) }
+    ensures { IfOk result (λ outs. (dialogs.new.entries, outs.items)
+        ≡ spec.early_ended invite dialogs.old.entries) }
 {
     let outs = early_notices(alloc, dialogs, invite)?;
     drop_early(dialogs, invite);

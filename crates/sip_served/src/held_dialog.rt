@@ -9,8 +9,8 @@ use sip_reliable::Inbound;
 use sip_text::{Series, Text};
 use std::alloc::AllocError;
 
-/// What a dialog is found by: its local and its remote tag in lower case, since tags are compared without case (RFC 3261,
-/// sections 7.3.1 and 12). A tag that isn't there is empty.
+/// What a dialog is found by: its local and its remote tag in lower case, since tags are compared
+/// without case (RFC 3261, sections 7.3.1 and 12). A tag that isn't there is empty.
 #[derive(PartialEq, Eq, Hash)]
 pub struct DialogName {
     pub local: Text,

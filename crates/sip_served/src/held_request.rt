@@ -26,7 +26,8 @@ pub struct HeldRequest {
     pub removal: Option<u64>,
 }
 
-/// The 2xx response to an INVITE, which is sent again until its ACK comes (RFC 3261, section 13.3.1.4).
+/// The 2xx response to an INVITE, which is sent again until its ACK comes (RFC 3261, section
+/// 13.3.1.4).
 pub struct Success {
     pub response: Message,
     /// The moment in ms at which it is given up.

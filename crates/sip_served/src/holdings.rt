@@ -33,7 +33,8 @@ use sip_transactions::{Kind, Up};
 use std::alloc::{AllocError, Global};
 use std::marker::Model;
 
-/// The held requests in the order in which they came up, and the held dialogs in the order in which they were made.
+/// The held requests in the order in which they came up, and the held dialogs in the order in which
+/// they were made.
 ///
 /// Where a method answers an error, it is not known what is held.
 pub(crate) struct Holdings {
@@ -48,7 +49,11 @@ impl Model for Holdings {
 
     ghost Value = { State };
 
-    ghost view = { λ h. record { local = h.local; requests = h.requests.items; dialogs = h.dialogs.entries } };
+    ghost view = { λ h. record {
+      local = h.local;
+      requests = h.requests.items;
+      dialogs = h.dialogs.entries;
+    } };
 }
 
 impl Holdings {
@@ -87,7 +92,8 @@ impl Holdings {
         &mut self.dialogs
     }
 
-    /// An item of the event of this id, at the moment `now` in ms. `tag` is the To tag that the answers to a request without one get.
+    /// An item of the event of this id, at the moment `now` in ms. `tag` is the To tag that the
+    /// answers to a request without one get.
     pub(crate) fn item(
         &mut self,
         tag: Token,
@@ -96,7 +102,8 @@ impl Holdings {
         now: u64,
     ) -> Result<Vec<CallOut>, AllocError>
         requires { now ≤ 2 ^ 62 }
-        ensures { IfOk result (λ outs. (self.new, outs.items) ≡ step.item_taken self.old tag id item now) }
+        ensures { IfOk result (λ outs. (self.new, outs.items)
+            ≡ step.item_taken self.old tag id item now) }
     {
         match item {
             Item::Up(up) => self.come_up(tag, up),
@@ -107,7 +114,8 @@ impl Holdings {
 
     // What a transaction hands up.
     fn come_up(&mut self, tag: Token, up: Up) -> Result<Vec<CallOut>, AllocError>
-        ensures { IfOk result (λ outs. (self.new, outs.items) ≡ step.kind_taken self.old tag up up.kind) }
+        ensures { IfOk result (λ outs. (self.new, outs.items)
+            ≡ step.kind_taken self.old tag up up.kind) }
     {
         let Up {
             key,
@@ -133,7 +141,8 @@ impl Holdings {
 
     // A request.
     fn request(&mut self, arrival: Arrival) -> Result<Vec<CallOut>, AllocError>
-        ensures { IfOk result (λ outs. (self.new, outs.items) ≡ arrived.request_taken self.old arrival) }
+        ensures { IfOk result (λ outs. (self.new, outs.items)
+            ≡ arrived.request_taken self.old arrival) }
     {
         let name = dialog_name(self.alloc, &arrival.request, &arrival.tag)?;
         let case = case_of(
@@ -151,7 +160,8 @@ impl Holdings {
         name: DialogName,
         arrival: Arrival,
     ) -> Result<Vec<CallOut>, AllocError>
-        ensures { IfOk result (λ outs. (self.new, outs.items) ≡ arrived.by_case case self.old name arrival) }
+        ensures { IfOk result (λ outs. (self.new, outs.items)
+            ≡ arrived.by_case case self.old name arrival) }
     {
         match case {
             ArrivalCase::Merged => loop_detected(self.alloc, &arrival),
@@ -185,7 +195,8 @@ impl Holdings {
 
     // A PRACK that names a response which waits for it.
     fn prack(&mut self, arrival: Arrival, invite: Id, rseq: u32) -> Result<Vec<CallOut>, AllocError>
-        ensures { IfOk result (λ outs. (self.new, outs.items) ≡ arrived.prack_taken self.old arrival invite rseq) }
+        ensures { IfOk result (λ outs. (self.new, outs.items)
+            ≡ arrived.prack_taken self.old arrival invite rseq) }
     {
         let mut outs = one(self.alloc, ok(self.alloc, &arrival)?)?;
         outs.push(CallOut::Notice(Notice::Prack {
@@ -200,7 +211,8 @@ impl Holdings {
 
     // A request for the user. A BYE ends its dialog.
     fn for_user(&mut self, name: DialogName, arrival: Arrival) -> Result<Vec<CallOut>, AllocError>
-        ensures { IfOk result (λ outs. (self.new, outs.items) ≡ arrived.for_user self.old name arrival) }
+        ensures { IfOk result (λ outs. (self.new, outs.items)
+            ≡ arrived.for_user self.old name arrival) }
     {
         let ends = is_inside(&arrival.request) && is_bye(&arrival.request);
         let mut outs = self.hold(&name, arrival)?;
@@ -212,7 +224,8 @@ impl Holdings {
 
     // It is held and told.
     fn hold(&mut self, name: &DialogName, arrival: Arrival) -> Result<Vec<CallOut>, AllocError>
-        ensures { IfOk result (λ outs. (self.new, outs.items) ≡ arrived.request_held self.old name.now arrival) }
+        ensures { IfOk result (λ outs. (self.new, outs.items)
+            ≡ arrived.request_held self.old name.now arrival) }
     {
         let notice = notice_of_request(self.alloc, &arrival)?;
         let dialog = own_dialog(&self.dialogs, &arrival.request, name)?;
@@ -241,7 +254,8 @@ impl Holdings {
     #[tactic(auto, using(std::proofs::lemmas::Option::slice_get_read))]
     fn respond(&mut self, event: Id, respond: Respond, now: u64) -> Result<Vec<CallOut>, AllocError>
         requires { now ≤ 2 ^ 62 }
-        ensures { IfOk result (λ outs. (self.new, outs.items) ≡ answers.respond_taken self.old event respond now) }
+        ensures { IfOk result (λ outs. (self.new, outs.items)
+            ≡ answers.respond_taken self.old event respond now) }
     {
         let Some(index) = place_of(self.requests.as_slice(), respond.id) else {
             return refused(self.alloc, event, respond, Refusal::NoSuchRequest);
@@ -265,8 +279,11 @@ impl Holdings {
         requires within { index < length self.old.requests }
         requires low { 101 ≤ respond.status }
         requires high { respond.status ≤ 699 }
-        ensures { IfOk result (λ outs. (held : HeldRequest) → slice_get self.old.requests index ≡ Some held
-            → (self.new, outs.items) ≡ answers.answer_given_at (λ change. slice_set self.old.requests index (change held)) self.old event respond now held) }
+        ensures { IfOk result (λ outs. (held : HeldRequest)
+            → slice_get self.old.requests index ≡ Some held
+            → (self.new, outs.items) ≡ answers.answer_given_at
+            (λ change. slice_set self.old.requests index (change held)) self.old event respond
+            now held) }
     {
         let held = &mut self.requests[index];
         let response = answer_to(self.alloc, self.local, held, &respond)?;

@@ -1,4 +1,5 @@
-//! The server side of one Call-ID: the requests that came up and wait for, or keep, their answers, and the dialogs.
+//! The server side of one Call-ID: the requests that came up and wait for, or keep, their answers,
+//! and the dialogs.
 #![tactic(auto)]
 
 mod acknowledgment;
@@ -19,6 +20,7 @@ mod requests;
 mod respond;
 mod served;
 mod tick;
+mod timers;
 mod unsupported;
 
 pub use command::{
@@ -30,7 +32,10 @@ pub use dialogs::Dialogs;
 pub use held_dialog::{DialogLife, DialogName, HeldDialog};
 pub use held_request::{HeldRequest, Retransmission, Success};
 pub use item::{CallOut, Item};
-pub use laws::{at_most_one_waits, ticks_when_due};
+pub use laws::{
+    at_most_one_waits, each_request_is_told_once, holds_what_its_story_says,
+    the_remote_cseq_is_the_greatest_accepted, ticks_when_due,
+};
 pub use notice::Notice;
 pub use refusal::Refusal;
 pub use served::Served;

@@ -50,7 +50,8 @@ fn response_with(
     requires low { 100 ≤ status }
     requires high { status ≤ 699 }
     requires reason { IsTrue (is_reason reason.now) }
-    ensures { IfOk result (λ response. response ≡ response_of arrival.now.request status reason.now arrival.now.tag) }
+    ensures { IfOk result (λ response. response
+        ≡ response_of arrival.now.request status reason.now arrival.now.tag) }
 {
     let reason = Reason::from_text(Text::copy_of(alloc, reason)?);
     let status = StatusCode::from_code(status);
@@ -67,7 +68,8 @@ pub(crate) fn reply(
     requires low { 100 ≤ status }
     requires high { status ≤ 699 }
     requires reason { IsTrue (is_reason reason.now) }
-    ensures { IfOk result (λ out. out ≡ arrived.command_for arrival.now (response_of arrival.now.request status reason.now arrival.now.tag)) }
+    ensures { IfOk result (λ out. out ≡ arrived.command_for arrival.now
+        (response_of arrival.now.request status reason.now arrival.now.tag)) }
 {
     command_for(arrival, response_with(alloc, arrival, status, reason)?)
 }
@@ -82,21 +84,24 @@ pub(crate) fn answered_with(
     requires low { 100 ≤ status }
     requires high { status ≤ 699 }
     requires reason { IsTrue (is_reason reason.now) }
-    ensures { IfOk result (λ outs. outs.items ≡ arrived.answered_with arrival.now status reason.now) }
+    ensures { IfOk result (λ outs. outs.items
+        ≡ arrived.answered_with arrival.now status reason.now) }
 {
     one(alloc, reply(alloc, arrival, status, reason)?)
 }
 
 /// The 482 to a request that came on another way too (RFC 3261, section 8.2.2.2).
 pub(crate) fn loop_detected(alloc: Global, arrival: &Arrival) -> Result<Vec<CallOut>, AllocError>
-    ensures { IfOk result (λ outs. outs.items ≡ arrived.answered_with arrival.now 482 (codes "Loop Detected")) }
+    ensures { IfOk result (λ outs. outs.items
+        ≡ arrived.answered_with arrival.now 482 (codes "Loop Detected")) }
 {
     answered_with(alloc, arrival, 482, b"Loop Detected")
 }
 
 /// The 500 to a request whose number is out of order (RFC 3261, section 12.2.2).
 pub(crate) fn out_of_order(alloc: Global, arrival: &Arrival) -> Result<Vec<CallOut>, AllocError>
-    ensures { IfOk result (λ outs. outs.items ≡ arrived.answered_with arrival.now 500 (codes "Server Internal Error")) }
+    ensures { IfOk result (λ outs. outs.items
+        ≡ arrived.answered_with arrival.now 500 (codes "Server Internal Error")) }
 {
     answered_with(alloc, arrival, 500, b"Server Internal Error")
 }
@@ -110,12 +115,14 @@ pub(crate) fn no_such_dialog(alloc: Global, arrival: &Arrival) -> Result<Vec<Cal
 
 /// The 200 to a PRACK.
 pub(crate) fn ok(alloc: Global, arrival: &Arrival) -> Result<CallOut, AllocError>
-    ensures { IfOk result (λ out. out ≡ arrived.command_for arrival.now (response_of arrival.now.request 200 (codes "OK") arrival.now.tag)) }
+    ensures { IfOk result (λ out. out ≡ arrived.command_for arrival.now
+        (response_of arrival.now.request 200 (codes "OK") arrival.now.tag)) }
 {
     reply(alloc, arrival, 200, b"OK")
 }
 
-/// The 420 to a request that requires options that the agent doesn't know; it names them (RFC 3261, section 8.2.2.3).
+/// The 420 to a request that requires options that the agent doesn't know; it names them (RFC 3261,
+/// section 8.2.2.3).
 pub(crate) fn bad_extension(alloc: Global, arrival: &Arrival) -> Result<Vec<CallOut>, AllocError>
     ensures { IfOk result (λ outs. outs.items ≡ arrived.refused_extension arrival.now) }
 {
@@ -126,7 +133,10 @@ pub(crate) fn bad_extension(alloc: Global, arrival: &Arrival) -> Result<Vec<Call
 }
 
 fn bad_extension_response(alloc: Global, arrival: &Arrival) -> Result<Message, AllocError>
-    ensures { IfOk result (λ response. response ≡ arrived.with_header (arrived.unsupported (filter is_unknown_option arrival.now.request.require)) (response_of arrival.now.request 420 (codes "Bad Extension") arrival.now.tag)) }
+    ensures { IfOk result (λ response. response
+        ≡ arrived.with_header (arrived.unsupported
+        (filter is_unknown_option arrival.now.request.require))
+        (response_of arrival.now.request 420 (codes "Bad Extension") arrival.now.tag)) }
 {
     let header = unsupported(alloc, arrival.request.require.as_slice())?;
     let mut response = response_with(alloc, arrival, 420, b"Bad Extension")?;
@@ -142,7 +152,8 @@ fn add_header(response: &mut Message, header: Header) -> Result<(), AllocError>
 
 /// How the user is told of a request.
 pub(crate) fn notice_of_request(alloc: Global, arrival: &Arrival) -> Result<Notice, AllocError>
-    ensures { IfOk result (λ notice. notice ≡ request_notice arrival.now.id arrival.now.call_id arrival.now.request arrival.now.tag) }
+    ensures { IfOk result (λ notice. notice
+        ≡ request_notice arrival.now.id arrival.now.call_id arrival.now.request arrival.now.tag) }
 {
     let request = &arrival.request;
     Ok(Notice::Request {

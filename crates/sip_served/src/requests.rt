@@ -10,11 +10,15 @@ use sip_message::Id;
 
 /// Where the request of an id stands among those that are held.
 pub(crate) fn place_of(requests: &[HeldRequest], id: Id) -> Option<usize>
-    ensures none { IfNone result ((change : HeldRequest → HeldRequest) → changed_at id change requests.now ≡ requests.now) }
+    ensures none { IfNone result ((change : HeldRequest → HeldRequest)
+        → changed_at id change requests.now ≡ requests.now) }
     ensures unknown { IfNone result (find (has_id id) requests.now ≡ None) }
     ensures within { IfSome result (λ index. index < length requests.now) }
-    ensures found { IfSome result (λ index. find (has_id id) requests.now ≡ slice_get requests.now index) }
-    ensures changed { IfSome result (λ index. (change : HeldRequest → HeldRequest) (held : HeldRequest) → slice_get requests.now index ≡ Some held → changed_at id change requests.now ≡ slice_set requests.now index (change held)) }
+    ensures found { IfSome result (λ index. find (has_id id) requests.now
+        ≡ slice_get requests.now index) }
+    ensures changed { IfSome result (λ index. (change : HeldRequest → HeldRequest)
+        (held : HeldRequest) → slice_get requests.now index ≡ Some held
+        → changed_at id change requests.now ≡ slice_set requests.now index (change held)) }
 {
     first_of(requests, id)
 }

@@ -18,15 +18,13 @@ use crate::request::{
     dialog_name, is_final, is_inside, is_invite, is_provisional, is_success, requires_100rel,
     supports_100rel,
 };
+use crate::timers::{LIFETIME, T1};
 use sip_dialog::{Dialog, own_contact};
 use sip_message::{Addr, Id, Message, StatusCode, Token, response_to};
 use sip_reliable::{Inbound, SendFault};
 use sip_text::{Series, Text};
 use sip_transactions::Command;
 use std::alloc::{AllocError, Global};
-
-/// T1, the first interval, in ms (RFC 3261, section 17.1.1.1).
-const T1: u64 = 500;
 
 /// The least status that the user may answer with.
 const LEAST_STATUS: u16 = 101;
@@ -176,7 +174,7 @@ fn set_rseq(alloc: Global, rseq: Option<u32>, response: &mut Message) -> Result<
     Ok(())
 }
 
-#[tactic(auto, unfolding(sip_text::specs::Token::is_token, sip_text::specs::Character::is_token_byte))]
+#[tactic(auto, using(crate::proofs::Names::option_100rel))]
 fn option_100rel(alloc: Global) -> Result<Token, AllocError>
     ensures { IfOk result (λ option. option ≡ codes "100rel") }
 {
@@ -211,7 +209,7 @@ fn finish(held: &mut HeldRequest, response: Message, status: u16, now: u64)
     if is_invite(&held.request) && is_success(status) {
         held.success = Some(success_sent(response, now));
     }
-    held.removal = Some(now + 64 * T1);
+    held.removal = Some(now + LIFETIME);
 }
 
 fn success_sent(response: Message, now: u64) -> Success
@@ -220,7 +218,7 @@ fn success_sent(response: Message, now: u64) -> Success
 {
     Success {
         response,
-        end: now + 64 * T1,
+        end: now + LIFETIME,
         retransmission: Some(Retransmission {
             due: now + T1,
             interval: T1,
@@ -239,7 +237,8 @@ pub(crate) fn dialogs_answered(
 ) -> Result<Vec<CallOut>, AllocError>
     requires low { 101 ≤ respond.now.status }
     requires high { respond.now.status ≤ 699 }
-    ensures { IfOk result (λ outs. (dialogs.new.entries, outs.items) ≡ spec.dialogs_answered event held.now respond.now response.now dialogs.old.entries) }
+    ensures { IfOk result (λ outs. (dialogs.new.entries, outs.items)
+        ≡ spec.dialogs_answered event held.now respond.now response.now dialogs.old.entries) }
 {
     if makes_dialog(held, respond.status) {
         make_dialog(alloc, dialogs, event, held, respond.status)?;
@@ -284,7 +283,9 @@ fn make_dialog(
 ) -> Result<(), AllocError>
     requires low { 101 ≤ status }
     requires high { status ≤ 699 }
-    ensures { OnOk result (dialogs.new.entries ≡ insert_entry is_named dialogs.old.entries (dialog_name held.now.request held.now.tag) (spec.made_dialog event held.now status)) }
+    ensures { OnOk result (dialogs.new.entries
+        ≡ insert_entry is_named dialogs.old.entries (dialog_name held.now.request held.now.tag)
+        (spec.made_dialog event held.now status)) }
 {
     let name = dialog_name(alloc, &held.request, &held.tag)?;
     let made = made_dialog(alloc, event, held, StatusCode::from_code(status))?;
@@ -329,7 +330,8 @@ pub(crate) fn note_dialog(
 
 /// The command by which an answer goes to the transaction of its request.
 pub(crate) fn answer_command(held: &HeldRequest, response: &Message) -> Result<CallOut, AllocError>
-    ensures { IfOk result (λ out. out ≡ call_out.Command held.now.id (Answer held.now.key response.now)) }
+    ensures { IfOk result (λ out. out ≡ call_out.Command held.now.id
+        (Answer held.now.key response.now)) }
 {
     let key = held.key.clone()?;
     let message = response.clone()?;

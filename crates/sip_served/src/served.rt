@@ -10,10 +10,11 @@ use sip_model::ShardFault;
 use std::alloc::{AllocError, Global};
 use std::marker::Model;
 
-/// The server requests and the dialogs of one Call-ID (RFC 3261, sections 8.2, 12 and 13.3; RFC 3262, section 3).
+/// The server requests and the dialogs of one Call-ID (RFC 3261, sections 8.2, 12 and 13.3; RFC
+/// 3262, section 3).
 ///
-/// A contract sees what is held, and whether an earlier call answered `NoMemory`: then it holds nothing, and every later call that can
-/// fail answers `Broken`.
+/// A contract sees what is held, and whether an earlier call answered `NoMemory`: then it holds
+/// nothing, and every later call that can fail answers `Broken`.
 pub struct Served {
     alloc: Global,
     local: Addr,
@@ -36,7 +37,8 @@ impl Served {
     ghost use Rattle.sip_served.specs.Step.{holds, item_taken};
     ghost use Rattle.sip_served.specs.Tick.{next_due, tick_taken};
 
-    /// The server side of a Call-ID under which nothing is held, at the address `local`. Takes no memory.
+    /// The server side of a Call-ID under which nothing is held, at the address `local`. Takes no
+    /// memory.
     pub fn new(alloc: Global, local: Addr) -> Served
         ensures { result ≡ record { broken = false; local = local; state = empty_at local } }
     {
@@ -70,8 +72,9 @@ impl Served {
         self.holdings.dialogs()
     }
 
-    /// Takes what a transaction hands up, or a command of the user, at the moment `now` in ms. The id is that of its event, and
-    /// `tag` is the To tag that the answers to a request without one get.
+    /// Takes what a transaction hands up, or a command of the user, at the moment `now` in ms. The
+    /// id is that of its event, and `tag` is the To tag that the answers to a request without one
+    /// get.
     ///
     /// # Errors
     ///
@@ -88,7 +91,8 @@ impl Served {
         ensures only_broken { result ≡ Err ShardFault.Broken → IsTrue self.old.broken }
         ensures broken_stays { result ≡ Err ShardFault.Broken → self.new ≡ self.old }
         ensures no_memory { result ≡ Err ShardFault.NoMemory → self.new ≡ lost self.old }
-        ensures ok { IfOk result (λ outs. (self.new, outs.items) ≡ after self.old (item_taken self.old.state tag id item now)) }
+        ensures ok { IfOk result (λ outs. (self.new, outs.items)
+            ≡ after self.old (item_taken self.old.state tag id item now)) }
     {
         self.check()?;
         let taken = self.holdings.item(tag, id, item, now);
@@ -106,7 +110,8 @@ impl Served {
         ensures only_broken { result ≡ Err ShardFault.Broken → IsTrue self.old.broken }
         ensures broken_stays { result ≡ Err ShardFault.Broken → self.new ≡ self.old }
         ensures no_memory { result ≡ Err ShardFault.NoMemory → self.new ≡ lost self.old }
-        ensures ok { IfOk result (λ outs. (self.new, outs.items) ≡ after self.old (tick_taken self.old.state now)) }
+        ensures ok { IfOk result (λ outs. (self.new, outs.items)
+            ≡ after self.old (tick_taken self.old.state now)) }
     {
         self.check()?;
         let taken = self.holdings.tick(now);
@@ -127,7 +132,8 @@ impl Served {
     // After want of memory nothing is held.
     fn keep(&mut self, taken: Result<Vec<CallOut>, AllocError>) -> Result<Vec<CallOut>, ShardFault>
         ensures ok { IfOk result (λ outs. (taken ≡ Ok outs) × (self.new ≡ self.old)) }
-        ensures err { IfErr result (λ fault. (fault ≡ ShardFault.NoMemory) × (self.new ≡ lost self.old)) }
+        ensures err { IfErr result (λ fault. (fault ≡ ShardFault.NoMemory)
+            × (self.new ≡ lost self.old)) }
     {
         match taken {
             Ok(outs) => Ok(outs),

@@ -12,12 +12,10 @@ use crate::held_request::{HeldRequest, Retransmission, Success};
 use crate::item::CallOut;
 use crate::notice::Notice;
 use crate::respond::answer_command;
+use crate::timers::T2;
 use sip_reliable::Tick;
 use sip_timers::earlier;
 use std::alloc::AllocError;
-
-/// T2, the greatest interval between two sendings of a 2xx, in ms (RFC 3261, section 17.1.2.2).
-const T2: u64 = 4_000;
 
 /// Does what is due of each held request at the moment `now`, in ms.
 pub(crate) fn tick_requests(
@@ -26,8 +24,10 @@ pub(crate) fn tick_requests(
     outs: &mut Vec<CallOut>,
 ) -> Result<(), AllocError>
     requires { now ≤ 2 ^ 62 }
-    ensures requests { OnOk result (requests.new.items ≡ map (λ held. (spec.request_ticked now held).0) requests.old.items) }
-    ensures outs { OnOk result (outs.new.items ≡ outs.old.items ++ flat_map (λ held. (spec.request_ticked now held).1) requests.old.items) }
+    ensures requests { OnOk result (requests.new.items
+        ≡ map (λ held. (spec.request_ticked now held).0) requests.old.items) }
+    ensures outs { OnOk result (outs.new.items ≡ outs.old.items
+        ++ flat_map (λ held. (spec.request_ticked now held).1) requests.old.items) }
 {
     for held in requests.iter_mut() {
         tick_request(held, now, outs)?;
@@ -39,7 +39,8 @@ pub(crate) fn tick_requests(
 fn tick_request(held: &mut HeldRequest, now: u64, outs: &mut Vec<CallOut>) -> Result<(), AllocError>
     requires { now ≤ 2 ^ 62 }
     ensures held { OnOk result (held.new ≡ (spec.request_ticked now held.old).0) }
-    ensures outs { OnOk result (outs.new.items ≡ outs.old.items ++ (spec.request_ticked now held.old).1) }
+    ensures outs { OnOk result (outs.new.items ≡ outs.old.items
+        ++ (spec.request_ticked now held.old).1) }
 {
     tick_success(held, now, outs)?;
     tick_provisional(held, now, outs)
@@ -49,7 +50,8 @@ fn tick_request(held: &mut HeldRequest, now: u64, outs: &mut Vec<CallOut>) -> Re
 fn tick_success(held: &mut HeldRequest, now: u64, outs: &mut Vec<CallOut>) -> Result<(), AllocError>
     requires { now ≤ 2 ^ 62 }
     ensures held { OnOk result (held.new ≡ (spec.success_ticked now held.old).0) }
-    ensures outs { OnOk result (outs.new.items ≡ outs.old.items ++ (spec.success_ticked now held.old).1) }
+    ensures outs { OnOk result (outs.new.items ≡ outs.old.items
+        ++ (spec.success_ticked now held.old).1) }
 {
     let Some(success) = &held.success else {
         return Ok(());
@@ -82,7 +84,11 @@ fn success_answer(success: &Success, now: u64) -> Tick
 
 fn repeat_success(held: &mut HeldRequest, now: u64)
     requires { now ≤ 2 ^ 62 }
-    ensures { held.new ≡ record held.old { success = option_map (λ success. spec.with_retransmission success (option_map (spec.next_retransmission now) success.retransmission)) held.old.success } }
+    ensures { held.new ≡ record held.old {
+      success = option_map
+          (λ success. spec.with_retransmission success
+          (option_map (spec.next_retransmission now) success.retransmission)) held.old.success;
+    } }
 {
     if let Some(success) = &mut held.success {
         success.retransmission = next_of(success.retransmission, now);
@@ -118,7 +124,8 @@ fn tick_provisional(
 ) -> Result<(), AllocError>
     requires { now ≤ 2 ^ 62 }
     ensures held { OnOk result (held.new ≡ (spec.provisional_ticked now held.old).0) }
-    ensures outs { OnOk result (outs.new.items ≡ outs.old.items ++ (spec.provisional_ticked now held.old).1) }
+    ensures outs { OnOk result (outs.new.items ≡ outs.old.items
+        ++ (spec.provisional_ticked now held.old).1) }
 {
     if held.provisional.is_none() {
         return Ok(());
@@ -132,7 +139,9 @@ fn tell_provisional(
     tick: Tick,
     outs: &mut Vec<CallOut>,
 ) -> Result<(), AllocError>
-    ensures { OnOk result (outs.new.items ≡ outs.old.items ++ option_map_or (λ response. spec.told_of tick held.now response (notices.NoPrack held.now.request.call_id held.now.id)) held.now.provisional []) }
+    ensures { OnOk result (outs.new.items ≡ outs.old.items
+        ++ option_map_or (λ response. spec.told_of tick held.now response
+        (notices.NoPrack held.now.request.call_id held.now.id)) held.now.provisional []) }
 {
     let Some(response) = &held.provisional else {
         return Ok(());
@@ -146,7 +155,8 @@ fn tell_provisional(
 }
 
 fn no_prack(held: &HeldRequest) -> Result<Notice, AllocError>
-    ensures { IfOk result (λ notice. notice ≡ notices.NoPrack held.now.request.call_id held.now.id) }
+    ensures { IfOk result (λ notice. notice
+        ≡ notices.NoPrack held.now.request.call_id held.now.id) }
 {
     Ok(Notice::NoPrack {
         call_id: held.request.call_id.clone()?,

@@ -21,7 +21,6 @@ pub(crate) fn unsupported(alloc: Global, options: &[Token]) -> Result<Header, Al
     })
 }
 
-#[tactic(auto, unfolding(sip_parts::specs::OtherName::is_other_name, sip_parts::specs::OtherName::is_compact_name, sip_parts::specs::HeaderEntry::is_named, sip_text::specs::Token::is_token, sip_text::specs::Character::is_token_byte))]
 fn unsupported_name(alloc: Global) -> Result<OtherName, AllocError>
     ensures { IfOk result (λ name. name ≡ codes "Unsupported") }
 {
@@ -30,7 +29,8 @@ fn unsupported_name(alloc: Global) -> Result<OtherName, AllocError>
 
 // The unknown options in their order, with a comma and a space between them.
 fn unknown_options(alloc: Global, options: &[Token]) -> Result<HeaderValue, AllocError>
-    ensures { IfOk result (λ value. value ≡ join_by (λ option. option) (codes ", ") (filter is_unknown_option options.now)) }
+    ensures { IfOk result (λ value. value
+        ≡ join_by (λ option. option) (codes ", ") (filter is_unknown_option options.now)) }
 {
     let mut text = Text::from_vec(Vec::new(alloc));
     for option in options {
@@ -40,7 +40,10 @@ fn unknown_options(alloc: Global, options: &[Token]) -> Result<HeaderValue, Allo
 }
 
 fn push_unknown(text: &mut Text, option: &Token) -> Result<(), AllocError>
-    ensures text { OnOk result (text.new ≡ (if is_unknown_option option.now then (if length text.old == 0 then option.now else text.old ++ codes ", " ++ option.now) else text.old)) }
+    ensures text { OnOk result (text.new
+        ≡ (if is_unknown_option option.now
+        then (if length text.old == 0 then option.now else text.old ++ codes ", " ++ option.now)
+        else text.old)) }
     ensures token { OnOk result (IsTrue (is_token option.now)) }
 {
     let bytes = option.as_slice();

@@ -4,4 +4,6 @@ use Rattle.sip_served.specs.Tick.{is_kept_at}
 use Rattle.sip_served.proofs.holdings.remove_over.Goals as goal
 
 pub returns : goal.returns
-returns c = filter_same _ (is_kept_at c.args.now) _ (λ x b f call. search rules) _ _ c.retain.ensures.filtered
+returns c =
+    filter_same _ (is_kept_at c.args.now) _
+    (λ x b f call. search rules) _ _ c.retain.ensures.filtered

@@ -7,4 +7,6 @@ use Rattle.sip_served.proofs.respond.make_dialog.Goals as goal
 pub returns : goal.returns
 returns c =
     c.in_ok-insert.ensures.entries
-    ∙ (λ i. insert_entry is_named c.args.dialogs.now.entries (c.in_ok-name.ensures i) ((c.in_ok-made.ensures ∙ ap (made_dialog c.args.event c.args.held.now) c.from_code.ensures) i))
+    ∙ (λ i. insert_entry is_named c.args.dialogs.now.entries (c.in_ok-name.ensures i)
+    ((c.in_ok-made.ensures ∙ ap (made_dialog c.args.event c.args.held.now) c.from_code.ensures)
+    i))

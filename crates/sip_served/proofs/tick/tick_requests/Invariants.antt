@@ -5,6 +5,8 @@ use Rattle.sip_served.proofs.tick.tick_requests.Given as goal
 
 abbrev pub invariant-loop-held : goal.invariant-loop-held
 invariant-loop-held l = record {
-  requests : l.held-items ≡ map (λ held. (request_ticked l.now held).0) (take l.held-index l.initial.held-items) ++ drop l.held-index l.initial.held-items;
-  outs : l.outs.items ≡ l.initial.outs.items ++ flat_map (λ held. (request_ticked l.now held).1) (take l.held-index l.initial.held-items);
+  requests : l.held-items ≡ map (λ held. (request_ticked l.now held).0)
+      (take l.held-index l.initial.held-items) ++ drop l.held-index l.initial.held-items;
+  outs : l.outs.items ≡ l.initial.outs.items
+      ++ flat_map (λ held. (request_ticked l.now held).1) (take l.held-index l.initial.held-items);
 }

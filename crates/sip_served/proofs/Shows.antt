@@ -1,0 +1,233 @@
+-- Each request that comes up for the user is told once, as it comes up.
+use Rattle.std.proofs.Common.{◌≡◌, ℕ, ◌+◌, ◌≤◌, Bool, true, false, cond, ◌&&◌, List, [], ◌∷◌, ◌++◌, map, length, refl, sym, ap, subst, ◌∙◌, arith}
+use Rattle.std.specs.Prelude.{Option, None, Some, count_by, find, filter}
+use Rattle.std.specs.List.{filter_map, flat_map}
+use Rattle.std.specs.Map.{values_of}
+use Rattle.std.proofs.lemmas.List.Elements.{filter_map-append}
+use Rattle.std.proofs.lemmas.List.Sums.{length-filter}
+use Rattle.sip_model.proofs.Ordered.{by_bool}
+use Rattle.sip_message.specs.declared.id.Id.{Id}
+use Rattle.sip_message.specs.declared.message.Message.{Message}
+use Rattle.sip_reliable.specs.declared.tick.Tick.{Tick}
+use Rattle.sip_reliable.specs.declared.tick.Tick.TheVariants as tick
+use Rattle.sip_reliable.specs.Ledger.{tick_answer}
+use Rattle.sip_transactions.specs.declared.output.Kind.{Kind}
+use Rattle.sip_transactions.specs.declared.output.Kind.TheVariants.{Request, Ack, Response, Timeout, Failed}
+use Rattle.sip_transactions.specs.declared.output.Up.{Up}
+use Rattle.sip_served.specs.declared.arrival.Arrival.{Arrival}
+use Rattle.sip_served.specs.declared.arrival.ArrivalCase.{ArrivalCase}
+use Rattle.sip_served.specs.declared.arrival.ArrivalCase.TheVariants.{Merged, BadExtension, NoDialog, OutOfOrder, Acknowledges, AcknowledgesNothing, ForUser}
+use Rattle.sip_served.specs.declared.command.Respond.{Respond as Answer}
+use Rattle.sip_served.specs.declared.command.UserCommand.{UserCommand}
+use Rattle.sip_served.specs.declared.command.UserCommand.TheVariants as command
+use Rattle.sip_served.specs.declared.held_dialog.DialogName.{DialogName}
+use Rattle.sip_served.specs.declared.held_dialog.HeldDialog.{HeldDialog}
+use Rattle.sip_served.specs.declared.held_request.HeldRequest.{HeldRequest}
+use Rattle.sip_served.specs.declared.held_request.Success.{Success}
+use Rattle.sip_served.specs.declared.item.CallOut.{CallOut}
+use Rattle.sip_served.specs.declared.item.Item.TheVariants as item
+use Rattle.sip_served.specs.declared.notice.Notice.TheVariants.{NoAck, NoPrack}
+use Rattle.sip_served.specs.declared.refusal.Refusal.{Refusal}
+use Rattle.sip_served.specs.Acknowledgment.{ack_noted, acknowledged_invite}
+use Rattle.sip_served.specs.Arrival.{by_case, bye_taken, case_of}
+use Rattle.sip_served.specs.Dialogs.{dialog_at, ended_at, ended_notice, is_early_of}
+use Rattle.sip_served.specs.Requests.{dialog_name, is_bye, is_inside}
+use Rattle.sip_served.specs.Respond.{answer_to, by_refusal, by_request, confirms_dialog, dialogs_answered, makes_dialog, refusal_for, rejects}
+use Rattle.sip_served.specs.Run.{Event, Takes, Ticks, event_taken}
+use Rattle.sip_served.specs.Shown.{brings, came_from, for_user, for_user_of, if_for_user, is_request, request_in, told_from}
+use Rattle.sip_served.specs.State.{Dialogs, State, has_id, is_id}
+use Rattle.sip_served.specs.Step.{command_taken, kind_taken}
+use Rattle.sip_served.specs.Tick.{provisional_of, provisional_ticked, request_ticked, success_answer, success_of, success_ticked, told_of}
+
+abbrev shown : List CallOut → List Id
+shown outs = filter_map request_in outs
+
+-- ---- ends and repeats show no request
+
+ends_show : (dialogs : List HeldDialog) → shown (map ended_notice dialogs) ≡ []
+ends_show [] = refl
+ends_show (dialog ∷ dialogs) = ends_show dialogs
+
+end_shows : (name : DialogName) (dialogs : Dialogs) (o : Option HeldDialog)
+    → dialog_at name dialogs ≡ o → shown (ended_at name dialogs).1 ≡ []
+end_shows name dialogs None is = rw is refl
+end_shows name dialogs (Some held) is = rw is refl
+
+success_shows : (now : ℕ) (held : HeldRequest) (o : Option Success)
+    → shown (success_of now held o).1 ≡ []
+success_shows now held None = refl
+success_shows now held (Some success) = told (success_answer now success)
+  where
+    told : (t : Tick) → shown (told_of t held success.response (NoAck held.request.call_id held.id))
+        ≡ []
+    told tick.Nothing = refl
+    told tick.Again = refl
+    told tick.GivenUp = refl
+
+provisional_shows : (now : ℕ) (held : HeldRequest) (o : Option Message)
+    → shown (provisional_of now held o).1 ≡ []
+provisional_shows now held None = refl
+provisional_shows now held (Some response) = told (tick_answer held.ledger now)
+  where
+    told : (t : Tick) → shown (told_of t held response (NoPrack held.request.call_id held.id)) ≡ []
+    told tick.Nothing = refl
+    told tick.Again = refl
+    told tick.GivenUp = refl
+
+none_of_both : (xs ys : List CallOut) → shown xs ≡ [] → shown ys ≡ [] → shown (xs ++ ys) ≡ []
+none_of_both xs ys first second = filter_map-append request_in xs ys ∙ (λ i. first i ++ second i)
+
+ticks_show : (now : ℕ) (requests : List HeldRequest)
+    → shown (flat_map (λ held. (request_ticked now held).1) requests) ≡ []
+ticks_show now [] = refl
+ticks_show now (held ∷ requests) =
+    let first = (success_ticked now held).0 in
+    none_of_both (request_ticked now held).1
+    (flat_map (λ held. (request_ticked now held).1) requests)
+    (none_of_both (success_ticked now held).1 (provisional_ticked now first).1
+    (success_shows now held held.success) (provisional_shows now first first.provisional))
+    (ticks_show now requests)
+
+-- ---- each case
+
+bye_shows : (arrival : Arrival) (name : DialogName) (state : State)
+    → shown (bye_taken arrival name state).1 ≡ []
+bye_shows arrival name state =
+    by_bool (is_inside arrival.request && is_bye arrival.request)
+    (λ e. rw e (end_shows name state.dialogs (dialog_at name state.dialogs) refl))
+    (λ e. rw e refl)
+
+case_shows : (case : ArrivalCase) (state : State) (name : DialogName) (arrival : Arrival)
+    → shown (by_case case state name arrival).1 ≡ if_for_user arrival.id case
+case_shows Merged state name arrival = refl
+case_shows BadExtension state name arrival = refl
+case_shows NoDialog state name arrival = refl
+case_shows OutOfOrder state name arrival = refl
+case_shows (Acknowledges invite rseq) state name arrival = refl
+case_shows AcknowledgesNothing state name arrival = refl
+case_shows ForUser state name arrival = ap (λ rest. arrival.id ∷ rest) (bye_shows arrival name _)
+
+ack_shows : (state : State) (call_id : List ℕ) (ack : Message) (o : Option Id)
+    → shown (ack_noted state call_id ack o).1 ≡ []
+ack_shows state call_id ack None = refl
+ack_shows state call_id ack (Some invite) = refl
+
+answer_shows : (event : Id) (held : HeldRequest) (r : Answer) (response : Message)
+    (dialogs : Dialogs) → shown (dialogs_answered event held r response dialogs).1 ≡ []
+answer_shows event held r response dialogs =
+    by_bool (makes_dialog held r.status) (λ e. rw e refl)
+    (λ e. by_bool (confirms_dialog held r.status) (λ f. rw (e, f) refl)
+    (λ f. by_bool (rejects held r.status)
+    (λ g. rw (e, f, g) (ends_show (filter (is_early_of held.id) (values_of dialogs))))
+    (λ g. rw (e, f, g) refl)))
+
+refusal_shows : (state : State) (event : Id) (r : Answer) (now : ℕ) (held : HeldRequest)
+    (o : Option Refusal) → shown (by_refusal state event r now held o).1 ≡ []
+refusal_shows state event r now held (Some refusal) = refl
+refusal_shows state event r now held None =
+    answer_shows event held r (answer_to state.local held r) state.dialogs
+
+respond_shows : (state : State) (event : Id) (r : Answer) (now : ℕ) (o : Option HeldRequest)
+    → shown (by_request state event r now o).1 ≡ []
+respond_shows state event r now None = refl
+respond_shows state event r now (Some held) =
+    refusal_shows state event r now held (refusal_for state.dialogs r held)
+
+kind_shows : (state : State) (tag : List ℕ) (up : Up) (kind : Kind)
+    → shown (kind_taken state tag up kind).1 ≡ for_user_of state tag up.id kind
+kind_shows state tag up (Request request reply_to) =
+    case_shows (case_of state.requests state.dialogs (dialog_name request tag) request) state
+    (dialog_name request tag) _
+kind_shows state tag up (Ack ack) =
+    ack_shows state up.call_id ack (acknowledged_invite ack state.requests)
+kind_shows state tag up (Response response) = refl
+kind_shows state tag up Timeout = refl
+kind_shows state tag up Failed = refl
+
+command_shows : (state : State) (id : Id) (c : UserCommand) (now : ℕ)
+    → shown (command_taken state id c now).1 ≡ []
+command_shows state id (command.Invite i) now = refl
+command_shows state id (command.Plain i) now = refl
+command_shows state id (command.Request i) now = refl
+command_shows state id (command.Respond r) now =
+    respond_shows state id r now (find (has_id r.id) state.requests)
+command_shows state id (command.Ack i) now = refl
+command_shows state id (command.Prack i) now = refl
+command_shows state id (command.Cancel i) now = refl
+
+event_shows : (state : State) (event : Event)
+    → shown (event_taken state event).1 ≡ for_user state event
+event_shows state (Takes tag id (item.Up up) now) = kind_shows state tag up up.kind
+event_shows state (Takes tag id (item.User c) now) = command_shows state id c now
+event_shows state (Ticks now) = ticks_show now state.requests
+
+pub all_shown : (events : List Event) (state : State)
+    → told_from state events ≡ came_from state events
+all_shown [] state = refl
+all_shown (event ∷ events) state =
+    λ i. event_shows state event i ++ all_shown events (event_taken state event).0 i
+
+-- ---- no more often than it comes up
+
+abbrev often : {X : Type 0} → (X → Bool) → List X → ℕ
+often p xs = length (filter p xs)
+
+both_often : {X : Type 0} (p : X → Bool) (xs ys : List X)
+    → often p (xs ++ ys) ≡ often p xs + often p ys
+both_often p [] ys = omega arith
+both_often p (x ∷ xs) ys =
+    by_bool (p x) (λ e. let h = both_often p xs ys in
+    rw e (omega (arith, h))) (λ e. rw e (both_often p xs ys))
+
+case_often : (p : Id → Bool) (one : Id) (case : ArrivalCase) (b : Bool) → p one ≡ b
+    → often p (if_for_user one case) ≤ cond b 1 0
+case_often p one Merged b is = omega arith
+case_often p one BadExtension b is = omega arith
+case_often p one NoDialog b is = omega arith
+case_often p one OutOfOrder b is = omega arith
+case_often p one (Acknowledges invite rseq) b is = omega arith
+case_often p one AcknowledgesNothing b is = omega arith
+case_often p one ForUser true is = rw is (omega arith)
+case_often p one ForUser false is = rw is (omega arith)
+
+kind_often : (state : State) (id : Id) (tag : List ℕ) (one : Id) (kind : Kind)
+    → often (is_id id) (for_user_of state tag one kind) ≤ cond (is_request kind (is_id id one)) 1 0
+kind_often state id tag one (Request request reply_to) =
+    case_often (is_id id) one (case_of state.requests state.dialogs
+    (dialog_name request tag) request) (is_id id one) refl
+kind_often state id tag one (Ack ack) = omega arith
+kind_often state id tag one (Response response) = omega arith
+kind_often state id tag one Timeout = omega arith
+kind_often state id tag one Failed = omega arith
+
+event_often : (state : State) (id : Id) (event : Event)
+    → often (is_id id) (for_user state event) ≤ cond (brings id event) 1 0
+event_often state id (Takes tag one (item.Up up) now) = kind_often state id tag up.id up.kind
+event_often state id (Takes tag one (item.User c) now) = omega arith
+event_often state id (Ticks now) = omega arith
+
+head_often : (b : Bool) (event : Event) (chosen : List Event) (n m : ℕ) → n ≤ cond b 1 0
+    → m ≤ length chosen → n + m ≤ length (cond b (event ∷ chosen) chosen)
+head_often true event chosen n m first rest = omega (arith, first, rest)
+head_often false event chosen n m first rest = omega (arith, first, rest)
+
+all_often : (id : Id) (events : List Event) (state : State)
+    → often (is_id id) (came_from state events) ≤ often (brings id) events
+all_often id [] state = omega arith
+all_often id (event ∷ events) state =
+    let later = came_from (event_taken state event).0 events in
+    subst (λ n. n ≤ often (brings id) (event ∷ events))
+    (sym (both_often (is_id id) (for_user state event) later))
+    (head_often (brings id event) event (filter (brings id) events) _ _ (event_often state id event)
+    (all_often id events (event_taken state event).0))
+
+pub never_oftener : (id : Id) (events : List Event) (state : State)
+    → count_by (is_id id) (told_from state events) ≤ count_by (brings id) events
+never_oftener id events state =
+    let told : length (filter (is_id id) (told_from state events))
+    ≡ often (is_id id) (came_from state events) =
+    ap (λ ids. often (is_id id) ids) (all_shown events state) in
+    let h = all_often id events state in
+    let a = length-filter (is_id id) (told_from state events) in
+    let b = length-filter (brings id) events in
+    omega (arith, told, h, a, b)

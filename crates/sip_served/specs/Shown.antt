@@ -1,0 +1,57 @@
+-- The requests that come up for the user of a call, and those that the user is told of.
+use Rattle.std.specs.Prelude.{ℕ, Bool, false, List, [], ◌∷◌, ◌++◌, Option, None, Some}
+use Rattle.std.specs.List.{filter_map}
+use Rattle.sip_message.specs.declared.id.Id.{Id}
+use Rattle.sip_transactions.specs.declared.output.Kind.{Kind}
+use Rattle.sip_transactions.specs.declared.output.Kind.TheVariants.{Request}
+use Rattle.sip_served.specs.declared.arrival.ArrivalCase.{ArrivalCase}
+use Rattle.sip_served.specs.declared.arrival.ArrivalCase.TheVariants.{ForUser}
+use Rattle.sip_served.specs.declared.item.CallOut.{CallOut}
+use Rattle.sip_served.specs.declared.item.CallOut.TheVariants.{Notice}
+use Rattle.sip_served.specs.declared.item.Item.TheVariants.{Up as FromBelow}
+use Rattle.sip_served.specs.declared.notice.Notice.TheVariants as notice
+use Rattle.sip_served.specs.Arrival.{case_of}
+use Rattle.sip_served.specs.Requests.{dialog_name}
+use Rattle.sip_served.specs.Run.{Event, Takes, event_taken}
+use Rattle.sip_served.specs.State.{State, is_id}
+
+-- the request that an output tells the user of
+abbrev pub request_in : CallOut → Option Id
+request_in (Notice (notice.Request call_id id method local_tag remote_tag body)) = Some id
+request_in _ = None
+
+-- the requests that the user is told of by a list of events
+abbrev pub told_from : State → List Event → List Id
+told_from state [] = []
+told_from state (event ∷ events) =
+    filter_map request_in (event_taken state event).1
+    ++ told_from (event_taken state event).0 events
+
+-- the request that comes up by an event, where it is one for the user
+abbrev pub if_for_user : Id → ArrivalCase → List Id
+if_for_user id ForUser = id ∷ []
+if_for_user id _ = []
+
+abbrev pub for_user_of : State → List ℕ → Id → Kind → List Id
+for_user_of state tag id (Request request reply_to) =
+    if_for_user id (case_of state.requests state.dialogs (dialog_name request tag) request)
+for_user_of state tag id _ = []
+
+abbrev pub for_user : State → Event → List Id
+for_user state (Takes tag id (FromBelow up) now) = for_user_of state tag up.id up.kind
+for_user state _ = []
+
+-- the requests that come up for the user by a list of events
+abbrev pub came_from : State → List Event → List Id
+came_from state [] = []
+came_from state (event ∷ events) =
+    for_user state event ++ came_from (event_taken state event).0 events
+
+-- the request of an id comes up
+abbrev pub is_request : Kind → Bool → Bool
+is_request (Request request reply_to) is_it = is_it
+is_request _ is_it = false
+
+abbrev pub brings : Id → Event → Bool
+brings id (Takes tag event (FromBelow up) now) = is_request up.kind (is_id id up.id)
+brings id _ = false

@@ -1,0 +1,129 @@
+-- The server side of a call as a story: each held dialog by the message that it began with and what
+-- happened in it since, and each held request by what came for it.
+use Rattle.std.specs.Prelude.{ℕ, ◌+◌, Bool, true, false, List, [], length, map, fold, Option, None, Some, if◌then◌else◌}
+use Rattle.std.specs.List.{last_or, filter_map}
+use Rattle.std.specs.Option.{option_map}
+use Rattle.sip_message.specs.declared.addr.Addr.{Addr}
+use Rattle.sip_message.specs.declared.id.Id.{Id}
+use Rattle.sip_message.specs.declared.message.Message.{Message}
+use Rattle.sip_dialog.specs.Life.{Happening, accepted_number, dialog_after, greater}
+use Rattle.sip_dialog.specs.Opening.{Opening, opened}
+use Rattle.sip_reliable.specs.Happening as reliable
+use Rattle.sip_reliable.specs.Ledger.{Provisional, ledger_after, waiting_after}
+use Rattle.sip_transactions.specs.declared.step.Pace.TheVariants.{Capped}
+use Rattle.sip_transactions.specs.Timers.{interval}
+use Rattle.sip_served.specs.declared.arrival.Arrival.{Arrival}
+use Rattle.sip_served.specs.declared.held_dialog.DialogLife.{DialogLife}
+use Rattle.sip_served.specs.declared.held_dialog.DialogName.{DialogName}
+use Rattle.sip_served.specs.declared.held_dialog.HeldDialog.{HeldDialog}
+use Rattle.sip_served.specs.declared.held_request.HeldRequest.{HeldRequest}
+use Rattle.sip_served.specs.declared.held_request.Retransmission.{Retransmission}
+use Rattle.sip_served.specs.declared.held_request.Success.{Success}
+use Rattle.sip_served.specs.declared.timers.TheConstants.{LIFETIME}
+use Rattle.sip_served.specs.Arrival.{first_rseq, held_for}
+use Rattle.sip_served.specs.Requests.{supports_100rel}
+use Rattle.sip_served.specs.State.{Dialogs, State}
+
+-- ---- a dialog
+
+-- how it began, and what happened in it since
+pub record DialogStory : Type 0 where
+  pub opening : Opening
+  pub life : List Happening
+  pub address : Addr
+  pub made_by : Id
+  pub born : Id
+
+abbrev pub dialog_of : DialogStory → HeldDialog
+dialog_of story = record {
+  dialog = dialog_after story.opening story.life;
+  address = story.address;
+  made_by = story.made_by;
+  born = story.born;
+  heard = None;
+  owed = [];
+}
+
+-- the greatest number of a request of the peer: that of the INVITE, and those accepted since
+abbrev pub greatest_accepted : DialogStory → Option ℕ
+greatest_accepted story =
+    fold greater (opened story.opening).remote_cseq (filter_map accepted_number story.life)
+
+-- ---- the 2xx to an INVITE
+
+-- when it was sent, when it was sent again, and whether that is over: its ACK came, or it was given
+-- up
+pub record SuccessStory : Type 0 where
+  pub response : Message
+  pub sent : ℕ
+  pub repeats : List ℕ
+  pub is_over : Bool
+
+-- it goes out again after the capped interval that follows on its last sending
+abbrev pub next_sending : SuccessStory → Retransmission
+next_sending story =
+    let pause = interval Capped (length story.repeats) in
+    record { due = fold (λ last moment. moment) story.sent story.repeats + pause; interval = pause }
+
+abbrev pub success_of : SuccessStory → Success
+success_of story = record {
+  response = story.response;
+  end = story.sent + LIFETIME;
+  retransmission = if story.is_over then None else Some (next_sending story);
+}
+
+-- ---- a request
+
+-- how it came up, the dialog that it came in or that its answer made, what happened to its reliable
+-- provisional responses and which these were, its 2xx, and the moment of its final response
+pub record RequestStory : Type 0 where
+  pub arrival : Arrival
+  pub dialog : Option DialogLife
+  pub provisionals : List reliable.Happening
+  pub responses : List Message
+  pub success : Option SuccessStory
+  pub answered : Option ℕ
+
+-- no PRACK came after the last reliable provisional response
+abbrev pub is_open_by : Bool → reliable.Happening → Bool
+is_open_by was (reliable.Sends number has_body now) = true
+is_open_by was (reliable.Repeats number now) = was
+is_open_by was reliable.GivesUp = was
+is_open_by was (reliable.Acknowledges number) = false
+is_open_by was reliable.Closes = was
+
+abbrev pub is_open : List reliable.Happening → Bool
+is_open life = fold is_open_by false life
+
+-- the reliable provisional responses that were sent and have no PRACK after them
+abbrev pub unacknowledged : RequestStory → List Provisional
+unacknowledged story = waiting_after story.provisionals
+
+abbrev pub request_of : RequestStory → HeldRequest
+request_of story = record (held_for story.arrival story.dialog) {
+  ledger = ledger_after first_rseq (supports_100rel story.arrival.request) story.provisionals;
+  provisional = if is_open story.provisionals then last_or None story.responses else None;
+  success = option_map success_of story.success;
+  removal = option_map (λ moment. moment + LIFETIME) story.answered;
+}
+
+-- ---- all that is held
+
+-- the dialogs by name, in the order in which they were made
+abbrev pub DialogStories : Type 0
+DialogStories = List (DialogName × DialogStory)
+
+abbrev pub dialogs_of : DialogStories → Dialogs
+dialogs_of stories = map (λ entry. (entry.0, dialog_of entry.1)) stories
+
+pub record Story : Type 0 where
+  pub local : Addr
+  pub requests : List RequestStory
+  pub dialogs : DialogStories
+
+abbrev pub held_by : Story → State
+held_by story = record {
+  local = story.local;
+  requests = map request_of story.requests;
+  dialogs = dialogs_of story.dialogs;
+}

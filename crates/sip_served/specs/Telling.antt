@@ -1,0 +1,298 @@
+-- What each event adds to the story of a call. Which case it is, is read from what the story holds.
+use Rattle.std.specs.Prelude.{ℕ, true, false, not, ◌&&◌, nat_lt, List, [], ◌∷◌, ◌++◌, length, map, filter, find, fold, Option, None, Some, is_some, if◌then◌else◌}
+use Rattle.std.specs.Map.{lookup, remove_entry, set_value}
+use Rattle.std.specs.Option.{option_map, option_map_or}
+use Rattle.indexmap.specs.IndexMap.{insert_entry}
+use Rattle.sip_message.specs.declared.addr.Addr.{Addr}
+use Rattle.sip_message.specs.declared.id.Id.{Id}
+use Rattle.sip_message.specs.declared.message.Message.{Message}
+use Rattle.sip_dialog.specs.Fault.{ended_fault}
+use Rattle.sip_dialog.specs.Life.{Happening, Accepts, Refreshes, Confirms}
+use Rattle.sip_dialog.specs.Opening.{ByRequest, contact_uri}
+use Rattle.sip_reliable.specs.declared.tick.Tick.{Tick}
+use Rattle.sip_reliable.specs.declared.tick.Tick.TheVariants as tick
+use Rattle.sip_reliable.specs.Happening as reliable
+use Rattle.sip_reliable.specs.Ledger.{happenings_of, tick_answer}
+use Rattle.sip_transactions.specs.declared.output.Kind.{Kind}
+use Rattle.sip_transactions.specs.declared.output.Kind.TheVariants.{Request, Ack, Response, Timeout, Failed}
+use Rattle.sip_transactions.specs.declared.output.Up.{Up}
+use Rattle.sip_served.specs.declared.arrival.Arrival.{Arrival}
+use Rattle.sip_served.specs.declared.arrival.ArrivalCase.{ArrivalCase}
+use Rattle.sip_served.specs.declared.arrival.ArrivalCase.TheVariants.{Merged, BadExtension, NoDialog, OutOfOrder, Acknowledges, AcknowledgesNothing, ForUser}
+use Rattle.sip_served.specs.declared.command.Respond.{Respond}
+use Rattle.sip_served.specs.declared.command.UserCommand.{UserCommand}
+use Rattle.sip_served.specs.declared.command.UserCommand.TheVariants as command
+use Rattle.sip_served.specs.declared.held_dialog.DialogName.{DialogName}
+use Rattle.sip_served.specs.declared.held_request.HeldRequest.{HeldRequest}
+use Rattle.sip_served.specs.declared.item.Item.TheVariants as item
+use Rattle.sip_served.specs.declared.refusal.Refusal.{Refusal}
+use Rattle.sip_served.specs.Acknowledgment.{acknowledged_invite}
+use Rattle.sip_served.specs.Arrival.{case_of, own_dialog}
+use Rattle.sip_served.specs.Dialogs.{is_early_of, is_named, takes}
+use Rattle.sip_served.specs.Requests.{dialog_name, is_bye, is_cancel, is_final, is_inside, is_invite, is_success}
+use Rattle.sip_served.specs.Respond.{answer_to, confirms_dialog, is_sent_reliably, makes_dialog, refusal_for, rejects}
+use Rattle.sip_served.specs.Run.{Event, Takes, Ticks}
+use Rattle.sip_served.specs.State.{changed_first, has_id}
+use Rattle.sip_served.specs.Story.{DialogStories, DialogStory, RequestStory, Story, SuccessStory, dialog_of, held_by, request_of, success_of}
+use Rattle.sip_served.specs.Tick.{is_kept_at, success_answer}
+
+-- ---- dialogs
+
+-- this happens in it
+abbrev pub lives_on : Happening → DialogStory → DialogStory
+lives_on happening story = record story { life = story.life ++ happening ∷ [] }
+
+-- a request in it has a number above the last
+abbrev pub numbers : ℕ → DialogStory → DialogStory
+numbers number story =
+    if takes (dialog_of story) number then lives_on (Accepts number) story else story
+
+-- a re-INVITE in it may have a Contact
+abbrev pub retargets : Option (List ℕ) → DialogStory → DialogStory
+retargets None story = story
+retargets (Some uri) story =
+    if is_some (ended_fault (dialog_of story).dialog) then story else lives_on (Refreshes uri) story
+
+abbrev pub refreshes : Message → DialogStory → DialogStory
+refreshes request story =
+    if is_invite request then retargets (contact_uri request) story else story
+
+-- a CANCEL has the number of the request that it cancels
+abbrev pub visits : Message → DialogStory → DialogStory
+visits request story =
+    if is_cancel request then story
+    else refreshes request (numbers request.cseq.number story)
+
+-- a 2xx confirms a dialog that hasn't ended
+abbrev pub confirms : Message → DialogStory → DialogStory
+confirms response story =
+    if is_some (ended_fault (dialog_of story).dialog) then story
+    else lives_on (Confirms response) story
+
+-- the dialog of a name goes on so
+abbrev pub at_dialog : DialogName → (DialogStory → DialogStory) → DialogStories → DialogStories
+at_dialog name change dialogs =
+    option_map_or (λ dialog. set_value (is_named name) dialogs (change dialog))
+    (lookup (is_named name) dialogs) dialogs
+
+-- the dialog of a name ends
+abbrev pub ends_at : DialogName → DialogStories → DialogStories
+ends_at name dialogs = remove_entry (is_named name) dialogs
+
+-- the early dialogs that an INVITE made end
+abbrev pub ends_early : Id → DialogStories → DialogStories
+ends_early invite dialogs =
+    filter (λ entry. not (is_early_of invite (dialog_of entry.1))) dialogs
+
+-- an answer begins one
+abbrev pub begun : Id → HeldRequest → ℕ → DialogStory
+begun event held status = record {
+  opening = ByRequest held.request held.tag status;
+  life = [];
+  address = held.reply_to;
+  made_by = held.id;
+  born = event;
+}
+
+abbrev pub begins : DialogName → DialogStory → DialogStories → DialogStories
+begins name dialog dialogs = insert_entry is_named dialogs name dialog
+
+-- ---- requests
+
+-- the request of an id goes on so
+abbrev pub at_request : Id → (RequestStory → RequestStory) → Story → Story
+at_request id change story = record story {
+  requests = changed_first (λ request. has_id id (request_of request)) change story.requests;
+}
+
+-- this happens to its reliable provisional responses
+abbrev pub provisionals_go : List reliable.Happening → RequestStory → RequestStory
+provisionals_go happenings request =
+    record request { provisionals = request.provisionals ++ happenings }
+
+-- its 2xx isn't sent again
+abbrev pub success_ends : SuccessStory → SuccessStory
+success_ends story = record story { is_over = true }
+
+-- its ACK comes
+abbrev pub acks : RequestStory → RequestStory
+acks request = record request { success = option_map success_ends request.success }
+
+-- a reliable provisional response is sent, with the next number
+abbrev pub sends : Message → ℕ → RequestStory → RequestStory
+sends response now request =
+    let next = (request_of request).ledger.next in
+    let sending = reliable.Sends next (nat_lt 0 (length response.body)) now in
+    record (provisionals_go (sending ∷ []) request) {
+      responses = request.responses ++ response ∷ [];
+    }
+
+-- a final response is the last one, and a 2xx to an INVITE waits for its ACK
+abbrev pub finishes : Message → ℕ → ℕ → RequestStory → RequestStory
+finishes response status now request =
+    record (provisionals_go (reliable.Closes ∷ []) request) {
+      success =
+          if is_invite request.arrival.request && is_success status
+          then Some record { response = response; sent = now; repeats = []; is_over = false }
+          else request.success;
+      answered = Some now;
+    }
+
+abbrev pub answers : Respond → Message → ℕ → RequestStory → RequestStory
+answers respond response now request =
+    if is_sent_reliably (request_of request) respond then sends response now request
+    else (if is_final respond.status then finishes response respond.status now request
+    else request)
+
+-- the dialog that an answer makes is that of its request
+abbrev pub takes_dialog : Id → Respond → RequestStory → RequestStory
+takes_dialog event respond request =
+    let held = request_of request in
+    if makes_dialog held respond.status
+    then record request {
+      dialog = Some record { name = dialog_name held.request held.tag; born = event };
+    }
+    else request
+
+-- ---- a request that comes up
+
+-- a request in a dialog is noted there
+abbrev pub notes : DialogName → Message → Story → Story
+notes name request story =
+    if is_inside request
+    then record story { dialogs = at_dialog name (visits request) story.dialogs }
+    else story
+
+-- it is held, and nothing came for it
+abbrev pub holds_one : DialogName → Arrival → Story → Story
+holds_one name arrival story = record story {
+  requests = story.requests ++ record {
+    arrival = arrival;
+    dialog = own_dialog arrival.request name (held_by story).dialogs;
+    provisionals = [];
+    responses = [];
+    success = None;
+    answered = None;
+  } ∷ [];
+}
+
+-- a BYE ends its dialog
+abbrev pub ends_by_bye : DialogName → Message → Story → Story
+ends_by_bye name request story =
+    if is_inside request && is_bye request
+    then record story { dialogs = ends_at name story.dialogs }
+    else story
+
+abbrev pub told_by_case : ArrivalCase → Story → DialogName → Arrival → Story
+told_by_case Merged story name arrival = story
+told_by_case BadExtension story name arrival = story
+told_by_case NoDialog story name arrival = story
+told_by_case OutOfOrder story name arrival = story
+told_by_case (Acknowledges invite rseq) story name arrival =
+    at_request invite (provisionals_go (reliable.Acknowledges rseq ∷ []))
+    (notes name arrival.request story)
+told_by_case AcknowledgesNothing story name arrival = notes name arrival.request story
+told_by_case ForUser story name arrival =
+    ends_by_bye name arrival.request (holds_one name arrival (notes name arrival.request story))
+
+abbrev pub request_told : Story → Arrival → Story
+request_told story arrival =
+    let name = dialog_name arrival.request arrival.tag in
+    told_by_case (case_of (held_by story).requests (held_by story).dialogs name arrival.request)
+    story name arrival
+
+-- ---- an ACK
+
+abbrev pub ack_told : Story → Option Id → Story
+ack_told story None = story
+ack_told story (Some invite) = at_request invite acks story
+
+-- ---- an answer of the user
+
+abbrev pub dialogs_told : Id → HeldRequest → Respond → Message → DialogStories → DialogStories
+dialogs_told event held respond response dialogs =
+    let name = dialog_name held.request held.tag in
+    if makes_dialog held respond.status then begins name (begun event held respond.status) dialogs
+    else (if confirms_dialog held respond.status then at_dialog name (confirms response) dialogs
+    else (if rejects held respond.status then ends_early held.id dialogs
+    else dialogs))
+
+abbrev pub answer_told : Story → Id → Respond → ℕ → HeldRequest → Story
+answer_told story event respond now held =
+    let response = answer_to story.local held respond in
+    let change = λ (request : RequestStory).
+    answers respond response now (takes_dialog event respond request) in
+    record (at_request respond.id change story) {
+      dialogs = dialogs_told event held respond response story.dialogs;
+    }
+
+abbrev pub told_by_refusal : Story → Id → Respond → ℕ → HeldRequest → Option Refusal → Story
+told_by_refusal story event respond now held (Some refusal) = story
+told_by_refusal story event respond now held None = answer_told story event respond now held
+
+abbrev pub told_by_request : Story → Id → Respond → ℕ → Option HeldRequest → Story
+told_by_request story event respond now None = story
+told_by_request story event respond now (Some held) =
+    told_by_refusal story event respond now held (refusal_for (held_by story).dialogs respond held)
+
+-- ---- a tick
+
+-- the 2xx is sent again, or given up
+abbrev pub success_goes : Tick → ℕ → SuccessStory → SuccessStory
+success_goes tick.Nothing now story = story
+success_goes tick.Again now story = record story { repeats = story.repeats ++ now ∷ [] }
+success_goes tick.GivenUp now story = success_ends story
+
+abbrev pub success_passes : ℕ → SuccessStory → SuccessStory
+success_passes now story = success_goes (success_answer now (success_of story)) now story
+
+-- the reliable provisional response that waits is sent again, or given up
+abbrev pub provisionals_pass : ℕ → HeldRequest → List reliable.Happening
+provisionals_pass now held =
+    if is_some held.provisional then happenings_of (tick_answer held.ledger now) held.ledger now
+    else []
+
+abbrev pub request_passes : ℕ → RequestStory → RequestStory
+request_passes now request =
+    record (provisionals_go (provisionals_pass now (request_of request)) request) {
+      success = option_map (success_passes now) request.success;
+    }
+
+abbrev pub tick_told : Story → ℕ → Story
+tick_told story now = record story {
+  requests =
+      filter (λ request. is_kept_at now (request_of request))
+      (map (request_passes now) story.requests);
+}
+
+-- ---- all of it
+
+abbrev pub kind_told : Story → List ℕ → Up → Kind → Story
+kind_told story tag up (Request request reply_to) =
+    request_told story record {
+      key = up.key;
+      id = up.id;
+      call_id = up.call_id;
+      request = request;
+      reply_to = reply_to;
+      tag = tag;
+    }
+kind_told story tag up (Ack ack) = ack_told story (acknowledged_invite ack (held_by story).requests)
+kind_told story tag up (Response response) = story
+kind_told story tag up Timeout = story
+kind_told story tag up Failed = story
+
+abbrev pub command_told : Story → Id → UserCommand → ℕ → Story
+command_told story id (command.Respond respond) now =
+    told_by_request story id respond now (find (has_id respond.id) (held_by story).requests)
+command_told story id _ now = story
+
+abbrev pub event_told : Story → Event → Story
+event_told story (Takes tag id (item.Up up) now) = kind_told story tag up up.kind
+event_told story (Takes tag id (item.User command) now) = command_told story id command now
+event_told story (Ticks now) = tick_told story now
+
+-- the story of a list of events, where nothing was held before
+abbrev pub story_after : Addr → List Event → Story
+story_after local events =
+    fold event_told record { local = local; requests = []; dialogs = [] } events
