@@ -1,4 +1,1 @@
 pub mod Alarms
-pub mod EventsStatus
-pub mod RoundStatus
-pub mod Status

@@ -1,11 +1,10 @@
 //! `ua`: the core of a SIP user agent, run on event files.
 #![tactic(auto)]
 
-mod program;
 #[cfg(test)]
 mod tests;
 
-use program::{no_memory, ua};
+use sip_program::{no_memory, ua};
 use std::io;
 use std::process::ExitCode;
 

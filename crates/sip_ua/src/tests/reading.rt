@@ -1,6 +1,6 @@
-//! Worked examples of messages, and texts that are none.
+//! Messages and all that is kept of them.
 
-use sip_message::{HeaderName, Message, ReadFault, StartLine};
+use sip_message::{Message, StartLine};
 use sip_reader::read;
 use std::alloc::{AllocError, Global};
 use std::test::Fail;
@@ -30,18 +30,6 @@ fn text_with(alloc: Global, at: usize, line: &[u8], body: &[u8]) -> Result<Vec<u
 fn message_with(alloc: Global, at: usize, line: &[u8], body: &[u8]) -> Result<Message, Fail> {
     let text = text_with(alloc, at, line, body)?;
     Ok(read(alloc, &text).ok().ok_or("it is a message")?)
-}
-
-fn fault_with(alloc: Global, at: usize, line: &[u8]) -> Result<Option<ReadFault>, AllocError> {
-    let text = text_with(alloc, at, line, b"")?;
-    Ok(fault_of(alloc, &text))
-}
-
-fn fault_of(alloc: Global, text: &[u8]) -> Option<ReadFault> {
-    match read(alloc, text) {
-        Ok(_) => None,
-        Err(fault) => Some(fault),
-    }
 }
 
 #[test]
@@ -89,28 +77,6 @@ fn a_response(rt: HostRuntime) -> Result<(), Fail> {
 }
 
 #[test]
-fn bodies(rt: HostRuntime) -> Result<(), Fail> {
-    let alloc = rt.alloc();
-    let rest = message_with(alloc, 6, b"", b"ab")?;
-    assert!(rt; rest.body.as_slice() == b"ab".as_slice());
-    let cut = message_with(alloc, 4, b"Content-Length: 1\r\nCall-ID: c1", b"ab")?;
-    assert!(rt; cut.body.as_slice() == b"a".as_slice());
-    assert!(rt; cut.call_id.as_slice() == b"c1".as_slice());
-    Ok(())
-}
-
-#[test]
-fn a_via_with_tabs_and_a_port(rt: HostRuntime) -> Result<(), Fail> {
-    let line = b"VIA \t:  sip/2.0/TCP \t [2001:db8::1]:5061;ttl=1;branch=Z9HG4BKx \t";
-    let message = message_with(rt.alloc(), 1, line, b"")?;
-    let via = message.vias.top();
-    assert!(rt; via.host.as_slice() == b"[2001:db8::1]".as_slice());
-    assert!(rt; via.port == Some(5061));
-    assert!(rt; via.branch() == b"Z9HG4BKx".as_slice());
-    Ok(())
-}
-
-#[test]
 fn a_compact_name_gets_its_long_form(rt: HostRuntime) -> Result<(), Fail> {
     let line = b"c: application/sdp\r\nt: <sip:192.0.2.1>\r\nMax-Forwards: 70";
     let message = message_with(rt.alloc(), 3, line, b"")?;
@@ -118,77 +84,5 @@ fn a_compact_name_gets_its_long_form(rt: HostRuntime) -> Result<(), Fail> {
     let header = message.others.first().ok_or("one header is kept")?;
     assert!(rt; header.name.as_slice() == b"Content-Type".as_slice());
     assert!(rt; header.value.as_slice() == b"application/sdp".as_slice());
-    Ok(())
-}
-
-#[test]
-fn line_ends_before_the_start_line(rt: HostRuntime) -> Result<(), Fail> {
-    let message = message_with(rt.alloc(), 0, b"\n\r\nOPTIONS sip:192.0.2.1 SIP/2.0", b"")?;
-    assert!(rt; message.is_request());
-    Ok(())
-}
-
-#[test]
-fn faults(rt: HostRuntime) -> Result<(), Fail> {
-    let alloc = rt.alloc();
-    let long = vec![in alloc; b'a'; 65536]?;
-    assert!(rt; fault_of(alloc, &long) == Some(ReadFault::TooLong));
-    assert!(rt;
-        fault_of(alloc, b"OPTIONS sip:a SIP/2.0\r\nTo: <sip:a>\r\n") == Some(ReadFault::NoEmptyLine)
-    );
-    for (at, line, fault) in [
-        (
-            0,
-            b"OPTIONS sip:192.0.2.1 SIP/3.0".as_slice(),
-            ReadFault::BadStartLine,
-        ),
-        (0, b"SIP/2.0 099 Early".as_slice(), ReadFault::BadStartLine),
-        (4, b"Call-ID".as_slice(), ReadFault::BadHeader),
-        (4, b"Call-ID: c1\r\n more".as_slice(), ReadFault::BadHeader),
-        (
-            2,
-            b"From: \"A <sip:a@192.0.2.9>".as_slice(),
-            ReadFault::BadHeader,
-        ),
-        (
-            1,
-            b"Subject: none".as_slice(),
-            ReadFault::Missing(HeaderName::Via),
-        ),
-        (
-            5,
-            b"Subject: none".as_slice(),
-            ReadFault::Missing(HeaderName::CSeq),
-        ),
-        (
-            4,
-            b"To: <sip:b>\r\nCall-ID: c1".as_slice(),
-            ReadFault::Repeated(HeaderName::To),
-        ),
-        (5, b"CSeq: x7 OPTIONS".as_slice(), ReadFault::BadNumber),
-        (
-            5,
-            b"CSeq: 4294967296 OPTIONS".as_slice(),
-            ReadFault::BadNumber,
-        ),
-        (
-            1,
-            b"Via: SIP/2.0/UDP a:65536;branch=z9hG4bKa1".as_slice(),
-            ReadFault::BadNumber,
-        ),
-        (
-            1,
-            b"Via: SIP/2.0/UDP 192.0.2.9;branch=a1".as_slice(),
-            ReadFault::OldBranch,
-        ),
-        (5, b"CSeq: 7 INVITE".as_slice(), ReadFault::MethodMismatch),
-        (
-            4,
-            b"Content-Length: 1\r\nCall-ID: c1".as_slice(),
-            ReadFault::Truncated,
-        ),
-    ] {
-        assert!(rt; fault_with(alloc, at, line)? == Some(fault), "at {at}");
-    }
     Ok(())
 }

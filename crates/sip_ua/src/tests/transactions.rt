@@ -544,10 +544,9 @@ fn said_of(alloc: Global, up: Option<Said>, sent: Option<Said>) -> Result<Vec<Sa
     Ok(said)
 }
 
-// The steps are those of late rounds, of an INVITE that is answered 486, of one that is answered 200 twice, of a 486 that is
-// acknowledged, of a failed send, and of an ACK alone.
+// The steps are those of late rounds, of an INVITE that is answered 486, of one that is answered 200 twice, and of a failed send.
 #[test]
-fn scripts_of_transactions(rt: HostRuntime) -> Result<(), Fail> {
+fn scripts_of_clients(rt: HostRuntime) -> Result<(), Fail> {
     let alloc = rt.alloc();
     let start: Step = (0, Happening::Start, None, Some(Said::Sent(0, 1)));
     let timeout = Some(Said::Timeout(1));
@@ -580,27 +579,8 @@ fn scripts_of_transactions(rt: HostRuntime) -> Result<(), Fail> {
         (32_100, Happening::Tick, None, None),
     ];
     play(&rt, alloc, Machine::InviteClient, &accepted)?;
-    let acknowledged = [
-        (
-            0,
-            Happening::Request,
-            Some(Said::Request(1)),
-            Some(Said::Sent(100, 1)),
-        ),
-        (0, Happening::Answer(486), None, Some(Said::Sent(486, 1))),
-        (500, Happening::Tick, None, Some(Said::Sent(486, 1))),
-        (600, Happening::Ack, None, None),
-        (5_600, Happening::Tick, None, None),
-    ];
-    play(&rt, alloc, Machine::InviteServer, &acknowledged)?;
     let failed = [start, (10, Happening::Failed, Some(Said::Failed(1)), None)];
-    play(&rt, alloc, Machine::Client, &failed)?;
-    play(
-        &rt,
-        alloc,
-        Machine::InviteServer,
-        &[(0, Happening::Ack, Some(Said::Ack(1)), None)],
-    )
+    play(&rt, alloc, Machine::Client, &failed)
 }
 
 // A transaction that these events come to sends again at each of these moments and not a millisecond before, and times out at
@@ -656,32 +636,13 @@ fn timers_fire_at_their_moments(rt: HostRuntime) -> Result<(), Fail> {
         Machine::Client,
         &[start, (600, Happening::Response(183))],
         &even,
-    )?;
-    let unacknowledged = [(0, Happening::Request), (0, Happening::Answer(486))];
-    fires(&rt, alloc, Machine::InviteServer, &unacknowledged, &capped)
+    )
 }
 
-// The bytes of 100 Trying, and of the ACK of a request with two Vias, a Route and a body.
+// The bytes of the ACK of a request with two Vias, a Route and a body.
 #[test]
-fn messages_that_transactions_make(rt: HostRuntime) -> Result<(), Fail> {
+fn the_ack_of_a_refused_invite(rt: HostRuntime) -> Result<(), Fail> {
     let alloc = rt.alloc();
-    let mut shard = Shard::new(alloc, LOCAL);
-    let outs = give(
-        &rt,
-        alloc,
-        &mut shard,
-        Machine::InviteServer,
-        2,
-        0,
-        Happening::Request,
-    )?;
-    let [_, Out::Send { bytes, .. }] = outs.as_slice() else {
-        return Err("100 Trying".into());
-    };
-    let trying =
-        b"SIP/2.0 100 Trying\r\nVia: SIP/2.0/UDP 192.0.2.9;branch=z9hG4bKa1\r\nFrom: <sip:a@192.0.2.1>;tag=f1\r\nTo: <sip:b@192.0.2.9>\r\nCall-ID: c1\r\nCSeq: 7 INVITE\r\nContent-Length: 0\r\n\r\n";
-    assert!(rt; bytes.as_slice() == trying.as_slice());
-
     let mut request = message_of(alloc, Machine::InviteClient, "INVITE", 2)?;
     let mut vias = Vec::new(alloc);
     vias.push(request.vias.top().clone()?)?;
@@ -698,23 +659,5 @@ fn messages_that_transactions_make(rt: HostRuntime) -> Result<(), Fail> {
     let ack =
         b"ACK sip:b@192.0.2.9 SIP/2.0\r\nVia: SIP/2.0/UDP 192.0.2.1;branch=z9hG4bKa1\r\nMax-Forwards: 70\r\nFrom: <sip:a@192.0.2.1>;tag=f1\r\nTo: <sip:b@192.0.2.9>;tag=t1\r\nCall-ID: c1\r\nCSeq: 7 ACK\r\nRoute: <sip:192.0.2.7;lr>\r\nContent-Length: 0\r\n\r\n";
     assert!(rt; made.as_slice() == ack.as_slice());
-    Ok(())
-}
-
-// A response to another sender.
-#[test]
-fn a_response_to_another_sender_is_dropped(rt: HostRuntime) -> Result<(), Fail> {
-    let alloc = rt.alloc();
-    let mut shard = Shard::new(alloc, addr_of(1));
-    let outs = give(
-        &rt,
-        alloc,
-        &mut shard,
-        Machine::Client,
-        2,
-        0,
-        Happening::Response(200),
-    )?;
-    assert!(rt; are_said(&outs, &[Said::Dropped(2, DropReason::NotOurs)]));
     Ok(())
 }

@@ -1,0 +1,3 @@
+pub mod EventsStatus
+pub mod RoundStatus
+pub mod Status

@@ -1,0 +1,9 @@
+//! The program `ua` but for its process: its words, its faults and their statuses.
+#![tactic(auto)]
+
+mod program;
+mod status;
+mod words;
+
+pub use program::ua;
+pub use status::no_memory;

@@ -1,0 +1,69 @@
+//! The program: what each command does.
+
+ghost use Rattle.std.specs.Prelude.{◌≡◌, ◌≢◌, ◌<◌, ◌≤◌, IfErr, IfOk, IfSome, OnOk};
+ghost use Rattle.sip_files.specs.Replay.{WritesAll};
+ghost use Rattle.sip_files.specs.declared.file_replay.ReplayFault.TheVariants as replay_fault;
+
+use crate::status::{finish, tell_words};
+use crate::words::{CutName, ReplayWords, parse};
+use sip_files::{ReplayFault, replay};
+use sip_message::{First, Spread};
+use sip_round::Gate;
+use std::alloc::Global;
+use std::convert::AsStr;
+use std::io::{Read, Write};
+use std::thread::Threads;
+
+/// The gate of the program: it holds no piece of work up.
+struct Open;
+
+impl Gate for Open {
+    fn begin(&self, _shard: usize) {}
+}
+
+/// All that the program does, from its words to its status; the words stand without the program's own name.
+///
+/// `ua replay` reads an event file from `input` and writes its output file to `output`. A fault is told on `errors` after `ua: `,
+/// and a fault of the words as `clap` tells it. A write to `errors` that fails is passed over.
+pub fn ua<T: Threads + Sync, S: AsStr, R: Read, W: Write, E: Write>(
+    rt: &T,
+    alloc: Global,
+    words: &[S],
+    input: &mut R,
+    output: &mut W,
+    errors: &mut E,
+) -> u8
+    ensures replays { result ≡ 0 → IfSome (R.remaining input.old) (WritesAll (W.contents output.old) (W.contents output.new)) }
+    ensures unwritten { result ≢ 0 → result ≢ 4 → output.new ≡ output.old }
+{
+    match parse(alloc, words) {
+        Ok(words) => finish(replay_by(rt, alloc, words, input, output), errors),
+        Err(error) => tell_words(&error, errors),
+    }
+}
+
+// Replays as the words say.
+fn replay_by<T: Threads + Sync, R: Read, W: Write>(
+    rt: &T,
+    alloc: Global,
+    words: ReplayWords,
+    input: &mut R,
+    output: &mut W,
+) -> Result<(), ReplayFault>
+    requires some_shard { 0 < words.shards }
+    requires most_shards { words.shards ≤ 256 }
+    requires some_worker { 0 < words.workers }
+    requires most_workers { words.workers ≤ 64 }
+    ensures replays { OnOk result (IfSome (R.remaining input.old) (WritesAll (W.contents output.old) (W.contents output.new))) }
+    ensures unwritten { IfErr result (λ fault. fault ≢ replay_fault.Output → output.new ≡ output.old) }
+{
+    let ReplayWords {
+        shards,
+        workers,
+        cut,
+    } = words;
+    match cut {
+        CutName::Spread => replay(rt, alloc, input, output, shards, workers, Spread, &Open),
+        CutName::First => replay(rt, alloc, input, output, shards, workers, First, &Open),
+    }
+}

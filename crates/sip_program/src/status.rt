@@ -1,0 +1,67 @@
+//! How the program ends: a fault is told, and has its status.
+
+ghost use Rattle.std.specs.Prelude.{◌≡◌, ◌≢◌, MatchResult};
+ghost use Rattle.sip_program.specs.Status.{fault_status};
+
+use clap::Error;
+use clap::error::ErrorKind;
+use sip_files::{EventsFault, ReplayFault};
+use sip_round::RoundFault;
+use std::io::Write;
+
+const SUCCESS: u8 = 0;
+
+const BAD_EVENTS: u8 = 1;
+
+const BAD_WORDS: u8 = 2;
+
+const BAD_ROUND: u8 = 3;
+
+const FAILED_DEVICE: u8 = 4;
+
+const NO_MEMORY: u8 = 5;
+
+/// Tells a fault of the words, and gives its status.
+pub(crate) fn tell_words<E: Write>(error: &Error, errors: &mut E) -> u8
+    ensures fault { result ≢ 0 }
+    ensures stream { result ≢ 4 }
+{
+    if error.kind() == ErrorKind::OutOfMemory {
+        return no_memory(errors);
+    }
+    let _ = write!(errors, "{error}");
+    BAD_WORDS
+}
+
+/// Tells that there is no memory, and gives the status of that.
+pub fn no_memory<E: Write>(errors: &mut E) -> u8
+    ensures { result ≡ 5 }
+{
+    finish(Err(ReplayFault::NoMemory), errors)
+}
+
+/// Tells a fault, and gives the status of the end.
+pub(crate) fn finish<E: Write>(end: Result<(), ReplayFault>, errors: &mut E) -> u8
+    ensures { MatchResult end (λ _. result ≡ 0) (λ fault. result ≡ fault_status fault) }
+{
+    match end {
+        Ok(()) => SUCCESS,
+        Err(fault) => {
+            let _ = writeln!(errors, "ua: {fault}");
+            status_of(fault)
+        }
+    }
+}
+
+fn status_of(fault: ReplayFault) -> u8
+    ensures { result ≡ fault_status fault }
+{
+    match fault {
+        ReplayFault::NoMemory
+        | ReplayFault::Events(EventsFault::NoMemory)
+        | ReplayFault::Round(_, RoundFault::NoMemory { .. }) => NO_MEMORY,
+        ReplayFault::Events(_) => BAD_EVENTS,
+        ReplayFault::Round(..) => BAD_ROUND,
+        ReplayFault::Input | ReplayFault::Output => FAILED_DEVICE,
+    }
+}
