@@ -3,10 +3,9 @@
 ghost use Rattle.std.specs.Prelude.{◌≡◌, IfOk};
 ghost use Rattle.sip_files.specs.Drafting as drafting;
 
-use sip_round::Config;
 use crate::event_line::EventLine;
-use sip_round::{Event, Round};
 use sip_message::Addr;
+use sip_round::{Config, Event, Round};
 use sip_text::Series;
 use std::alloc::{AllocError, Global};
 

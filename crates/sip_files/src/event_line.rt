@@ -5,9 +5,9 @@ ghost use Rattle.sip_files.specs.Reading.{field_at, id_at, number_at, read_now, 
 ghost use Rattle.sip_files.specs.ReadLine as reading;
 
 use crate::numbers::{read_address, read_id, read_number, read_seed};
-use sip_round::Event;
 use crate::words::{read_rest, read_word};
 use sip_message::{Addr, CallId, Id, Reason};
+use sip_round::Event;
 use sip_served::{Reliability, Respond, UserCommand};
 use sip_text::{Text, cut};
 use std::alloc::{AllocError, Global};

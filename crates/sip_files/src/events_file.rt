@@ -9,11 +9,10 @@ ghost use Rattle.sip_round.specs.declared.round.Round as round;
 ghost use Rattle.sip_files.specs.EventFile as spelling;
 ghost use Rattle.sip_files.specs.Lines as lines;
 
-use sip_round::Config;
 use crate::draft::{Draft, with_line};
 use crate::event_line::read_line;
 use crate::events_fault::EventsFault;
-use sip_round::Round;
+use sip_round::{Config, Round};
 use sip_text::{Series, cut};
 use std::alloc::Global;
 

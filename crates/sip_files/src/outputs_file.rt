@@ -7,9 +7,9 @@ ghost use Rattle.sip_served.specs.declared.notice.Notice.TheVariants as notice;
 ghost use Rattle.sip_files.specs.Field as field;
 ghost use Rattle.sip_files.specs.Outputs as written;
 
-use sip_round::Output;
 use crate::words::{push_rest, push_word};
 use sip_message::{Addr, CallId, Id, ReadFault, ip_text};
+use sip_round::Output;
 use sip_served::{Notice, Refusal};
 use sip_text::decimal;
 use sip_transactions::DropReason;

@@ -27,7 +27,7 @@ module _ {K S I O : Type 0} (cmp : K → K → Ordering) (machine : Machine K S 
   abbrev pub ShardsHoldApart : Type 0
   ShardsHoldApart = (owns : K → Bool) (phases : List (Phase K I)) (key : K)
       → states_after cmp machine tick (map (owned_phase owns) phases) key
-        ≡ cond (owns key) (states_after cmp machine tick phases key) None
+      ≡ cond (owns key) (states_after cmp machine tick phases key) None
 
   -- what is said to a tick is in the order of the keys, and what items add in the order of their places
   pub record InOrder (phases : List (Phase K I)) (phase : Phase K I) : Type 0 where

@@ -78,10 +78,7 @@ fn tell<K: Drop, O: Drop>(
 }
 
 /// All that was said, one after the other.
-pub fn joined<L: Drop, O: Drop>(
-    alloc: Global,
-    told: Vec<(L, Vec<O>)>,
-) -> Result<Vec<O>, AllocError>
+pub fn joined<L: Drop, O: Drop>(alloc: Global, told: Vec<(L, Vec<O>)>) -> Result<Vec<O>, AllocError>
     ensures { IfOk result (λ outputs. outputs.items ≡ flat_map (λ group. group.1.items) told.items) }
 {
     let mut outputs = Vec::new(alloc);

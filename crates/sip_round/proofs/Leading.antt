@@ -151,12 +151,12 @@ module _ (shard_of : List ℕ → ℕ → ℕ) (number : ℕ) (round : Round) (o
       → Deals shared shard_of number round (record { transactions = old_lives; calls = old_calls }) (record { transactions = new_lives; calls = new_calls }) outputs
   deals shared after_first after_second =
       let one : (config : Config) → shared ≡ calls_of config → LedFirst (owner_of shard_of branch_in (length old_lives)) old_lives mid_lives number round.moment (arrivals_from config.local number 1 round.events) sent items =
-          λ config same. subst (λ s. LedFirst (owner_of shard_of branch_in (length old_lives)) old_lives mid_lives number round.moment (arrivals_from s number 1 round.events) sent items) (ap (λ s. s.local) same) after_first in
+      λ config same. subst (λ s. LedFirst (owner_of shard_of branch_in (length old_lives)) old_lives mid_lives number round.moment (arrivals_from s number 1 round.events) sent items) (ap (λ s. s.local) same) after_first in
       let two : (config : Config) → shared ≡ calls_of config → LedSecond (calls_of config) (owner_of shard_of (λ call_id. call_id) (length old_calls)) old_calls new_calls round.moment items sent shown commands =
-          λ config same. subst (λ s. LedSecond s (owner_of shard_of (λ call_id. call_id) (length old_calls)) old_calls new_calls round.moment items sent shown commands) same after_second in
+      λ config same. subst (λ s. LedSecond s (owner_of shard_of (λ call_id. call_id) (length old_calls)) old_calls new_calls round.moment items sent shown commands) same after_second in
       let held : (config : Config) (past : Past) → shared ≡ calls_of config → HoldFrom call_cmp (call_machine shared) tick_input (owner_of shard_of (λ call_id. call_id) (length old_calls)) zero old_calls past.calls
-          → HoldFrom call_cmp (call_machine (calls_of config)) tick_input (owner_of shard_of (λ call_id. call_id) (length old_calls)) zero old_calls past.calls =
-          λ config past same. subst (λ s. HoldFrom call_cmp (call_machine s) tick_input (owner_of shard_of (λ call_id. call_id) (length old_calls)) zero old_calls past.calls) same in
+      → HoldFrom call_cmp (call_machine (calls_of config)) tick_input (owner_of shard_of (λ call_id. call_id) (length old_calls)) zero old_calls past.calls =
+      λ config past same. subst (λ s. HoldFrom call_cmp (call_machine s) tick_input (owner_of shard_of (λ call_id. call_id) (length old_calls)) zero old_calls past.calls) same in
       record {
         transactions = λ config past same lives calls. new_held config (one config same) (two config same) past lives (held config past same calls);
         calls = λ config past same lives calls.

@@ -31,7 +31,7 @@ live_shards shard_of within agent shards config rounds live sound are stands liv
     let theirs = subst (λ c. HoldCalls c (shard_of agent.cut) shards (past_of config rounds).calls) stands.shared (subst (λ s. HoldCalls agent.calls (shard_of agent.cut) s (past_of config rounds).calls) same stands.calls) in
     let some_calls : 0 < length shards.calls = subst (λ n. 0 < n) (sym are.2) are.0 in
     let first = counted keys_total exact_keys transaction_machine life_due tick_at transactions.ticks_are_idle (owner_of (shard_of agent.cut) branch_in (length shards.transactions)) (past_of config rounds).transactions shards.transactions live.0
-        (λ key. within (branch_in key) (length shards.transactions) agent.cut are.0) mine lives in
+    (λ key. within (branch_in key) (length shards.transactions) agent.cut are.0) mine lives in
     let second = counted nat_list_cmp_total exact_bytes (call_machine (calls_of config)) call_due tick_input (calls.ticks_are_idle (calls_of config)) (owner_of (shard_of agent.cut) (λ call_id. call_id) (length shards.calls)) (past_of config rounds).calls shards.calls live.1
-        (λ key. within key (length shards.calls) agent.cut some_calls) theirs calls_live in
+    (λ key. within key (length shards.calls) agent.cut some_calls) theirs calls_live in
     λ i. (first i, second i)

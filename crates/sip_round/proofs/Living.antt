@@ -77,7 +77,7 @@ module _ {K S I O : Type 0} {cmp : K → K → Ordering} (total : IsTotalOrder c
   counted_from keys number [] hold = sym (sum_nothing (λ key. cond (inside number 0 (owner key) && is_some (states key)) 1 0) (λ key. none_inside number (owner key) (is_some (states key))) keys)
   counted_from keys number (t ∷ ts) hold =
       let own : (key : K) → is_some (state_at cmp t key) ≡ (nat_eq (owner key) number && is_some (states key)) =
-          λ key. ap is_some (hold.0.states key ∙ owned_states total exact machine due tick idle (is_owned owner number) phases key) ∙ some_of (nat_eq (owner key) number) (states key) in
+      λ key. ap is_some (hold.0.states key ∙ owned_states total exact machine due tick idle (is_owned owner number) phases key) ∙ some_of (nat_eq (owner key) number) (states key) in
       sum_by-cons (λ table. live_in table keys) t ts
       ∙ ap (λ n. n + sum_by (λ table. live_in table keys) ts) (sum_same (λ key. cond (is_some (state_at cmp t key)) 1 0) (λ key. cond (nat_eq (owner key) number && is_some (states key)) 1 0) (λ key. ap (λ b. cond b 1 0) (own key)) keys)
       ∙ ap (λ n. count_by (λ key. nat_eq (owner key) number && is_some (states key)) keys + n) (counted_from keys (suc number) ts hold.1)

@@ -38,8 +38,7 @@ module _ {P T X : Type 0} (table : P → T) (items : P → X) (Same : P → Type
   pub all_pieces : (left_tables : List T) (left_parts : List X) (pieces : List P) → left_tables ≡ [] → PiecesLeft table items Same tables left_tables parts left_parts pieces
       → (map table pieces ≡ tables) × (map items pieces ≡ parts) × AllByRecursion Same pieces
   all_pieces left_tables left_parts pieces none left =
-      let no_parts : left_parts ≡ [] = nil_from_length left_parts (left.even ∙ ap length none) in
-      (
+      let no_parts : left_parts ≡ [] = nil_from_length left_parts (left.even ∙ ap length none) in (
         sym (append-nil (map table pieces)) ∙ ap (λ xs. map table pieces ++ xs) (sym none) ∙ left.tables_are,
         sym (append-nil (map items pieces)) ∙ ap (λ xs. map items pieces ++ xs) (sym no_parts) ∙ left.parts_are,
         left.shared,

@@ -47,8 +47,7 @@ stands_longer shard_of old new config rounds round outputs leads same_calls same
     let led = leads before.shards before.sound in
     let past : Past = past_of config rounds in
     let same_past : past_after config old.next_round past round ≡ past_of config (rounds ++ round ∷ []) =
-    ap (λ n. past_after config n past round) before.number ∙ sym (past_from-push config config.first no_past rounds round) in
-    (
+    ap (λ n. past_after config n past round) before.number ∙ sym (past_from-push config config.first no_past rounds round) in (
       record {
         shards = led.0;
         sound = led.1;
@@ -64,8 +63,8 @@ stands_longer shard_of old new config rounds round outputs leads same_calls same
             (subst (λ p. HoldCalls old.calls (shard_of old.cut) led.0 p.calls) same_past (led.2.calls config past before.shared before.transactions before.calls)));
       },
       answers_from-push config config.first no_past rounds round
-      ∙ ap (λ n. answers config rounds ++ answer config n past round ∷ []) (sym before.number)
-      ∙ ap (λ os. answers config rounds ++ os ∷ []) (sym (led.2.answered config past before.shared before.transactions before.calls)),
+          ∙ ap (λ n. answers config rounds ++ answer config n past round ∷ []) (sym before.number)
+          ∙ ap (λ os. answers config rounds ++ os ∷ []) (sym (led.2.answered config past before.shared before.transactions before.calls)),
     )
 
 -- ---- the first round that is refused

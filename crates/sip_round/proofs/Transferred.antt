@@ -190,12 +190,14 @@ module _ {K S I O : Type 0} (cmp : K → K → Ordering) (machine : Machine K S 
       → ((k : ℕ) (q : K) → k < length tables → state_at cmp (get_or tables k None) q ≡ cond (is_owned owner (number + k) q) (states_after cmp machine tick phases q) None)
       → HoldFrom cmp machine tick owner number tables phases
   hold_from number [] phases sound states = tt
-  hold_from number (table ∷ tables) phases sound states =
-      (record {
-        sound = sound 0 (omega arith);
-        states = λ q. states 0 q (omega arith) ∙ ap (λ n. cond (is_owned owner n q) (states_after cmp machine tick phases q) None) (at_first number) ∙ sym (apart (is_owned owner number) phases q);
-      }, hold_from (suc number) tables phases (λ k below. sound (suc k) (omega (arith, below)))
-      (λ k q below. states (suc k) q (omega (arith, below)) ∙ ap (λ n. cond (is_owned owner n q) (states_after cmp machine tick phases q) None) (later number k)))
+  hold_from number (table ∷ tables) phases sound states = (
+    record {
+      sound = sound 0 (omega arith);
+      states = λ q. states 0 q (omega arith) ∙ ap (λ n. cond (is_owned owner n q) (states_after cmp machine tick phases q) None) (at_first number) ∙ sym (apart (is_owned owner number) phases q);
+    },
+    hold_from (suc number) tables phases (λ k below. sound (suc k) (omega (arith, below)))
+        (λ k q below. states (suc k) q (omega (arith, below)) ∙ ap (λ n. cond (is_owned owner n q) (states_after cmp machine tick phases q) None) (later number k)),
+  )
     where
       at_first : (n : ℕ) → n + 0 ≡ n
       at_first n = omega arith

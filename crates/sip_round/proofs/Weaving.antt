@@ -84,8 +84,8 @@ module _ (now : ℕ) where
       let rest_same : said_places ts ≡ item_places rest = ap rest_of same in
       let climbs : Climbs (suc place) (said_places ts) = subst (Climbs (suc place)) (sym rest_same) (items_climb (suc place) rest later) in
       let mine : said_in (t ∷ ts) id.place ≡ t.1 =
-          ap (λ b. joined (cond b (t ∷ filter (λ said. nat_eq (said.0).0 id.place) ts) (filter (λ said. nat_eq (said.0).0 id.place) ts))) (same_place (t.0).0 id.place here)
-          ∙ ap (λ more. t.1 ++ more) (nothing_at id.place (suc place) ts (omega (arith, at)) climbs) ∙ append-nil t.1 in
+      ap (λ b. joined (cond b (t ∷ filter (λ said. nat_eq (said.0).0 id.place) ts) (filter (λ said. nat_eq (said.0).0 id.place) ts))) (same_place (t.0).0 id.place here)
+      ∙ ap (λ more. t.1 ++ more) (nothing_at id.place (suc place) ts (omega (arith, at)) climbs) ∙ append-nil t.1 in
       ap (λ more. (id, t.1, []) ∷ more) (ih ts rest_same ∙ all_later t ts (suc place) rest (omega (arith, here, at)) later)
       ∙ ap (λ outs. (id, outs, []) ∷ map (by_said (t ∷ ts)) rest) (sym mine)
     where

@@ -81,12 +81,7 @@ impl<C: Cut + Drop> Agent<C> {
     /// # Errors
     ///
     /// `NoMemory`.
-    pub fn new(
-        alloc: Global,
-        config: Config,
-        shards: usize,
-        cut: C,
-    ) -> Result<Agent<C>, NoMemory>
+    pub fn new(alloc: Global, config: Config, shards: usize, cut: C) -> Result<Agent<C>, NoMemory>
         requires some { 0 < shards }
         requires most { shards ≤ 256 }
         ensures { IfOk result (λ agent. StandsFor C.shard_of agent config []) }
@@ -250,8 +245,7 @@ impl<C: Cut + Drop> Agent<C> {
             workers,
             gate,
         };
-        let (shards, outputs) =
-            ground.round(self.calls, self.next_round, round, shards, arrived)?;
+        let (shards, outputs) = ground.round(self.calls, self.next_round, round, shards, arrived)?;
         self.shards = Some(shards);
         Ok(outputs)
     }

@@ -79,8 +79,12 @@ impl<'a, R: Threads + Sync, C: Cut, G: Gate> Ground<'a, R, C, G> {
     {
         let now = round.moment;
         let (transactions, tables) = shards.apart();
-        let (transactions, mut outputs, items) =
-            self.first_phase(transactions, number, now, arrived)?;
+        let (transactions, mut outputs, items) = self.first_phase(
+            transactions,
+            number,
+            now,
+            arrived,
+        )?;
         let (tables, commands) = self.second_phase(calls, tables, now, items, &mut outputs)?;
         let transactions = self.third_phase(transactions, now, commands, &mut outputs)?;
         Ok((Shards::of(transactions, tables), outputs))

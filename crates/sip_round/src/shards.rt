@@ -136,10 +136,7 @@ impl Shards {
     }
 }
 
-fn empty_tables<M: StateMachine>(
-    alloc: Global,
-    shards: usize,
-) -> Result<Vec<Table<M>>, AllocError>
+fn empty_tables<M: StateMachine>(alloc: Global, shards: usize) -> Result<Vec<Table<M>>, AllocError>
     ensures count { IfOk result (λ tables. vec_len tables ≡ shards) }
     ensures empty { IfOk result (λ tables. All (λ table. table ≡ Some []) tables.items) }
 {

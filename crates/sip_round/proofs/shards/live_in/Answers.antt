@@ -8,13 +8,12 @@ use Rattle.sip_round.proofs.shards.live_in.Goals as goal
 pub loop-table-preserved : goal.loop-table-preserved
 loop-table-preserved g c =
     let cmp = g.M.Key.Ord.cmp in
-    let bound = c.live.type_inv in
-    (
+    let bound = c.live.type_inv in (
       λ keys covers.
-      let here : Covers cmp keys (state_at cmp c.table-item.result) =
+          let here : Covers cmp keys (state_at cmp c.table-item.result) =
           subst (λ table. Covers cmp keys (state_at cmp table)) (sym c.table-item.is) (covers c.loop-table.table-index c.table-item.result c.loop-table-test.true) in
-      summed (λ table. count_by (λ key. is_some (state_at cmp table key)) keys) c.args.tables.now c.loop-table.table-index c.table-item.result c.loop-table.live c.live.result (c.loop-table.live + c.live.result)
-      c.loop-table-test.true c.table-item.is (c.loop-table.invariant.0 keys covers) (c.live.ensures.counts keys here) refl,
+          summed (λ table. count_by (λ key. is_some (state_at cmp table key)) keys) c.args.tables.now c.loop-table.table-index c.table-item.result c.loop-table.live c.live.result (c.loop-table.live + c.live.result)
+          c.loop-table-test.true c.table-item.is (c.loop-table.invariant.0 keys covers) (c.live.ensures.counts keys here) refl,
       omega (arith, c.loop-table.invariant.1, bound),
     )
 

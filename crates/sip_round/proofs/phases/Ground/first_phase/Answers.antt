@@ -30,7 +30,7 @@ returns g c = λ arrivals arrived.
     let n = length c.args.tables.items in
     let owner = owner_of (g.C.Cut.shard_of c.args.self.now.cut.now) branch_in n in
     let dealt = c.in_ok-tables.ensures owner (first_phase c.args.now arrivals).items (λ key. g.met.C.Cut.within c.args.self.now.cut.now (branch_in key) n c.requires.shards)
-        (ap (λ both. map (λ part. part.items) both.0.items) c.apart-parts.ensures ∙ arrived.parts_are) (climbs_in_order 1 _ (items_climb c.args.now 1 arrivals arrived.placed)) in
+    (ap (λ both. map (λ part. part.items) both.0.items) c.apart-parts.ensures ∙ arrived.parts_are) (climbs_in_order 1 _ (items_climb c.args.now 1 arrivals arrived.placed)) in
     led_first owner c.args.tables.items c.in_ok-tables.tables.items c.args.number c.args.now arrivals arrived.placed c.laws_of_phases.ensures.told_in_order
     (groups c.in_ok-tables.replies.ticks.items) (groups c.in_ok-tables.replies.items.items) dealt
     c.apart-parts.result.1.items c.in_ok-outputs.outputs.items c.in_ok-outputs.items.items (ap (λ both. both.1.items) c.apart-parts.ensures ∙ arrived.waiting_are) c.in_ok-outputs.ensures.outputs c.in_ok-outputs.ensures.items
