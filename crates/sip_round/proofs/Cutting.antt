@@ -13,7 +13,13 @@ pub record PartsLeft {K I : Type 0} (owner : K → ℕ) (shards : ℕ) (all rest
   pub count : length parts ≡ shards
   pub each : (k : ℕ) → k < shards → get_or parts k [] ++ filter (λ item. is_owned owner k item.key) rest ≡ filter (λ item. is_owned owner k item.key) all
 
-set_long : {X : Type 0} (xs : List X) (i : ℕ) (x : X) → length (slice_set xs i x) ≡ length xs
+pub nat_eq_true : {a b : ℕ} → nat_eq a b ≡ true → a ≡ b
+nat_eq_true {a} {b} e = grind (arith, common_steps, e)
+
+pub nat_eq_false : {a b : ℕ} → nat_eq a b ≡ false → a ≡ b → ⊥
+nat_eq_false {a} {b} e same = grind (arith, common_steps, e, same)
+
+pub set_long : {X : Type 0} (xs : List X) (i : ℕ) (x : X) → length (slice_set xs i x) ≡ length xs
 set_long [] i x = refl
 set_long (y ∷ xs) zero x = refl
 set_long (y ∷ xs) (suc i) x = ap suc (set_long xs i x)
@@ -49,16 +55,10 @@ module _ {K I : Type 0} (owner : K → ℕ) (shards : ℕ) (all : List (Item K I
         ∙ ap (λ b. get_or parts k [] ++ cond b (item ∷ filter (λ i. is_owned owner k i.key) rest) (filter (λ i. is_owned owner k i.key) rest)) (sym mine)
         ∙ left.each k below)
         (λ other.
-        ap (λ part. part ++ filter (λ i. is_owned owner k i.key) rest) (get_or-set_other parts (owner item.key) k newer [] (nat_eq_false other))
+        ap (λ part. part ++ filter (λ i. is_owned owner k i.key) rest) (get_or-set_other parts (owner item.key) k newer [] (λ same. nat_eq_false other (sym same)))
         ∙ ap (λ b. get_or parts k [] ++ cond b (item ∷ filter (λ i. is_owned owner k i.key) rest) (filter (λ i. is_owned owner k i.key) rest)) (sym other)
         ∙ left.each k below);
   }
-    where
-      nat_eq_true : {a b : ℕ} → nat_eq a b ≡ true → a ≡ b
-      nat_eq_true {a} {b} e = grind (arith, common_steps, e)
-
-      nat_eq_false : {a b : ℕ} → nat_eq a b ≡ false → b ≡ a → ⊥
-      nat_eq_false {a} {b} e same = grind (arith, common_steps, e, same)
 
   pub one_pushed : (item : Item K I) (rest : List (Item K I)) (parts : List (List (Item K I))) (shard : ℕ) (newer : List (Item K I)) → shard ≡ owner item.key → owner item.key < shards → newer ≡ get_or parts shard [] ++ item ∷ []
       → PartsLeft owner shards all (item ∷ rest) parts → PartsLeft owner shards all rest (slice_set parts shard newer)

@@ -15,17 +15,7 @@ use Rattle.sip_model.specs.Shards.{HoldFrom, is_owned}
 use Rattle.sip_model.specs.Table.{Held, state_at}
 use Rattle.sip_model.proofs.Ordered.{by_bool, exact_at}
 use Rattle.sip_round.specs.Transfer.{AreOwners, held_by_owner}
-
-nat_eq_true : {a b : ℕ} → nat_eq a b ≡ true → a ≡ b
-nat_eq_true {a} {b} e = grind (arith, common_steps, e)
-
-nat_eq_false : {a b : ℕ} → nat_eq a b ≡ false → a ≡ b → ⊥
-nat_eq_false {a} {b} e same = grind (arith, common_steps, e, same)
-
-set_long : {X : Type 0} (xs : List X) (i : ℕ) (x : X) → length (slice_set xs i x) ≡ length xs
-set_long [] i x = refl
-set_long (y ∷ xs) zero x = refl
-set_long (y ∷ xs) (suc i) x = ap suc (set_long xs i x)
+use Rattle.sip_round.proofs.Cutting.{nat_eq_true, nat_eq_false, set_long}
 
 pub none_left : (n : ℕ) → (0 < n → ⊥) → n ≡ 0
 none_left n none = grind (arith, common_steps, none)
