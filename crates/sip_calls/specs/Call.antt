@@ -1,26 +1,32 @@
--- The machine of one call: the state of its server side after each input, and what it gives (RFC 3261, sections 8.2 and 12).
-use Rattle.std.specs.Prelude.{ℕ, false, List, [], ◌∷◌, Option, None, Some, if◌then◌else◌}
+-- The machine of one call: what is held after each input, and what it gives (RFC 3261, sections 8, 12 and 13; RFC 3262).
+use Rattle.std.specs.Prelude.{ℕ, Bool, true, false, List, [], ◌∷◌, Option, None, Some, if◌then◌else◌}
 use Rattle.sip_message.specs.declared.addr.Addr.{Addr}
 use Rattle.sip_message.specs.declared.id.Id.{Id}
 use Rattle.sip_model.specs.Machine.{Machine}
+use Rattle.sip_transactions.specs.declared.output.Kind.{Kind}
+use Rattle.sip_transactions.specs.declared.output.Kind.TheVariants as kind
+use Rattle.sip_transactions.specs.declared.output.Up.{Up as AnUp}
 use Rattle.sip_served.specs.ServerSide.{empty_at}
-use Rattle.sip_served.specs.State.{Taken as ServedTaken}
-use Rattle.sip_served.specs.Step.{holds, item_taken as served_item}
-use Rattle.sip_served.specs.Tick.{next_due, tick_taken as served_tick}
+use Rattle.sip_served.specs.Step.{item_taken as served_item}
 use Rattle.sip_served.specs.declared.command.UserCommand.{UserCommand}
-use Rattle.sip_served.specs.declared.command.UserCommand.TheVariants.{Respond}
+use Rattle.sip_served.specs.declared.command.UserCommand.TheVariants.{Invite, Plain, Request, Respond, Ack, Prack, Cancel}
 use Rattle.sip_served.specs.declared.item.Item.{Item}
 use Rattle.sip_served.specs.declared.item.Item.TheVariants.{Up, User}
 use Rattle.sip_served.specs.declared.item.CallOut.{CallOut}
 use Rattle.sip_served.specs.declared.item.CallOut.TheVariants.{Notice}
 use Rattle.sip_served.specs.declared.notice.Notice.TheVariants.{Refused}
-use Rattle.sip_served.specs.declared.refusal.Refusal.TheVariants.{NoSuchCall}
+use Rattle.sip_served.specs.declared.refusal.Refusal.{Refusal}
+use Rattle.sip_served.specs.declared.refusal.Refusal.TheVariants.{CallInUse, NoSuchCall}
+use Rattle.sip_clients.specs.Client.{Clients}
+use Rattle.sip_clients.specs.Clients.{ack_taken, invite_taken, lost, plain_taken, prack_taken, request_taken, response_taken}
+use Rattle.sip_clients.specs.Name.{name_of}
+use Rattle.sip_clients.specs.declared.event.Event.{Event}
 use Rattle.sip_calls.specs.declared.call.Call.{Call}
 use Rattle.sip_calls.specs.declared.calls.Calls.{Calls}
 use Rattle.sip_calls.specs.declared.calls.CallInput.{CallInput}
 use Rattle.sip_calls.specs.declared.calls.Happening.{Happening}
 use Rattle.sip_calls.specs.declared.calls.Happening.TheVariants.{Tick, Item as AnItem}
-use Rattle.sip_calls.specs.Name.{name_of}
+pub use Rattle.sip_calls.specs.Sides.{CallTaken, by_clients, by_server, followed, holds_any, next_due, side_of, ticked}
 
 -- a call after what happens to it, `None` if it isn't held, and what it gives
 abbrev pub Taken : Type 0
@@ -28,39 +34,82 @@ Taken = Option Call × List CallOut
 
 -- a call under which nothing is held is over
 abbrev pub kept_call : Call → Option Call
-kept_call call = if holds call.served.state then Some call else None
+kept_call call = if holds_any call then Some call else None
 
--- the call after something was taken, and what it gives
-abbrev pub after_taken : Call → ServedTaken → Taken
-after_taken call taken = (kept_call (record call { served = record call.served { state = taken.0 } }), taken.1)
+abbrev pub kept : CallTaken → Taken
+kept taken = (kept_call taken.0, taken.1)
 
 -- a call of which nothing is held yet
 abbrev pub new_call : Addr → Call
-new_call local = record { served = record { broken = false; local = local; state = empty_at local } }
+new_call local = record { served = record { broken = false; local = local; state = empty_at local }; clients = [] }
 
--- an item of a call, whose event makes the To tag of a request without one
-abbrev pub item_taken : List ℕ → Call → Id → Item → ℕ → Taken
-item_taken seed call id item now = after_taken call (served_item call.served.state (name_of seed id 0) id item now)
+-- an event, and what its agent makes requests from
+abbrev pub event_of : Calls → Id → ℕ → Event
+event_of calls id now = record { local = calls.local; seed = calls.seed; id = id; moment = now }
 
--- an answer to a call that isn't held is refused
-abbrev pub given_unheld : Id → UserCommand → List CallOut
-given_unheld id (Respond respond) = Notice (Refused respond.call_id id.place NoSuchCall) ∷ []
-given_unheld id _ = []
+-- ---- what comes up
 
--- an item of a call that isn't held: what comes up may begin it
-abbrev pub new_item_taken : Calls → Id → Item → ℕ → Taken
-new_item_taken calls id (Up up) now = item_taken calls.seed (new_call calls.local) id (Up up) now
-new_item_taken calls id (User command) now = (None, given_unheld id command)
+-- an item of the server side, whose event makes the To tag of a request without one
+abbrev pub served_taken : Call → Event → Item → CallTaken
+served_taken call event item = by_server call (served_item (call.served).state (name_of event.seed event.id 0) event.id item event.moment)
 
-abbrev pub tick_taken : Call → ℕ → Taken
-tick_taken call now = after_taken call (served_tick call.served.state now)
+-- that a transaction is lost is told, and then what ends with its request ends
+abbrev pub lost_taken : Call → Event → AnUp → Bool → CallTaken
+lost_taken call event up timed_out =
+    followed (served_taken call event (Up up)) (λ call. by_clients call (lost up.id timed_out (side_of call)))
+
+abbrev pub up_taken : Call → Event → AnUp → Kind → CallTaken
+up_taken call event up (kind.Request request reply_to) = served_taken call event (Up up)
+up_taken call event up (kind.Ack ack) = served_taken call event (Up up)
+up_taken call event up (kind.Response response) = by_clients call (response_taken event up.id up.call_id response (side_of call))
+up_taken call event up kind.Timeout = lost_taken call event up true
+up_taken call event up kind.Failed = lost_taken call event up false
+
+-- ---- commands of the user
+
+abbrev pub refused : Event → List ℕ → Refusal → List CallOut
+refused event call_id refusal = Notice (Refused call_id (event.id).place refusal) ∷ []
+
+abbrev pub with_clients : Call → Clients × List CallOut → CallTaken
+with_clients call taken = (record call { clients = taken.0 }, taken.1)
+
+-- where nothing is held, only a first request is sent
+abbrev pub first_command_taken : Call → Event → UserCommand → CallTaken
+first_command_taken call event (Invite invite) = with_clients call (invite_taken event invite call.clients)
+first_command_taken call event (Plain plain) = with_clients call (plain_taken event plain call.clients)
+first_command_taken call event (Request request) = (call, refused event request.call_id NoSuchCall)
+first_command_taken call event (Respond respond) = (call, refused event respond.call_id NoSuchCall)
+first_command_taken call event (Ack ack) = (call, refused event ack.call_id NoSuchCall)
+first_command_taken call event (Prack prack) = (call, refused event prack.call_id NoSuchCall)
+first_command_taken call event (Cancel cancel) = (call, [])
+
+-- where something is held, no first request is
+abbrev pub command_taken : Call → Event → UserCommand → CallTaken
+command_taken call event (Invite invite) = (call, refused event invite.call_id CallInUse)
+command_taken call event (Plain plain) = (call, refused event plain.call_id CallInUse)
+command_taken call event (Request request) = by_clients call (request_taken event request (side_of call))
+command_taken call event (Respond respond) = served_taken call event (User (Respond respond))
+command_taken call event (Ack ack) = by_clients call (ack_taken event ack (side_of call))
+command_taken call event (Prack prack) = by_clients call (prack_taken event prack (side_of call))
+command_taken call event (Cancel cancel) = (call, [])
+
+-- ---- the machine
+
+-- an item of a call that isn't held: what comes up, or a first request, may begin it
+abbrev pub first_item_taken : Call → Event → Item → CallTaken
+first_item_taken call event (Up up) = up_taken call event up up.kind
+first_item_taken call event (User command) = first_command_taken call event command
+
+abbrev pub item_taken : Call → Event → Item → CallTaken
+item_taken call event (Up up) = up_taken call event up up.kind
+item_taken call event (User command) = command_taken call event command
 
 -- what happens to a call
 abbrev pub call_step : Calls → Option Call → Happening → ℕ → Taken
 call_step calls None Tick now = (None, [])
-call_step calls None (AnItem id item) now = new_item_taken calls id item now
-call_step calls (Some call) Tick now = tick_taken call now
-call_step calls (Some call) (AnItem id item) now = item_taken calls.seed call id item now
+call_step calls None (AnItem id item) now = kept (first_item_taken (new_call calls.local) (event_of calls id now) item)
+call_step calls (Some call) Tick now = kept (ticked call now)
+call_step calls (Some call) (AnItem id item) now = kept (item_taken call (event_of calls id now) item)
 
 -- one machine for every Call-ID
 abbrev pub call_machine : Calls → Machine (List ℕ) Call CallInput CallOut
@@ -68,7 +117,7 @@ call_machine calls = record { step = λ key state input. call_step calls state i
 
 -- the moment at which something is due of a call; one under which nothing is held is over at once
 abbrev pub call_due : Call → Option ℕ
-call_due call = if holds call.served.state then next_due call.served.state else Some 0
+call_due call = if holds_any call then next_due call else Some 0
 
 -- the input of a tick
 abbrev pub tick_input : ℕ → CallInput

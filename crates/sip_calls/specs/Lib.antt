@@ -1,4 +1,5 @@
 pub mod Call
 pub mod CallShard
 pub mod Idle
-pub mod Name
+pub mod Provisionals
+pub mod Sides

@@ -1,14 +1,148 @@
 //! One call.
 
-use sip_served::Served;
+ghost use Rattle.std.specs.Prelude.{◌≡◌, ◌≤◌, ◌^◌, IfOk};
+ghost use Rattle.sip_clients.specs.Clients as clients;
+ghost use Rattle.sip_clients.specs.Name.{name_of};
+ghost use Rattle.sip_clients.specs.Tick.{tick_taken};
+ghost use Rattle.sip_served.specs.Step.{item_taken};
+ghost use Rattle.sip_served.specs.Tick as served;
+ghost use Rattle.sip_calls.specs.Sides as spec;
 
-/// All that is held under one Call-ID.
+use sip_clients::{Clients, Event, made_name};
+use sip_message::{CallId, Id, Message};
+use sip_served::{CallOut, DialogBody, DialogRequest, Item, Served};
+use sip_timers::earlier;
+use std::alloc::{AllocError, Global};
+
+/// All that is held under one Call-ID: the server requests and the dialogs, and the client requests.
 pub struct Call {
     pub served: Served,
+    pub clients: Clients,
+}
+
+impl Call {
+    /// Whether anything is held.
+    pub(crate) fn holds(&self) -> bool
+        ensures { result ≡ spec.holds_any self.now }
+    {
+        self.served.holds() || !self.clients.is_empty()
+    }
+
+    /// The first moment, in ms, at which something is due.
+    pub(crate) fn next_due(&self) -> Option<u64>
+        ensures { result ≡ spec.next_due self.now }
+    {
+        earlier(self.served.next_due(), self.clients.next_due())
+    }
+
+    // ---- the server side
+
+    /// The server side takes an item.
+    pub(crate) fn serve(
+        &mut self,
+        alloc: Global,
+        event: Event,
+        item: Item,
+    ) -> Result<Vec<CallOut>, AllocError>
+        requires { event.moment ≤ 2 ^ 62 }
+        ensures { IfOk result (λ outs. (self.new, outs.items) ≡ spec.by_server self.old (item_taken (self.old.served).state (name_of event.seed event.id 0) event.id item event.moment)) }
+    {
+        let tag = made_name(alloc, event.seed, event.id, 0)?;
+        match self.served.item(tag, event.id, item, event.moment) {
+            Ok(outs) => Ok(outs),
+            Err(_) => Err(AllocError),
+        }
+    }
+
+    /// The moment `now`, in ms, has come: first for the server side.
+    pub(crate) fn tick(&mut self, now: u64) -> Result<Vec<CallOut>, AllocError>
+        requires { now ≤ 2 ^ 62 }
+        ensures { IfOk result (λ outs. (self.new, outs.items) ≡ spec.ticked self.old now) }
+    {
+        let mut outs = self.tick_server(now)?;
+        outs.append(&mut self.tick_clients(now)?)?;
+        Ok(outs)
+    }
+
+    fn tick_server(&mut self, now: u64) -> Result<Vec<CallOut>, AllocError>
+        requires { now ≤ 2 ^ 62 }
+        ensures { IfOk result (λ outs. (self.new, outs.items) ≡ spec.by_server self.old (served.tick_taken (self.old.served).state now)) }
+    {
+        match self.served.tick(now) {
+            Ok(outs) => Ok(outs),
+            Err(_) => Err(AllocError),
+        }
+    }
+
+    // ---- the client side
+
+    fn tick_clients(&mut self, now: u64) -> Result<Vec<CallOut>, AllocError>
+        ensures { IfOk result (λ outs. (self.new, outs.items) ≡ spec.by_clients self.old (tick_taken (spec.side_of self.old) now)) }
+    {
+        self.clients.tick(self.served.dialogs(), now)
+    }
+
+    /// A response to the request that the event `id` sent comes up.
+    pub(crate) fn response(
+        &mut self,
+        event: Event,
+        id: Id,
+        call_id: CallId,
+        response: Message,
+    ) -> Result<Vec<CallOut>, AllocError>
+        requires { event.moment ≤ 2 ^ 62 }
+        ensures { IfOk result (λ outs. (self.new, outs.items) ≡ spec.by_clients self.old (clients.response_taken event id call_id response (spec.side_of self.old))) }
+    {
+        self.clients
+            .response(self.served.dialogs(), event, id, call_id, response)
+    }
+
+    /// The transaction of the request that the event `id` sent is lost.
+    pub(crate) fn lose(&mut self, id: Id, timed_out: bool) -> Result<Vec<CallOut>, AllocError>
+        ensures { IfOk result (λ outs. (self.new, outs.items) ≡ spec.by_clients self.old (clients.lost id timed_out (spec.side_of self.old))) }
+    {
+        self.clients.lose(self.served.dialogs(), id, timed_out)
+    }
+
+    /// The user sends a request in a dialog.
+    pub(crate) fn request(
+        &mut self,
+        event: Event,
+        command: &DialogRequest,
+    ) -> Result<Vec<CallOut>, AllocError>
+        ensures { IfOk result (λ outs. (self.new, outs.items) ≡ spec.by_clients self.old (clients.request_taken event command.now (spec.side_of self.old))) }
+    {
+        self.clients.request(self.served.dialogs(), event, command)
+    }
+
+    /// The user gives an ACK.
+    pub(crate) fn ack(
+        &mut self,
+        event: Event,
+        command: &DialogBody,
+    ) -> Result<Vec<CallOut>, AllocError>
+        ensures { IfOk result (λ outs. (self.new, outs.items) ≡ spec.by_clients self.old (clients.ack_taken event command.now (spec.side_of self.old))) }
+    {
+        self.clients.ack(self.served.dialogs(), event, command)
+    }
+
+    /// The user gives a PRACK.
+    pub(crate) fn prack(
+        &mut self,
+        event: Event,
+        command: &DialogBody,
+    ) -> Result<Vec<CallOut>, AllocError>
+        ensures { IfOk result (λ outs. (self.new, outs.items) ≡ spec.by_clients self.old (clients.prack_taken event command.now (spec.side_of self.old))) }
+    {
+        self.clients.prack(self.served.dialogs(), event, command)
+    }
 }
 
 impl Drop for Call {
     fn drop(self) {
-        let Call { served: _ } = self;
+        let Call {
+            served: _,
+            clients: _,
+        } = self;
     }
 }

@@ -1,15 +1,17 @@
 //! The machine of one call: what each of its inputs makes of it, and what it gives.
 
 ghost use Rattle.std.specs.Prelude.{◌≡◌, ◌≤◌, ◌^◌, nat_le, IfOk};
-ghost use Rattle.sip_calls.specs.Call.{call_due, call_machine, call_step, given_unheld, item_taken, kept_call, tick_input, tick_taken};
+ghost use Rattle.sip_calls.specs.Call as spec;
+ghost use Rattle.sip_calls.specs.Call.{call_due, call_machine, call_step, tick_input};
 ghost use Rattle.sip_calls.specs.Idle.{ticks_are_idle};
 ghost use Rattle.std.proofs.lemmas.Map.Lookups.{exact_bytes};
 
 use crate::call::Call;
-use crate::name::made_name;
+use sip_clients::{Clients, Event};
 use sip_message::{Addr, CallId, Id};
 use sip_model::StateMachine;
 use sip_served::{CallOut, Item, Notice, Refusal, Served, UserCommand};
+use sip_transactions::{Kind, Up};
 use std::alloc::{AllocError, Global};
 
 /// What all calls of an agent share.
@@ -70,8 +72,8 @@ impl StateMachine for Calls {
     }
 
     fn due_of(&self, state: &Call) -> Option<u64> {
-        if state.served.holds() {
-            state.served.next_due()
+        if state.holds() {
+            state.next_due()
         } else {
             Some(0)
         }
@@ -92,74 +94,211 @@ impl StateMachine for Calls {
         match (state, input.happening) {
             (None, Happening::Tick) => Ok((None, Vec::new(alloc))),
             (Some(call), Happening::Tick) => tick(call, now),
-            (None, Happening::Item(id, Item::User(command))) => {
-                Ok((None, refuse_unheld(alloc, id, command)?))
-            }
             (None, Happening::Item(id, item)) => {
-                let served = Served::new(alloc, self.local);
-                self.take_item(alloc, Call { served }, id, item, now)
+                let call = self.new_call(alloc);
+                self.take_first(alloc, call, self.event(id, now), item)
             }
-            (Some(call), Happening::Item(id, item)) => self.take_item(alloc, call, id, item, now),
+            (Some(call), Happening::Item(id, item)) => {
+                self.take_next(alloc, call, self.event(id, now), item)
+            }
         }
     }
 }
 
 impl Calls {
-    // A call takes an item; where nothing is held afterwards the call is over.
-    fn take_item(
+    fn event(&self, id: Id, now: u64) -> Event
+        ensures { result ≡ spec.event_of self.now id now }
+    {
+        Event {
+            local: self.local,
+            seed: self.seed,
+            id,
+            moment: now,
+        }
+    }
+
+    fn new_call(&self, alloc: Global) -> Call
+        ensures { result ≡ spec.new_call self.now.local }
+    {
+        Call {
+            served: Served::new(alloc, self.local),
+            clients: Clients::new(alloc),
+        }
+    }
+
+    // A call of which nothing was held takes an item.
+    fn take_first(
         &self,
         alloc: Global,
         mut call: Call,
-        id: Id,
+        event: Event,
         item: Item,
-        now: u64,
     ) -> Result<(Option<Call>, Vec<CallOut>), AllocError>
-        requires { now ≤ 2 ^ 62 }
-        ensures next { IfOk result (λ after. after.0 ≡ (item_taken self.now.seed call id item now).0) }
-        ensures adds { IfOk result (λ after. after.1.items ≡ (item_taken self.now.seed call id item now).1) }
+        requires { event.moment ≤ 2 ^ 62 }
+        ensures next { IfOk result (λ after. after.0 ≡ (spec.kept (spec.first_item_taken call event item)).0) }
+        ensures adds { IfOk result (λ after. after.1.items ≡ (spec.kept (spec.first_item_taken call event item)).1) }
     {
-        let tag = made_name(alloc, self.seed, id, 0)?;
-        match call.served.item(tag, id, item, now) {
-            Ok(outs) => Ok((kept(call), outs)),
-            Err(_) => Err(AllocError),
-        }
+        let outs = match item {
+            Item::Up(up) => take_up(alloc, &mut call, event, up)?,
+            Item::User(command) => take_first_command(alloc, &mut call, event, command)?,
+        };
+        Ok((kept(call), outs))
+    }
+
+    // A call takes an item.
+    fn take_next(
+        &self,
+        alloc: Global,
+        mut call: Call,
+        event: Event,
+        item: Item,
+    ) -> Result<(Option<Call>, Vec<CallOut>), AllocError>
+        requires { event.moment ≤ 2 ^ 62 }
+        ensures next { IfOk result (λ after. after.0 ≡ (spec.kept (spec.item_taken call event item)).0) }
+        ensures adds { IfOk result (λ after. after.1.items ≡ (spec.kept (spec.item_taken call event item)).1) }
+    {
+        let outs = match item {
+            Item::Up(up) => take_up(alloc, &mut call, event, up)?,
+            Item::User(command) => take_command(alloc, &mut call, event, command)?,
+        };
+        Ok((kept(call), outs))
     }
 }
 
 // A call takes a tick.
 fn tick(mut call: Call, now: u64) -> Result<(Option<Call>, Vec<CallOut>), AllocError>
     requires { now ≤ 2 ^ 62 }
-    ensures next { IfOk result (λ after. after.0 ≡ (tick_taken call now).0) }
-    ensures adds { IfOk result (λ after. after.1.items ≡ (tick_taken call now).1) }
+    ensures next { IfOk result (λ after. after.0 ≡ (spec.kept (spec.ticked call now)).0) }
+    ensures adds { IfOk result (λ after. after.1.items ≡ (spec.kept (spec.ticked call now)).1) }
 {
-    match call.served.tick(now) {
-        Ok(outs) => Ok((kept(call), outs)),
-        Err(_) => Err(AllocError),
-    }
+    let outs = call.tick(now)?;
+    Ok((kept(call), outs))
 }
 
 // A call under which nothing is held is over.
 fn kept(call: Call) -> Option<Call>
-    ensures { result ≡ kept_call call }
+    ensures { result ≡ spec.kept_call call }
 {
-    if call.served.holds() {
-        Some(call)
-    } else {
-        None
+    if call.holds() { Some(call) } else { None }
+}
+
+// What a transaction hands up.
+fn take_up(alloc: Global, call: &mut Call, event: Event, up: Up) -> Result<Vec<CallOut>, AllocError>
+    requires { event.moment ≤ 2 ^ 62 }
+    ensures { IfOk result (λ outs. (call.new, outs.items) ≡ spec.up_taken call.old event up up.kind) }
+{
+    let Up {
+        key,
+        id,
+        call_id,
+        kind,
+    } = up;
+    match kind {
+        Kind::Response(response) => call.response(event, id, call_id, response),
+        Kind::Timeout => {
+            let kind = Kind::Timeout;
+            let up = Up {
+                key,
+                id,
+                call_id,
+                kind,
+            };
+            lose(alloc, call, event, up, true)
+        }
+        Kind::Failed => {
+            let kind = Kind::Failed;
+            let up = Up {
+                key,
+                id,
+                call_id,
+                kind,
+            };
+            lose(alloc, call, event, up, false)
+        }
+        kind => call.serve(
+            alloc,
+            event,
+            Item::Up(Up {
+                key,
+                id,
+                call_id,
+                kind,
+            }),
+        ),
     }
 }
 
-// An answer to a call that isn't held is refused.
-fn refuse_unheld(alloc: Global, id: Id, command: UserCommand) -> Result<Vec<CallOut>, AllocError>
-    ensures { IfOk result (λ outs. outs.items ≡ given_unheld id command) }
+// A transaction is lost: that is told, and then what ends with it ends.
+fn lose(
+    alloc: Global,
+    call: &mut Call,
+    event: Event,
+    up: Up,
+    timed_out: bool,
+) -> Result<Vec<CallOut>, AllocError>
+    requires { event.moment ≤ 2 ^ 62 }
+    ensures { IfOk result (λ outs. (call.new, outs.items) ≡ spec.lost_taken call.old event up timed_out) }
+{
+    let id = up.id;
+    let mut outs = call.serve(alloc, event, Item::Up(up))?;
+    outs.append(&mut call.lose(id, timed_out)?)?;
+    Ok(outs)
+}
+
+// A command of the user, where nothing is held.
+fn take_first_command(
+    alloc: Global,
+    call: &mut Call,
+    event: Event,
+    command: UserCommand,
+) -> Result<Vec<CallOut>, AllocError>
+    ensures { IfOk result (λ outs. (call.new, outs.items) ≡ spec.first_command_taken call.old event command) }
+{
+    match &command {
+        UserCommand::Invite(invite) => call.clients.invite(event, invite),
+        UserCommand::Plain(plain) => call.clients.plain(event, plain),
+        UserCommand::Cancel(_) => Ok(Vec::new(alloc)),
+        _ => refuse(alloc, event, command.call_id(), Refusal::NoSuchCall),
+    }
+}
+
+// A command of the user.
+fn take_command(
+    alloc: Global,
+    call: &mut Call,
+    event: Event,
+    command: UserCommand,
+) -> Result<Vec<CallOut>, AllocError>
+    requires { event.moment ≤ 2 ^ 62 }
+    ensures { IfOk result (λ outs. (call.new, outs.items) ≡ spec.command_taken call.old event command) }
+{
+    match command {
+        UserCommand::Invite(invite) => { refuse(alloc, event, &invite.call_id, Refusal::CallInUse) }
+        UserCommand::Plain(plain) => refuse(alloc, event, &plain.call_id, Refusal::CallInUse),
+        UserCommand::Request(request) => call.request(event, &request),
+        UserCommand::Respond(respond) => {
+            call.serve(alloc, event, Item::User(UserCommand::Respond(respond)))
+        }
+        UserCommand::Ack(ack) => call.ack(event, &ack),
+        UserCommand::Prack(prack) => call.prack(event, &prack),
+        UserCommand::Cancel(_) => Ok(Vec::new(alloc)),
+    }
+}
+
+// A command is refused.
+fn refuse(
+    alloc: Global,
+    event: Event,
+    call_id: &CallId,
+    refusal: Refusal,
+) -> Result<Vec<CallOut>, AllocError>
+    ensures { IfOk result (λ outs. outs.items ≡ spec.refused event call_id.now refusal) }
 {
     let mut outs = Vec::new(alloc);
-    if let UserCommand::Respond(respond) = command {
-        outs.push(CallOut::Notice(Notice::Refused {
-            call_id: respond.call_id,
-            place: id.place,
-            refusal: Refusal::NoSuchCall,
-        }))?;
-    }
+    outs.push(CallOut::Notice(Notice::Refused {
+        call_id: call_id.clone()?,
+        place: event.id.place,
+        refusal,
+    }))?;
     Ok(outs)
 }

@@ -1,8 +1,13 @@
-//! Laws of made names.
+//! Laws of calls.
 
-ghost use Rattle.sip_calls.specs.Name.{NamesDiffer};
+ghost use Rattle.sip_calls.specs.Provisionals.{ShownConsecutive, ShownInOrder, ShownOnce};
 
-/// Names of different rounds, places or indexes differ, whatever the seeds.
-pub fn names_differ()
-    ensures { NamesDiffer }
+/// Whatever comes to a call, by events that differ: of the reliable provisional responses that come
+/// to an INVITE in one life of a dialog, from the event that makes it to the one that ends it, the
+/// user is told of the first, and then of each whose RSeq is one more than that of the one told
+/// before it. So their numbers are consecutive, and none is told twice (RFC 3262, section 4).
+pub fn provisionals_shown_in_order()
+    ensures in_order { ShownInOrder }
+    ensures consecutive { ShownConsecutive }
+    ensures once { ShownOnce }
 {}

@@ -4,11 +4,11 @@
 mod call;
 mod calls;
 mod laws;
-mod name;
 mod shard;
 
 pub use call::Call;
 pub use calls::{CallInput, Calls, Happening};
-pub use laws::names_differ;
+pub use laws::provisionals_shown_in_order;
 pub use shard::CallShard;
+pub use sip_clients::{Client, Clients, names_differ};
 pub use sip_served::{CallOut, Item, Notice, Refusal, Respond, UserCommand};

@@ -3,8 +3,11 @@
 use crate::difference::{Difference, difference_of};
 use sip_program::ua;
 use std::alloc::AllocError;
+use std::net::Net;
+use std::random::RandomSource;
 use std::rt::Files;
 use std::thread::Threads;
+use std::time::Clock;
 use std::{fs, io};
 
 /// What a run of `ua` ends in and writes.
@@ -24,8 +27,9 @@ pub struct Case {
 }
 
 impl Case {
-    /// The case of this name in a folder: NAME.events; the words in NAME.args, one a line, or `replay`; and NAME.outputs, or NAME.fault, whose
-    /// first line is the status and the others what is told on standard error.
+    /// The case of this name in a folder: NAME.events; the words in NAME.args, one a line, or
+    /// `replay`; and NAME.outputs, or NAME.fault, whose first line is the status and the others
+    /// what is told on standard error.
     ///
     /// # Errors
     ///
@@ -44,7 +48,7 @@ impl Case {
     /// # Errors
     ///
     /// Want of memory.
-    pub fn difference<R: AllocGlobal + Threads + Sync>(
+    pub fn difference<R: AllocGlobal + Threads + Clock + Net + RandomSource + Sync>(
         &self,
         rt: &R,
     ) -> Result<Option<Difference>, AllocError> {

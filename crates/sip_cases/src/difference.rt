@@ -9,7 +9,8 @@ use std::fmt;
 pub enum Difference {
     /// The status that came, and the one that is expected.
     Status(u8, u8),
-    /// The number of the first line, from 1, in which a stream differs, as it came and as it is expected.
+    /// The number of the first line, from 1, in which a stream differs, as it came and as it is
+    /// expected.
     Line {
         stream: &'static str,
         number: usize,
@@ -32,7 +33,8 @@ impl fmt::Display for Difference {
     }
 }
 
-/// In what a run differs first from what is expected: its status, its output, or what it told on standard error.
+/// In what a run differs first from what is expected: its status, its output, or what it told on
+/// standard error.
 ///
 /// # Errors
 ///

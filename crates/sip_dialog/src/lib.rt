@@ -19,4 +19,4 @@ pub use dialog::{Dialog, DialogState, Side};
 pub use endpoint::Endpoint;
 pub use fault::DialogFault;
 pub use laws::an_address_has_its_own_texts;
-pub use own_headers::own_contact;
+pub use own_headers::{own_contact, own_via};

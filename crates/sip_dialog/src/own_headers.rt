@@ -21,7 +21,7 @@ pub(crate) fn is_invite(method: &Token) -> bool
 }
 
 /// The Via of a made request, which asks for `rport` (RFC 3581, section 3).
-pub(crate) fn own_via(alloc: Global, local: Addr, branch: Branch) -> Result<Vias, AllocError>
+pub fn own_via(alloc: Global, local: Addr, branch: Branch) -> Result<Vias, AllocError>
     ensures { IfOk result (λ vias. vias ≡ request.via_of local branch ∷ []) }
 {
     let transport = udp(alloc)?;

@@ -1,10 +1,10 @@
 -- Drafts of event files: the lines of a file are taken one after the other, and the lines that are taken are those of a file.
-use Rattle.std.proofs.Common.{◌≡◌, ℕ, ◌+◌, List, [], ◌∷◌, ◌++◌, length, map, Option, Some, None, refl, sym, ap, subst, ◌∙◌, append_assoc, arith, inl, inr}
-use Rattle.std.specs.List.{flat_map, AllByRecursion}
+use Rattle.std.proofs.Common.{◌≡◌, ℕ, List, [], ◌∷◌, ◌++◌, map, Option, Some, None, refl, sym, ap, subst, ◌∙◌, append_assoc}
+use Rattle.std.specs.List.{flat_map}
 use Rattle.std.specs.Option.{option_map}
-use Rattle.std.specs.Prelude.{unwrap_or, replicate}
+use Rattle.std.specs.Prelude.{replicate}
 use Rattle.std.proofs.lemmas.List.{append-nil}
-use Rattle.std.proofs.lemmas.List.Concat.{flat_map-append, flat_map-cons}
+use Rattle.std.proofs.lemmas.List.Concat.{flat_map-append}
 use Rattle.sip_message.specs.declared.addr.Addr.{Addr}
 use Rattle.sip_round.specs.declared.config.Config.{Config}
 use Rattle.sip_round.specs.declared.round.Event.{Event}
@@ -14,9 +14,9 @@ use Rattle.sip_files.specs.declared.event_line.EventLine.TheVariants as line
 use Rattle.sip_files.specs.declared.draft.Stage.{Stage}
 use Rattle.sip_files.specs.declared.draft.Stage.TheVariants as stage
 use Rattle.sip_files.specs.declared.draft.Draft.{Draft}
-use Rattle.sip_files.specs.EventFile.{Head, config_of, seed_lines, first_lines, head_lines, round_lines, file_lines}
+use Rattle.sip_files.specs.EventFile.{Head, config_of, head_lines, round_lines, file_lines}
 use Rattle.sip_files.specs.Reading.{◌>>=◌}
-use Rattle.sip_files.specs.Drafting.{nothing_read, local_taken, seed_taken, first_taken, begun_round, round_taken, with_event, event_taken, taken, drafted}
+use Rattle.sip_files.specs.Drafting.{nothing_read, local_taken, seed_taken, first_taken, begun_round, round_taken, with_event, taken, drafted}
 use Rattle.sip_files.proofs.Options.{bind_some, same_some}
 
 abbrev pub one_more : Round → Event → Round

@@ -1,17 +1,15 @@
 -- The bytes of a field, one after the other: what is read is spelled so, and what is spelled so is read.
-use Rattle.std.proofs.Common.{◌≡◌, ℕ, zero, suc, ◌+◌, ◌<◌, ◌≤◌, Bool, true, false, cond, eqb, ◌||◌, ◌&&◌, List, [], ◌∷◌, ◌++◌, length, Option, Some, None, refl, sym, ap, subst, ◌∙◌, append_assoc, arith, ◌⊎◌, inl, inr, ⊎_elim}
+use Rattle.std.proofs.Common.{◌≡◌, ℕ, zero, suc, ◌<◌, ◌≤◌, Bool, true, false, cond, eqb, ◌||◌, List, [], ◌∷◌, ◌++◌, length, Option, Some, None, refl, sym, ap, subst, ◌∙◌, append_assoc, arith, inl, inr}
 use Rattle.std.specs.Option.{option_map, is_some}
-use Rattle.std.specs.List.{list_all}
-use Rattle.std.proofs.lemmas.Bool.{eqb-true, or_parts, or_from, and_parts, and_from, leb-true, lt-ltb, ltb-true, cases_Bool}
+use Rattle.std.proofs.lemmas.Bool.{eqb-true, or_parts, or_from, cases_Bool}
 use Rattle.std.proofs.lemmas.Bool.Decides.{nat_tests}
 use Rattle.std.proofs.lemmas.List.{append-nil}
-use Rattle.std.proofs.lemmas.Option.{some_pair_parts}
 use Rattle.sip_files.specs.declared.words.Form.{Form}
 use Rattle.sip_files.specs.declared.words.Form.TheVariants.{Word, Rest}
 use Rattle.sip_files.specs.Form.{itself_in}
-use Rattle.sip_files.specs.Word.{is_plain, is_plain_or_space, letter_of, hex_digit, hex_pair, escape_with, spelled_byte, spelled_bytes, are_bytes}
+use Rattle.sip_files.specs.Word.{is_plain, is_plain_or_space, letter_of, hex_pair, escape_with, spelled_byte}
 use Rattle.sip_files.specs.Reading.{◌>>=◌, byte_of_letter, hex_byte, hex_at, letter_at, escape_at, byte_at, bytes_from, bytes_at}
-use Rattle.sip_files.proofs.Options.{bind_some, chosen, passed, not_stopped, same_some}
+use Rattle.sip_files.proofs.Options.{bind_some, chosen, passed, not_stopped}
 use Rattle.sip_files.proofs.Hex.{letter_again, letter_takes, letter_not_x, letter_small, pair_takes, pair_again}
 
 -- a backslash never stands for itself, and what does is a byte

@@ -1,7 +1,7 @@
 -- The lines of an event file's text, and what a reader that takes them one after the other has shown.
-use Rattle.std.proofs.Common.{◌≡◌, ℕ, ◌+◌, ◌<◌, ◌≤◌, ◌^◌, Bool, true, false, not, List, [], ◌∷◌, ◌++◌, length, map, Option, Some, None, refl, sym, ap, subst, ◌∙◌, append_assoc, arith, ◌⊎◌, inl, inr}
-use Rattle.std.specs.List.{flat_map, AllByRecursion}
-use Rattle.std.proofs.lemmas.List.{append-nil, append_cancel_left, length-map, length_push}
+use Rattle.std.proofs.Common.{◌≡◌, ℕ, ◌+◌, ◌≤◌, ◌^◌, true, false, List, [], ◌∷◌, ◌++◌, length, Option, Some, None, refl, sym, ap, subst, ◌∙◌, append_assoc, arith, inl, inr, codes}
+use Rattle.std.specs.List.{AllByRecursion, AllZip}
+use Rattle.std.proofs.lemmas.List.{append-nil, append_cancel_left, length_push}
 use Rattle.std.proofs.lemmas.List.Concat.{flat_map-append}
 use Rattle.std.proofs.lemmas.Option.{some_pair_parts}
 use Rattle.sip_text.specs.Cut.{cut_at}
@@ -9,13 +9,13 @@ use Rattle.sip_message.specs.declared.addr.Addr.{Addr}
 use Rattle.sip_round.specs.declared.config.Config.{Config}
 use Rattle.sip_round.specs.declared.round.Round.{Round}
 use Rattle.sip_files.specs.declared.event_line.EventLine.{EventLine}
-use Rattle.sip_files.specs.declared.event_line.EventLine.TheVariants as line
 use Rattle.sip_files.specs.declared.draft.Stage.{Stage}
 use Rattle.sip_files.specs.declared.draft.Stage.TheVariants as stage
 use Rattle.sip_files.specs.declared.draft.Draft.{Draft}
 use Rattle.sip_files.specs.declared.events_fault.EventsFault.{EventsFault}
 use Rattle.sip_files.specs.declared.events_fault.EventsFault.TheVariants.{TooLong, BadVersion, BadLine, NoMemory}
-use Rattle.sip_files.specs.Events.{IsAddress, IsLine, line_text}
+use Rattle.sip_files.specs.Events.{SpellsLine}
+use Rattle.sip_files.specs.Field.{address_field}
 use Rattle.sip_files.specs.EventFile.{Head, config_of, file_lines, with_ends, version_line, file_text, SpellsEvents, IsBegun, IsOneLine, IsBadLine, HasVersion, TellsFault}
 use Rattle.sip_files.specs.ReadLine.{line_at}
 use Rattle.sip_files.specs.Drafting.{is_begun, nothing_read, taken, drafted}
@@ -23,15 +23,15 @@ use Rattle.sip_files.specs.Lines.{FollowsVersion, TellsVersion, TellsLine, Draft
 use Rattle.sip_files.proofs.Options.{same_some}
 use Rattle.sip_files.proofs.Cuts.{has_no, cut_took, cut_again}
 use Rattle.sip_files.proofs.LineLaws.{line_took, line_again, line_no}
-use Rattle.sip_files.proofs.Drafts.{drafted-push, next_taken, Begun, Gives, file_gives, file_of, nothing_of, begun_unless, not_local}
+use Rattle.sip_files.proofs.Drafts.{drafted-push, next_taken, Begun, Gives, file_gives, file_of, nothing_of, begun_unless}
 
-abbrev pub lines_text : List EventLine → List ℕ
-lines_text lines = with_ends (map line_text lines)
-
-abbrev pub AllLines : List EventLine → Type 0
-AllLines lines = AllByRecursion IsLine lines
+abbrev pub SayAll : List (List ℕ) → List EventLine → Type 0
+SayAll lines said = AllZip SpellsLine lines said
 
 -- ---- a text is cut into its lines in one way
+
+abbrev pub AllOne : List (List ℕ) → Type 0
+AllOne lines = AllByRecursion IsOneLine lines
 
 no_line : (text rest : List ℕ) → has_no 10 text ≡ true → [] ≡ text ++ 10 ∷ rest → ⊥
 no_line text rest none e =
@@ -42,49 +42,92 @@ same_line : (text rest other after : List ℕ) → has_no 10 text ≡ true → h
 same_line text rest other after p q e =
     some_pair_parts text other rest after (sym (cut_again 10 text rest p) ∙ ap (cut_at 10) e ∙ cut_again 10 other after q)
 
-one_line : (x y : EventLine) → IsLine x → IsLine y → line_text x ≡ line_text y → x ≡ y
-one_line x y p q e = same_some x y (sym (line_again x p) ∙ ap line_at e ∙ line_again y q)
-
 with_end : (text rest left : List ℕ) → ((text ++ 10 ∷ []) ++ rest) ++ left ≡ text ++ 10 ∷ (rest ++ left)
 with_end text rest left = append_assoc (text ++ 10 ∷ []) rest left ∙ append_assoc text (10 ∷ []) (rest ++ left)
 
 -- lines that begin a text of lines are the first of them
-pub record Front (lines all : List EventLine) (left : List ℕ) : Type 0 where
-  pub others : List EventLine
+pub record Front (lines all : List (List ℕ)) (left : List ℕ) : Type 0 where
+  pub others : List (List ℕ)
   pub whole : all ≡ lines ++ others
-  pub rest : left ≡ lines_text others
+  pub rest : left ≡ with_ends others
 
-pub same_front : (lines all : List EventLine) (left : List ℕ) → AllLines lines → AllLines all → lines_text lines ++ left ≡ lines_text all → Front lines all left
-same_front [] all left fits all_fit e = record { others = all; whole = refl; rest = e }
-same_front (x ∷ xs) [] left fits all_fit e =
-    absurd (no_line (line_text x) (lines_text xs ++ left) (line_no x fits.0) (sym e ∙ with_end (line_text x) (lines_text xs) left))
-same_front (x ∷ xs) (y ∷ ys) left fits all_fit e =
-    let cut = same_line (line_text x) (lines_text xs ++ left) (line_text y) (lines_text ys) (line_no x fits.0) (line_no y all_fit.0) (sym (with_end (line_text x) (lines_text xs) left) ∙ e ∙ append_assoc (line_text y) (10 ∷ []) (lines_text ys)) in
-    let further = same_front xs ys left fits.1 all_fit.1 cut.1 in
-    let first : y ≡ x = sym (one_line x y fits.0 all_fit.0 cut.0) in
-    record { others = further.others; whole = ap (λ (z : EventLine). z ∷ ys) first ∙ ap (λ (zs : List EventLine). x ∷ zs) further.whole; rest = further.rest }
+pub same_front : (lines all : List (List ℕ)) (left : List ℕ) → AllOne lines → AllOne all → with_ends lines ++ left ≡ with_ends all → Front lines all left
+same_front [] all left one all_one e = record { others = all; whole = refl; rest = e }
+same_front (x ∷ xs) [] left one all_one e =
+    absurd (no_line x (with_ends xs ++ left) one.0 (sym e ∙ with_end x (with_ends xs) left))
+same_front (x ∷ xs) (y ∷ ys) left one all_one e =
+    let cut = same_line x (with_ends xs ++ left) y (with_ends ys) one.0 all_one.0 (sym (with_end x (with_ends xs) left) ∙ e ∙ append_assoc y (10 ∷ []) (with_ends ys)) in
+    let further = same_front xs ys left one.1 all_one.1 cut.1 in
+    record { others = further.others; whole = ap (λ (z : List ℕ). z ∷ ys) (sym cut.0) ∙ ap (λ (zs : List (List ℕ)). x ∷ zs) further.whole; rest = further.rest }
 
-no_lines : (others : List EventLine) → AllLines others → [] ≡ lines_text others → others ≡ []
-no_lines [] fits e = refl
-no_lines (x ∷ xs) fits e = absurd (no_line (line_text x) (lines_text xs) (line_no x fits.0) (e ∙ append_assoc (line_text x) (10 ∷ []) (lines_text xs)))
+no_lines : (others : List (List ℕ)) → AllOne others → [] ≡ with_ends others → others ≡ []
+no_lines [] one e = refl
+no_lines (x ∷ xs) one e = absurd (no_line x (with_ends xs) one.0 (e ∙ append_assoc x (10 ∷ []) (with_ends xs)))
 
-all_after : (lines others : List EventLine) → AllLines (lines ++ others) → AllLines others
-all_after [] others fits = fits
-all_after (x ∷ xs) others fits = all_after xs others fits.1
+all_after : (lines others : List (List ℕ)) → AllOne (lines ++ others) → AllOne others
+all_after [] others one = one
+all_after (x ∷ xs) others one = all_after xs others one.1
 
 -- the same lines, where nothing is left
-pub same_lines : (lines all : List EventLine) → AllLines lines → AllLines all → lines_text lines ≡ lines_text all → all ≡ lines
-same_lines lines all fits all_fit e =
-    let f = same_front lines all [] fits all_fit (append-nil (lines_text lines) ∙ e) in
-    let none = no_lines f.others (all_after lines f.others (subst (λ (ls : List EventLine). AllByRecursion IsLine ls) f.whole all_fit)) f.rest in
-    f.whole ∙ ap (λ (others : List EventLine). lines ++ others) none ∙ append-nil lines
+pub same_lines : (lines all : List (List ℕ)) → AllOne lines → AllOne all → with_ends lines ≡ with_ends all → all ≡ lines
+same_lines lines all one all_one e =
+    let f = same_front lines all [] one all_one (append-nil (with_ends lines) ∙ e) in
+    let none = no_lines f.others (all_after lines f.others (subst (λ (ls : List (List ℕ)). AllByRecursion IsOneLine ls) f.whole all_one)) f.rest in
+    f.whole ∙ ap (λ (others : List (List ℕ)). lines ++ others) none ∙ append-nil lines
+
+-- ---- lines say one thing
+
+pub each_one : (lines : List (List ℕ)) (said : List EventLine) → SayAll lines said → AllOne lines
+each_one [] [] says = tt
+each_one [] (x ∷ said) says = elim says [ ]
+each_one (line ∷ lines) [] says = elim says [ ]
+each_one (line ∷ lines) (x ∷ said) says = (line_no line x says.0, each_one lines said says.1)
+
+one_said : (text : List ℕ) (x y : EventLine) → SpellsLine text x → SpellsLine text y → x ≡ y
+one_said text x y p q = same_some x y (sym (line_again text x p) ∙ line_again text y q)
+
+-- what the first lines say comes first
+pub record Says (before others : List (List ℕ)) (first all : List EventLine) : Type 0 where
+  pub further : List EventLine
+  pub whole : all ≡ first ++ further
+  pub says : AllZip SpellsLine others further
+
+pub says_on : (before others : List (List ℕ)) (first all : List EventLine) → SayAll before first → SayAll (before ++ others) all → Says before others first all
+says_on [] others [] all before_says says = record { further = all; whole = refl; says = says }
+says_on [] others (x ∷ first) all before_says says = elim before_says [ ]
+says_on (line ∷ before) others [] all before_says says = elim before_says [ ]
+says_on (line ∷ before) others (x ∷ first) [] before_says says = elim says [ ]
+says_on (line ∷ before) others (x ∷ first) (y ∷ all) before_says says =
+    let on = says_on before others first all before_says.1 says.1 in
+    record {
+      further = on.further;
+      whole = ap (λ (z : EventLine). z ∷ all) (one_said line y x says.0 before_says.0) ∙ ap (λ (zs : List EventLine). x ∷ zs) on.whole;
+      says = on.says;
+    }
+
+nothing_said : (said : List EventLine) → SayAll [] said → said ≡ []
+nothing_said [] says = refl
+nothing_said (x ∷ said) says = elim says [ ]
+
+no_text : (lines : List (List ℕ)) (said : List EventLine) → SayAll lines said → said ≡ [] → lines ≡ []
+no_text [] said says none = refl
+no_text (line ∷ lines) said says none = elim (subst (λ (xs : List EventLine). AllZip SpellsLine (line ∷ lines) xs) none says) [ ]
+
+-- lines say one list
+one_list : (lines : List (List ℕ)) (said other : List EventLine) → SayAll lines said → SayAll lines other → other ≡ said
+one_list lines said other says others =
+    let on = says_on lines [] said other says (subst (λ (ls : List (List ℕ)). AllZip SpellsLine ls other) (sym (append-nil lines)) others) in
+    on.whole ∙ ap (λ (xs : List EventLine). said ++ xs) (nothing_said on.further on.says) ∙ append-nil said
 
 -- ---- what the spelling of a file says of what was read
 
 -- the lines of a file that is spelled
-after_version : (config : Config) (rounds : List Round) (text after : List ℕ) (s : SpellsEvents config rounds text) → FollowsVersion text after → after ≡ lines_text (file_lines s.head rounds)
+after_version : (config : Config) (rounds : List Round) (text after : List ℕ) (s : SpellsEvents config rounds text) → FollowsVersion text after → after ≡ with_ends s.lines
 after_version config rounds text after s follows =
-    append_cancel_left (version_line ++ 10 ∷ []) after (lines_text (file_lines s.head rounds)) (sym follows ∙ s.spelled)
+    append_cancel_left (version_line ++ 10 ∷ []) after (with_ends s.lines) (sym follows ∙ s.spelled)
+
+lines_of : (config : Config) (rounds : List Round) (text : List ℕ) (s : SpellsEvents config rounds text) → AllOne s.lines
+lines_of config rounds text s = each_one s.lines (file_lines s.head rounds) s.says
 
 gives : (config : Config) (rounds : List Round) (text : List ℕ) (s : SpellsEvents config rounds text) → Gives (config_of s.head) rounds (file_lines s.head rounds)
 gives config rounds text s = file_gives s.head.local s.head.seed s.head.first rounds
@@ -96,28 +139,35 @@ pub record Same (config : Config) (rounds : List Round) (draft : Draft) : Type 0
 
 pub only_draft : (config : Config) (rounds : List Round) (text after : List ℕ) (draft : Draft) → SpellsEvents config rounds text → FollowsVersion text after → Drafts draft after → Same config rounds draft
 only_draft config rounds text after draft s follows d =
-    let all = file_lines s.head rounds in
-    let same : all ≡ d.lines = same_lines d.lines all d.fits s.fits (sym d.spelled ∙ after_version config rounds text after s follows) in
+    let lines : s.lines ≡ d.lines = same_lines d.lines s.lines (each_one d.lines d.said d.says) (lines_of config rounds text s) (sym d.spelled ∙ after_version config rounds text after s follows) in
+    let says = subst (λ (ls : List (List ℕ)). AllZip SpellsLine ls (file_lines s.head rounds)) lines s.says in
+    let same : file_lines s.head rounds ≡ d.said = one_list d.lines d.said (file_lines s.head rounds) d.says says in
     let g = gives config rounds text s in
     let is : g.draft ≡ draft = same_some g.draft draft (sym g.taken_all ∙ ap (drafted nothing_read) same ∙ d.gives) in
     let P : Draft → Type 0 = λ x. Same config rounds x in
     subst P is (record { configured = g.configured ∙ s.configured; all_rounds = g.all_rounds; begun = g.begun })
 
-not_stuck_by : (config : Config) (rounds : List Round) (text after : List ℕ) (number : ℕ) (s : SpellsEvents config rounds text) (k : Stuck number after) (others : List EventLine) → file_lines s.head rounds ≡ k.before ++ others → k.left ≡ lines_text others → ⊥
-not_stuck_by config rounds text after number s k [] whole rest = k.more rest
-not_stuck_by config rounds text after number s k (next ∷ others) whole rest =
+not_stuck_by : (config : Config) (rounds : List Round) (text after : List ℕ) (number : ℕ) (s : SpellsEvents config rounds text) (k : Stuck number after) (others : List (List ℕ)) (further : List EventLine) → file_lines s.head rounds ≡ k.said ++ further → SayAll others further → k.left ≡ with_ends others → ⊥
+not_stuck_by config rounds text after number s k [] further whole says rest = k.more rest
+not_stuck_by config rounds text after number s k (line ∷ others) [] whole says rest = elim says [ ]
+not_stuck_by config rounds text after number s k (line ∷ others) (next ∷ further) whole says rest =
     let g = gives config rounds text s in
-    let fits = all_after k.before (next ∷ others) (subst (λ (ls : List EventLine). AllByRecursion IsLine ls) whole s.fits) in
-    let none = k.no_next next (lines_text others) fits.0 (rest ∙ append_assoc (line_text next) (10 ∷ []) (lines_text others)) in
-    next_taken nothing_read k.draft g.draft k.before others next k.gives (sym (ap (drafted nothing_read) whole) ∙ g.taken_all) none
+    let none = k.no_next line (with_ends others) next says.0 (rest ∙ append_assoc line (10 ∷ []) (with_ends others)) in
+    next_taken nothing_read k.draft g.draft k.said further next k.gives (sym (ap (drafted nothing_read) whole) ∙ g.taken_all) none
+
+-- what the lines of a file say after the first of them
+further_of : (config : Config) (rounds : List Round) (text : List ℕ) (s : SpellsEvents config rounds text) (before others : List (List ℕ)) (said : List EventLine) → SayAll before said → s.lines ≡ before ++ others → Says before others said (file_lines s.head rounds)
+further_of config rounds text s before others said says whole =
+    says_on before others said (file_lines s.head rounds) says (subst (λ (ls : List (List ℕ)). AllZip SpellsLine ls (file_lines s.head rounds)) whole s.says)
 
 pub not_stuck : (config : Config) (rounds : List Round) (text after : List ℕ) (number : ℕ) → SpellsEvents config rounds text → FollowsVersion text after → Stuck number after → ⊥
 not_stuck config rounds text after number s follows k =
-    let f = same_front k.before (file_lines s.head rounds) k.left k.fits s.fits (sym k.parts ∙ after_version config rounds text after s follows) in
-    not_stuck_by config rounds text after number s k f.others f.whole f.rest
+    let f = same_front k.before s.lines k.left (each_one k.before k.said k.says) (lines_of config rounds text s) (sym k.parts ∙ after_version config rounds text after s follows) in
+    let on = further_of config rounds text s k.before f.others k.said k.says f.whole in
+    not_stuck_by config rounds text after number s k f.others on.further on.whole on.says f.rest
 
 pub has_version : (config : Config) (rounds : List Round) (text : List ℕ) → SpellsEvents config rounds text → HasVersion text
-has_version config rounds text s = inr (lines_text (file_lines s.head rounds), s.spelled)
+has_version config rounds text s = inr (with_ends s.lines, s.spelled)
 
 pub version_alone : (text after : List ℕ) → text ≡ version_line → text ≡ version_line ++ 10 ∷ after → ⊥
 version_alone text after e f =
@@ -128,12 +178,13 @@ version_alone text after e f =
 
 pub found : (text after : List ℕ) (draft : Draft) → FollowsVersion text after → Drafts draft after → (draft.stage ≡ stage.Local → ⊥) → SpellsEvents draft.config draft.rounds text
 found text after draft follows d other =
-    let f = file_of d.lines draft d.gives (begun_unless draft.stage other) in
+    let f = file_of d.said draft d.gives (begun_unless draft.stage other) in
     record {
       head = f.head;
+      lines = d.lines;
       configured = f.configured;
-      fits = subst (λ (ls : List EventLine). AllByRecursion IsLine ls) f.spelled d.fits;
-      spelled = follows ∙ ap (λ (t : List ℕ). version_line ++ 10 ∷ t) d.spelled ∙ ap file_text f.spelled;
+      says = subst (λ (said : List EventLine). AllZip SpellsLine d.lines said) f.spelled d.says;
+      spelled = follows ∙ ap (λ (t : List ℕ). version_line ++ 10 ∷ t) d.spelled;
     }
 
 abbrev some_address : Addr
@@ -142,82 +193,83 @@ some_address = record { ip = 0 ∷ 0 ∷ 0 ∷ 0 ∷ []; port = 0 }
 abbrev least_head : Head
 least_head = record { local = some_address; seed = None; first = None }
 
-least_fits : AllLines (file_lines least_head [])
-least_fits = ((refl, refl, omega arith), tt)
+abbrev least_lines : List (List ℕ)
+least_lines = (codes "local" ++ address_field some_address) ∷ []
 
-least_spelled : SpellsEvents (config_of least_head) [] (file_text (file_lines least_head []))
-least_spelled = record { head = least_head; configured = refl; fits = least_fits; spelled = refl }
+least_says : SayAll least_lines (file_lines least_head [])
+least_says = (((refl, refl, omega arith), refl), tt)
 
-begun_at : (lines : List EventLine) (draft : Draft) (at : Stage) → draft.stage ≡ at → drafted nothing_read lines ≡ Some draft → AllLines lines → (Begun at → IsBegun (file_text lines)) → IsBegun (file_text lines)
-begun_at lines draft stage.Local is e fits further =
-    let none = nothing_of lines draft e is in
-    (lines_text (line.Local some_address ∷ []), config_of least_head, [], subst (λ (ls : List EventLine). SpellsEvents (config_of least_head) [] (file_text ls ++ lines_text (line.Local some_address ∷ []))) (sym none) least_spelled)
-begun_at lines draft stage.Seed is e fits further = further tt
-begun_at lines draft stage.First is e fits further = further tt
-begun_at lines draft stage.Rounds is e fits further = further tt
+least_spelled : SpellsEvents (config_of least_head) [] (file_text least_lines)
+least_spelled = record { head = least_head; lines = least_lines; configured = refl; says = least_says; spelled = refl }
+
+begun_at : (lines : List (List ℕ)) (said : List EventLine) (draft : Draft) (at : Stage) → draft.stage ≡ at → drafted nothing_read said ≡ Some draft → SayAll lines said → (Begun at → IsBegun (file_text lines)) → IsBegun (file_text lines)
+begun_at lines said draft stage.Local is e says further =
+    let none = no_text lines said says (nothing_of said draft e is) in
+    (with_ends least_lines, config_of least_head, [], subst (λ (ls : List (List ℕ)). SpellsEvents (config_of least_head) [] (file_text ls ++ with_ends least_lines)) (sym none) least_spelled)
+begun_at lines said draft stage.Seed is e says further = further tt
+begun_at lines said draft stage.First is e says further = further tt
+begun_at lines said draft stage.Rounds is e says further = further tt
 
 -- lines that give a draft are how some event file begins
-pub begun_by : (lines : List EventLine) (draft : Draft) → drafted nothing_read lines ≡ Some draft → AllLines lines → IsBegun (file_text lines)
-begun_by lines draft e fits =
-    begun_at lines draft draft.stage refl e fits (λ begun.
-    let f = file_of lines draft e begun in (
+pub begun_by : (lines : List (List ℕ)) (said : List EventLine) (draft : Draft) → drafted nothing_read said ≡ Some draft → SayAll lines said → IsBegun (file_text lines)
+begun_by lines said draft e says =
+    begun_at lines said draft draft.stage refl e says (λ begun.
+    let f = file_of said draft e begun in (
       [],
       draft.config,
       draft.rounds,
       record {
         head = f.head;
+        lines = lines;
         configured = f.configured;
-        fits = subst (λ (ls : List EventLine). AllByRecursion IsLine ls) f.spelled fits;
-        spelled = append-nil (file_text lines) ∙ ap file_text f.spelled;
+        says = subst (λ (xs : List EventLine). AllZip SpellsLine lines xs) f.spelled says;
+        spelled = append-nil (file_text lines);
       },
     ))
 
-each_no : (lines : List EventLine) → AllLines lines → AllByRecursion IsOneLine (map line_text lines)
-each_no [] fits = tt
-each_no (x ∷ xs) fits = (line_no x fits.0, each_no xs fits.1)
-
 -- with one more line
-longer : (lines : List EventLine) (next rest : List ℕ) → with_ends (map line_text lines ++ next ∷ []) ++ rest ≡ lines_text lines ++ (next ++ 10 ∷ rest)
+longer : (lines : List (List ℕ)) (next rest : List ℕ) → with_ends (lines ++ next ∷ []) ++ rest ≡ with_ends lines ++ (next ++ 10 ∷ rest)
 longer lines next rest =
-    ap (λ (t : List ℕ). t ++ rest) (flat_map-append (λ text. text ++ 10 ∷ []) (map line_text lines) (next ∷ []))
-    ∙ append_assoc (lines_text lines) (with_ends (next ∷ [])) rest
-    ∙ ap (λ (t : List ℕ). lines_text lines ++ t) (with_end next [] rest)
+    ap (λ (t : List ℕ). t ++ rest) (flat_map-append (λ text. text ++ 10 ∷ []) lines (next ∷ []))
+    ∙ append_assoc (with_ends lines) (with_ends (next ∷ [])) rest
+    ∙ ap (λ (t : List ℕ). with_ends lines ++ t) (with_end next [] rest)
 
-stuck_by : (number : ℕ) (after : List ℕ) (k : Stuck number after) (next rest rest' : List ℕ) (config : Config) (rounds : List Round) (text : List ℕ) (s : SpellsEvents config rounds text) (others : List EventLine) → k.left ≡ next ++ 10 ∷ rest → has_no 10 next ≡ true → file_lines s.head rounds ≡ k.before ++ others → next ++ 10 ∷ rest' ≡ lines_text others → ⊥
-stuck_by number after k next rest rest' config rounds text s [] is none whole e = no_line next rest' none (sym e)
-stuck_by number after k next rest rest' config rounds text s (item ∷ others) is none whole e =
+stuck_by : (number : ℕ) (after : List ℕ) (k : Stuck number after) (next rest rest' : List ℕ) (config : Config) (rounds : List Round) (text : List ℕ) (s : SpellsEvents config rounds text) (others : List (List ℕ)) (further : List EventLine) → k.left ≡ next ++ 10 ∷ rest → has_no 10 next ≡ true → file_lines s.head rounds ≡ k.said ++ further → SayAll others further → next ++ 10 ∷ rest' ≡ with_ends others → ⊥
+stuck_by number after k next rest rest' config rounds text s [] further is none whole says e = no_line next rest' none (sym e)
+stuck_by number after k next rest rest' config rounds text s (line ∷ others) [] is none whole says e = elim says [ ]
+stuck_by number after k next rest rest' config rounds text s (line ∷ others) (item ∷ further) is none whole says e =
     let g = gives config rounds text s in
-    let fits = all_after k.before (item ∷ others) (subst (λ (ls : List EventLine). AllByRecursion IsLine ls) whole s.fits) in
-    let same = same_line next rest' (line_text item) (lines_text others) none (line_no item fits.0) (e ∙ append_assoc (line_text item) (10 ∷ []) (lines_text others)) in
-    let stop = k.no_next item rest fits.0 (is ∙ ap (λ (t : List ℕ). t ++ 10 ∷ rest) same.0) in
-    next_taken nothing_read k.draft g.draft k.before others item k.gives (sym (ap (drafted nothing_read) whole) ∙ g.taken_all) stop
+    let same = same_line next rest' line (with_ends others) none (line_no line item says.0) (e ∙ append_assoc line (10 ∷ []) (with_ends others)) in
+    let stop = k.no_next line rest item says.0 (is ∙ ap (λ (t : List ℕ). t ++ 10 ∷ rest) same.0) in
+    next_taken nothing_read k.draft g.draft k.said further item k.gives (sym (ap (drafted nothing_read) whole) ∙ g.taken_all) stop
 
 pub bad_line : (number : ℕ) (text after : List ℕ) → FollowsVersion text after → Stuck number after → IsBadLine number text
 bad_line number text after follows k = record {
-  before = version_line ∷ map line_text k.before;
+  before = version_line ∷ k.before;
   left = k.left;
   parts = follows ∙ ap (λ (t : List ℕ). version_line ++ 10 ∷ t) k.parts;
-  one_each = (refl, each_no k.before k.fits);
-  counted = omega (arith, k.counted, length-map k.before line_text);
-  begun = begun_by k.before k.draft k.gives k.fits;
+  one_each = (refl, each_one k.before k.said k.says);
+  counted = omega (arith, k.counted);
+  begun = begun_by k.before k.said k.draft k.gives k.says;
   stuck = λ next rest is none begun.
       (let s = begun.3 in
-      let e : with_ends (map line_text k.before ++ next ∷ []) ++ begun.0 ≡ lines_text (file_lines s.head begun.2) = append_cancel_left (version_line ++ 10 ∷ []) _ _ s.spelled in
-      let f = same_front k.before (file_lines s.head begun.2) (next ++ 10 ∷ begun.0) k.fits s.fits (sym (longer k.before next begun.0) ∙ e) in
-      stuck_by number after k next rest begun.0 begun.1 begun.2 _ s f.others is none f.whole f.rest);
+      let e : with_ends (k.before ++ next ∷ []) ++ begun.0 ≡ with_ends s.lines = append_cancel_left (version_line ++ 10 ∷ []) _ _ s.spelled in
+      let f = same_front k.before s.lines (next ++ 10 ∷ begun.0) (each_one k.before k.said k.says) (lines_of begun.1 begun.2 _ s) (sym (longer k.before next begun.0) ∙ e) in
+      let on = further_of begun.1 begun.2 _ s k.before f.others k.said k.says f.whole in
+      stuck_by number after k next rest begun.0 begun.1 begun.2 _ s f.others on.further is none on.whole on.says f.rest);
 }
 
 pub no_local : (text after : List ℕ) (draft : Draft) → FollowsVersion text after → Drafts draft after → draft.stage ≡ stage.Local → IsBadLine 2 text
 no_local text after draft follows d at =
-    let none = nothing_of d.lines draft d.gives at in
-    let nothing : after ≡ [] = d.spelled ∙ ap lines_text none in
+    let none = no_text d.lines d.said d.says (nothing_of d.said draft d.gives at) in
+    let nothing : after ≡ [] = d.spelled ∙ ap with_ends none in
     record {
       before = version_line ∷ [];
       left = after;
       parts = follows;
       one_each = (refl, tt);
       counted = refl;
-      begun = begun_by [] nothing_read (unfold drafted in refl) tt;
+      begun = begun_by [] [] nothing_read (unfold drafted in refl) tt;
       stuck = λ next rest is one begun. no_line next rest one (sym nothing ∙ is);
     }
 
@@ -228,7 +280,7 @@ no_end text e = record {
   parts = refl;
   one_each = tt;
   counted = refl;
-  begun = (file_text (file_lines least_head []), config_of least_head, [], least_spelled);
+  begun = (file_text least_lines, config_of least_head, [], least_spelled);
   stuck = λ next rest is one begun.
       (let cut : ◌≡◌ {A = Option (List ℕ × List ℕ)} None (Some (next, rest)) = ap (cut_at 10) (sym e ∙ is) ∙ cut_again 10 next rest one in absurd cc);
 }
@@ -236,53 +288,51 @@ no_end text e = record {
 -- ---- a loop over the lines
 
 pub record SoFar (draft : Draft) (number : ℕ) (text left : List ℕ) : Type 0 where
-  pub lines : List EventLine
-  pub fits : AllByRecursion IsLine lines
-  pub parts : text ≡ with_ends (map line_text lines) ++ left
-  pub gives : drafted nothing_read lines ≡ Some draft
+  pub lines : List (List ℕ)
+  pub said : List EventLine
+  pub says : AllZip SpellsLine lines said
+  pub parts : text ≡ with_ends lines ++ left
+  pub gives : drafted nothing_read said ≡ Some draft
   pub counted : number ≡ length lines + 2
 
 pub nothing_yet : (text : List ℕ) → SoFar nothing_read 2 text text
 unfolding drafted
-nothing_yet text = record { lines = []; fits = tt; parts = refl; gives = refl; counted = refl }
+nothing_yet text = record { lines = []; said = []; says = tt; parts = refl; gives = refl; counted = refl }
 
-all_push : (lines : List EventLine) (item : EventLine) → AllLines lines → IsLine item → AllLines (lines ++ item ∷ [])
-all_push [] item fits last = (last, tt)
-all_push (x ∷ xs) item fits last = (fits.0, all_push xs item fits.1 last)
-
-map_push : (lines : List EventLine) (item : EventLine) (left : List ℕ) → lines_text (lines ++ item ∷ []) ++ left ≡ lines_text lines ++ (line_text item ++ 10 ∷ left)
-map_push [] item left = with_end (line_text item) [] left
-map_push (x ∷ xs) item left =
-    append_assoc (line_text x ++ 10 ∷ []) (lines_text (xs ++ item ∷ [])) left
-    ∙ ap (λ (t : List ℕ). (line_text x ++ 10 ∷ []) ++ t) (map_push xs item left)
-    ∙ sym (append_assoc (line_text x ++ 10 ∷ []) (lines_text xs) (line_text item ++ 10 ∷ left))
+all_push : (lines : List (List ℕ)) (said : List EventLine) (line : List ℕ) (item : EventLine) → SayAll lines said → SpellsLine line item → SayAll (lines ++ line ∷ []) (said ++ item ∷ [])
+all_push [] [] line item says last = (last, tt)
+all_push [] (x ∷ said) line item says last = elim says [ ]
+all_push (l ∷ lines) [] line item says last = elim says [ ]
+all_push (l ∷ lines) (x ∷ said) line item says last = (says.0, all_push lines said line item says.1 last)
 
 pub one_further : (draft next : Draft) (number : ℕ) (text left line after : List ℕ) (item : EventLine) → SoFar draft number text left → Some (line, after) ≡ cut_at 10 left → Some item ≡ line_at line → Some next ≡ taken draft item → SoFar next (number + 1) text after
 one_further draft next number text left line after item s cut is goes =
     let parts = cut_took 10 left (line, after) (sym cut) in
-    let t = line_took line item (sym is) in
     record {
-      lines = s.lines ++ item ∷ [];
-      fits = all_push s.lines item s.fits t.0;
-      parts = s.parts ∙ ap (λ (x : List ℕ). lines_text s.lines ++ x) (parts.whole ∙ ap (λ (x : List ℕ). x ++ 10 ∷ after) t.1) ∙ sym (map_push s.lines item after);
-      gives = drafted-push nothing_read draft s.lines item s.gives ∙ sym goes;
-      counted = omega (arith, s.counted, length_push s.lines item);
+      lines = s.lines ++ line ∷ [];
+      said = s.said ++ item ∷ [];
+      says = all_push s.lines s.said line item s.says (line_took line item (sym is));
+      parts = s.parts ∙ ap (λ (x : List ℕ). with_ends s.lines ++ x) parts.whole ∙ sym (longer s.lines line after);
+      gives = drafted-push nothing_read draft s.said item s.gives ∙ sym goes;
+      counted = omega (arith, s.counted, length_push s.lines line);
     }
 
 pub all_read : (draft : Draft) (number : ℕ) (text left : List ℕ) → SoFar draft number text left → left ≡ [] → Drafts draft text
 all_read draft number text left s none = record {
   lines = s.lines;
-  fits = s.fits;
-  spelled = s.parts ∙ ap (λ (x : List ℕ). lines_text s.lines ++ x) none ∙ append-nil (lines_text s.lines);
+  said = s.said;
+  says = s.says;
+  spelled = s.parts ∙ ap (λ (x : List ℕ). with_ends s.lines ++ x) none ∙ append-nil (with_ends s.lines);
   gives = s.gives;
 }
 
-stuck_here : (draft : Draft) (number : ℕ) (text left : List ℕ) → SoFar draft number text left → (left ≡ [] → ⊥) → ((next : EventLine) (after : List ℕ) → IsLine next → left ≡ line_text next ++ 10 ∷ after → taken draft next ≡ None) → Stuck number text
+stuck_here : (draft : Draft) (number : ℕ) (text left : List ℕ) → SoFar draft number text left → (left ≡ [] → ⊥) → ((line after : List ℕ) (next : EventLine) → SpellsLine line next → left ≡ line ++ 10 ∷ after → taken draft next ≡ None) → Stuck number text
 stuck_here draft number text left s more no_next = record {
   draft = draft;
   before = s.lines;
+  said = s.said;
   left = left;
-  fits = s.fits;
+  says = s.says;
   parts = s.parts;
   gives = s.gives;
   counted = s.counted;
@@ -292,32 +342,33 @@ stuck_here draft number text left s more no_next = record {
 
 pub without_end : (draft : Draft) (number : ℕ) (text left : List ℕ) → SoFar draft number text left → (left ≡ [] → ⊥) → None ≡ cut_at 10 left → Stuck number text
 without_end draft number text left s more cut =
-    stuck_here draft number text left s more (λ next after fits e.
-    (let none : ◌≡◌ {A = Option (List ℕ × List ℕ)} None (Some (line_text next, after)) = cut ∙ ap (cut_at 10) e ∙ cut_again 10 (line_text next) after (line_no next fits) in absurd cc))
+    stuck_here draft number text left s more (λ line after next says e.
+    (let none : ◌≡◌ {A = Option (List ℕ × List ℕ)} None (Some (line, after)) = cut ∙ ap (cut_at 10) e ∙ cut_again 10 line after (line_no line next says) in absurd cc))
 
--- the line that is cut off is the one that is spelled
-same_cut : (left line after : List ℕ) (next : EventLine) (rest : List ℕ) → Some (line, after) ≡ cut_at 10 left → IsLine next → left ≡ line_text next ++ 10 ∷ rest → line_at line ≡ Some next
-same_cut left line after next rest cut fits e =
-    let same = some_pair_parts line (line_text next) after rest (cut ∙ ap (cut_at 10) e ∙ cut_again 10 (line_text next) rest (line_no next fits)) in
-    ap line_at same.0 ∙ line_again next fits
+-- the line that is cut off is the one that stands next
+same_cut : (left line after other rest : List ℕ) (next : EventLine) → Some (line, after) ≡ cut_at 10 left → SpellsLine other next → left ≡ other ++ 10 ∷ rest → line_at line ≡ Some next
+same_cut left line after other rest next cut says e =
+    let same = some_pair_parts line other after rest (cut ∙ ap (cut_at 10) e ∙ cut_again 10 other rest (line_no other next says)) in
+    ap line_at same.0 ∙ line_again other next says
 
 pub no_such_line : (draft : Draft) (number : ℕ) (text left line after : List ℕ) → SoFar draft number text left → (left ≡ [] → ⊥) → Some (line, after) ≡ cut_at 10 left → None ≡ line_at line → Stuck number text
 no_such_line draft number text left line after s more cut is =
-    stuck_here draft number text left s more (λ next rest fits e.
-    (let none : ◌≡◌ {A = Option EventLine} None (Some next) = is ∙ same_cut left line after next rest cut fits e in absurd cc))
+    stuck_here draft number text left s more (λ other rest next says e.
+    (let none : ◌≡◌ {A = Option EventLine} None (Some next) = is ∙ same_cut left line after other rest next cut says e in absurd cc))
 
 pub not_there : (draft : Draft) (number : ℕ) (text left line after : List ℕ) (item : EventLine) → SoFar draft number text left → (left ≡ [] → ⊥) → Some (line, after) ≡ cut_at 10 left → Some item ≡ line_at line → None ≡ taken draft item → Stuck number text
 not_there draft number text left line after item s more cut is stop =
-    stuck_here draft number text left s more (λ next rest fits e.
-    (let same : item ≡ next = same_some item next (is ∙ same_cut left line after next rest cut fits e) in
+    stuck_here draft number text left s more (λ other rest next says e.
+    (let same : item ≡ next = same_some item next (is ∙ same_cut left line after other rest next cut says e) in
     sym (stop ∙ ap (taken draft) same)))
 
 -- ---- one file a text
 
 pub one_file : (text : List ℕ) (config other : Config) (rounds others : List Round) → SpellsEvents config rounds text → SpellsEvents other others text → (config ≡ other) × (rounds ≡ others)
 one_file text config other rounds others s t =
-    let all = file_lines s.head rounds in
-    let same : file_lines t.head others ≡ all = same_lines all (file_lines t.head others) s.fits t.fits (append_cancel_left (version_line ++ 10 ∷ []) _ _ (sym s.spelled ∙ t.spelled)) in
+    let lines : t.lines ≡ s.lines = same_lines s.lines t.lines (lines_of config rounds text s) (lines_of other others text t) (append_cancel_left (version_line ++ 10 ∷ []) _ _ (sym s.spelled ∙ t.spelled)) in
+    let says = subst (λ (ls : List (List ℕ)). AllZip SpellsLine ls (file_lines t.head others)) lines t.says in
+    let same : file_lines t.head others ≡ file_lines s.head rounds = one_list s.lines (file_lines s.head rounds) (file_lines t.head others) s.says says in
     let g = gives config rounds text s in
     let h = gives other others text t in
     let is : g.draft ≡ h.draft = same_some g.draft h.draft (sym g.taken_all ∙ sym (ap (drafted nothing_read) same) ∙ h.taken_all) in

@@ -8,6 +8,8 @@ pub mod Cuts
 pub mod Shown
 pub mod Streams
 pub mod NumberLaws
+pub mod FieldLaws
 pub mod LineLaws
+pub mod LowerCase
 pub mod Drafts
 pub mod Files

@@ -1,12 +1,10 @@
 -- The bytes of a seed, one after the other: what is read is spelled so, and what is spelled so is read.
-use Rattle.std.proofs.Common.{◌≡◌, ℕ, zero, suc, ◌+◌, ◌-◌, ◌<◌, ◌≤◌, Bool, true, false, cond, eqb, List, [], ◌∷◌, ◌++◌, length, take, set, Option, Some, None, refl, sym, ap, subst, ◌∙◌, append_assoc, arith}
-use Rattle.std.specs.List.{flat_map, list_all}
-use Rattle.std.specs.Option.{option_map}
+use Rattle.std.proofs.Common.{◌≡◌, ℕ, zero, suc, ◌+◌, ◌-◌, ◌<◌, ◌≤◌, Bool, true, cond, eqb, List, [], ◌∷◌, ◌++◌, length, take, set, Option, Some, None, refl, sym, ap, subst, ◌∙◌, append_assoc, arith}
+use Rattle.std.specs.List.{flat_map}
 use Rattle.std.proofs.lemmas.Bool.{and_parts, and_from, ltb-true, lt-ltb, ne_eqb}
 use Rattle.std.proofs.lemmas.List.{append-nil, take_more_set, take_all}
-use Rattle.std.proofs.lemmas.Option.{some_pair_parts}
 use Rattle.sip_files.specs.Word.{hex_pair, are_bytes}
-use Rattle.sip_files.specs.Reading.{◌>>=◌, hex_byte, pair_at, pairs_at, seed_at}
+use Rattle.sip_files.specs.Reading.{◌>>=◌, hex_byte, pair_at, pairs_at}
 use Rattle.sip_files.proofs.Options.{bind_some, same_some}
 use Rattle.sip_files.proofs.Hex.{pair_takes, pair_again}
 use Rattle.sip_files.proofs.Escapes.{onto}

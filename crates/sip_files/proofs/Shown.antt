@@ -1,12 +1,12 @@
 -- Which bytes stand in a field: no space and no line's end in a word or a number, and no line's end in a rest.
-use Rattle.std.proofs.Common.{◌≡◌, ℕ, ◌+◌, ◌/◌, ◌%◌, ◌<◌, ◌≤◌, Bool, true, false, cond, not, eqb, leb, ltb, ◌&&◌, List, [], ◌∷◌, ◌++◌, Option, Some, None, refl, sym, ap, ◌∙◌, arith, inl, inr, codes, length}
+use Rattle.std.proofs.Common.{◌≡◌, ℕ, ◌/◌, ◌%◌, ◌≤◌, Bool, true, false, cond, not, eqb, List, [], ◌∷◌, ◌++◌, Option, Some, None, refl, sym, ap, ◌∙◌, arith, codes, length}
 use Rattle.std.specs.List.{list_all, flat_map}
 use Rattle.std.specs.Char.{is_ascii_digit}
 use Rattle.std.specs.Str.{bytes_eq}
-use Rattle.std.proofs.lemmas.Bool.{and_parts, and_from, cases_Bool, eqb-true, ne_eqb, not_from_false, true≢false, ltb-true}
+use Rattle.std.proofs.lemmas.Bool.{and_parts, and_from, eqb-true, true≢false}
 use Rattle.std.proofs.lemmas.Bool.Decides.{nat_tests}
 use Rattle.std.proofs.lemmas.List.Folds.{list_all-append}
-use Rattle.sip_files.specs.Word.{is_plain, is_plain_or_space, letter_of, hex_digit, hex_pair, spelled_byte, spelled_bytes, spelled_word, spelled_rest, are_bytes}
+use Rattle.sip_files.specs.Word.{is_plain, is_plain_or_space, letter_of, hex_digit, hex_pair, spelled_byte, spelled_bytes, spelled_word, spelled_rest}
 use Rattle.sip_files.proofs.Cuts.{has_no}
 use Rattle.sip_files.proofs.Escapes.{spelled_itself, spelled_letter, spelled_hex}
 use Rattle.sip_files.proofs.WordLaws.{word_is}

@@ -1,6 +1,6 @@
 -- The event file, version 1: the text of a configuration and rounds, and when a text is none.
 use Rattle.std.specs.Prelude.{◌≡◌, ℕ, ◌+◌, ◌≤◌, ◌<◌, ◌^◌, List, [], ◌∷◌, ◌++◌, length, map, Option, Some, None, Result, IsTrue, MatchResult, codes, unwrap_or, replicate, not, ◌==◌, ◌⊎◌}
-use Rattle.std.specs.List.{flat_map, list_all, AllByRecursion}
+use Rattle.std.specs.List.{flat_map, list_all, AllByRecursion, AllZip}
 use Rattle.sip_message.specs.declared.addr.Addr.{Addr}
 use Rattle.sip_round.specs.declared.config.Config.{Config}
 use Rattle.sip_round.specs.declared.round.Round.{Round}
@@ -8,7 +8,7 @@ use Rattle.sip_files.specs.declared.event_line.EventLine.{EventLine}
 use Rattle.sip_files.specs.declared.event_line.EventLine.TheVariants as line
 use Rattle.sip_files.specs.declared.events_fault.EventsFault.{EventsFault}
 use Rattle.sip_files.specs.declared.events_fault.EventsFault.TheVariants.{TooLong, BadVersion, BadLine, NoMemory}
-use Rattle.sip_files.specs.Events.{line_text, IsLine}
+use Rattle.sip_files.specs.Events.{SpellsLine}
 
 -- ---- the lines of a file
 
@@ -49,15 +49,17 @@ with_ends lines = flat_map (λ text. text ++ 10 ∷ []) lines
 abbrev pub version_line : List ℕ
 version_line = codes "sip-events 1"
 
-abbrev pub file_text : List EventLine → List ℕ
-file_text lines = with_ends (version_line ∷ map line_text lines)
+abbrev pub file_text : List (List ℕ) → List ℕ
+file_text lines = with_ends (version_line ∷ lines)
 
--- the text is that of the configuration and the rounds, for some choice of the optional lines
+-- The text is that of the configuration and the rounds, for some choice of the optional lines and of the case of letters in the
+-- branches and hosts of failed lines.
 pub record SpellsEvents (config : Config) (rounds : List Round) (text : List ℕ) : Type 0 where
   pub head : Head
+  pub lines : List (List ℕ)
   pub configured : config_of head ≡ config
-  pub fits : AllByRecursion IsLine (file_lines head rounds)
-  pub spelled : text ≡ file_text (file_lines head rounds)
+  pub says : AllZip SpellsLine lines (file_lines head rounds)
+  pub spelled : text ≡ file_text lines
 
 -- ---- the faults
 

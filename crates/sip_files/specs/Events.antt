@@ -1,16 +1,23 @@
 -- The event file, version 1: the lines of an event file, and what may stand in them.
-use Rattle.std.specs.Prelude.{◌≡◌, ℕ, ◌≤◌, ◌^◌, ◌-◌, List, [], ◌∷◌, ◌++◌, length, map, Option, Some, None, IsTrue, codes, unwrap_or, replicate}
+use Rattle.std.specs.Prelude.{◌≡◌, ℕ, ◌≤◌, ◌^◌, ◌-◌, List, [], ◌++◌, length, Option, Some, None, IsTrue, codes, unwrap_or, ◌⊎◌}
 use Rattle.std.specs.List.{flat_map}
+use Rattle.std.specs.Str.{str_to_ascii_lowercase}
 use Rattle.sip_parts.specs.Word.{is_word}
 use Rattle.sip_parts.specs.Reason.{is_reason}
+use Rattle.sip_parts.specs.Uri.{is_uri}
+use Rattle.sip_text.specs.Token.{is_token}
 use Rattle.sip_message.specs.declared.addr.Addr.{Addr}
 use Rattle.sip_message.specs.declared.id.Id.{Id}
 use Rattle.sip_message.specs.declared.key.Key.{Key}
-use Rattle.sip_message.specs.declared.key.Key.TheVariants.{Client, Server}
+use Rattle.sip_message.specs.Key.{client_key, server_key}
 use Rattle.sip_served.specs.declared.command.Reliability.{Reliability}
-use Rattle.sip_served.specs.declared.command.Reliability.TheVariants.{Plain, Reliable}
+use Rattle.sip_served.specs.declared.command.Reliability.TheVariants as reliability
 use Rattle.sip_served.specs.declared.command.ProvisionalSupport.{ProvisionalSupport}
 use Rattle.sip_served.specs.declared.command.ProvisionalSupport.TheVariants as support
+use Rattle.sip_served.specs.declared.command.DialogBody.{DialogBody}
+use Rattle.sip_served.specs.declared.command.DialogRequest.{DialogRequest}
+use Rattle.sip_served.specs.declared.command.Invite.{Invite}
+use Rattle.sip_served.specs.declared.command.Plain.{Plain}
 use Rattle.sip_served.specs.declared.command.Respond.{Respond}
 use Rattle.sip_served.specs.declared.command.UserCommand.{UserCommand}
 use Rattle.sip_served.specs.declared.command.UserCommand.TheVariants as command
@@ -38,6 +45,47 @@ IsCallId text = IsTrue (are_bytes text) × IsTrue (is_word text)
 abbrev pub IsReason : List ℕ → Type 0
 IsReason text = IsTrue (are_bytes text) × IsTrue (is_reason text)
 
+abbrev pub IsUri : List ℕ → Type 0
+IsUri text = IsTrue (are_bytes text) × IsTrue (is_uri text)
+
+abbrev pub IsMethod : List ℕ → Type 0
+IsMethod text = IsTrue (is_token text)
+
+-- an absent tag is the empty one
+abbrev pub IsTag : Option (List ℕ) → Type 0
+IsTag None = Unit
+IsTag (Some text) = IsTrue (are_bytes text) × IsTrue (is_token text)
+
+pub record IsInvite (invite : Invite) : Type 0 where
+  pub call_id : IsCallId invite.call_id
+  pub address : IsAddress invite.address
+  pub request_uri : IsUri invite.request_uri
+  pub from : IsUri invite.from
+  pub to : IsUri invite.to
+  pub body : IsTrue (are_bytes invite.body)
+
+pub record IsPlain (plain : Plain) : Type 0 where
+  pub call_id : IsCallId plain.call_id
+  pub address : IsAddress plain.address
+  pub method : IsMethod plain.method
+  pub request_uri : IsUri plain.request_uri
+  pub from : IsUri plain.from
+  pub to : IsUri plain.to
+  pub body : IsTrue (are_bytes plain.body)
+
+pub record IsRequest (request : DialogRequest) : Type 0 where
+  pub call_id : IsCallId request.call_id
+  pub local_tag : IsTag request.local_tag
+  pub remote_tag : IsTag request.remote_tag
+  pub method : IsMethod request.method
+  pub body : IsTrue (are_bytes request.body)
+
+pub record IsBody (given : DialogBody) : Type 0 where
+  pub call_id : IsCallId given.call_id
+  pub local_tag : IsTag given.local_tag
+  pub remote_tag : IsTag given.remote_tag
+  pub body : IsTrue (are_bytes given.body)
+
 pub record IsRespond (respond : Respond) : Type 0 where
   pub call_id : IsCallId respond.call_id
   pub id : IsId respond.id
@@ -45,15 +93,15 @@ pub record IsRespond (respond : Respond) : Type 0 where
   pub body : IsTrue (are_bytes respond.body)
   pub reason : IsReason respond.reason
 
--- The events that a file may have: datagrams that came in, and answers of the user.
+-- the commands that a file may have
 abbrev pub IsCommandLine : UserCommand → Type 0
+IsCommandLine (command.Invite invite) = IsInvite invite
+IsCommandLine (command.Plain plain) = IsPlain plain
+IsCommandLine (command.Request request) = IsRequest request
 IsCommandLine (command.Respond respond) = IsRespond respond
-IsCommandLine _ = ⊥
-
-abbrev pub IsEventLine : Event → Type 0
-IsEventLine (Datagram from bytes) = IsAddress from × IsTrue (are_bytes bytes)
-IsEventLine (Failed key) = ⊥
-IsEventLine (Command command) = IsCommandLine command
+IsCommandLine (command.Ack body) = IsBody body
+IsCommandLine (command.Prack body) = IsBody body
+IsCommandLine (command.Cancel cancel) = ⊥
 
 -- ---- the lines
 
@@ -62,8 +110,8 @@ abbrev pub tag_field : Option (List ℕ) → List ℕ
 tag_field tag = word_field (unwrap_or tag [])
 
 abbrev pub reliability_text : Reliability → List ℕ
-reliability_text Plain = codes "plain"
-reliability_text Reliable = codes "reliable"
+reliability_text reliability.Plain = codes "plain"
+reliability_text reliability.Reliable = codes "reliable"
 
 abbrev pub support_text : ProvisionalSupport → List ℕ
 support_text support.None = codes "none"
@@ -86,26 +134,43 @@ command_text (command.Ack c) = codes "ack" ++ word_field c.call_id ++ tag_field 
 command_text (command.Prack c) = codes "prack" ++ word_field c.call_id ++ tag_field c.local_tag ++ tag_field c.remote_tag ++ word_field c.body
 command_text (command.Cancel c) = codes "cancel" ++ word_field c.call_id ++ id_field c.id
 
-abbrev pub key_text : Key → List ℕ
-key_text (Client branch method) = codes "failed client" ++ word_field branch ++ plain_field method
-key_text (Server branch sent_by method) =
-    codes "failed server" ++ word_field branch ++ word_field sent_by.host ++ number_field sent_by.port ++ plain_field method
+-- The line of a failed send spells the branch and the host of its key in any case of letters; the key has them in lower case.
 
-abbrev pub event_text : Event → List ℕ
-event_text (Datagram from bytes) = codes "datagram" ++ address_field from ++ rest_field bytes
-event_text (Failed key) = key_text key
-event_text (Command command) = command_text command
+pub record SpellsClient (text : List ℕ) (key : Key) : Type 0 where
+  pub branch : List ℕ
+  pub method : List ℕ
+  pub bytes : IsTrue (are_bytes branch)
+  pub token : IsMethod method
+  pub named : key ≡ client_key branch method
+  pub spelled : text ≡ codes "failed client" ++ word_field branch ++ plain_field method
 
-abbrev pub line_text : EventLine → List ℕ
-line_text (line.Local address) = codes "local" ++ address_field address
-line_text (line.Seed seed) = codes "seed" ++ plain_field (flat_map hex_pair seed)
-line_text (line.First number) = codes "first" ++ number_field number
-line_text (line.Round moment) = codes "round" ++ number_field moment
-line_text (line.Event event) = event_text event
+pub record SpellsServer (text : List ℕ) (key : Key) : Type 0 where
+  pub branch : List ℕ
+  pub host : List ℕ
+  pub port : ℕ
+  pub method : List ℕ
+  pub bytes : IsTrue (are_bytes branch)
+  pub host_bytes : IsTrue (are_bytes host)
+  pub bound : port ≤ 65535
+  pub token : IsMethod method
+  pub named : key ≡ server_key branch host port method
+  pub spelled : text ≡ codes "failed server" ++ word_field branch ++ word_field host ++ number_field port ++ plain_field method
 
-abbrev pub IsLine : EventLine → Type 0
-IsLine (line.Local address) = IsAddress address
-IsLine (line.Seed seed) = IsSeed seed
-IsLine (line.First number) = number ≤ 2 ^ 62
-IsLine (line.Round moment) = moment ≤ 2 ^ 64 - 1
-IsLine (line.Event event) = IsEventLine event
+abbrev pub SpellsEvent : List ℕ → Event → Type 0
+SpellsEvent text (Datagram from bytes) =
+    (IsAddress from × IsTrue (are_bytes bytes)) × (text ≡ codes "datagram" ++ address_field from ++ rest_field bytes)
+SpellsEvent text (Failed key) = SpellsClient text key ⊎ SpellsServer text key
+SpellsEvent text (Command command) = IsCommandLine command × (text ≡ command_text command)
+
+-- the text is a line that says this
+abbrev pub SpellsLine : List ℕ → EventLine → Type 0
+SpellsLine text (line.Local address) = IsAddress address × (text ≡ codes "local" ++ address_field address)
+SpellsLine text (line.Seed seed) = IsSeed seed × (text ≡ codes "seed" ++ plain_field (flat_map hex_pair seed))
+SpellsLine text (line.First number) = (number ≤ 2 ^ 62) × (text ≡ codes "first" ++ number_field number)
+SpellsLine text (line.Round moment) = (moment ≤ 2 ^ 64 - 1) × (text ≡ codes "round" ++ number_field moment)
+SpellsLine text (line.Event event) = SpellsEvent text event
+
+-- texts that are the same, or for a failed send the same up to the case of letters
+abbrev pub AreAlike : EventLine → List ℕ → List ℕ → Type 0
+AreAlike (line.Event (Failed key)) text other = str_to_ascii_lowercase text ≡ str_to_ascii_lowercase other
+AreAlike item text other = text ≡ other

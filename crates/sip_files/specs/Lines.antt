@@ -1,11 +1,11 @@
 -- What the steps of reading an event file tell.
-use Rattle.std.specs.Prelude.{◌≡◌, ℕ, ◌+◌, List, [], ◌∷◌, ◌++◌, length, map, Option, Some, None}
-use Rattle.std.specs.List.{AllByRecursion}
+use Rattle.std.specs.Prelude.{◌≡◌, ℕ, ◌+◌, List, [], ◌∷◌, ◌++◌, length, Some, None}
+use Rattle.std.specs.List.{AllZip}
 use Rattle.sip_files.specs.declared.draft.Draft.{Draft}
 use Rattle.sip_files.specs.declared.event_line.EventLine.{EventLine}
 use Rattle.sip_files.specs.declared.events_fault.EventsFault.{EventsFault}
 use Rattle.sip_files.specs.declared.events_fault.EventsFault.TheVariants.{TooLong, BadVersion, BadLine, NoMemory}
-use Rattle.sip_files.specs.Events.{line_text, IsLine}
+use Rattle.sip_files.specs.Events.{SpellsLine}
 use Rattle.sip_files.specs.EventFile.{with_ends, version_line, HasVersion}
 use Rattle.sip_files.specs.Drafting.{nothing_read, taken, drafted}
 
@@ -18,24 +18,26 @@ TellsVersion BadVersion text = ¬ (HasVersion text)
 TellsVersion (BadLine number) text = (number ≡ 1) × (text ≡ version_line)
 TellsVersion NoMemory text = ⊥
 
--- the lines of the text give the draft
+-- what the lines of the text say gives the draft
 pub record Drafts (draft : Draft) (text : List ℕ) : Type 0 where
-  pub lines : List EventLine
-  pub fits : AllByRecursion IsLine lines
-  pub spelled : text ≡ with_ends (map line_text lines)
-  pub gives : drafted nothing_read lines ≡ Some draft
+  pub lines : List (List ℕ)
+  pub said : List EventLine
+  pub says : AllZip SpellsLine lines said
+  pub spelled : text ≡ with_ends lines
+  pub gives : drafted nothing_read said ≡ Some draft
 
--- the lines before this one give a draft, and no line that is spelled next may follow them
+-- what the lines before this one say gives a draft, and what a line that stands next says may not follow it
 pub record Stuck (number : ℕ) (text : List ℕ) : Type 0 where
   pub draft : Draft
-  pub before : List EventLine
+  pub before : List (List ℕ)
+  pub said : List EventLine
   pub left : List ℕ
-  pub fits : AllByRecursion IsLine before
-  pub parts : text ≡ with_ends (map line_text before) ++ left
-  pub gives : drafted nothing_read before ≡ Some draft
+  pub says : AllZip SpellsLine before said
+  pub parts : text ≡ with_ends before ++ left
+  pub gives : drafted nothing_read said ≡ Some draft
   pub counted : number ≡ length before + 2
   pub more : left ≡ [] → ⊥
-  pub no_next : (next : EventLine) (after : List ℕ) → IsLine next → left ≡ line_text next ++ 10 ∷ after → taken draft next ≡ None
+  pub no_next : (line after : List ℕ) (next : EventLine) → SpellsLine line next → left ≡ line ++ 10 ∷ after → taken draft next ≡ None
 
 abbrev pub TellsLine : EventsFault → List ℕ → Type 0
 TellsLine TooLong text = ⊥

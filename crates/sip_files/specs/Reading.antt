@@ -1,5 +1,5 @@
 -- Reading the fields of a line from left to right, a function for each. What is read is said by the spellings.
-use Rattle.std.specs.Prelude.{ℕ, zero, suc, Bool, true, false, not, ◌&&◌, ◌||◌, ◌==◌, ◌+◌, ◌-◌, ◌*◌, nat_le, List, [], ◌∷◌, length, Option, Some, None, is_some, codes, option_and_then, if◌then◌else◌}
+use Rattle.std.specs.Prelude.{ℕ, zero, suc, Bool, false, not, ◌&&◌, ◌||◌, ◌==◌, ◌+◌, ◌-◌, ◌*◌, nat_le, List, [], ◌∷◌, length, Option, Some, None, is_some, codes, option_and_then, if◌then◌else◌}
 use Rattle.std.specs.List.{list_all}
 use Rattle.std.specs.Option.{option_map}
 use Rattle.std.specs.Borrow.{Bor}
@@ -98,6 +98,14 @@ number_at most field =
 -- a field before the first such byte, and what follows that
 abbrev pub field_at : {A : Type 0} → ℕ → (List ℕ → Option A) → List ℕ → Option (A × List ℕ)
 field_at at read text = cut_at at text >>= λ p. read p.0 >>= λ x. Some (x, p.1)
+
+-- two parts at the front, one after the other
+abbrev pub both_at : {A B : Type 0} → (List ℕ → Option (A × List ℕ)) → (List ℕ → Option (B × List ℕ)) → List ℕ → Option ((A × B) × List ℕ)
+both_at first second text = first text >>= λ a. second a.1 >>= λ b. Some ((a.0, b.0), b.1)
+
+-- a part at the front, and all that follows it
+abbrev pub ended_by : {A B : Type 0} → (List ℕ → Option (A × List ℕ)) → (List ℕ → Option B) → List ℕ → Option (A × B)
+ended_by front last text = front text >>= λ a. last a.1 >>= λ b. Some (a.0, b)
 
 unfoldable pub id_at : List ℕ → Option Id
 id_at field = do

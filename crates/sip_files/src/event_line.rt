@@ -1,15 +1,15 @@
 //! One line of an event file.
 
 ghost use Rattle.std.specs.Prelude.{◌≡◌, IfOk};
-ghost use Rattle.sip_files.specs.Reading.{field_at, id_at, number_at, read_now, word_at};
 ghost use Rattle.sip_files.specs.ReadLine as reading;
 
-use crate::numbers::{read_address, read_id, read_number, read_seed};
-use crate::words::{read_rest, read_word};
-use sip_message::{Addr, CallId, Id, Reason};
+use crate::command_line::read_command;
+use crate::failed_line::read_failed;
+use crate::numbers::{read_address, read_number, read_seed};
+use crate::words::read_rest;
+use sip_message::Addr;
 use sip_round::Event;
-use sip_served::{Reliability, Respond, UserCommand};
-use sip_text::{Text, cut};
+use sip_text::cut;
 use std::alloc::{AllocError, Global};
 
 /// The greatest number of a first round.
@@ -71,10 +71,10 @@ fn read_event(alloc: Global, keyword: &[u8], fields: &[u8]) -> Result<Option<Eve
     if keyword == b"datagram".as_slice() {
         return read_datagram(alloc, fields);
     }
-    if keyword == b"respond".as_slice() {
-        return read_respond(alloc, fields);
+    if keyword == b"failed".as_slice() {
+        return Ok(read_failed(alloc, fields)?.map(Event::Failed));
     }
-    Ok(None)
+    Ok(read_command(alloc, keyword, fields)?.map(Event::Command))
 }
 
 // `ADDR` and the datagram's bytes as a rest.
@@ -92,117 +92,4 @@ fn read_datagram(alloc: Global, fields: &[u8]) -> Result<Option<Event>, AllocErr
         return Ok(None);
     };
     Ok(Some(Event::Datagram { from, bytes }))
-}
-
-// The Call-ID as a word, the request's id, the status, `plain` or `reliable`, the body as a word, and the reason as a rest.
-#[tactic(auto, unfolding(crate::specs::ReadLine::respond_at))]
-fn read_respond(alloc: Global, fields: &[u8]) -> Result<Option<Event>, AllocError>
-    ensures { IfOk result (λ event. event ≡ reading.respond_at fields.now) }
-{
-    let Some((call_id, fields)) = call_id_field(alloc, fields)? else {
-        return Ok(None);
-    };
-    let Some((id, fields)) = id_field(fields) else {
-        return Ok(None);
-    };
-    let Some((status, fields)) = status_field(fields) else {
-        return Ok(None);
-    };
-    let Some((reliability, fields)) = reliability_field(fields) else {
-        return Ok(None);
-    };
-    let Some((body, reason)) = word_field(alloc, fields)? else {
-        return Ok(None);
-    };
-    let Some(reason) = read_reason(alloc, reason)? else {
-        return Ok(None);
-    };
-    Ok(Some(Event::Command(UserCommand::Respond(Respond {
-        call_id,
-        id,
-        status,
-        reliability,
-        body,
-        reason,
-    }))))
-}
-
-// A field that is read, and the fields after it.
-
-fn call_id_field(alloc: Global, fields: &[u8]) -> Result<Option<(CallId, &[u8])>, AllocError>
-    ensures { IfOk result (λ read. read_now read ≡ field_at 32 reading.call_id_at fields.now) }
-{
-    let Some((call_id, fields)) = cut(b' ', fields) else {
-        return Ok(None);
-    };
-    let Some(call_id) = read_call_id(alloc, call_id)? else {
-        return Ok(None);
-    };
-    Ok(Some((call_id, fields)))
-}
-
-fn word_field(alloc: Global, fields: &[u8]) -> Result<Option<(Text, &[u8])>, AllocError>
-    ensures { IfOk result (λ read. read_now read ≡ field_at 32 word_at fields.now) }
-{
-    let Some((word, fields)) = cut(b' ', fields) else {
-        return Ok(None);
-    };
-    let Some(word) = read_word(alloc, word)? else {
-        return Ok(None);
-    };
-    Ok(Some((word, fields)))
-}
-
-fn id_field(fields: &[u8]) -> Option<(Id, &[u8])>
-    ensures { read_now result ≡ field_at 32 id_at fields.now }
-{
-    let (id, fields) = cut(b' ', fields)?;
-    Some((read_id(id)?, fields))
-}
-
-fn status_field(fields: &[u8]) -> Option<(u16, &[u8])>
-    ensures { read_now result ≡ field_at 32 (number_at 999) fields.now }
-{
-    let (status, fields) = cut(b' ', fields)?;
-    Some((read_number(status, 999)? as u16, fields))
-}
-
-fn reliability_field(fields: &[u8]) -> Option<(Reliability, &[u8])>
-    ensures { read_now result ≡ field_at 32 reading.reliability_at fields.now }
-{
-    let (reliability, fields) = cut(b' ', fields)?;
-    Some((read_reliability(reliability)?, fields))
-}
-
-#[tactic(auto, unfolding(crate::specs::ReadLine::call_id_at))]
-fn read_call_id(alloc: Global, field: &[u8]) -> Result<Option<CallId>, AllocError>
-    ensures { IfOk result (λ call_id. call_id ≡ reading.call_id_at field.now) }
-{
-    let Some(text) = read_word(alloc, field)? else {
-        return Ok(None);
-    };
-    Ok(CallId::new(text))
-}
-
-#[tactic(auto, unfolding(crate::specs::ReadLine::reason_at))]
-fn read_reason(alloc: Global, field: &[u8]) -> Result<Option<Reason>, AllocError>
-    ensures { IfOk result (λ reason. reason ≡ reading.reason_at field.now) }
-{
-    let Some(text) = read_rest(alloc, field)? else {
-        return Ok(None);
-    };
-    Ok(Reason::new(text))
-}
-
-#[tactic(auto, unfolding(crate::specs::ReadLine::reliability_at))]
-fn read_reliability(field: &[u8]) -> Option<Reliability>
-    ensures { result ≡ reading.reliability_at field.now }
-{
-    if field == b"plain".as_slice() {
-        return Some(Reliability::Plain);
-    }
-    if field == b"reliable".as_slice() {
-        return Some(Reliability::Reliable);
-    }
-    None
 }

@@ -6,7 +6,7 @@ ghost use Rattle.sip_files.specs.Word.{are_bytes, spelled_rest, spelled_word};
 ghost use Rattle.sip_round.specs.declared.config.Config.{Config};
 ghost use Rattle.sip_round.specs.declared.round.Round.{Round};
 ghost use Rattle.sip_files.specs.EventFile.{SpellsEvents};
-ghost use Rattle.sip_files.specs.Events.{IsLine, line_text};
+ghost use Rattle.sip_files.specs.Events.{AreAlike, SpellsLine};
 
 /// The words of two different texts differ.
 pub fn one_text_of_a_word()
@@ -20,7 +20,12 @@ pub fn one_text_of_a_rest()
 
 /// A line of an event file says one thing.
 pub fn one_meaning_of_a_line()
-    ensures { (line other : EventLine) → IsLine line → IsLine other → line_text line ≡ line_text other → line ≡ other }
+    ensures { (text : List ℕ) (line other : EventLine) → SpellsLine text line → SpellsLine text other → line ≡ other }
+{}
+
+/// A line of an event file has one text; that of a failed send has one up to the case of letters.
+pub fn one_text_of_a_line()
+    ensures { (line : EventLine) (text other : List ℕ) → SpellsLine text line → SpellsLine other line → AreAlike line text other }
 {}
 
 /// A text is an event file of one configuration and one list of rounds.

@@ -1,10 +1,13 @@
 //! The event file and the output file, and the replay of the one into the other.
 #![tactic(auto)]
 
+mod command_line;
 mod draft;
 mod event_line;
 mod events_fault;
 mod events_file;
+mod failed_line;
+mod fields;
 mod file_replay;
 pub mod laws;
 mod numbers;

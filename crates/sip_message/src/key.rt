@@ -4,26 +4,24 @@ ghost use Rattle.std.specs.Ordering.{eq_by_cmp, as_partial_cmp};
 ghost use Rattle.std.specs.Cmp.{eq_by_cmp_equiv, partial_equiv_from_equiv, partial_order_from_total};
 ghost use Rattle.std.specs.Cmp.Rules.{comparing};
 ghost use Rattle.std.proofs.Common.{rules, refl};
-ghost use Rattle.std.specs.Str.{str_to_ascii_lowercase};
 ghost use Rattle.sip_message.specs.Key as keys;
 
 use crate::sent_by::SentBy;
-use sip_parts::Token;
-use sip_text::Text;
+use sip_parts::{LowerText, Token};
 use std::alloc::{AllocError, Global};
 use std::cmp::Ordering;
 
-/// What tells transactions apart. The branch and the host are in lower case. Client keys come before server keys, then
+/// What tells transactions apart. Client keys come before server keys, then
 /// the order is by branch, host, port and method.
 pub enum Key {
     /// A client's: its top branch, and the method of its CSeq.
     Client {
-        branch: Text,
+        branch: LowerText,
         method: Token,
     },
     /// A server's: the top branch and sent-by of the request, and its method; that of an ACK is INVITE.
     Server {
-        branch: Text,
+        branch: LowerText,
         sent_by: SentBy,
         method: Token,
     },
@@ -35,7 +33,7 @@ impl Key {
         ensures { IfOk result (λ key. key ≡ keys.client_key branch.now method) }
     {
         Ok(Key::Client {
-            branch: lower_case(alloc, branch)?,
+            branch: LowerText::of(alloc, branch)?,
             method,
         })
     }
@@ -51,9 +49,9 @@ impl Key {
         ensures { IfOk result (λ key. key ≡ keys.server_key branch.now host.now port method) }
     {
         Ok(Key::Server {
-            branch: lower_case(alloc, branch)?,
+            branch: LowerText::of(alloc, branch)?,
             sent_by: SentBy {
-                host: lower_case(alloc, host)?,
+                host: LowerText::of(alloc, host)?,
                 port,
             },
             method,
@@ -177,21 +175,17 @@ impl Ord for Key {
     ghost matches_eq = { λ one other. refl };
 
     fn cmp(&self, other: &Key) -> Ordering {
-        self.side()
-            .cmp(&other.side())
-            .then(self.branch().cmp(&other.branch()))
-            .then(self.host().cmp(&other.host()))
+        let side = self.side().cmp(&other.side());
+        if side.is_ne() {
+            return side;
+        }
+        let branch = self.branch().cmp(&other.branch());
+        if branch.is_ne() {
+            return branch;
+        }
+        self.host()
+            .cmp(&other.host())
             .then(self.port().cmp(&other.port()))
             .then(self.method().cmp(&other.method()))
     }
-}
-
-fn lower_case(alloc: Global, text: &[u8]) -> Result<Text, AllocError>
-    ensures { IfOk result (λ lower. lower ≡ str_to_ascii_lowercase text.now) }
-{
-    let bytes = text
-        .iter()
-        .map(|byte| byte.to_ascii_lowercase())
-        .collect(alloc)?;
-    Ok(Text::from_vec(bytes))
 }

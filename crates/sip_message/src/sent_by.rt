@@ -1,12 +1,12 @@
 //! The sent-by of a key (RFC 3261, section 17.2.3).
 ghost use Rattle.std.specs.Prelude.{◌≡◌};
 
-use sip_text::Text;
+use sip_parts::LowerText;
 use std::alloc::AllocError;
 
-/// The host and the port of a Via.
+/// The host, in lower case, and the port of a Via.
 pub struct SentBy {
-    pub host: Text,
+    pub host: LowerText,
     pub port: u16,
 }
 

@@ -2,12 +2,11 @@ pub mod Alone
 pub mod Apart
 pub mod Held
 pub mod History
-pub mod Inputs
 pub mod ItemsLeft
 pub mod Merged
+pub mod Named
 pub mod Ordered
 pub mod Parts
 pub mod Phases
-pub mod Owned
 pub mod Shards
 pub mod Tick

@@ -15,7 +15,7 @@ use Rattle.sip_model.specs.Machine.{Machine, IsIdle, next, state_from, state_aft
 use Rattle.sip_model.specs.Table.{Held, Covers, state_at, state_in}
 use Rattle.sip_model.specs.Phase.{Phase, by_place, told_items, told_tick, DealsPhase, AddsPhase, inputs_of, own_inputs, history, named_by, keys_of_phases, stepped, states_then, ticked, states_after, HoldsAfter}
 use Rattle.sip_model.proofs.Ordered.{by_bool, exact_at}
-use Rattle.sip_model.proofs.Inputs.{keys_in_order, named_before, named_now}
+use Rattle.sip_model.proofs.Named.{keys_in_order, named_before, named_now}
 
 module _ {K S I O : Type 0} (machine : Machine K S I O) where
   pub state_from-append : (key : K) (state : Option S) (before after : List I) → state_from machine key state (before ++ after) ≡ state_from machine key (state_from machine key state before) after

@@ -1,8 +1,6 @@
 pub mod History
-pub mod Inputs
 pub mod Laws
 pub mod Machine
-pub mod Owned
 pub mod Phase
 pub mod Shards
 pub mod Table

@@ -9,4 +9,5 @@ pub mod Parameters
 pub mod Tag
 pub mod HeaderEntry
 pub mod HeaderName
+pub mod LowerText
 pub mod OtherName

@@ -1,108 +1,38 @@
 //! The display text of an address (RFC 3261, section 20.10).
-ghost use Rattle.std.specs.Prelude.{◌≡◌, IsTrue, nat_eq, []};
-ghost use Rattle.std.specs.Option.{SomeIff};
-ghost use Rattle.std.specs.Cmp.{partial_equiv_from_equiv};
-ghost use Rattle.std.specs.Cmp.Lexicographic.{pointwise, nat_list_eq_equiv};
-ghost use Rattle.sip_parts.specs.DisplayText as rule;
+ghost use Rattle.std.specs.Prelude.{◌≡◌, []};
 ghost use Rattle.std.specs.List.{list_all};
+ghost use Rattle.sip_parts.specs.DisplayText as rule;
 
+use crate::checked::{Checked, Rule};
 use crate::header_value::has_no_blank_ends;
 use sip_text::{Text, is_quoted};
-use std::alloc::{AllocError, Global};
-use std::marker::Model;
+use std::alloc::Global;
+
+/// The rule of [`DisplayText`].
+pub struct DisplayTextRule;
+
+impl Rule for DisplayTextRule {
+    ghost use Rattle.sip_parts.specs.DisplayText as rule;
+
+    ghost holds = { rule.is_display_text };
+
+    fn test(text: &[u8]) -> bool {
+        is_display_text(text)
+    }
+}
 
 /// The display text of an address in a list: empty, a quoted string, or a text without `<`, `>`, `"`,
 /// `,` and line ends, and without spaces or tabs at its ends.
-pub struct DisplayText {
-    text: Text,
-}
+pub type DisplayText = Checked<DisplayTextRule>;
 
-impl Model for DisplayText {
-    ghost use Rattle.std.specs.Prelude.{ℕ, List, IsTrue};
-    ghost use Rattle.sip_parts.specs.DisplayText as rule;
-
-    ghost Value = { List ℕ };
-
-    ghost view = { λ a. a.text };
-
-    ghost invariant = { λ a. IsTrue (rule.is_display_text a.text) };
-}
-
-impl DisplayText {
+impl Checked<DisplayTextRule> {
     /// The empty display text. Takes no memory.
     #[tactic(auto, unfolding(crate::specs::DisplayText::is_display_text, sip_text::specs::Quoted::is_quoted))]
     pub fn nothing(alloc: Global) -> DisplayText
         ensures { result ≡ [] }
     {
-        DisplayText {
-            text: Text::from_vec(Vec::new(alloc)),
-        }
+        DisplayText::from_text(Text::from_vec(Vec::new(alloc)))
     }
-
-    /// The display text that the text is, or None where it isn't one.
-    pub fn new(text: Text) -> Option<DisplayText>
-        ensures { SomeIff result (IsTrue (rule.is_display_text text)) text }
-    {
-        if is_display_text(text.as_slice()) {
-            Some(DisplayText { text })
-        } else {
-            None
-        }
-    }
-
-    /// The display text that the text is.
-    pub fn from_text(text: Text) -> DisplayText
-        requires { IsTrue (rule.is_display_text text) }
-        ensures { result ≡ text }
-    {
-        DisplayText { text }
-    }
-
-    pub fn as_slice(&self) -> &[u8]
-        ensures value { result.now ≡ self.now }
-        ensures rule { IsTrue (rule.is_display_text self.now) }
-    {
-        self.text.as_slice()
-    }
-
-    /// Its text, given back without taking memory.
-    pub fn into_text(self) -> Text
-        ensures value { result ≡ self }
-        ensures rule { IsTrue (rule.is_display_text self) }
-    {
-        let DisplayText { text } = self;
-        text
-    }
-}
-
-impl Drop for DisplayText {
-    fn drop(self) {
-        let DisplayText { text: _ } = self;
-    }
-}
-
-impl Clone for DisplayText {
-    ghost is_clone = { λ original copy. copy ≡ original };
-
-    fn clone(&self) -> Result<DisplayText, AllocError> {
-        Ok(DisplayText {
-            text: self.text.clone()?,
-        })
-    }
-}
-
-impl PartialEq for DisplayText {
-    ghost eq = { pointwise nat_eq };
-
-    ghost laws = { partial_equiv_from_equiv nat_list_eq_equiv };
-
-    fn eq(&self, other: &DisplayText) -> bool {
-        self.text == other.text
-    }
-}
-
-impl Eq for DisplayText {
-    ghost laws = { nat_list_eq_equiv };
 }
 
 /// Whether the text is such a display text.

@@ -1,97 +1,26 @@
 //! The host of a Via (RFC 3261, section 20.42).
-ghost use Rattle.std.specs.Prelude.{◌≡◌, IsTrue, nat_eq};
-ghost use Rattle.std.specs.Option.{SomeIff};
-ghost use Rattle.std.specs.Cmp.{partial_equiv_from_equiv};
-ghost use Rattle.std.specs.Cmp.Lexicographic.{pointwise, nat_list_eq_equiv};
-ghost use Rattle.sip_parts.specs.Host as rule;
+ghost use Rattle.std.specs.Prelude.{◌≡◌};
 ghost use Rattle.std.specs.List.{list_all};
+ghost use Rattle.sip_parts.specs.Host as rule;
 
-use sip_text::{Text, cut};
-use std::alloc::AllocError;
-use std::marker::Model;
+use crate::checked::{Checked, Rule};
+use sip_text::cut;
 
-/// A host name or address as text. One in brackets may have colons.
-pub struct Host {
-    text: Text,
-}
+/// The rule of [`Host`].
+pub struct HostRule;
 
-impl Model for Host {
-    ghost use Rattle.std.specs.Prelude.{ℕ, List, IsTrue};
+impl Rule for HostRule {
     ghost use Rattle.sip_parts.specs.Host as rule;
 
-    ghost Value = { List ℕ };
+    ghost holds = { rule.is_host };
 
-    ghost view = { λ a. a.text };
-
-    ghost invariant = { λ a. IsTrue (rule.is_host a.text) };
-}
-
-impl Host {
-    /// The host that the text is, or None where it isn't one.
-    pub fn new(text: Text) -> Option<Host>
-        ensures { SomeIff result (IsTrue (rule.is_host text)) text }
-    {
-        if is_host(text.as_slice()) {
-            Some(Host { text })
-        } else {
-            None
-        }
-    }
-
-    /// The host that the text is.
-    pub fn from_text(text: Text) -> Host
-        requires { IsTrue (rule.is_host text) }
-        ensures { result ≡ text }
-    {
-        Host { text }
-    }
-
-    pub fn as_slice(&self) -> &[u8]
-        ensures value { result.now ≡ self.now }
-        ensures rule { IsTrue (rule.is_host self.now) }
-    {
-        self.text.as_slice()
-    }
-
-    /// Its text, given back without taking memory.
-    pub fn into_text(self) -> Text
-        ensures value { result ≡ self }
-        ensures rule { IsTrue (rule.is_host self) }
-    {
-        let Host { text } = self;
-        text
+    fn test(text: &[u8]) -> bool {
+        is_host(text)
     }
 }
 
-impl Drop for Host {
-    fn drop(self) {
-        let Host { text: _ } = self;
-    }
-}
-
-impl Clone for Host {
-    ghost is_clone = { λ original copy. copy ≡ original };
-
-    fn clone(&self) -> Result<Host, AllocError> {
-        Ok(Host {
-            text: self.text.clone()?,
-        })
-    }
-}
-
-impl PartialEq for Host {
-    ghost eq = { pointwise nat_eq };
-
-    ghost laws = { partial_equiv_from_equiv nat_list_eq_equiv };
-
-    fn eq(&self, other: &Host) -> bool {
-        self.text == other.text
-    }
-}
-
-impl Eq for Host {
-    ghost laws = { nat_list_eq_equiv };
-}
+/// A host name or address as text. One in brackets may have colons.
+pub type Host = Checked<HostRule>;
 
 /// Whether the text is a host.
 #[tactic(auto, unfolding(crate::specs::Host::is_host))]

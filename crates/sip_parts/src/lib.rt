@@ -2,11 +2,13 @@
 #![tactic(auto)]
 
 mod call_id;
+mod checked;
 mod display_text;
 mod header_entry;
 mod header_name;
 mod header_value;
 mod host;
+mod lower_text;
 mod other_name;
 mod parameter;
 mod parameter_value;
@@ -20,21 +22,23 @@ mod token;
 mod uri;
 mod word;
 
-pub use call_id::CallId;
-pub use display_text::{DisplayText, is_display_text};
+pub use call_id::{CallId, CallIdRule};
+pub use checked::{Checked, Rule};
+pub use display_text::{DisplayText, DisplayTextRule, is_display_text};
 pub use header_entry::{HeaderEntry, HeaderKind};
 pub use header_name::HeaderName;
-pub use header_value::{HeaderValue, has_no_line_byte};
-pub use host::{Host, is_host};
-pub use other_name::OtherName;
+pub use header_value::{HeaderValue, HeaderValueRule, has_no_line_byte};
+pub use host::{Host, HostRule, is_host};
+pub use lower_text::{LowerText, LowerTextRule};
+pub use other_name::{OtherName, OtherNameRule};
 pub use parameter::Parameter;
-pub use parameter_value::ParameterValue;
+pub use parameter_value::{ParameterValue, ParameterValueRule};
 pub use parameters::{parameter_named, value_named};
-pub use party_display::{PartyDisplay, is_party_display};
+pub use party_display::{PartyDisplay, PartyDisplayRule, is_party_display};
 pub use party_parameters::PartyParameters;
-pub use reason::Reason;
-pub use request_uri::RequestUri;
+pub use reason::{Reason, ReasonRule};
+pub use request_uri::{RequestUri, RequestUriRule};
 pub use status_code::StatusCode;
-pub use token::Token;
-pub use uri::{Uri, is_uri};
+pub use token::{Token, TokenRule};
+pub use uri::{Uri, UriRule, is_uri};
 pub use word::is_word;

@@ -1,3 +1,5 @@
 pub mod EventsStatus
 pub mod RoundStatus
 pub mod Status
+pub mod TalkStatus
+pub mod Words

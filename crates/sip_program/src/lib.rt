@@ -3,6 +3,8 @@
 
 mod program;
 mod status;
+mod talk_fault;
+mod talking;
 mod words;
 
 pub use program::ua;

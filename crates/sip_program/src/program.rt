@@ -1,18 +1,23 @@
 //! The program: what each command does.
 
-ghost use Rattle.std.specs.Prelude.{◌≡◌, ◌≢◌, ◌<◌, ◌≤◌, IfErr, IfOk, IfSome, OnOk};
+ghost use Rattle.std.specs.Prelude.{◌≡◌, ◌≢◌, ◌<◌, ◌≤◌, IfErr, IfSome, IsFalse, IsTrue, OnOk, map};
 ghost use Rattle.sip_files.specs.Replay.{WritesAll};
+ghost use Rattle.sip_program.specs.Words.{asks_replay};
 ghost use Rattle.sip_files.specs.declared.file_replay.ReplayFault.TheVariants as replay_fault;
 
-use crate::status::{finish, tell_words};
-use crate::words::{CutName, ReplayWords, parse};
+use crate::status::{finish, finish_talk, tell_words};
+use crate::talking::talk_by;
+use crate::words::{self, CutName, ReplayWords, parse, replay_words};
 use sip_files::{ReplayFault, replay};
 use sip_message::{First, Spread};
 use sip_round::Gate;
 use std::alloc::Global;
 use std::convert::AsStr;
 use std::io::{Read, Write};
+use std::net::Net;
+use std::random::RandomSource;
 use std::thread::Threads;
+use std::time::Clock;
 
 /// The gate of the program: it holds no piece of work up.
 struct Open;
@@ -21,11 +26,14 @@ impl Gate for Open {
     fn begin(&self, _shard: usize) {}
 }
 
-/// All that the program does, from its words to its status; the words stand without the program's own name.
+/// All that the program does, from its words to its status; the words stand without the program's
+/// own name.
 ///
-/// `ua replay` reads an event file from `input` and writes its output file to `output`. A fault is told on `errors` after `ua: `,
-/// and a fault of the words as `clap` tells it. A write to `errors` that fails is passed over.
-pub fn ua<T: Threads + Sync, S: AsStr, R: Read, W: Write, E: Write>(
+/// `ua replay` reads an event file from `input` and writes its output file to `output`. `ua listen`
+/// and `ua call` read nothing there, and write the lines of their notices to `output`. A fault is
+/// told on `errors` after `ua: `, and a fault of the words as `clap` tells it. A write to `errors`
+/// that fails is passed over.
+pub fn ua<T: Threads + Clock + Net + RandomSource + Sync, S: AsStr, R: Read, W: Write, E: Write>(
     rt: &T,
     alloc: Global,
     words: &[S],
@@ -33,12 +41,20 @@ pub fn ua<T: Threads + Sync, S: AsStr, R: Read, W: Write, E: Write>(
     output: &mut W,
     errors: &mut E,
 ) -> u8
-    ensures replays { result ≡ 0 → IfSome (R.remaining input.old) (WritesAll (W.contents output.old) (W.contents output.new)) }
-    ensures unwritten { result ≢ 0 → result ≢ 4 → output.new ≡ output.old }
+    ensures replays { IsTrue (asks_replay (map S.text words.now)) → result ≡ 0 → IfSome (R.remaining input.old) (WritesAll (W.contents output.old) (W.contents output.new)) }
+    ensures unwritten { IsTrue (asks_replay (map S.text words.now)) → result ≢ 0 → result ≢ 4 → output.new ≡ output.old }
+    ensures unread { IsFalse (asks_replay (map S.text words.now)) → input.new ≡ input.old }
+    ensures bad_words { result ≡ 2 → output.new ≡ output.old }
 {
-    match parse(alloc, words) {
-        Ok(words) => finish(replay_by(rt, alloc, words, input, output), errors),
-        Err(error) => tell_words(&error, errors),
+    let matches = match parse(alloc, words) {
+        Ok(matches) => matches,
+        Err(error) => return tell_words(&error, errors),
+    };
+    if words::asks_replay(words) {
+        let words = replay_words(&matches);
+        finish(replay_by(rt, alloc, words, input, output), errors)
+    } else {
+        finish_talk(talk_by(rt, alloc, &matches, output), errors)
     }
 }
 

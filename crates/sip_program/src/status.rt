@@ -2,11 +2,14 @@
 
 ghost use Rattle.std.specs.Prelude.{◌≡◌, ◌≢◌, MatchResult};
 ghost use Rattle.sip_program.specs.Status.{fault_status};
+ghost use Rattle.sip_program.specs.TalkStatus.{talk_status};
 
+use crate::talk_fault::TalkFault;
 use clap::Error;
 use clap::error::ErrorKind;
 use sip_files::{EventsFault, ReplayFault};
 use sip_round::RoundFault;
+use sip_udp::UaFault;
 use std::io::Write;
 
 const SUCCESS: u8 = 0;
@@ -40,7 +43,7 @@ pub fn no_memory<E: Write>(errors: &mut E) -> u8
     finish(Err(ReplayFault::NoMemory), errors)
 }
 
-/// Tells a fault, and gives the status of the end.
+/// Tells the fault of a replay, and gives the status of the end.
 pub(crate) fn finish<E: Write>(end: Result<(), ReplayFault>, errors: &mut E) -> u8
     ensures { MatchResult end (λ _. result ≡ 0) (λ fault. result ≡ fault_status fault) }
 {
@@ -50,6 +53,33 @@ pub(crate) fn finish<E: Write>(end: Result<(), ReplayFault>, errors: &mut E) -> 
             let _ = writeln!(errors, "ua: {fault}");
             status_of(fault)
         }
+    }
+}
+
+/// Tells why one who talks stopped, and gives the status of the end.
+pub(crate) fn finish_talk<E: Write>(end: Result<(), TalkFault>, errors: &mut E) -> u8
+    ensures { MatchResult end (λ _. result ≡ 0) (λ fault. result ≡ talk_status fault) }
+{
+    match end {
+        Ok(()) => SUCCESS,
+        Err(fault) => {
+            let _ = writeln!(errors, "ua: {fault}");
+            talk_status(fault)
+        }
+    }
+}
+
+fn talk_status(fault: TalkFault) -> u8
+    ensures { result ≡ talk_status fault }
+{
+    match fault {
+        TalkFault::BadArgument => BAD_WORDS,
+        TalkFault::Random | TalkFault::Ua(UaFault::Socket | UaFault::Output) => FAILED_DEVICE,
+        TalkFault::Ua(UaFault::NoMemory) => NO_MEMORY,
+        TalkFault::Ua(UaFault::Round { fault, .. }) => match fault {
+            RoundFault::NoMemory { .. } => NO_MEMORY,
+            _ => BAD_ROUND,
+        },
     }
 }
 

@@ -1,6 +1,7 @@
 //! The words of the command line.
 
-ghost use Rattle.std.specs.Prelude.{◌<◌, ◌≤◌, IfOk};
+ghost use Rattle.std.specs.Prelude.{◌≡◌, ◌<◌, ◌≤◌, map};
+ghost use Rattle.sip_program.specs.Words as spec;
 
 use clap::{Arg, ArgMatches, Command, Error, value_parser};
 use std::alloc::{AllocError, Global};
@@ -11,6 +12,36 @@ const MAX_SHARDS: usize = 256;
 
 /// How many workers there may be at most.
 const MAX_WORKERS: usize = 64;
+
+/// What the help of the whole ends in.
+const EXAMPLES: &str = "\
+Examples:
+  ua replay < call.events > call.outputs
+  ua listen --local 127.0.0.1:5070 --turns 3000
+  ua call --local 127.0.0.1:5080 --to 127.0.0.1:5070 --uri sip:b@127.0.0.1 --turns 200
+
+Status: 0 success, 1 no event file, 2 bad words, 3 a refused round, 4 a device that failed, 5 no memory";
+
+const REPLAY_EXAMPLE: &str = "\
+Example:
+  ua replay --shards 8 --workers 4 < call.events > call.outputs";
+
+const LISTEN_EXAMPLE: &str = "\
+Example, and what it prints of a call:
+  ua listen --local 127.0.0.1:5070 --turns 3000
+
+  notice ua-call request 7.1 INVITE LOCAL-TAG REMOTE-TAG -
+  notice ua-call ack 7.1 -
+  notice ua-call request 9.1 BYE LOCAL-TAG REMOTE-TAG -
+  notice ua-call ended LOCAL-TAG REMOTE-TAG";
+
+const CALL_EXAMPLE: &str = "\
+Example, and what it prints of a call that is answered:
+  ua call --local 127.0.0.1:5080 --to 127.0.0.1:5070 --uri sip:b@127.0.0.1 --turns 200
+
+  notice ua-call response 0.1 200 LOCAL-TAG REMOTE-TAG -
+  notice ua-call ended LOCAL-TAG REMOTE-TAG
+  notice ua-call response 3.1 200 LOCAL-TAG REMOTE-TAG -";
 
 /// How names are cut among shards, by the words of the command line.
 #[derive(Clone, Copy)]
@@ -27,32 +58,148 @@ pub(crate) struct ReplayWords {
     pub cut: CutName,
 }
 
-// The words of the one command that there is.
-pub(crate) fn parse<S: AsStr>(alloc: Global, words: &[S]) -> Result<ReplayWords, Error>
-    ensures some_shard { IfOk result (λ words. 0 < words.shards) }
-    ensures most_shards { IfOk result (λ words. words.shards ≤ 256) }
-    ensures some_worker { IfOk result (λ words. 0 < words.workers) }
-    ensures most_workers { IfOk result (λ words. words.workers ≤ 64) }
+/// The words of `ua listen`, as they came.
+#[derive(Clone, Copy)]
+pub(crate) struct ListenWords<'a> {
+    pub local: &'a str,
+    pub turns: u32,
+}
+
+/// The words of `ua call`, as they came.
+#[derive(Clone, Copy)]
+pub(crate) struct CallWords<'a> {
+    pub local: &'a str,
+    pub to: &'a str,
+    pub uri: &'a str,
+    pub call_id: &'a str,
+    pub turns: u32,
+}
+
+/// Whether the command that is asked for is `replay`: the first word names it.
+pub(crate) fn asks_replay<S: AsStr>(words: &[S]) -> bool
+    ensures { result ≡ spec.asks_replay (map S.text words.now) }
 {
+    match words.first() {
+        Some(word) => word.as_str() == "replay",
+        None => false,
+    }
+}
+
+/// The words as those of one of the commands.
+///
+/// # Errors
+///
+/// What `clap` has against them, which may also be the help that they ask for.
+pub(crate) fn parse<'a, S: AsStr>(alloc: Global, words: &'a [S]) -> Result<ArgMatches<'a>, Error> {
     let command = Command::new(alloc, "ua")
-        .about("The core of a SIP user agent")
+        .about("A SIP user agent's core: it replays event files, and listens and calls over UDP")
+        .after_help(EXAMPLES)
         .bin_name("ua")?
         .no_binary_name(true)
         .subcommand_required(true)
-        .subcommand(replay_command(alloc)?)?;
-    let matches = command.try_get_matches_from(words)?;
+        .subcommand(replay_command(alloc)?)?
+        .subcommand(listen_command(alloc)?)?
+        .subcommand(call_command(alloc)?)?;
+    command.try_get_matches_from(words)
+}
+
+/// The words of `ua replay`.
+pub(crate) fn replay_words(matches: &ArgMatches) -> ReplayWords
+    ensures some_shard { 0 < result.shards }
+    ensures most_shards { result.shards ≤ 256 }
+    ensures some_worker { 0 < result.workers }
+    ensures most_workers { result.workers ≤ 64 }
+{
     let Some(replay) = matches.subcommand_matches("replay") else {
-        return Ok(ReplayWords {
+        return ReplayWords {
             shards: 1,
             workers: 1,
             cut: CutName::Spread,
-        });
+        };
     };
-    Ok(ReplayWords {
+    ReplayWords {
         shards: count(replay, "shards", MAX_SHARDS),
         workers: count(replay, "workers", MAX_WORKERS),
         cut: cut_name(replay),
+    }
+}
+
+/// The words of `ua listen`, where they ask for it.
+pub(crate) fn listen_words<'a>(matches: &ArgMatches<'a>) -> Option<ListenWords<'a>> {
+    let listen = matches.subcommand_matches("listen")?;
+    Some(ListenWords {
+        local: listen.get_str("local")?,
+        turns: listen.get_one::<u32>("turns")?,
     })
+}
+
+/// The words of `ua call`, where they ask for it.
+pub(crate) fn call_words<'a>(matches: &ArgMatches<'a>) -> Option<CallWords<'a>> {
+    let call = matches.subcommand_matches("call")?;
+    Some(CallWords {
+        local: call.get_str("local")?,
+        to: call.get_str("to")?,
+        uri: call.get_str("uri")?,
+        call_id: call.get_str("call-id")?,
+        turns: call.get_one::<u32>("turns")?,
+    })
+}
+
+fn listen_command<'a>(alloc: Global) -> Result<Command<'a>, AllocError> {
+    Command::new(alloc, "listen")
+        .about(
+            "Answers calls over UDP: 200 to INVITE, BYE and OPTIONS, 501 to all else; a line for each notice",
+        )
+        .after_help(LISTEN_EXAMPLE)
+        .arg(local_argument(alloc))?
+        .arg(turns_argument(alloc))
+}
+
+fn call_command<'a>(alloc: Global) -> Result<Command<'a>, AllocError> {
+    let to = Arg::new(alloc, "to")
+        .long("to")
+        .value_name("ADDR")
+        .required(true)
+        .help("Where the INVITE is sent, as 192.0.2.9:5060");
+    let uri = Arg::new(alloc, "uri")
+        .long("uri")
+        .value_name("URI")
+        .required(true)
+        .help("Who is called, as sip:bob@192.0.2.9");
+    let call_id = Arg::new(alloc, "call-id")
+        .long("call-id")
+        .value_name("TEXT")
+        .default_value("ua-call")
+        .help("The Call-ID; another one for each call");
+    Command::new(alloc, "call")
+        .about(
+            "Calls a URI over UDP and hangs up as soon as it is answered; a line for each notice",
+        )
+        .after_help(CALL_EXAMPLE)
+        .arg(local_argument(alloc))?
+        .arg(to)?
+        .arg(uri)?
+        .arg(turns_argument(alloc))?
+        .arg(call_id)
+}
+
+fn local_argument<'a>(alloc: Global) -> Arg<'a> {
+    Arg::new(alloc, "local")
+        .long("local")
+        .value_name("ADDR")
+        .required(true)
+        .help(
+            "One's own address, as 192.0.2.1:5060: the socket is bound to it, and it stands in what is sent",
+        )
+}
+
+fn turns_argument<'a>(alloc: Global) -> Arg<'a> {
+    Arg::new(alloc, "turns")
+        .long("turns")
+        .value_name("N")
+        .required(true)
+        .value_parser(value_parser!(u32))
+        .help("How many turns of 10 ms are taken; 3000 are half a minute")
 }
 
 fn replay_command<'a>(alloc: Global) -> Result<Command<'a>, AllocError> {
@@ -82,6 +229,7 @@ fn replay_command<'a>(alloc: Global) -> Result<Command<'a>, AllocError> {
         );
     Command::new(alloc, "replay")
         .about("Runs the rounds of an event file on standard input, and writes its output file")
+        .after_help(REPLAY_EXAMPLE)
         .arg(shards)?
         .arg(workers)?
         .arg(cut)

@@ -10,10 +10,10 @@ use Rattle.sip_round.specs.declared.arrival.Arrival.{Arrival}
 use Rattle.sip_round.specs.declared.round.Event.{Event}
 use Rattle.sip_round.specs.declared.waiting.Waiting.{Waiting}
 use Rattle.sip_round.specs.Arrivals.{arrivals_from}
-use Rattle.sip_round.specs.Arrived.{ArePlaced, IsArrived}
+use Rattle.sip_round.specs.Steps.Arrived.{ArePlaced, IsArrived}
 use Rattle.sip_round.specs.Parts.{cut_by}
 use Rattle.sip_round.specs.Phases.{first_phase, transaction_item}
-use Rattle.sip_round.specs.Waiting.{all_waiting}
+use Rattle.sip_round.specs.Steps.Waiting.{all_waiting}
 
 placed_from : (local : Addr) (round place : ℕ) (events : List Event) → ArePlaced place (arrivals_from local round place events)
 placed_from local round place [] = tt

@@ -26,13 +26,13 @@ use Rattle.sip_round.specs.declared.round.Round.{Round}
 use Rattle.sip_round.specs.declared.waiting.Waiting.{Waiting}
 use Rattle.sip_round.specs.Answers.{Past, answer, arrivals, calls_of, first, given_second, items_of_round, past_after, said_by_transactions, said_by_calls, second, third}
 use Rattle.sip_round.specs.Arrivals.{arrivals_from}
-use Rattle.sip_round.specs.Arrived.{ArePlaced}
-use Rattle.sip_round.specs.Dealt.{DealsAll}
-use Rattle.sip_round.specs.Led.{Deals, LedFirst, LedSecond, LedThird}
+use Rattle.sip_round.specs.Steps.Arrived.{ArePlaced}
+use Rattle.sip_round.specs.Steps.Dealt.{DealsAll}
+use Rattle.sip_round.specs.Steps.Led.{Deals, LedFirst, LedSecond, LedThird}
 use Rattle.sip_round.specs.Outputs.{all_said, command_of, joined, outs_of, raised_of, said_at, sent_of, shown_of, user_items}
 use Rattle.sip_round.specs.Parts.{owner_of}
 use Rattle.sip_round.specs.Phases.{first_phase, second_phase, third_phase}
-use Rattle.sip_round.specs.Waiting.{all_waiting, woven}
+use Rattle.sip_round.specs.Steps.Waiting.{all_waiting, woven}
 use Rattle.sip_round.proofs.Weaving.{flat_map-map, woven_by_place}
 
 joined_by_place : {K O : Type 0} (told : List ((ℕ × K) × List O)) → joined (map by_place told) ≡ joined told

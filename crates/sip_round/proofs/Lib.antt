@@ -1,11 +1,15 @@
 pub mod ArrivedHere
 pub mod Beginning
+pub mod CallEvents
 pub mod Climbing
 pub mod Cutting
+pub mod EventsRise
+pub mod FewUps
 pub mod Leading
 pub mod LiveShards
 pub mod Lives
 pub mod Living
+pub mod NamesRise
 pub mod Numbered
 pub mod Piled
 pub mod Placed

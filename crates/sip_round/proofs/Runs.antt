@@ -8,7 +8,7 @@ use Rattle.sip_round.specs.declared.round.Round.{Round}
 use Rattle.sip_round.specs.declared.round_fault.RoundFault.{RoundFault}
 use Rattle.sip_round.specs.AgentState.{AgentState, ShardTables, round_fault}
 use Rattle.sip_round.specs.Answers.{HoldCalls, HoldTransactions, Past, StandsFor, answer, answers, answers_from, last_moment, last_moment_from, no_past, past_after, past_from, past_of, refused_from, refused_or}
-use Rattle.sip_round.specs.Led.{Deals}
+use Rattle.sip_round.specs.Steps.Led.{Deals}
 
 later : (number n : ℕ) → suc number + n ≡ number + suc n
 later number n = omega arith

@@ -12,7 +12,7 @@ use Rattle.sip_model.specs.Told.{Sorts}
 use Rattle.sip_model.specs.Phase.{Phase, AddsPhase}
 use Rattle.sip_model.specs.Shards.{AllDealt, Dealt, HoldFrom, ShardsTellAll, TellAll}
 use Rattle.sip_round.specs.Parts.{cut_by}
-use Rattle.sip_round.specs.Dealt.{DealsAll, IsApart}
+use Rattle.sip_round.specs.Steps.Dealt.{DealsAll, IsApart}
 use Rattle.sip_round.proofs.Cutting.{map_long}
 
 unfoldable pub first_of : {X : Type 0} → X → List X → X

@@ -14,7 +14,7 @@ use Rattle.sip_model.specs.Phase.{Phase, states_after}
 use Rattle.sip_model.specs.Shards.{HoldFrom, is_owned}
 use Rattle.sip_model.specs.Table.{Held, state_at}
 use Rattle.sip_model.proofs.Ordered.{by_bool, exact_at}
-use Rattle.sip_round.specs.Transfer.{AreOwners, held_by_owner}
+use Rattle.sip_round.specs.Steps.Transfer.{AreOwners, held_by_owner}
 use Rattle.sip_round.proofs.Cutting.{nat_eq_true, nat_eq_false, set_long}
 
 pub none_left : (n : ℕ) → (0 < n → ⊥) → n ≡ 0

@@ -12,10 +12,10 @@ use Rattle.sip_transactions.specs.declared.output.Out.{Out}
 use Rattle.sip_served.specs.declared.item.Item.{Item}
 use Rattle.sip_round.specs.declared.arrival.Arrival.{Arrival}
 use Rattle.sip_round.specs.declared.arrival.Arrival.TheVariants as arrival
-use Rattle.sip_round.specs.Arrived.{ArePlaced}
+use Rattle.sip_round.specs.Steps.Arrived.{ArePlaced}
 use Rattle.sip_round.specs.Outputs.{joined, outs_of, user_items}
 use Rattle.sip_round.specs.Phases.{transaction_item}
-use Rattle.sip_round.specs.Waiting.{all_waiting, woven}
+use Rattle.sip_round.specs.Steps.Waiting.{all_waiting, woven}
 use Rattle.sip_round.proofs.Climbing.{Climbs, climbs_from_less}
 use Rattle.sip_round.proofs.Together.{first_of, rest_of}
 

@@ -1,5 +1,7 @@
--- What holds of every transaction over whole runs.
-use Rattle.std.specs.Prelude.{◌≡◌, List, [], ◌∷◌, ◌++◌, None}
+-- What holds of every transaction and of every call over whole runs.
+use Rattle.std.specs.Prelude.{◌≡◌, ◌≢◌, ℕ, false, List, [], ◌∷◌, ◌++◌, AllPairs, None, Some}
+use Rattle.std.specs.List.{list_any}
+use Rattle.sip_message.specs.declared.id.Id.{Id}
 use Rattle.sip_message.specs.Key.{key_cmp}
 use Rattle.sip_message.specs.declared.key.Key.{Key}
 use Rattle.sip_model.specs.Laws.{said_from}
@@ -7,11 +9,17 @@ use Rattle.sip_model.specs.Machine.{IsLife, adds, outputs_from, state_after}
 use Rattle.sip_model.specs.Phase.{history}
 use Rattle.sip_transactions.specs.declared.input.Timed.{Timed}
 use Rattle.sip_transactions.specs.declared.output.Out.{Out}
-use Rattle.sip_transactions.specs.Laws.{IsServer, requests_in}
+use Rattle.sip_transactions.specs.Laws.{IsServer, carries, id_of, requests_in}
 use Rattle.sip_transactions.specs.Machine.{transaction_machine, tick_at}
+use Rattle.sip_served.specs.declared.held_dialog.DialogLife.{DialogLife}
+use Rattle.sip_served.specs.declared.item.CallOut.{CallOut}
+use Rattle.sip_calls.specs.declared.calls.CallInput.{CallInput}
+use Rattle.sip_calls.specs.Call.{call_machine, tick_input}
+use Rattle.sip_calls.specs.CallShard.{call_cmp}
+use Rattle.sip_calls.specs.Provisionals.{AnInvite, IsConsecutive, came, in_order, shown}
 use Rattle.sip_round.specs.declared.config.Config.{Config}
 use Rattle.sip_round.specs.declared.round.Round.{Round}
-use Rattle.sip_round.specs.Answers.{past_of}
+use Rattle.sip_round.specs.Answers.{calls_of, past_of}
 
 -- all that a transaction is given in rounds, oldest first
 abbrev pub inputs_of : Config → List Round → Key → List Timed
@@ -30,7 +38,43 @@ pub record OneRequestSaid (said : List Out) (key : Key) (before : List Timed) (f
   pub once : requests_in (adds transaction_machine key (state_after transaction_machine key before) first) ≡ 1
   pub no_more : requests_in (outputs_from transaction_machine key (state_after transaction_machine key (before ++ first ∷ [])) rest) ≡ 0
 
--- in any rounds, each life of a server transaction hands its request up once, by its first input
-abbrev pub OneRequestInEachLife : Type 0
-OneRequestInEachLife = (config : Config) (rounds : List Round) (key : Key) → IsServer key → (before : List Timed) (first : Timed) (rest after : List Timed)
+-- each life of a server transaction hands its request up once, by its first input
+abbrev pub OneRequestInLives : Config → List Round → Type 0
+OneRequestInLives config rounds = (key : Key) → IsServer key → (before : List Timed) (first : Timed) (rest after : List Timed)
     → inputs_of config rounds key ≡ before ++ (first ∷ (rest ++ after)) → IsLife transaction_machine key before first rest → OneRequestSaid (said_of config rounds key) key before first rest after
+
+-- so in any rounds
+abbrev pub OneRequestInEachLife : Type 0
+OneRequestInEachLife = (config : Config) (rounds : List Round) → OneRequestInLives config rounds
+
+-- nothing is handed up under the id of a life after it has ended
+abbrev pub NothingAfterEnds : Config → List Round → Type 0
+NothingAfterEnds config rounds = (key : Key) (before : List Timed) (first : Timed) (rest after : List Timed) (id : Id)
+    → inputs_of config rounds key ≡ before ++ (first ∷ (rest ++ after)) → IsLife transaction_machine key before first rest
+    → state_after transaction_machine key (before ++ first ∷ rest) ≡ None → id_of first.input ≡ Some id
+    → list_any (carries id) (outputs_from transaction_machine key None after) ≡ false
+
+-- so in any rounds
+abbrev pub NothingAfterEachEnd : Type 0
+NothingAfterEachEnd = (config : Config) (rounds : List Round) → NothingAfterEnds config rounds
+
+-- ---- calls
+
+-- all that a call is given in rounds, oldest first
+abbrev pub call_inputs_of : Config → List Round → List ℕ → List CallInput
+call_inputs_of config rounds call_id = history call_cmp tick_input (past_of config rounds).calls call_id
+
+-- all that the phases of rounds say of a call, in order
+abbrev pub said_of_call : Config → List Round → List ℕ → List CallOut
+said_of_call config rounds call_id = said_from call_cmp (call_machine (calls_of config)) tick_input call_id [] (past_of config rounds).calls
+
+-- What rounds say of a call is what its inputs add, in order; and of the reliable provisional responses that came among these to an
+-- INVITE in a life of a dialog those in order are shown, so each once.
+pub record ProvisionalsShown (config : Config) (rounds : List Round) (call_id : List ℕ) (invite : AnInvite) (life : DialogLife) : Type 0 where
+  pub said_in_order : said_of_call config rounds call_id ≡ outputs_from (call_machine (calls_of config)) call_id None (call_inputs_of config rounds call_id)
+  pub shown_in_order : shown (calls_of config) invite life (call_inputs_of config rounds call_id) ≡ in_order (came (calls_of config) invite life (call_inputs_of config rounds call_id))
+  pub consecutive : IsConsecutive (shown (calls_of config) invite life (call_inputs_of config rounds call_id))
+  pub once : AllPairs (λ x y. x ≢ y) (shown (calls_of config) invite life (call_inputs_of config rounds call_id))
+
+abbrev pub ProvisionalsInLives : Config → List Round → Type 0
+ProvisionalsInLives config rounds = (call_id : List ℕ) (invite : AnInvite) (life : DialogLife) → ProvisionalsShown config rounds call_id invite life

@@ -1,13 +1,9 @@
 pub mod AgentState
 pub mod Answers
 pub mod Arrivals
-pub mod Arrived
-pub mod Dealt
 pub mod Laws
-pub mod Led
 pub mod Live
 pub mod Outputs
 pub mod Parts
 pub mod Phases
-pub mod Transfer
-pub mod Waiting
+pub mod Steps

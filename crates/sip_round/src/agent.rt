@@ -3,7 +3,7 @@
 ghost use Rattle.std.specs.Prelude.{◌≡◌, ◌⊎◌, ◌+◌, ◌++◌, ◌∷◌, ◌<◌, ◌≤◌, ◌^◌, IfOk, IfSome, IsSome, OnErr, OnOk, Some, None, Err, List, [], false, true, length, map};
 ghost use Rattle.sip_message.specs.Key.{branch_in};
 ghost use Rattle.sip_round.specs.Arrivals.{arrivals_from};
-ghost use Rattle.sip_round.specs.Arrived.{IsArrived};
+ghost use Rattle.sip_round.specs.Steps.Arrived.{IsArrived};
 ghost use Rattle.sip_round.specs.Parts.{owner_of};
 
 use crate::arrival::arrivals_of;
@@ -70,7 +70,7 @@ impl<C: Cut + Drop> Drop for Agent<C> {
 impl<C: Cut + Drop> Agent<C> {
     ghost use Rattle.sip_round.specs.AgentState.{ShardTables, refusal_of};
     ghost use Rattle.sip_round.specs.Answers.{StandsFor, answers, past_of};
-    ghost use Rattle.sip_round.specs.Led.{Deals};
+    ghost use Rattle.sip_round.specs.Steps.Led.{Deals};
     ghost use Rattle.sip_round.specs.Live.{live_of};
     ghost use Rattle.sip_round.specs.declared.config.Config.{Config};
     ghost use Rattle.sip_round.specs.declared.round.Round.{Round};

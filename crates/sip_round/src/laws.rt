@@ -1,10 +1,14 @@
 //! Laws of whole runs.
 
-ghost use Rattle.sip_round.specs.Laws.{OneRequestInEachLife};
+ghost use Rattle.std.specs.Prelude.{List};
+ghost use Rattle.sip_round.specs.Laws.{NothingAfterEachEnd, OneRequestInEachLife, ProvisionalsInLives};
+ghost use Rattle.sip_round.specs.declared.round.Round.{Round};
 
+use crate::config::Config;
+use sip_calls::{Calls, provisionals_shown_in_order};
 use sip_model::laws_of_phases;
 use sip_transactions::Transactions;
-use sip_transactions::laws::one_request_up;
+use sip_transactions::laws::{nothing_after_the_end, one_request_up};
 
 /// In any rounds, what is said of a transaction is what its own inputs add, in order; and each life of a server transaction hands its request up
 /// once, by its first input.
@@ -13,4 +17,26 @@ pub fn one_request_in_each_life()
 {
     laws_of_phases(&Transactions);
     one_request_up();
+}
+
+/// In any rounds, nothing is handed up under the id of a transaction's life after that life has ended.
+pub fn nothing_after_each_end()
+    ensures { NothingAfterEachEnd }
+{
+    nothing_after_the_end();
+}
+
+/// In any rounds, what is said of a call is what its own inputs add, in order; and of the reliable
+/// provisional responses that come to an INVITE in one life of a dialog the user is told of the
+/// first, and then of each whose RSeq is one more than that of the one told before it: consecutive
+/// numbers, each once (RFC 3262, section 4).
+pub fn provisionals_in_each_life(config: &Config)
+    ensures { (rounds : List Round) → ProvisionalsInLives config.now rounds }
+{
+    let calls = Calls {
+        local: config.local,
+        seed: config.seed,
+    };
+    laws_of_phases(&calls);
+    provisionals_shown_in_order();
 }

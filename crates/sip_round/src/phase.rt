@@ -9,7 +9,7 @@ ghost use Rattle.sip_model.specs.Told.{groups};
 ghost use Rattle.sip_model.specs.declared.item.Item.{Item as AnItem};
 ghost use Rattle.sip_workers.specs.Ran.{IsNumbered};
 ghost use Rattle.sip_round.specs.Parts.{cut_by};
-ghost use Rattle.sip_round.specs.Dealt.{DealsAll, IsApart};
+ghost use Rattle.sip_round.specs.Steps.Dealt.{DealsAll, IsApart};
 
 use crate::dealing::{Dealing, Dealt};
 use sip_model::{Item, Replies, ShardFault, StateMachine, Table, by_label, laws_of_phases};

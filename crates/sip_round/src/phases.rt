@@ -5,8 +5,8 @@ ghost use Rattle.sip_message.specs.Key.{branch_in};
 ghost use Rattle.sip_message.specs.declared.id.Id.{Id as AnId};
 ghost use Rattle.sip_round.specs.declared.arrival.Arrival.{Arrival as AnArrival};
 ghost use Rattle.sip_round.specs.Arrivals.{arrivals_from};
-ghost use Rattle.sip_round.specs.Arrived.{IsArrived};
-ghost use Rattle.sip_round.specs.Led.{Deals, LedFirst, LedSecond, LedThird};
+ghost use Rattle.sip_round.specs.Steps.Arrived.{IsArrived};
+ghost use Rattle.sip_round.specs.Steps.Led.{Deals, LedFirst, LedSecond, LedThird};
 ghost use Rattle.sip_round.specs.Parts.{owner_of};
 
 use crate::inputs::{call_items, command_items};

@@ -6,7 +6,7 @@ ghost use Rattle.sip_model.specs.Phase.{Phase};
 ghost use Rattle.sip_model.specs.Shards.{HoldFrom};
 ghost use Rattle.sip_model.specs.Table.{state_at};
 ghost use Rattle.sip_round.specs.Parts.{owner_of};
-ghost use Rattle.sip_round.specs.Transfer.{AreOwners, held_by_owner};
+ghost use Rattle.sip_round.specs.Steps.Transfer.{AreOwners, held_by_owner};
 
 use crate::parts::Named;
 use sip_message::Cut;

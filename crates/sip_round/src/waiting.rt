@@ -6,7 +6,7 @@ ghost use Rattle.std.specs.Vec.Iter.{into_iter_items};
 ghost use Rattle.sip_model.specs.Told.{groups};
 ghost use Rattle.sip_round.specs.Outputs.{joined, raised_of, sent_of};
 ghost use Rattle.sip_round.specs.Phases.{transaction_item};
-ghost use Rattle.sip_round.specs.Waiting.{all_waiting, items_waiting, outs_next, said_rest, waiting_of, woven};
+ghost use Rattle.sip_round.specs.Steps.Waiting.{all_waiting, items_waiting, outs_next, said_rest, waiting_of, woven};
 
 use crate::arrival::Arrival;
 use crate::output::Output;

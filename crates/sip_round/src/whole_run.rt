@@ -2,10 +2,12 @@
 
 ghost use Rattle.std.specs.Prelude.{◌≡◌, ◌⊎◌, ◌<◌, ◌≤◌, Bool, IfOk, IfErr, None, Some, map};
 ghost use Rattle.sip_round.specs.Answers as answers;
+ghost use Rattle.sip_round.specs.Laws.{NothingAfterEnds, OneRequestInLives, ProvisionalsInLives};
 ghost use Rattle.sip_round.specs.declared.round_fault.RoundFault.TheVariants as round_fault;
 
 use crate::agent::Agent;
 use crate::config::Config;
+use crate::laws::{nothing_after_each_end, one_request_in_each_life, provisionals_in_each_life};
 use crate::output::Output;
 use crate::round::Round;
 use crate::round_fault::RoundFault;
@@ -16,6 +18,11 @@ use std::thread::Threads;
 
 /// The outputs of each round, from an agent that begins with this configuration, of so many shards among which names are cut so, on
 /// up to so many workers.
+///
+/// So of these rounds: each life of a server transaction hands its request up once
+/// (`each_request_once`); of the reliable provisional responses that come to an INVITE in one life
+/// of a dialog the user is told in order, of each once (`provisionals_in_order`); and a
+/// transaction's life that has ended hands nothing up (`nothing_after_the_end`).
 ///
 /// # Errors
 ///
@@ -37,7 +44,13 @@ pub fn run<R: Threads + Sync, C: Cut + Drop, G: Gate>(
     ensures answers { IfOk result (λ made. map (λ outputs. outputs.items) made.items ≡ answers.answers config rounds.now) }
     ensures unrefused { IfOk result (λ made. answers.refused config rounds.now ≡ None) }
     ensures refused { IfErr result (λ fault. ((broken : Bool) × (fault.1 ≡ round_fault.NoMemory broken)) ⊎ (answers.refused config rounds.now ≡ Some fault)) }
+    ensures each_request_once { OneRequestInLives config rounds.now }
+    ensures provisionals_in_order { ProvisionalsInLives config rounds.now }
+    ensures nothing_after_the_end { NothingAfterEnds config rounds.now }
 {
+    one_request_in_each_life();
+    provisionals_in_each_life(&config);
+    nothing_after_each_end();
     let Ok(mut agent) = Agent::new(alloc, config, shards, cut) else {
         return Err((0, RoundFault::NoMemory { broken: true }));
     };

@@ -1,9 +1,13 @@
 pub mod Calm
 pub mod Changes
+pub mod DialogSteps
 pub mod Dues
+pub mod Entries
+pub mod Heard
 pub mod Joined
 pub mod Mapped
 pub mod Names
+pub mod NoStarts
 pub mod Numbers
 pub mod OneWaits
 pub mod Places

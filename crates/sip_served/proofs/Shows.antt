@@ -34,7 +34,7 @@ use Rattle.sip_served.specs.Dialogs.{dialog_at, ended_at, ended_notice, is_early
 use Rattle.sip_served.specs.Requests.{dialog_name, is_bye, is_inside}
 use Rattle.sip_served.specs.Respond.{answer_to, by_refusal, by_request, confirms_dialog, dialogs_answered, makes_dialog, refusal_for, rejects}
 use Rattle.sip_served.specs.Run.{Event, Takes, Ticks, event_taken}
-use Rattle.sip_served.specs.Shown.{brings, came_from, for_user, for_user_of, if_for_user, is_request, request_in, told_from}
+use Rattle.sip_served.specs.Shown.{brings, for_user, for_user_of, if_for_user, is_request, request_in, told_from}
 use Rattle.sip_served.specs.State.{Dialogs, State, has_id, is_id}
 use Rattle.sip_served.specs.Step.{command_taken, kind_taken}
 use Rattle.sip_served.specs.Tick.{provisional_of, provisional_ticked, request_ticked, success_answer, success_of, success_ticked, told_of}
@@ -155,13 +155,19 @@ command_shows state id (command.Ack i) now = refl
 command_shows state id (command.Prack i) now = refl
 command_shows state id (command.Cancel i) now = refl
 
-event_shows : (state : State) (event : Event)
+pub event_shows : (state : State) (event : Event)
     → shown (event_taken state event).1 ≡ for_user state event
 event_shows state (Takes tag id (item.Up up) now) = kind_shows state tag up up.kind
 event_shows state (Takes tag id (item.User c) now) = command_shows state id c now
 event_shows state (Ticks now) = ticks_show now state.requests
 
-pub all_shown : (events : List Event) (state : State)
+-- the requests that come up for the user by a list of events
+abbrev came_from : State → List Event → List Id
+came_from state [] = []
+came_from state (event ∷ events) =
+    for_user state event ++ came_from (event_taken state event).0 events
+
+all_shown : (events : List Event) (state : State)
     → told_from state events ≡ came_from state events
 all_shown [] state = refl
 all_shown (event ∷ events) state =

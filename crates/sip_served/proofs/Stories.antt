@@ -44,7 +44,7 @@ use Rattle.sip_served.specs.declared.item.Item.TheVariants as item
 use Rattle.sip_served.specs.declared.item.CallOut.{CallOut}
 use Rattle.sip_served.specs.declared.refusal.Refusal.{Refusal}
 use Rattle.sip_served.specs.declared.refusal.Refusal.TheVariants as bad
-use Rattle.sip_served.specs.declared.timers.TheConstants.{LIFETIME, T2}
+use Rattle.sip_transactions.specs.declared.timers.TheConstants.{LIFETIME, T2}
 use Rattle.sip_served.specs.Acknowledgment.{ack_noted, acked, acknowledged_invite}
 use Rattle.sip_served.specs.Arrival.{first_rseq, by_case, case_of, noted, pracked, bye_taken, request_held}
 use Rattle.sip_served.specs.Dialogs.{confirmed, dialog_changed, early_ended, ended_at, is_early_of, is_named, numbered, refreshed, retargeted, takes, visited}

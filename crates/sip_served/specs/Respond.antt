@@ -26,7 +26,7 @@ use Rattle.sip_served.specs.declared.item.CallOut.{CallOut}
 use Rattle.sip_served.specs.declared.item.CallOut.TheVariants.{Notice, Command}
 use Rattle.sip_served.specs.declared.notice.Notice.TheVariants.{Refused}
 use Rattle.sip_served.specs.declared.refusal.Refusal.{Refusal}
-use Rattle.sip_served.specs.declared.timers.TheConstants.{LIFETIME, T1}
+use Rattle.sip_transactions.specs.declared.timers.TheConstants.{LIFETIME, T1}
 use Rattle.sip_served.specs.declared.refusal.Refusal.TheVariants.{NoSuchRequest, AlreadyFinal, BadStatus, ReliablePending, NotSupported, SequenceUsedUp, DialogEnded}
 use Rattle.sip_served.specs.Dialogs.{confirmed, dialog_changed, early_ended, is_named, lives}
 use Rattle.sip_served.specs.Requests.{dialog_name, is_final, is_inside, is_invite, is_provisional, is_success, requires_100rel, supports_100rel}

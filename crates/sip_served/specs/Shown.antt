@@ -20,12 +20,14 @@ abbrev pub request_in : CallOut → Option Id
 request_in (Notice (notice.Request call_id id method local_tag remote_tag body)) = Some id
 request_in _ = None
 
--- the requests that the user is told of by a list of events
+-- the requests that the user is told of by an event, and by a list of events
+abbrev pub told_by : State → Event → List Id
+told_by state event = filter_map request_in (event_taken state event).1
+
 abbrev pub told_from : State → List Event → List Id
 told_from state [] = []
 told_from state (event ∷ events) =
-    filter_map request_in (event_taken state event).1
-    ++ told_from (event_taken state event).0 events
+    told_by state event ++ told_from (event_taken state event).0 events
 
 -- the request that comes up by an event, where it is one for the user
 abbrev pub if_for_user : Id → ArrivalCase → List Id
@@ -40,12 +42,6 @@ for_user_of state tag id _ = []
 abbrev pub for_user : State → Event → List Id
 for_user state (Takes tag id (FromBelow up) now) = for_user_of state tag up.id up.kind
 for_user state _ = []
-
--- the requests that come up for the user by a list of events
-abbrev pub came_from : State → List Event → List Id
-came_from state [] = []
-came_from state (event ∷ events) =
-    for_user state event ++ came_from (event_taken state event).0 events
 
 -- the request of an id comes up
 abbrev pub is_request : Kind → Bool → Bool

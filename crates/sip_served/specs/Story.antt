@@ -1,6 +1,6 @@
 -- The server side of a call as a story: each held dialog by the message that it began with and what
 -- happened in it since, and each held request by what came for it.
-use Rattle.std.specs.Prelude.{ℕ, ◌+◌, Bool, true, false, List, [], length, map, fold, Option, None, Some, if◌then◌else◌}
+use Rattle.std.specs.Prelude.{ℕ, ◌+◌, ◌*◌, Bool, true, false, List, [], length, map, fold, Option, None, Some, if◌then◌else◌}
 use Rattle.std.specs.List.{last_or, filter_map}
 use Rattle.std.specs.Option.{option_map}
 use Rattle.sip_message.specs.declared.addr.Addr.{Addr}
@@ -19,7 +19,7 @@ use Rattle.sip_served.specs.declared.held_dialog.HeldDialog.{HeldDialog}
 use Rattle.sip_served.specs.declared.held_request.HeldRequest.{HeldRequest}
 use Rattle.sip_served.specs.declared.held_request.Retransmission.{Retransmission}
 use Rattle.sip_served.specs.declared.held_request.Success.{Success}
-use Rattle.sip_served.specs.declared.timers.TheConstants.{LIFETIME}
+use Rattle.sip_transactions.specs.declared.timers.TheConstants.{T1}
 use Rattle.sip_served.specs.Arrival.{first_rseq, held_for}
 use Rattle.sip_served.specs.Requests.{supports_100rel}
 use Rattle.sip_served.specs.State.{Dialogs, State}
@@ -68,7 +68,7 @@ next_sending story =
 abbrev pub success_of : SuccessStory → Success
 success_of story = record {
   response = story.response;
-  end = story.sent + LIFETIME;
+  end = story.sent + 64 * T1;
   retransmission = if story.is_over then None else Some (next_sending story);
 }
 
@@ -104,7 +104,7 @@ request_of story = record (held_for story.arrival story.dialog) {
   ledger = ledger_after first_rseq (supports_100rel story.arrival.request) story.provisionals;
   provisional = if is_open story.provisionals then last_or None story.responses else None;
   success = option_map success_of story.success;
-  removal = option_map (λ moment. moment + LIFETIME) story.answered;
+  removal = option_map (λ moment. moment + 64 * T1) story.answered;
 }
 
 -- ---- all that is held

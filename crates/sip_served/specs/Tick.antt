@@ -17,7 +17,7 @@ use Rattle.sip_served.specs.declared.item.CallOut.TheVariants as out
 use Rattle.sip_served.specs.declared.item.CallOut.TheVariants.{Command}
 use Rattle.sip_served.specs.declared.notice.Notice.{Notice}
 use Rattle.sip_served.specs.declared.notice.Notice.TheVariants.{NoAck, NoPrack}
-use Rattle.sip_served.specs.declared.timers.TheConstants.{T2}
+use Rattle.sip_transactions.specs.declared.timers.TheConstants.{T2}
 use Rattle.sip_served.specs.State.{State, Taken}
 
 -- a held request after a tick, and what is told

@@ -30,7 +30,7 @@ pub(crate) fn takes(held: &HeldDialog, number: u32) -> bool
 }
 
 /// Whether the dialog that was made so is still held.
-pub(crate) fn lives(dialogs: &Dialogs, life: &DialogLife) -> bool
+pub fn lives(dialogs: &Dialogs, life: &DialogLife) -> bool
     ensures { result ≡ spec.lives dialogs.now.entries life.now }
 {
     match dialogs.get(&life.name) {
@@ -113,7 +113,7 @@ fn refresh(held: &mut HeldDialog, request: &Message) -> Result<(), AllocError>
 }
 
 /// A 2xx confirms the dialog of this name.
-pub(crate) fn confirm(
+pub fn confirm(
     dialogs: &mut Dialogs,
     name: &DialogName,
     response: &Message,
@@ -137,7 +137,7 @@ fn confirm_dialog(held: &mut HeldDialog, response: &Message) -> Result<(), Alloc
 }
 
 /// The dialog of this name ends, which is told where there is one.
-pub(crate) fn end(
+pub fn end(
     alloc: Global,
     dialogs: &mut Dialogs,
     name: &DialogName,
@@ -153,7 +153,7 @@ pub(crate) fn end(
 }
 
 /// The early dialogs that an INVITE made end, which is told of each.
-pub(crate) fn end_early(
+pub fn end_early(
     alloc: Global,
     dialogs: &mut Dialogs,
     invite: Id,
@@ -166,7 +166,12 @@ pub(crate) fn end_early(
     Ok(outs)
 }
 
-fn early_notices(alloc: Global, dialogs: &Dialogs, invite: Id) -> Result<Vec<CallOut>, AllocError>
+/// How the user is told that the early dialogs of an INVITE end.
+pub fn early_notices(
+    alloc: Global,
+    dialogs: &Dialogs,
+    invite: Id,
+) -> Result<Vec<CallOut>, AllocError>
     ensures { IfOk result (λ outs. outs.items ≡ (spec.early_ended invite dialogs.now.entries).1) }
 {
     let mut outs = Vec::new(alloc);
@@ -189,7 +194,8 @@ fn drop_early(dialogs: &mut Dialogs, invite: Id)
     );
 }
 
-fn is_early_of(held: &HeldDialog, invite: Id) -> bool
+/// Whether a dialog is an early one that this INVITE made.
+pub fn is_early_of(held: &HeldDialog, invite: Id) -> bool
     ensures { result ≡ spec.is_early_of invite held.now }
 {
     match held.dialog.state() {

@@ -1,13 +1,15 @@
 //! A dialog that is held.
 
-ghost use Rattle.std.specs.Prelude.{◌≡◌};
+ghost use Rattle.std.specs.Prelude.{◌≡◌, IfOk};
+ghost use Rattle.std.specs.Str.{str_to_ascii_lowercase};
+ghost use Rattle.sip_served.specs.Requests.{name_of_tags};
 
 use crate::debt::Debt;
 use sip_dialog::Dialog;
 use sip_message::{Addr, Id};
 use sip_reliable::Inbound;
 use sip_text::{Series, Text};
-use std::alloc::AllocError;
+use std::alloc::{AllocError, Global};
 
 /// What a dialog is found by: its local and its remote tag in lower case, since tags are compared
 /// without case (RFC 3261, sections 7.3.1 and 12). A tag that isn't there is empty.
@@ -15,6 +17,28 @@ use std::alloc::AllocError;
 pub struct DialogName {
     pub local: Text,
     pub remote: Text,
+}
+
+impl DialogName {
+    /// The name of the dialog of these tags.
+    pub fn of_tags(alloc: Global, local: &[u8], remote: &[u8]) -> Result<DialogName, AllocError>
+        ensures { IfOk result (λ name. name ≡ name_of_tags local.now remote.now) }
+    {
+        Ok(DialogName {
+            local: lower_case(alloc, local)?,
+            remote: lower_case(alloc, remote)?,
+        })
+    }
+}
+
+fn lower_case(alloc: Global, text: &[u8]) -> Result<Text, AllocError>
+    ensures { IfOk result (λ lower. lower ≡ str_to_ascii_lowercase text.now) }
+{
+    let bytes = text
+        .iter()
+        .map(|byte| byte.to_ascii_lowercase())
+        .collect(alloc)?;
+    Ok(Text::from_vec(bytes))
 }
 
 /// A dialog, from the event that made it to the one that ends it.

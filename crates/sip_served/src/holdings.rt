@@ -18,7 +18,8 @@ use crate::held_request::HeldRequest;
 use crate::item::{CallOut, Item};
 use crate::notice::Notice;
 use crate::outputs::{
-    bad_extension, loop_detected, no_such_dialog, notice_of_request, ok, one, out_of_order, tell,
+    bad_extension, joined, loop_detected, no_such_dialog, notice_of_request, ok, one, out_of_order,
+    tell,
 };
 use crate::refusal::Refusal;
 use crate::request::{dialog_name, is_bye, is_inside};
@@ -215,11 +216,12 @@ impl Holdings {
             ≡ arrived.for_user self.old name arrival) }
     {
         let ends = is_inside(&arrival.request) && is_bye(&arrival.request);
-        let mut outs = self.hold(&name, arrival)?;
-        if ends {
-            outs.append(&mut end(self.alloc, &mut self.dialogs, &name)?)?;
+        let held = self.hold(&name, arrival)?;
+        if !ends {
+            return Ok(held);
         }
-        Ok(outs)
+        let ended = end(self.alloc, &mut self.dialogs, &name)?;
+        joined(held, ended)
     }
 
     // It is held and told.

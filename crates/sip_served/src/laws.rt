@@ -7,10 +7,10 @@ ghost use Rattle.sip_message.specs.declared.addr.Addr.{Addr};
 ghost use Rattle.sip_timers.specs.Queue.{is_due};
 ghost use Rattle.sip_served.specs.Run.{Event, OneWaitsEach, state_after};
 ghost use Rattle.sip_served.specs.ServerSide.{empty_at};
-ghost use Rattle.sip_served.specs.Shown.{brings, came_from, told_from};
+ghost use Rattle.sip_served.specs.Shown.{brings, for_user, told_by, told_from};
+ghost use Rattle.sip_served.specs.State.{State, is_id, quiet};
 ghost use Rattle.sip_served.specs.Story.{greatest_accepted, held_by, unacknowledged};
 ghost use Rattle.sip_served.specs.Telling.{story_after};
-ghost use Rattle.sip_served.specs.State.{State, is_id, quiet};
 ghost use Rattle.sip_served.specs.Tick.{next_due, tick_taken};
 
 /// Before the moment at which something is due a tick does nothing and says nothing; from then on
@@ -47,11 +47,11 @@ pub fn the_remote_cseq_is_the_greatest_accepted()
         ≡ map (λ entry. greatest_accepted entry.1) (story_after local events).dialogs }
 {}
 
-/// The user is told of each request that comes up for the user once, as it comes up, and of no
-/// other; so of none more often than it comes up.
+/// By an event the user is told of the request that comes up by it for the user, and of no other.
+/// So over any list of events the user is told of no request more often than it comes up.
 pub fn each_request_is_told_once()
-    ensures in_turn { (local : Addr) (events : List Event)
-        → told_from (empty_at local) events ≡ came_from (empty_at local) events }
+    ensures as_it_comes { (state : State) (event : Event)
+        → told_by state event ≡ for_user state event }
     ensures once { (local : Addr) (events : List Event) (id : Id)
         → count_by (is_id id) (told_from (empty_at local) events) ≤ count_by (brings id) events }
 {}

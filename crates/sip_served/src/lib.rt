@@ -6,7 +6,7 @@ mod acknowledgment;
 mod arrival;
 mod command;
 mod debt;
-mod dialogs;
+pub mod dialogs;
 mod held_dialog;
 mod held_request;
 mod holdings;
@@ -15,12 +15,11 @@ mod laws;
 mod notice;
 mod outputs;
 mod refusal;
-mod request;
+pub mod request;
 mod requests;
 mod respond;
 mod served;
 mod tick;
-mod timers;
 mod unsupported;
 
 pub use command::{

@@ -1,6 +1,6 @@
 //! What a call gives.
 
-ghost use Rattle.std.specs.Prelude.{◌≡◌, ◌≤◌, ◌∷◌, [], IfOk, OnOk, filter, codes, IsTrue};
+ghost use Rattle.std.specs.Prelude.{◌≡◌, ◌≤◌, ◌∷◌, ◌++◌, [], IfOk, OnOk, filter, codes, IsTrue};
 ghost use Rattle.sip_message.specs.Response.{response_of};
 ghost use Rattle.sip_parts.specs.Reason.{is_reason};
 ghost use Rattle.sip_served.specs.Arrival as arrived;
@@ -25,6 +25,17 @@ pub(crate) fn one(alloc: Global, out: CallOut) -> Result<Vec<CallOut>, AllocErro
     let mut outs = Vec::new(alloc);
     outs.push(out)?;
     Ok(outs)
+}
+
+/// What is told first, and then what is told after it.
+pub(crate) fn joined(
+    mut first: Vec<CallOut>,
+    mut later: Vec<CallOut>,
+) -> Result<Vec<CallOut>, AllocError>
+    ensures { IfOk result (λ outs. outs.items ≡ first.items ++ later.items) }
+{
+    first.append(&mut later)?;
+    Ok(first)
 }
 
 /// One notice.

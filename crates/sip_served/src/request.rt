@@ -1,13 +1,12 @@
-//! What a request says.
+//! What a request or a response says.
 
 ghost use Rattle.std.specs.Prelude.{◌≡◌, IfOk};
 ghost use Rattle.std.specs.List.{list_any};
-ghost use Rattle.std.specs.Str.{str_to_ascii_lowercase};
 ghost use Rattle.sip_served.specs.Requests as requests;
 
 use crate::held_dialog::DialogName;
 use sip_message::{Message, Token};
-use sip_text::{Text, token_eq};
+use sip_text::token_eq;
 use std::alloc::{AllocError, Global};
 
 /// The least status of a final response.
@@ -16,7 +15,8 @@ const FIRST_FINAL: u16 = 200;
 /// The least status that is above those of success.
 const FIRST_REJECTING: u16 = 300;
 
-pub(crate) fn is_invite(request: &Message) -> bool
+/// Whether it is an INVITE. Methods are compared byte by byte.
+pub fn is_invite(request: &Message) -> bool
     ensures { result ≡ requests.is_invite request.now }
 {
     request.method().as_slice() == b"INVITE".as_slice()
@@ -41,7 +41,7 @@ pub(crate) fn is_prack(request: &Message) -> bool
 }
 
 /// Whether it has a To tag, and so was sent inside a dialog.
-pub(crate) fn is_inside(request: &Message) -> bool
+pub fn is_inside(request: &Message) -> bool
     ensures { result ≡ requests.is_inside request.now }
 {
     !request.to.tag().is_empty()
@@ -60,7 +60,8 @@ pub(crate) fn is_unknown_option(option: &Token) -> bool
     !is_100rel(option)
 }
 
-pub(crate) fn requires_100rel(request: &Message) -> bool
+/// Whether its Require has `100rel`.
+pub fn requires_100rel(request: &Message) -> bool
     ensures { result ≡ requests.requires_100rel request.now }
 {
     has_100rel(request.require.as_slice())
@@ -94,20 +95,7 @@ pub(crate) fn dialog_name(
 ) -> Result<DialogName, AllocError>
     ensures { IfOk result (λ name. name ≡ requests.dialog_name request.now made.now) }
 {
-    Ok(DialogName {
-        local: lower_case(alloc, local_tag(request, made))?,
-        remote: lower_case(alloc, request.from.tag())?,
-    })
-}
-
-fn lower_case(alloc: Global, text: &[u8]) -> Result<Text, AllocError>
-    ensures { IfOk result (λ lower. lower ≡ str_to_ascii_lowercase text.now) }
-{
-    let bytes = text
-        .iter()
-        .map(|byte| byte.to_ascii_lowercase())
-        .collect(alloc)?;
-    Ok(Text::from_vec(bytes))
+    DialogName::of_tags(alloc, local_tag(request, made), request.from.tag())
 }
 
 pub(crate) fn is_provisional(status: u16) -> bool
@@ -116,13 +104,15 @@ pub(crate) fn is_provisional(status: u16) -> bool
     status < FIRST_FINAL
 }
 
-pub(crate) fn is_success(status: u16) -> bool
+/// Whether a status is a 2xx.
+pub fn is_success(status: u16) -> bool
     ensures { result ≡ requests.is_success status }
 {
     FIRST_FINAL <= status && status < FIRST_REJECTING
 }
 
-pub(crate) fn is_final(status: u16) -> bool
+/// Whether a status is that of a final response.
+pub fn is_final(status: u16) -> bool
     ensures { result ≡ requests.is_final status }
 {
     FIRST_FINAL <= status

@@ -27,5 +27,11 @@ fn first_of(requests: &[HeldRequest], id: Id) -> Option<usize>
     ensures place { result ≡ position (has_id id) requests.now }
     ensures within { IfSome result (λ index. index < length requests.now) }
 {
-    requests.iter().position(|held| held.id == id)
+    requests.iter().position(|held| is_of(held, id))
+}
+
+fn is_of(held: &HeldRequest, id: Id) -> bool
+    ensures { result ≡ has_id id held.now }
+{
+    held.id == id
 }

@@ -18,12 +18,11 @@ use crate::request::{
     dialog_name, is_final, is_inside, is_invite, is_provisional, is_success, requires_100rel,
     supports_100rel,
 };
-use crate::timers::{LIFETIME, T1};
 use sip_dialog::{Dialog, own_contact};
 use sip_message::{Addr, Id, Message, StatusCode, Token, response_to};
 use sip_reliable::{Inbound, SendFault};
 use sip_text::{Series, Text};
-use sip_transactions::Command;
+use sip_transactions::{Command, LIFETIME, T1};
 use std::alloc::{AllocError, Global};
 
 /// The least status that the user may answer with.
@@ -209,7 +208,7 @@ fn finish(held: &mut HeldRequest, response: Message, status: u16, now: u64)
     if is_invite(&held.request) && is_success(status) {
         held.success = Some(success_sent(response, now));
     }
-    held.removal = Some(now + LIFETIME);
+    held.removal = Some(now + u64::from(LIFETIME));
 }
 
 fn success_sent(response: Message, now: u64) -> Success
@@ -218,10 +217,10 @@ fn success_sent(response: Message, now: u64) -> Success
 {
     Success {
         response,
-        end: now + LIFETIME,
+        end: now + u64::from(LIFETIME),
         retransmission: Some(Retransmission {
-            due: now + T1,
-            interval: T1,
+            due: now + u64::from(T1),
+            interval: u64::from(T1),
         }),
     }
 }

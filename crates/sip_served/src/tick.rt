@@ -12,9 +12,9 @@ use crate::held_request::{HeldRequest, Retransmission, Success};
 use crate::item::CallOut;
 use crate::notice::Notice;
 use crate::respond::answer_command;
-use crate::timers::T2;
 use sip_reliable::Tick;
 use sip_timers::earlier;
+use sip_transactions::T2;
 use std::alloc::AllocError;
 
 /// Does what is due of each held request at the moment `now`, in ms.
@@ -74,11 +74,15 @@ fn tick_success(held: &mut HeldRequest, now: u64, outs: &mut Vec<CallOut>) -> Re
 fn success_answer(success: &Success, now: u64) -> Tick
     ensures { result ≡ spec.success_answer now success.now }
 {
-    match success.retransmission {
-        None => Tick::Nothing,
-        Some(_) if success.end <= now => Tick::GivenUp,
-        Some(retransmission) if retransmission.due <= now => Tick::Again,
-        Some(_) => Tick::Nothing,
+    let Some(retransmission) = success.retransmission else {
+        return Tick::Nothing;
+    };
+    if success.end <= now {
+        Tick::GivenUp
+    } else if retransmission.due <= now {
+        Tick::Again
+    } else {
+        Tick::Nothing
     }
 }
 
@@ -100,7 +104,7 @@ fn next_of(last: Option<Retransmission>, now: u64) -> Option<Retransmission>
     ensures { result ≡ option_map (spec.next_retransmission now) last }
 {
     let last = last?;
-    let interval = last.interval.saturating_mul(2).min(T2);
+    let interval = last.interval.saturating_mul(2).min(u64::from(T2));
     Some(Retransmission {
         due: now + interval,
         interval,

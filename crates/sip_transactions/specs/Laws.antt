@@ -9,12 +9,9 @@ use Rattle.sip_message.specs.declared.start_line.StartLine.{StartLine}
 use Rattle.sip_message.specs.declared.start_line.StartLine.TheVariants as start
 use Rattle.sip_message.specs.declared.addr.Addr.{Addr}
 use Rattle.sip_message.specs.declared.message.Message.{Message}
-use Rattle.sip_message.specs.Key.{key_cmp}
 use Rattle.sip_message.specs.Message.{is_request_message}
 use Rattle.sip_message.specs.Written.{written}
-use Rattle.sip_model.specs.Inputs.{Inputs}
 use Rattle.sip_model.specs.Machine.{adds, state_after, outputs_from, IsLife}
-use Rattle.sip_model.specs.Owned.{owned, told_by}
 use Rattle.sip_transactions.specs.declared.input.Command.{Command}
 use Rattle.sip_transactions.specs.declared.input.Input.{Input}
 use Rattle.sip_transactions.specs.declared.input.Input.TheVariants.{Tick, Receive, Start, Answer, Failed}
@@ -108,11 +105,6 @@ NothingAfterTheEnd = (key : Key) (before : List Timed) (first : Timed) (rest aft
     → state_after transaction_machine key (before ++ first ∷ rest) ≡ None → id_of first.input ≡ Some id
     → IsDistinct same_id (filter_map (λ timed. naming_id timed.input) (before ++ first ∷ rest ++ after))
     → list_any (carries id) (outputs_from transaction_machine key None after) ≡ false
-
--- the items of the keys that a shard owns add, alone and in their order, what they add among the items of all keys
-abbrev pub ShardsWorkApart : Type 0
-ShardsWorkApart = (owns : Key → Bool) (part whole : Inputs key_cmp Timed) (items : List (Key × Timed)) → ((key : Key) → owns key ≡ true → part.history key ≡ whole.history key)
-    → told_by key_cmp transaction_machine part (owned owns items) ≡ owned owns (told_by key_cmp transaction_machine whole items)
 
 -- ---- how often a client sends its request
 

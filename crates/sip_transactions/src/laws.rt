@@ -1,6 +1,6 @@
 //! Laws of transactions: what holds over any list of inputs of one transaction.
 
-ghost use Rattle.sip_transactions.specs.Laws.{AtMostOneRow, CommandsOnlySend, OneRequestUp, NothingAfterTheEnd, FewSends, ShardsWorkApart};
+ghost use Rattle.sip_transactions.specs.Laws.{AtMostOneRow, CommandsOnlySend, OneRequestUp, NothingAfterTheEnd, FewSends};
 
 /// Of each table at most one row fits a state and a trigger.
 pub fn at_most_one_row()
@@ -25,9 +25,4 @@ pub fn nothing_after_the_end()
 /// A life of a client sends its request a few times at most: that of an INVITE 7 times, another 11 times.
 pub fn few_sends()
     ensures { FewSends }
-{}
-
-/// What the transactions of a shard say is their part of what all say, in the same order.
-pub fn shards_work_apart()
-    ensures { ShardsWorkApart }
 {}

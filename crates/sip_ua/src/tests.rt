@@ -5,19 +5,23 @@ mod dialog;
 mod files;
 mod reading;
 mod reliable;
-mod rounds;
 mod shards;
 mod table;
 mod timers;
 mod transactions;
+mod two_agents;
+mod udp;
 mod values;
 mod workers;
 
 use sip_program::ua;
 use std::alloc::Global;
 use std::io::{self, Read, Write};
+use std::net::Net;
+use std::random::RandomSource;
 use std::test::Fail;
 use std::thread::Threads;
+use std::time::Clock;
 
 /// How a run of the program ended, and what it wrote.
 #[derive(Drop)]
@@ -28,7 +32,7 @@ struct Ended {
 }
 
 // The program, with these words and this input.
-fn run_on<T: Threads + Sync, R: Read>(
+fn run_on<T: Threads + Clock + Net + RandomSource + Sync, R: Read>(
     rt: &T,
     alloc: Global,
     words: &[&str],

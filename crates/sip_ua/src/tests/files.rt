@@ -1,7 +1,7 @@
 //! What the lines of an output file say that no run of an event file gives yet, and faults of event files that no stored case has.
 
 use sip_files::{EventsFault, write_outputs};
-use sip_message::{CallId, Id, StatusCode};
+use sip_message::{CallId, Id};
 use sip_round::Output;
 use sip_served::Notice;
 use sip_text::Text;
@@ -9,10 +9,6 @@ use std::alloc::Global;
 use std::test::Fail;
 
 const ID: Id = Id { round: 3, place: 2 };
-
-fn text(alloc: Global, bytes: &[u8]) -> Result<Text, Fail> {
-    Ok(Text::copy_of(alloc, bytes)?)
-}
 
 fn call(alloc: Global) -> Result<CallId, Fail> {
     let call_id = CallId::new(Text::copy_of(alloc, b"c1")?).ok_or("a Call-ID")?;
@@ -34,20 +30,8 @@ fn is_told(alloc: Global, notice: Notice, line: &[u8]) -> Result<bool, Fail> {
 }
 
 #[test]
-fn notices_of_requests_of_ones_own_are_told(rt: HostRuntime) -> Result<(), Fail> {
+fn a_cancel_is_told(rt: HostRuntime) -> Result<(), Fail> {
     let alloc = rt.alloc();
-    let response = Notice::Response {
-        call_id: call(alloc)?,
-        id: ID,
-        status: StatusCode::new(486).ok_or("a status")?,
-        local_tag: text(alloc, b"l")?,
-        remote_tag: text(alloc, b"")?,
-        body: text(alloc, b"b")?,
-    };
-    assert!(rt; is_told(alloc, response, b"notice c1 response 3.2 486 l - b\n")?);
-    let (call_id, id) = (call(alloc)?, ID);
-    let failed = Notice::Failed { call_id, id };
-    assert!(rt; is_told(alloc, failed, b"notice c1 failed 3.2\n")?);
     let (call_id, id) = (call(alloc)?, ID);
     let cancel = Notice::Cancel { call_id, id };
     assert!(rt; is_told(alloc, cancel, b"notice c1 cancel 3.2\n")?);

@@ -1,6 +1,5 @@
-use Rattle.std.proofs.Common.{◌≡◌, sym, ◌∙◌, arith, inr}
+use Rattle.std.proofs.Common.{sym, ◌∙◌, arith, inr}
 use Rattle.std.proofs.lemmas.Result.{err_from_is_err_and}
-use Rattle.sip_files.specs.EventFile.{SpellsEvents}
 use Rattle.sip_files.proofs.Files.{found, only_draft, no_local, version_only, version_tells, line_only, line_tells, local_at, begun_stage}
 use Rattle.sip_files.proofs.Drafts.{not_local}
 use Rattle.sip_files.proofs.events_file.read_events.Goals as goal

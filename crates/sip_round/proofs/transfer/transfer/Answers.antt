@@ -4,7 +4,7 @@ use Rattle.std.specs.Vec.Iter.{into_iter_items}
 use Rattle.std.specs.Option.{option_or}
 use Rattle.sip_model.specs.Table.{state_at}
 use Rattle.sip_round.specs.Parts.{owner_of}
-use Rattle.sip_round.specs.Transfer.{AreOwners, held_by_owner}
+use Rattle.sip_round.specs.Steps.Transfer.{AreOwners, held_by_owner}
 use Rattle.sip_round.proofs.Transferred.{TransferLeft, all_moved, nothing_moved, one_moved}
 use Rattle.sip_round.proofs.transfer.transfer.Goals as goal
 

@@ -5,7 +5,7 @@ use Rattle.std.proofs.lemmas.Bool.{false≢true}
 use Rattle.std.proofs.lemmas.List.{get_or_default, nil_from_length}
 use Rattle.sip_model.specs.Table.{state_at, state_in}
 use Rattle.sip_round.specs.Parts.{owner_of}
-use Rattle.sip_round.specs.Transfer.{held_by_owner}
+use Rattle.sip_round.specs.Steps.Transfer.{held_by_owner}
 use Rattle.sip_round.proofs.Transferred.{none_left, one_less}
 use Rattle.sip_round.proofs.transfer.transfer_table.Goals as goal
 

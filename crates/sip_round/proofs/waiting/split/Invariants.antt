@@ -2,7 +2,7 @@ use Rattle.std.proofs.Common.{◌≡◌, ◌++◌}
 use Rattle.std.specs.List.{flat_map}
 use Rattle.std.specs.Vec.Iter.{into_iter_items}
 use Rattle.sip_round.specs.Phases.{transaction_item}
-use Rattle.sip_round.specs.Waiting.{all_waiting}
+use Rattle.sip_round.specs.Steps.Waiting.{all_waiting}
 use Rattle.sip_round.proofs.waiting.split.Given as goal
 
 abbrev pub invariant-loop-id : goal.invariant-loop-id

@@ -3,7 +3,7 @@ use Rattle.std.specs.List.{flat_map}
 use Rattle.sip_model.specs.Told.{groups}
 use Rattle.sip_model.proofs.Tick.{flat_map-groups}
 use Rattle.sip_round.specs.Outputs.{raised_of, sent_of}
-use Rattle.sip_round.specs.Waiting.{woven}
+use Rattle.sip_round.specs.Steps.Waiting.{woven}
 use Rattle.sip_round.proofs.waiting.weave.Goals as goal
 
 pub returns-clause-outputs : goal.returns-clause-outputs

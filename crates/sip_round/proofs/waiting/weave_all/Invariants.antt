@@ -3,7 +3,7 @@ use Rattle.std.specs.List.{flat_map}
 use Rattle.std.specs.Vec.Iter.{into_iter_items}
 use Rattle.sip_model.specs.Told.{groups}
 use Rattle.sip_round.specs.Outputs.{raised_of, sent_of}
-use Rattle.sip_round.specs.Waiting.{woven}
+use Rattle.sip_round.specs.Steps.Waiting.{woven}
 use Rattle.sip_round.proofs.waiting.weave_all.Given as goal
 
 abbrev pub invariant-loop-id : goal.invariant-loop-id

@@ -26,3 +26,39 @@ pub returns-clause-unrefused : goal.returns-clause-unrefused
 returns-clause-unrefused g c =
     let over : length c.args.rounds.now ≤ c.loop-index.index = omega (arith, c.loop-index-test.false) in
     ap (refused c.args.config) (sym (take_all c.loop-index.index c.args.rounds.now over)) ∙ c.loop-index.invariant.unrefused
+
+pub returns-in_default-clause-each_request_once : goal.returns-in_default-clause-each_request_once
+returns-in_default-clause-each_request_once g c = c.one_request_in_each_life.ensures c.args.config c.args.rounds.now
+
+pub returns-in_default-clause-provisionals_in_order : goal.returns-in_default-clause-provisionals_in_order
+returns-in_default-clause-provisionals_in_order g c = c.provisionals_in_each_life.ensures c.args.rounds.now
+
+pub returns-in-Err-clause-each_request_once : goal.returns-in-Err-clause-each_request_once
+returns-in-Err-clause-each_request_once g c = c.one_request_in_each_life.ensures c.args.config c.args.rounds.now
+
+pub returns-in-Err-clause-provisionals_in_order : goal.returns-in-Err-clause-provisionals_in_order
+returns-in-Err-clause-provisionals_in_order g c = c.provisionals_in_each_life.ensures c.args.rounds.now
+
+pub returns-in_default-push-clause-each_request_once : goal.returns-in_default-push-clause-each_request_once
+returns-in_default-push-clause-each_request_once g c = c.one_request_in_each_life.ensures c.args.config c.args.rounds.now
+
+pub returns-in_default-push-clause-provisionals_in_order : goal.returns-in_default-push-clause-provisionals_in_order
+returns-in_default-push-clause-provisionals_in_order g c = c.provisionals_in_each_life.ensures c.args.rounds.now
+
+pub returns-clause-each_request_once : goal.returns-clause-each_request_once
+returns-clause-each_request_once g c = c.one_request_in_each_life.ensures c.args.config c.args.rounds.now
+
+pub returns-clause-provisionals_in_order : goal.returns-clause-provisionals_in_order
+returns-clause-provisionals_in_order g c = c.provisionals_in_each_life.ensures c.args.rounds.now
+
+pub returns-in_default-clause-nothing_after_the_end : goal.returns-in_default-clause-nothing_after_the_end
+returns-in_default-clause-nothing_after_the_end g c = c.nothing_after_each_end.ensures c.args.config c.args.rounds.now
+
+pub returns-in-Err-clause-nothing_after_the_end : goal.returns-in-Err-clause-nothing_after_the_end
+returns-in-Err-clause-nothing_after_the_end g c = c.nothing_after_each_end.ensures c.args.config c.args.rounds.now
+
+pub returns-in_default-push-clause-nothing_after_the_end : goal.returns-in_default-push-clause-nothing_after_the_end
+returns-in_default-push-clause-nothing_after_the_end g c = c.nothing_after_each_end.ensures c.args.config c.args.rounds.now
+
+pub returns-clause-nothing_after_the_end : goal.returns-clause-nothing_after_the_end
+returns-clause-nothing_after_the_end g c = c.nothing_after_each_end.ensures c.args.config c.args.rounds.now

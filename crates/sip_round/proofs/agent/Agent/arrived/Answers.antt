@@ -2,7 +2,7 @@ use Rattle.std.proofs.Common.{sym, subst, length, map}
 use Rattle.std.specs.Prelude.{IfSome}
 use Rattle.sip_message.specs.Key.{branch_in}
 use Rattle.sip_round.specs.Arrivals.{arrivals_from}
-use Rattle.sip_round.specs.Arrived.{IsArrived}
+use Rattle.sip_round.specs.Steps.Arrived.{IsArrived}
 use Rattle.sip_round.specs.Parts.{owner_of}
 use Rattle.sip_round.proofs.ArrivedHere.{arrived_here}
 use Rattle.sip_round.proofs.agent.Agent.arrived.Goals as goal

@@ -1,8 +1,8 @@
 use Rattle.std.proofs.Common.{sym, subst, length, map}
 use Rattle.sip_message.specs.Key.{branch_in}
 use Rattle.sip_round.specs.Arrivals.{arrivals_from}
-use Rattle.sip_round.specs.Arrived.{IsArrived}
-use Rattle.sip_round.specs.Led.{Deals}
+use Rattle.sip_round.specs.Steps.Arrived.{IsArrived}
+use Rattle.sip_round.specs.Steps.Led.{Deals}
 use Rattle.sip_round.specs.Parts.{owner_of}
 use Rattle.sip_round.proofs.Leading.{deals}
 use Rattle.sip_round.proofs.phases.Ground.round.Goals as goal

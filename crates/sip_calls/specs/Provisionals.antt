@@ -1,0 +1,104 @@
+-- The reliable provisional responses that come to an INVITE in one life of a dialog, and those that the user is told of (RFC 3262,
+-- section 4).
+use Rattle.std.specs.Prelude.{◌≡◌, ◌≢◌, ℕ, List, [], ◌∷◌, ◌++◌, Option, None, Some, AllPairs, filter_map}
+use Rattle.std.specs.List.{IsDistinct}
+use Rattle.std.specs.Option.{option_and_then, option_to_list}
+use Rattle.sip_message.specs.declared.id.Id.{Id}
+pub use Rattle.sip_reliable.specs.Inbound.{IsConsecutive, in_order}
+use Rattle.sip_transactions.specs.declared.output.Kind.{Kind}
+use Rattle.sip_transactions.specs.declared.output.Kind.TheVariants as kind
+use Rattle.sip_served.specs.declared.held_dialog.DialogLife.{DialogLife}
+use Rattle.sip_served.specs.declared.item.CallOut.{CallOut}
+use Rattle.sip_served.specs.declared.item.Item.TheVariants.{Up, User}
+use Rattle.sip_served.specs.Dialogs.{lives}
+use Rattle.sip_served.specs.State.{is_id}
+use Rattle.sip_clients.specs.Client.{Side, client_at}
+pub use Rattle.sip_clients.specs.Provisionals.{AnInvite, in_life, number_for, told_of}
+use Rattle.sip_calls.specs.declared.call.Call.{Call}
+use Rattle.sip_calls.specs.declared.calls.Calls.{Calls}
+use Rattle.sip_calls.specs.declared.calls.CallInput.{CallInput}
+use Rattle.sip_calls.specs.declared.calls.Happening.{Happening}
+use Rattle.sip_calls.specs.declared.calls.Happening.TheVariants.{Tick, Item as AnItem}
+use Rattle.sip_calls.specs.Call.{call_step}
+use Rattle.sip_calls.specs.Sides.{side_of}
+
+-- the RSeq of the reliable provisional response that comes up to that INVITE in that life of a dialog, where one does
+abbrev pub number_up : AnInvite → DialogLife → Id → Kind → Side → Option ℕ
+number_up invite life id (kind.Response response) side = option_and_then (number_for invite life id response) (client_at id side.clients)
+number_up invite life id _ side = None
+
+abbrev pub number_in : AnInvite → DialogLife → Happening → Side → Option ℕ
+number_in invite life (AnItem event (Up up)) side = number_up invite life up.id up.kind side
+number_in invite life _ side = None
+
+-- ---- a list of inputs
+
+-- the dialogs and the client requests that are held
+abbrev pub side_held : Option Call → Side
+side_held None = record { dialogs = []; clients = [] }
+side_held (Some call) = side_of call
+
+module _ (calls : Calls) (invite : AnInvite) (life : DialogLife) where
+  -- the call after an input, and what it gives
+  abbrev pub done : Option Call → CallInput → Option Call × List CallOut
+  done call input = call_step calls call input.happening input.now
+
+  abbrev pub number_of : Option Call → CallInput → Option ℕ
+  number_of call input = in_life (lives (side_held (done call input).0).dialogs life) (number_in invite life input.happening (side_held call))
+
+  -- the RSeqs that came, in order
+  abbrev pub came_from : Option Call → List CallInput → List ℕ
+  came_from call [] = []
+  came_from call (input ∷ inputs) = option_to_list (number_of call input) ++ came_from (done call input).0 inputs
+
+  -- those of the responses that the user is told of, in order
+  abbrev pub shown_from : Option Call → List CallInput → List ℕ
+  shown_from call [] = []
+  shown_from call (input ∷ inputs) = told_of (number_of call input) (done call input).1 ++ shown_from (done call input).0 inputs
+
+  -- over all inputs of a call, of which nothing was held before
+  abbrev pub came : List CallInput → List ℕ
+  came inputs = came_from None inputs
+
+  abbrev pub shown : List CallInput → List ℕ
+  shown inputs = shown_from None inputs
+
+-- ---- events
+
+-- the event of which a message comes up: that a request is lost may be told to a tick
+abbrev pub event_of_kind : Id → Kind → Option Id
+event_of_kind id (kind.Request request reply_to) = Some id
+event_of_kind id (kind.Ack ack) = Some id
+event_of_kind id (kind.Response response) = Some id
+event_of_kind id kind.Timeout = None
+event_of_kind id kind.Failed = None
+
+-- the event of a message or of a command
+abbrev pub event_in : Happening → Option Id
+event_in Tick = None
+event_in (AnItem id (Up up)) = event_of_kind id up.kind
+event_in (AnItem id (User command)) = Some id
+
+-- messages and commands come of different events
+abbrev pub EventsDiffer : List CallInput → Type 0
+EventsDiffer inputs = IsDistinct is_id (filter_map (λ input. event_in input.happening) inputs)
+
+-- ---- the laws
+
+-- A law of the numbers that came, and of those shown, to an INVITE in a life of a dialog.
+abbrev pub OfEachLife : (List ℕ → List ℕ → Type 0) → Type 0
+OfEachLife Law = (calls : Calls) (inputs : List CallInput) → EventsDiffer inputs → (invite : AnInvite) (life : DialogLife)
+    → Law (came calls invite life inputs) (shown calls invite life inputs)
+
+-- Whatever comes to a call: of the reliable provisional responses that came to an INVITE in a life of a dialog the user is told of the
+-- first, and then of each that is one more than the one told before it.
+abbrev pub ShownInOrder : Type 0
+ShownInOrder = OfEachLife (λ came shown. shown ≡ in_order came)
+
+-- their numbers are consecutive
+abbrev pub ShownConsecutive : Type 0
+ShownConsecutive = OfEachLife (λ came shown. IsConsecutive shown)
+
+-- and so none is shown twice
+abbrev pub ShownOnce : Type 0
+ShownOnce = OfEachLife (λ came shown. AllPairs (λ x y. x ≢ y) shown)

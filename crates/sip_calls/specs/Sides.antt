@@ -1,0 +1,49 @@
+-- The two sides of a call, over the same dialogs.
+use Rattle.std.specs.Prelude.{ℕ, Bool, ◌||◌, not, ◌==◌, List, ◌++◌, Option, length}
+use Rattle.sip_timers.specs.Earlier.{earlier}
+use Rattle.sip_served.specs.State.{Taken as ServedTaken}
+use Rattle.sip_served.specs.Step.{holds}
+use Rattle.sip_served.specs.Tick as served
+use Rattle.sip_served.specs.declared.item.CallOut.{CallOut}
+use Rattle.sip_clients.specs.Client.{Side, Taken as ClientTaken}
+use Rattle.sip_clients.specs.Tick as clients
+use Rattle.sip_calls.specs.declared.call.Call.{Call}
+
+-- a call after something, and what it gives
+abbrev pub CallTaken : Type 0
+CallTaken = Call × List CallOut
+
+-- the server side took something
+abbrev pub by_server : Call → ServedTaken → CallTaken
+by_server call taken = (record call { served = record call.served { state = taken.0 } }, taken.1)
+
+-- what the client side sees: the dialogs and the client requests
+abbrev pub side_of : Call → Side
+side_of call = record { dialogs = ((call.served).state).dialogs; clients = call.clients }
+
+-- the client side took something
+abbrev pub by_clients : Call → ClientTaken → CallTaken
+by_clients call taken = (
+  record call {
+    served = record call.served { state = record (call.served).state { dialogs = (taken.0).dialogs } };
+    clients = (taken.0).clients;
+  },
+  taken.1,
+)
+
+-- one thing after another
+abbrev pub followed : CallTaken → (Call → CallTaken) → CallTaken
+followed done more = ((more done.0).0, done.1 ++ (more done.0).1)
+
+-- something is held
+abbrev pub holds_any : Call → Bool
+holds_any call = holds (call.served).state || not (length call.clients == 0)
+
+-- first the server side, and then the client side
+abbrev pub ticked : Call → ℕ → CallTaken
+ticked call now =
+    followed (by_server call (served.tick_taken (call.served).state now)) (λ call. by_clients call (clients.tick_taken (side_of call) now))
+
+-- the first moment at which something is due
+abbrev pub next_due : Call → Option ℕ
+next_due call = earlier (served.next_due (call.served).state) (clients.next_due call.clients)

@@ -1,0 +1,121 @@
+-- What an input makes of what was heard in a life of a dialog for the first INVITE.
+use Rattle.std.proofs.Common.{◌≡◌, inl, inr, ℕ, Bool, true, false, ◌==◌, List, [], ◌∷◌, map, refl, sym, ap, subst, ◌∙◌}
+use Rattle.std.specs.Prelude.{Option, None, Some, filter, if◌then◌else◌}
+use Rattle.std.specs.Option.{option_and_then, option_map, option_map_or}
+use Rattle.std.proofs.lemmas.Bool.{eqb-true}
+use Rattle.std.specs.Cmp.{first_so, second_so}
+use Rattle.sip_message.specs.declared.id.Id.{Id}
+use Rattle.sip_model.proofs.Ordered.{by_bool}
+use Rattle.sip_reliable.specs.declared.offer.Offer.{Offer}
+use Rattle.sip_reliable.specs.declared.offer.Offer.TheVariants.{Taken}
+use Rattle.sip_reliable.specs.Inbound.{latest_after, offered, taken}
+use Rattle.sip_served.specs.declared.held_dialog.DialogLife.{DialogLife}
+use Rattle.sip_served.specs.declared.held_dialog.HeldDialog.{HeldDialog}
+use Rattle.sip_served.specs.declared.item.CallOut.{CallOut}
+use Rattle.sip_served.specs.State.{is_id}
+use Rattle.sip_clients.specs.Dialogs.{hearing}
+use Rattle.sip_clients.specs.Provisionals.{in_life, is_response, told_of}
+use Rattle.sip_clients.proofs.ClientDialogs.{HeardAt}
+use Rattle.sip_served.proofs.Heard.{Goes, Stays}
+use Rattle.sip_clients.proofs.Hearing.{Hears, Listens, Silent}
+
+-- ---- the ear of a life
+
+-- what was heard last in a dialog, where it is that of the life
+abbrev pub ear_in : DialogLife → Option HeldDialog → Option (Option ℕ)
+ear_in life None = None
+ear_in life (Some held) = if is_id held.born life.born then Some held.heard else None
+
+abbrev is_own : DialogLife → Option HeldDialog → Bool
+is_own life o = option_map_or (λ (held : HeldDialog). is_id held.born life.born) o false
+
+pub id_exact : (x y : Id) → is_id x y ≡ true → x ≡ y
+id_exact x y e =
+    let round = eqb-true x.round y.round (first_so (x.round == y.round) (x.place == y.place) e) in
+    let place = eqb-true x.place y.place (second_so (x.round == y.round) (x.place == y.place) e) in
+    λ i. record { round = round i; place = place i }
+
+deaf : (life : DialogLife) (o : Option HeldDialog) → is_own life o ≡ false → ear_in life o ≡ None
+deaf life None e = refl
+deaf life (Some held) e = ap (λ b. if b then Some held.heard else None) e
+
+-- ---- nothing came
+
+begun_silent : (event : Option Id) (life : DialogLife) (before : Option (Option ℕ)) (held : HeldDialog) → event ≡ Some held.born → held.heard ≡ None
+    → Silent (event ≡ Some life.born) before (ear_in life (Some held))
+begun_silent event life before held made none =
+    by_bool (is_id held.born life.born)
+    (λ e. inr (inr (made ∙ ap (λ id. Some id) (id_exact held.born life.born e), (λ i. if e i then Some (none i) else None))))
+    (λ e. inl (ap (λ b. if b then Some held.heard else None) e))
+
+pub silent_from : (event : Option Id) (life : DialogLife) (before after : Option HeldDialog) → Goes (λ id. event ≡ Some id) before after
+    → Silent (event ≡ Some life.born) (ear_in life before) (ear_in life after)
+silent_from event life before None goes = inl refl
+silent_from event life None (Some after) (inl stays) = absurd stays
+silent_from event life (Some before) (Some after) (inl stays) = inr (inl (λ i. if is_id (stays.0 i) life.born then Some (stays.1 i) else None))
+silent_from event life before (Some after) (inr begins) = begun_silent event life (ear_in life before) after begins.0 begins.1
+
+pub none_in_life : (b : Bool) → in_life b None ≡ None
+none_in_life true = refl
+none_in_life false = refl
+
+pub no_number : (Begins : Type 0) (b : Bool) (before after : Option (Option ℕ)) (outs : List CallOut) → Silent Begins before after
+    → Listens Begins before after (in_life b None) (told_of (in_life b None) outs)
+no_number Begins b before after outs silent =
+    subst (λ o. Listens Begins before after o (told_of o outs)) (sym (none_in_life b)) (silent, refl)
+
+-- ---- a number came
+
+-- where it is taken
+taken_held : (event : Option Id) (life : DialogLife) (number : ℕ) (before : Option HeldDialog) (middle after : HeldDialog) (shown : List ℕ)
+    → Goes (λ id. event ≡ Some id) before (Some middle) → after.born ≡ middle.born → after.heard ≡ latest_after (offered middle.heard number) middle.heard number
+    → is_id after.born life.born ≡ true → offered (option_and_then (λ held. held.heard) before) number ≡ Taken → shown ≡ number ∷ []
+    → Hears (event ≡ Some life.born) (ear_in life before) (ear_in life (Some after)) number shown
+taken_held event life number before middle after shown goes born heard own offer is =
+    let own_middle : is_id middle.born life.born ≡ true = ap (λ id. is_id id life.born) (sym born) ∙ own in
+    let now : ear_in life (Some after) ≡ Some (latest_after (offered middle.heard number) middle.heard number) = λ i. if own i then Some (heard i) else None in
+    by_way before own_middle now goes offer
+  where
+    by_way : (before : Option HeldDialog) → is_id middle.born life.born ≡ true → ear_in life (Some after) ≡ Some (latest_after (offered middle.heard number) middle.heard number)
+        → Goes (λ id. event ≡ Some id) before (Some middle) → offered (option_and_then (λ held. held.heard) before) number ≡ Taken
+        → Hears (event ≡ Some life.born) (ear_in life before) (ear_in life (Some after)) number shown
+    by_way None own_middle now (inl stays) offer = absurd stays
+    by_way (Some held) own_middle now (inl stays) offer = record {
+      last = middle.heard;
+      was = inl (λ i. if (ap (λ id. is_id id life.born) (sym stays.0) ∙ own_middle) i then Some (sym stays.1 i) else None);
+      now = inr now;
+      shows = is ∙ ap (λ o. taken o number) (sym offer) ∙ ap (λ h. taken (offered h number) number) (sym stays.1);
+    }
+    by_way before own_middle now (inr begins) offer = record {
+      last = middle.heard;
+      was = inr (begins.0 ∙ ap (λ id. Some id) (id_exact middle.born life.born own_middle), begins.1);
+      now = inr now;
+      shows = is ∙ ap (λ h. taken (offered h number) number) (sym begins.1);
+    }
+
+pub taken_so : (event : Option Id) (life : DialogLife) (number : ℕ) (before after : Option HeldDialog) (b : Bool) (outs : List CallOut) → is_own life after ≡ b
+    → HeardAt (λ id. event ≡ Some id) (Some number) before after → offered (option_and_then (λ held. held.heard) before) number ≡ Taken → map (λ out. number) (filter is_response outs) ≡ number ∷ []
+    → Listens (event ≡ Some life.born) (ear_in life before) (ear_in life after) (in_life b (Some number)) (told_of (in_life b (Some number)) outs)
+taken_so event life number before after false outs own heard offer is = (inl (deaf life after own), refl)
+taken_so event life number before None true outs own heard offer is = absurd cc
+taken_so event life number before (Some after) true outs own heard offer is = by_middle heard.0 heard.1 heard.2
+  where
+    by_middle : (middle : Option HeldDialog) → Goes (λ id. event ≡ Some id) before middle → Stays (option_map (hearing number) middle) (Some after)
+        → Hears (event ≡ Some life.born) (ear_in life before) (ear_in life (Some after)) number (map (λ out. number) (filter is_response outs))
+    by_middle None goes stays = absurd stays
+    by_middle (Some middle) goes stays = taken_held event life number before middle after (map (λ out. number) (filter is_response outs)) goes stays.0 stays.1 own offer is
+
+-- where it isn't, nothing changes and nothing is told
+pub passed_so : (Begins : Type 0) (life : DialogLife) (number : ℕ) (held : Option HeldDialog) (offer : Offer) (b : Bool) → is_own life held ≡ b
+    → offered (option_and_then (λ held. held.heard) held) number ≡ offer → taken offer number ≡ [] → ((last : Option ℕ) → latest_after offer last number ≡ last)
+    → Listens Begins (ear_in life held) (ear_in life held) (in_life b (Some number)) (told_of (in_life b (Some number)) [])
+passed_so Begins life number held offer false own is none same = (inl (deaf life held own), refl)
+passed_so Begins life number None offer true own is none same = absurd cc
+passed_so Begins life number (Some held) offer true own is none same =
+    let now : ear_in life (Some held) ≡ Some held.heard = λ i. if own i then Some held.heard else None in
+    record {
+      last = held.heard;
+      was = inl now;
+      now = inr (now ∙ ap (λ h. Some h) (sym (ap (λ o. latest_after o held.heard number) is ∙ same held.heard)));
+      shows = sym (ap (λ o. taken o number) is ∙ none);
+    }

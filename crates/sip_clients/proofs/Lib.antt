@@ -1,0 +1,13 @@
+pub mod AgainInvite
+pub mod AgainReply
+pub mod AgainSides
+pub mod Calm
+pub mod ClientDialogs
+pub mod FewStarts
+pub mod FirstInvite
+pub mod FirstReply
+pub mod FirstSides
+pub mod Hearing
+pub mod Hex
+pub mod Names
+pub mod Results

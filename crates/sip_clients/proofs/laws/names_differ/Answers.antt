@@ -1,0 +1,5 @@
+use Rattle.sip_clients.proofs.Names.{names_differ}
+use Rattle.sip_clients.proofs.laws.names_differ.Goals as goal
+
+pub returns : goal.returns
+returns c = names_differ

@@ -1,0 +1,5 @@
+use Rattle.sip_clients.proofs.Calm.{clients_quiet_before}
+use Rattle.sip_clients.proofs.laws.quiet_until_due.Goals as goal
+
+pub returns : goal.returns
+returns c = clients_quiet_before

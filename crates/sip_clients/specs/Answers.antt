@@ -1,0 +1,17 @@
+-- The 2xx responses that came to an INVITE, by the dialog that each is of (RFC 3261, section 13.2.2.4).
+use Rattle.std.specs.Prelude.{Bool, List, Option}
+use Rattle.std.specs.Map.{lookup}
+use Rattle.std.specs.Option.{is_some, option_and_then}
+use Rattle.sip_served.specs.declared.held_dialog.DialogName.{DialogName}
+use Rattle.sip_served.specs.Dialogs.{is_named}
+use Rattle.sip_clients.specs.declared.answers.SentAck.{SentAck}
+
+-- each with its ACK once that was sent
+abbrev pub AnswerList : Type 0
+AnswerList = List (DialogName × Option SentAck)
+
+abbrev pub has_answer : DialogName → AnswerList → Bool
+has_answer name answers = is_some (lookup (is_named name) answers)
+
+abbrev pub ack_of : DialogName → AnswerList → Option SentAck
+ack_of name answers = option_and_then (λ ack. ack) (lookup (is_named name) answers)

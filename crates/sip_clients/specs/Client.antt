@@ -1,0 +1,44 @@
+-- The client requests of one Call-ID.
+use Rattle.std.specs.Prelude.{Bool, ◌&&◌, ◌==◌, List, [], Option, None}
+use Rattle.std.specs.Map.{lookup}
+use Rattle.sip_message.specs.declared.addr.Addr.{Addr}
+use Rattle.sip_message.specs.declared.id.Id.{Id}
+use Rattle.sip_message.specs.declared.message.Message.{Message}
+use Rattle.sip_served.specs.declared.item.CallOut.{CallOut}
+use Rattle.sip_served.specs.State.{Dialogs}
+use Rattle.sip_clients.specs.declared.client.Asks.{Asks}
+use Rattle.sip_clients.specs.declared.client.Cancelling.TheVariants.{NotAsked}
+use Rattle.sip_clients.specs.declared.client.Client.{Client}
+use Rattle.sip_clients.specs.declared.client.ClientId.{ClientId}
+
+abbrev pub client_id : Id → ClientId
+client_id id = record { round = id.round; place = id.place }
+
+abbrev pub is_client : ClientId → ClientId → Bool
+is_client one other = (one.round == other.round) && (one.place == other.place)
+
+-- the held client requests, in the order in which they were sent
+abbrev pub Clients : Type 0
+Clients = List (ClientId × Client)
+
+-- the client request that the event of this id sent
+abbrev pub client_at : Id → Clients → Option Client
+client_at id clients = lookup (is_client (client_id id)) clients
+
+-- a request that was just sent
+abbrev pub client_for : Id → Asks → Message → Addr → Client
+client_for id asks request to =
+    record { id = id; asks = asks; request = request; to = to; cancel = NotAsked; heard = None; answers = []; removal = None }
+
+-- the held dialogs, and the held client requests
+pub record Side : Type 0 where
+  pub dialogs : Dialogs
+  pub clients : Clients
+
+-- what is held after something happened, and what is told of it
+abbrev pub Taken : Type 0
+Taken = Side × List CallOut
+
+-- nothing happens
+abbrev pub quiet : Side → Taken
+quiet side = (side, [])

@@ -1,0 +1,171 @@
+-- The client side of one Call-ID: what each response, loss and command does to the held dialogs and the held client requests, and
+-- what is told of it.
+use Rattle.std.specs.Prelude.{ℕ, Bool, List, [], ◌∷◌, ◌++◌, Option, None, Some, Result, Ok, Err, if◌then◌else◌}
+use Rattle.std.specs.Map.{remove_entry, set_value}
+use Rattle.std.specs.Option.{option_map, option_map_or}
+use Rattle.indexmap.specs.IndexMap.{insert_entry}
+use Rattle.sip_message.specs.declared.id.Id.{Id}
+use Rattle.sip_message.specs.declared.message.Message.{Message}
+use Rattle.sip_message.specs.declared.start_line.StartLine.{StartLine}
+use Rattle.sip_message.specs.declared.start_line.StartLine.TheVariants as start
+use Rattle.sip_message.specs.Party.{tag_of}
+use Rattle.sip_served.specs.declared.command.DialogBody.{DialogBody}
+use Rattle.sip_served.specs.declared.command.DialogRequest.{DialogRequest}
+use Rattle.sip_served.specs.declared.command.Invite.{Invite}
+use Rattle.sip_served.specs.declared.command.Plain.{Plain as PlainCommand}
+use Rattle.sip_served.specs.declared.debt.Debt.{Debt}
+use Rattle.sip_served.specs.declared.debt.Debt.TheVariants.{Ack, Prack}
+use Rattle.sip_served.specs.declared.held_dialog.DialogName.{DialogName}
+use Rattle.sip_served.specs.declared.item.CallOut.{CallOut}
+use Rattle.sip_served.specs.declared.refusal.Refusal.{Refusal}
+use Rattle.sip_served.specs.declared.refusal.Refusal.TheVariants.{BadMethod}
+use Rattle.sip_served.specs.Dialogs.{is_named}
+use Rattle.sip_served.specs.Requests.{name_of_tags}
+use Rattle.sip_served.specs.State.{Dialogs}
+use Rattle.sip_clients.specs.declared.answers.SentAck.{SentAck}
+use Rattle.sip_clients.specs.declared.client.Asks.{Asks}
+use Rattle.sip_clients.specs.declared.client.Asks.TheVariants.{First, Again, Inside, Plain}
+use Rattle.sip_clients.specs.declared.client.Client.{Client}
+use Rattle.sip_clients.specs.declared.debts.DebtKind.TheVariants as kind
+use Rattle.sip_clients.specs.declared.event.Event.{Event}
+use Rattle.sip_clients.specs.declared.outputs.Rest.{Rest}
+use Rattle.sip_clients.specs.declared.outputs.Rest.TheVariants.{Stays, Over, Starts}
+use Rattle.sip_clients.specs.declared.reply.Reply.{Reply as Answer}
+use Rattle.sip_clients.specs.Client.{Clients, Side, Taken, client_at, client_for, client_id, is_client, quiet}
+use Rattle.sip_clients.specs.Commands.{ack_told, debt_for, is_bad_outside, name_in, prack_told, request_told}
+use Rattle.sip_clients.specs.Dialogs.{ended_with}
+use Rattle.sip_clients.specs.Outputs.{refused_notice, start_command}
+use Rattle.sip_clients.specs.Outside.{invite_of, plain_of}
+use Rattle.sip_clients.specs.Replied.{reply_taken}
+
+-- the request that the event of this id sent is changed so
+abbrev pub client_changed : Id → (Client → Client) → Clients → Clients
+client_changed id change clients =
+    option_map_or (λ client. set_value (is_client (client_id id)) clients (change client)) (client_at id clients) clients
+
+abbrev pub without : Id → Clients → Clients
+without id clients = remove_entry (is_client (client_id id)) clients
+
+abbrev pub with_client : Id → Client → Clients → Clients
+with_client id client clients = insert_entry is_client clients (client_id id) client
+
+-- a request is sent
+abbrev pub started : Event → Client → Clients → Clients × List CallOut
+started event client clients =
+    (with_client event.id client clients, start_command event client ∷ [])
+
+-- what becomes of the requests after a response to that of an id, or after a command
+abbrev pub settled : Event → Id → Rest → Clients → Clients × List CallOut
+settled event id Stays clients = (clients, [])
+settled event id Over clients = (without id clients, [])
+settled event id (Starts client) clients = started event client clients
+
+-- ---- a response
+
+-- the name of the dialog that it makes, or that its request was sent in
+abbrev pub reply_name : Asks → Client → Message → DialogName
+reply_name First client response = name_of_tags (tag_of (client.request).from) (tag_of response.to)
+reply_name (Again life) client response = life.name
+reply_name (Inside life) client response = life.name
+reply_name Plain client response = name_of_tags (tag_of (client.request).from) (tag_of response.to)
+
+abbrev pub name_at : Id → Message → Clients → Option DialogName
+name_at id response clients = option_map (λ client. reply_name client.asks client response) (client_at id clients)
+
+abbrev pub status_of : StartLine → Option ℕ
+status_of (start.Request uri) = None
+status_of (start.Response status reason) = Some status
+
+-- the requests and the dialogs after it, what is told, and what becomes of the requests
+abbrev pub replied_at : Answer → Dialogs → Clients → Clients × Dialogs × List CallOut × Rest
+replied_at reply dialogs clients = (
+  client_changed reply.id (λ client. (reply_taken client dialogs reply).0) clients,
+  option_map_or (λ client. (reply_taken client dialogs reply).1) (client_at reply.id clients) dialogs,
+  option_map_or (λ client. (reply_taken client dialogs reply).2) (client_at reply.id clients) [],
+  option_map_or (λ client. (reply_taken client dialogs reply).3) (client_at reply.id clients) Stays,
+)
+
+abbrev pub reply_settled : Answer → Side → Taken
+reply_settled reply side =
+    let done = replied_at reply side.dialogs side.clients in
+    let after = settled reply.event reply.id done.3 done.0 in
+    (record { dialogs = done.1; clients = after.0 }, done.2 ++ after.1)
+
+abbrev pub named_taken : Event → Id → List ℕ → Message → Option ℕ → Option DialogName → Side → Taken
+named_taken event id call_id response None name side = quiet side
+named_taken event id call_id response (Some status) None side = quiet side
+named_taken event id call_id response (Some status) (Some name) side =
+    reply_settled record { event = event; id = id; call_id = call_id; name = name; status = status; response = response } side
+
+-- where its request isn't held, nothing happens
+abbrev pub response_taken : Event → Id → List ℕ → Message → Side → Taken
+response_taken event id call_id response side =
+    named_taken event id call_id response (status_of response.start) (name_at id response side.clients) side
+
+-- ---- a request is lost: its transaction timed out, or its message could not be sent
+
+abbrev pub lost_of : Id → Bool → Option Client → Side → Taken
+lost_of id timed_out None side = (record { dialogs = side.dialogs; clients = without id side.clients }, [])
+lost_of id timed_out (Some client) side =
+    let ended = ended_with client timed_out side.dialogs in
+    (record { dialogs = ended.0; clients = without id side.clients }, ended.1)
+
+abbrev pub lost : Id → Bool → Side → Taken
+lost id timed_out side = lost_of id timed_out (client_at id side.clients) side
+
+-- ---- commands outside of dialogs
+
+abbrev pub invite_taken : Event → Invite → Clients → Clients × List CallOut
+invite_taken event invite clients = started event (client_for event.id First (invite_of event invite) invite.address) clients
+
+abbrev pub plain_taken : Event → PlainCommand → Clients → Clients × List CallOut
+plain_taken event plain clients =
+    if is_bad_outside plain.method then (clients, refused_notice event plain.call_id BadMethod ∷ [])
+    else started event (client_for event.id Plain (plain_of event plain) plain.address) clients
+
+-- ---- commands in a dialog
+
+abbrev pub request_settled : Event → List CallOut → Rest → List CallOut → Clients → Clients × List CallOut
+request_settled event outs rest ends clients =
+    let after = settled event event.id rest clients in (after.0, outs ++ after.1 ++ ends)
+
+abbrev pub request_taken : Event → DialogRequest → Side → Taken
+request_taken event command side =
+    let told = request_told event (name_in command.local_tag command.remote_tag) command side.dialogs in
+    let after = request_settled event told.1 told.2 told.3 side.clients in
+    (record { dialogs = told.0; clients = after.0 }, after.1)
+
+-- the ACK that the user gave is that of its 2xx
+abbrev pub acked_with : DialogName → SentAck → Client → Client
+acked_with name ack client = record client { answers = insert_entry is_named client.answers name (Some ack) }
+
+abbrev pub ack_noted : Debt → DialogName → Option SentAck → Clients → Clients
+ack_noted (Ack invite number) name None clients = clients
+ack_noted (Ack invite number) name (Some ack) clients = client_changed invite (acked_with name ack) clients
+ack_noted (Prack rseq number) name ack clients = clients
+
+abbrev pub ack_paid : Event → DialogBody → DialogName → Debt → Side → Taken
+ack_paid event command name debt side =
+    let told = ack_told event name debt command side.dialogs in
+    (record { dialogs = told.0; clients = ack_noted debt name told.2 side.clients }, told.1)
+
+abbrev pub prack_paid : Event → DialogBody → DialogName → Debt → Side → Taken
+prack_paid event command name debt side =
+    let told = prack_told event name debt command side.dialogs in
+    let after = settled event event.id told.2 side.clients in
+    (record { dialogs = told.0; clients = after.0 }, told.1 ++ after.1)
+
+abbrev pub paid_or_refused : Event → DialogBody → (Debt → Side → Taken) → Result Debt Refusal → Side → Taken
+paid_or_refused event command pay (Err refusal) side = (side, refused_notice event command.call_id refusal ∷ [])
+paid_or_refused event command pay (Ok debt) side = pay debt side
+
+-- each serves the oldest response of the dialog that is owed one
+abbrev pub ack_taken : Event → DialogBody → Side → Taken
+ack_taken event command side =
+    let name = name_in command.local_tag command.remote_tag in
+    paid_or_refused event command (ack_paid event command name) (debt_for kind.Ack name side.dialogs) side
+
+abbrev pub prack_taken : Event → DialogBody → Side → Taken
+prack_taken event command side =
+    let name = name_in command.local_tag command.remote_tag in
+    paid_or_refused event command (prack_paid event command name) (debt_for kind.Prack name side.dialogs) side

@@ -1,0 +1,50 @@
+-- What is owed in a dialog: the ACKs of 2xx responses and the PRACKs of reliable provisional ones, the oldest first (RFC 3261,
+-- section 13.2.2.4; RFC 3262, section 4).
+use Rattle.std.specs.Prelude.{ℕ, Bool, true, false, not, ◌&&◌, ◌==◌, List, [], ◌∷◌, ◌++◌, Option, Some, filter}
+use Rattle.sip_served.specs.declared.debt.Debt.{Debt}
+use Rattle.sip_served.specs.declared.debt.Debt.TheVariants.{Ack, Prack}
+use Rattle.sip_served.specs.declared.held_dialog.HeldDialog.{HeldDialog}
+use Rattle.sip_served.specs.State.{is_id}
+use Rattle.sip_clients.specs.declared.debts.DebtKind.{DebtKind}
+use Rattle.sip_clients.specs.declared.debts.DebtKind.TheVariants as kind
+use Rattle.sip_clients.specs.declared.event.Event.{Event}
+use Rattle.sip_clients.specs.declared.service.Service.{Service}
+use Rattle.sip_clients.specs.declared.service.Service.TheVariants.{Sent, Waits, Refused}
+use Rattle.sip_clients.specs.Service.{served}
+
+abbrev pub is_of : DebtKind → Debt → Bool
+is_of kind.Ack (Ack invite number) = true
+is_of kind.Ack (Prack rseq number) = false
+is_of kind.Prack (Ack invite number) = false
+is_of kind.Prack (Prack rseq number) = true
+
+abbrev pub is_same : Debt → Debt → Bool
+is_same (Ack invite number) (Ack other_invite other_number) = is_id invite other_invite && (number == other_number)
+is_same (Ack invite number) (Prack other_rseq other_number) = false
+is_same (Prack rseq number) (Ack other_invite other_number) = false
+is_same (Prack rseq number) (Prack other_rseq other_number) = (rseq == other_rseq) && (number == other_number)
+
+-- ---- a response asks for it: it stays owed where it isn't sent
+
+abbrev pub kept_unless_sent : Debt → Service → HeldDialog → HeldDialog
+kept_unless_sent debt (Sent sending) held = held
+kept_unless_sent debt Waits held = record held { owed = held.owed ++ debt ∷ [] }
+kept_unless_sent debt (Refused refusal) held = record held { owed = held.owed ++ debt ∷ [] }
+
+unfoldable pub owing : Event → Debt → Option (List ℕ) → HeldDialog → HeldDialog
+owing event debt offer held =
+    let done = served event debt offer held in kept_unless_sent debt done.1 done.0
+
+-- ---- the user serves it: it is owed no more where it is sent
+
+abbrev pub without : Debt → HeldDialog → HeldDialog
+without debt held = record held { owed = filter (λ other. not (is_same debt other)) held.owed }
+
+abbrev pub dropped_if_sent : Debt → Service → HeldDialog → HeldDialog
+dropped_if_sent debt (Sent sending) held = without debt held
+dropped_if_sent debt Waits held = held
+dropped_if_sent debt (Refused refusal) held = held
+
+unfoldable pub paying : Event → Debt → List ℕ → HeldDialog → HeldDialog
+paying event debt body held =
+    let done = served event debt (Some body) held in dropped_if_sent debt done.1 done.0

@@ -1,0 +1,15 @@
+pub mod Answers
+pub mod Client
+pub mod Clients
+pub mod Commands
+pub mod Debts
+pub mod Dialogs
+pub mod Event
+pub mod Name
+pub mod Outputs
+pub mod Outside
+pub mod Provisionals
+pub mod Replied
+pub mod Reply
+pub mod Service
+pub mod Tick

@@ -1,0 +1,68 @@
+-- What the user is told of a client request, and what is sent for it.
+use Rattle.std.specs.Prelude.{ℕ, List, [], ◌∷◌, Option, None, Some, if◌then◌else◌}
+use Rattle.sip_message.specs.Key.{client_key}
+use Rattle.sip_message.specs.Party.{tag_of}
+use Rattle.sip_message.specs.Written.{written}
+use Rattle.sip_message.specs.declared.message.Message.{Message}
+use Rattle.sip_served.specs.declared.held_dialog.DialogLife.{DialogLife}
+use Rattle.sip_served.specs.declared.held_dialog.DialogName.{DialogName}
+use Rattle.sip_served.specs.declared.item.CallOut.{CallOut}
+use Rattle.sip_served.specs.declared.item.CallOut.TheVariants as out
+use Rattle.sip_served.specs.declared.notice.Notice.TheVariants as notice
+use Rattle.sip_served.specs.declared.refusal.Refusal.{Refusal}
+use Rattle.sip_served.specs.Requests.{is_invite}
+use Rattle.sip_transactions.specs.declared.input.Command.TheVariants.{Start}
+use Rattle.sip_clients.specs.declared.answers.SentAck.{SentAck}
+use Rattle.sip_clients.specs.declared.client.Asks.{Asks}
+use Rattle.sip_clients.specs.declared.client.Asks.TheVariants.{Again, Inside}
+use Rattle.sip_clients.specs.declared.client.Client.{Client}
+use Rattle.sip_clients.specs.declared.event.Event.{Event}
+use Rattle.sip_clients.specs.declared.outputs.Rest.{Rest}
+use Rattle.sip_clients.specs.declared.outputs.Rest.TheVariants.{Stays, Starts}
+use Rattle.sip_clients.specs.declared.reply.Reply.{Reply as Answer}
+use Rattle.sip_clients.specs.declared.service.Sending.{Sending}
+use Rattle.sip_clients.specs.declared.service.Service.{Service}
+use Rattle.sip_clients.specs.declared.service.Service.TheVariants.{Sent, Waits, Refused}
+use Rattle.sip_clients.specs.Client.{client_for}
+use Rattle.sip_clients.specs.Event.{branch_of}
+
+abbrev pub response_notice : Answer → CallOut
+response_notice reply =
+    out.Notice (notice.Response reply.call_id reply.id reply.status (tag_of reply.response.from) (tag_of reply.response.to) reply.response.body)
+
+abbrev pub refused_notice : Event → List ℕ → Refusal → CallOut
+refused_notice event call_id refusal = out.Notice (notice.Refused call_id (event.id).place refusal)
+
+-- ---- a request in a dialog
+
+abbrev pub asks_in : DialogLife → Message → Asks
+asks_in life message = if is_invite message then Again life else Inside life
+
+abbrev pub client_of : Event → DialogName → Sending → Client
+client_of event name sending =
+    client_for event.id (asks_in record { name = name; born = sending.born } sending.message) sending.message sending.to
+
+-- what is told of it, and the request that is sent
+abbrev pub request_said : Event → List ℕ → DialogName → Service → List CallOut × Rest
+request_said event call_id name (Sent sending) = ([], Starts (client_of event name sending))
+request_said event call_id name Waits = ([], Stays)
+request_said event call_id name (Refused refusal) = (refused_notice event call_id refusal ∷ [], Stays)
+
+-- a request is sent through a transaction of its own
+unfoldable pub start_command : Event → Client → CallOut
+start_command event client =
+    out.Command event.id (Start (client_key (branch_of event) ((client.request).cseq).method) (client.request).call_id client.request client.to)
+
+-- ---- an ACK
+
+abbrev pub sent_ack : Sending → SentAck
+sent_ack sending = record { to = sending.to; bytes = written sending.message }
+
+abbrev pub direct : SentAck → CallOut
+direct ack = out.Direct ack.to ack.bytes
+
+-- what is told of it or sent for it, and the ACK where it is sent
+abbrev pub ack_said : Event → List ℕ → Service → List CallOut × Option SentAck
+ack_said event call_id (Sent sending) = (direct (sent_ack sending) ∷ [], Some (sent_ack sending))
+ack_said event call_id Waits = ([], None)
+ack_said event call_id (Refused refusal) = (refused_notice event call_id refusal ∷ [], None)

@@ -1,0 +1,59 @@
+-- The requests that are sent outside of dialogs (RFC 3261, sections 8.1.1 and 13.2.1; RFC 3262, section 4).
+use Rattle.std.specs.Prelude.{ℕ, List, [], ◌∷◌, Some, None, codes}
+use Rattle.sip_dialog.specs.Request.{contact_of, via_of}
+use Rattle.sip_message.specs.declared.addr.Addr.{Addr}
+use Rattle.sip_message.specs.declared.message.Message.{Message}
+use Rattle.sip_message.specs.declared.start_line.StartLine.TheVariants.{Request}
+use Rattle.sip_message.specs.Message.{with_body_of}
+use Rattle.sip_message.specs.Party.{party_of}
+use Rattle.sip_served.specs.declared.command.Invite.{Invite}
+use Rattle.sip_served.specs.declared.command.Plain.{Plain}
+use Rattle.sip_served.specs.declared.command.ProvisionalSupport.{ProvisionalSupport}
+use Rattle.sip_served.specs.declared.command.ProvisionalSupport.TheVariants as support
+use Rattle.sip_clients.specs.declared.event.Event.{Event}
+use Rattle.sip_clients.specs.Event.{branch_of, from_tag_of}
+
+-- the request of this method, without a body
+unfoldable pub bare_request : Event → List ℕ → List ℕ → List ℕ → List ℕ → List ℕ → Message
+bare_request event call_id method uri from to = record {
+  start = Request uri;
+  vias = via_of event.local (branch_of event) ∷ [];
+  max_forwards = Some 70;
+  from = party_of from (Some (from_tag_of event));
+  to = party_of to None;
+  call_id = call_id;
+  cseq = record { number = 1; method = method };
+  contacts = [];
+  record_routes = [];
+  routes = [];
+  require = [];
+  supported = [];
+  rseq = None;
+  rack = None;
+  others = [];
+  body = [];
+}
+
+abbrev pub with_contact : Addr → Message → Message
+with_contact local message = record message { contacts = contact_of local ∷ [] }
+
+-- `100rel` in Supported or in Require, as asked
+abbrev pub supporting : ProvisionalSupport → Message → Message
+supporting support.None message = message
+supporting support.Supported message = record message { supported = codes "100rel" ∷ [] }
+supporting support.Required message = record message { require = codes "100rel" ∷ [] }
+
+-- the INVITE that the user asks for
+abbrev pub bare_invite : Event → Invite → Message
+bare_invite event invite =
+    supporting invite.support (with_contact event.local (bare_request event invite.call_id (codes "INVITE") invite.request_uri invite.from invite.to))
+
+abbrev pub invite_of : Event → Invite → Message
+invite_of event invite = with_body_of (bare_invite event invite) invite.body
+
+-- the request of another method that the user asks for
+abbrev pub bare_plain : Event → Plain → Message
+bare_plain event plain = bare_request event plain.call_id plain.method plain.request_uri plain.from plain.to
+
+abbrev pub plain_of : Event → Plain → Message
+plain_of event plain = with_body_of (bare_plain event plain) plain.body

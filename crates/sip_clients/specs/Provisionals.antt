@@ -1,0 +1,55 @@
+-- A reliable provisional response that comes to an INVITE in one life of a dialog, and whether the user is told of it (RFC 3262,
+-- section 4).
+use Rattle.std.specs.Prelude.{ℕ, Bool, true, false, ◌&&◌, not, ◌==◌, List, [], Option, None, Some, filter, map, if◌then◌else◌}
+use Rattle.sip_message.specs.declared.id.Id.{Id}
+use Rattle.sip_message.specs.declared.message.Message.{Message}
+use Rattle.sip_served.specs.declared.held_dialog.DialogLife.{DialogLife}
+use Rattle.sip_served.specs.declared.item.CallOut.{CallOut}
+use Rattle.sip_served.specs.declared.item.CallOut.TheVariants.{Notice}
+use Rattle.sip_served.specs.declared.notice.Notice.TheVariants as notice
+use Rattle.sip_served.specs.Dialogs.{is_named}
+use Rattle.sip_served.specs.Requests.{is_final, is_inside}
+use Rattle.sip_served.specs.State.{is_id}
+use Rattle.sip_clients.specs.declared.client.Asks.{Asks}
+use Rattle.sip_clients.specs.declared.client.Asks.TheVariants.{First, Again}
+use Rattle.sip_clients.specs.declared.client.Client.{Client}
+use Rattle.sip_clients.specs.Clients.{reply_name, status_of}
+use Rattle.sip_clients.specs.Reply.{rseq_of}
+
+-- an INVITE: the first one of the call, or one that the event of this id sent in a dialog
+pub data AnInvite : Type 0 where
+  OfTheCall : AnInvite
+  InTheDialog : Id → AnInvite
+
+-- A request of this id, which asks so, is that INVITE, and this response to it is of this life of a dialog.
+abbrev pub is_for : AnInvite → DialogLife → Id → Client → Asks → Message → Bool
+is_for OfTheCall life id client First response = is_named life.name (reply_name First client response)
+is_for (InTheDialog invite) life id client (Again own) response =
+    is_id id invite && (is_named life.name own.name && is_id own.born life.born)
+is_for _ life id client _ response = false
+
+-- the RSeq of a reliable provisional response of a dialog: it isn't final and no 100, and has a To tag
+abbrev pub provisional_number : Option ℕ → Message → Option ℕ
+provisional_number None response = None
+provisional_number (Some status) response =
+    if is_final status then None
+    else (if not (status == 100) && is_inside response then rseq_of response
+    else None)
+
+abbrev pub number_for : AnInvite → DialogLife → Id → Message → Client → Option ℕ
+number_for invite life id response client =
+    if is_for invite life id client client.asks response then provisional_number (status_of response.start) response else None
+
+-- the user is told of a response
+abbrev pub is_response : CallOut → Bool
+is_response (Notice (notice.Response call_id id status local_tag remote_tag body)) = true
+is_response _ = false
+
+-- it came in the life: the dialog is held after it
+abbrev pub in_life : Bool → Option ℕ → Option ℕ
+in_life lives number = if lives then number else None
+
+-- the RSeq as often as the user is told of a response
+abbrev pub told_of : Option ℕ → List CallOut → List ℕ
+told_of None outs = []
+told_of (Some number) outs = map (λ out. number) (filter is_response outs)

@@ -1,0 +1,133 @@
+-- What a response does to its client request and to the held dialogs, and what is told of it (RFC 3261, sections 12.2.1.2, 13.2.2
+-- and 13.2.2.4; RFC 3262, section 4; RFC 6026, section 7.2).
+use Rattle.std.specs.Prelude.{ℕ, ◌+◌, Bool, not, ◌||◌, ◌==◌, List, [], ◌∷◌, ◌++◌, length, Option, None, Some, unwrap_or, if◌then◌else◌}
+use Rattle.std.specs.Option.{option_map_or}
+use Rattle.indexmap.specs.IndexMap.{insert_entry}
+use Rattle.sip_message.specs.declared.message.Message.{Message}
+use Rattle.sip_reliable.specs.Inbound.{latest_after, offered}
+use Rattle.sip_served.specs.declared.debt.Debt.TheVariants.{Ack, Prack}
+use Rattle.sip_served.specs.declared.item.CallOut.{CallOut}
+use Rattle.sip_served.specs.Dialogs.{dialog_changed, is_named}
+use Rattle.sip_served.specs.State.{Dialogs}
+use Rattle.sip_transactions.specs.declared.timers.TheConstants.{LIFETIME}
+use Rattle.sip_clients.specs.declared.answers.SentAck.{SentAck}
+use Rattle.sip_clients.specs.declared.client.Asks.{Asks}
+use Rattle.sip_clients.specs.declared.client.Asks.TheVariants.{First, Again, Inside, Plain}
+use Rattle.sip_clients.specs.declared.client.Client.{Client}
+use Rattle.sip_clients.specs.declared.outputs.Rest.{Rest}
+use Rattle.sip_clients.specs.declared.outputs.Rest.TheVariants.{Stays, Over}
+use Rattle.sip_clients.specs.declared.reply.Reply.{Reply as Answer}
+use Rattle.sip_clients.specs.declared.reply.ReplyCase.{ReplyCase}
+use Rattle.sip_clients.specs.declared.reply.ReplyCase.TheVariants as reply
+use Rattle.sip_clients.specs.declared.service.Service.{Service}
+use Rattle.sip_clients.specs.Answers.{ack_of}
+use Rattle.sip_clients.specs.Dialogs.{accepted, ended_with, hearing, opened, owed_at}
+use Rattle.sip_clients.specs.Outputs.{ack_said, direct, request_said, response_notice}
+use Rattle.sip_clients.specs.Reply.{reply_case}
+
+-- the client request and the dialogs after a response, what is told, and what becomes of the requests
+abbrev pub Replied : Type 0
+Replied = Client × Dialogs × List CallOut × Rest
+
+abbrev pub notice : Answer → List CallOut
+notice answer = response_notice answer ∷ []
+
+-- ---- a final response
+
+-- the dialog isn't there, or the peer isn't (RFC 3261, section 12.2.1.2)
+abbrev pub ends_dialog : ℕ → Bool
+ends_dialog status = (status == 481) || (status == 408)
+
+-- the request is over, and what ends with it ends
+abbrev pub finished : Client → Dialogs → Answer → Replied
+finished client dialogs answer =
+    let ended = ended_with client (ends_dialog answer.status) dialogs in
+    (client, ended.0, notice answer ++ ended.1, Over)
+
+-- ---- a provisional response of a dialog
+
+abbrev pub early : Client → Dialogs → Answer → Replied
+early client dialogs answer = (client, opened client answer dialogs, notice answer, Stays)
+
+-- the dialog of a first INVITE keeps what came in it, and an INVITE in a dialog keeps itself what came for it
+abbrev pub heard_first : Asks → ℕ → Answer → Dialogs → Dialogs
+heard_first First rseq answer dialogs = dialog_changed answer.name (hearing rseq) dialogs
+heard_first (Again life) rseq answer dialogs = dialogs
+heard_first (Inside life) rseq answer dialogs = dialogs
+heard_first Plain rseq answer dialogs = dialogs
+
+abbrev pub hears : ℕ → Client → Client
+hears rseq client = record client { heard = latest_after (offered client.heard rseq) client.heard rseq }
+
+abbrev pub heard_again : Asks → ℕ → Client → Client
+heard_again First rseq client = client
+heard_again (Again life) rseq client = hears rseq client
+heard_again (Inside life) rseq client = hears rseq client
+heard_again Plain rseq client = hears rseq client
+
+abbrev pub opened_and_heard : ℕ → Client → Answer → Dialogs → Dialogs
+opened_and_heard rseq client answer dialogs = heard_first client.asks rseq answer (opened client answer dialogs)
+
+-- What a response asks for has no body where the INVITE had an offer or the response has none. Otherwise it has to carry the answer
+-- to the offer in the response, which the user gives (RFC 3261, section 13.2.1; RFC 3262, section 5).
+abbrev pub offer_to : Client → Message → Option (List ℕ)
+offer_to client response =
+    if not (length (client.request).body == 0) || (length response.body == 0) then Some [] else None
+
+unfoldable pub prack_owed : ℕ → Client → Dialogs → Answer → Dialogs × Service
+prack_owed rseq client dialogs answer =
+    owed_at answer.name answer.event (Prack rseq ((client.request).cseq).number) (offer_to client answer.response) (opened_and_heard rseq client answer dialogs)
+
+abbrev pub told_of_prack : Answer → Service → List CallOut × Rest
+told_of_prack answer service =
+    let said = request_said answer.event answer.call_id answer.name service in (notice answer ++ said.0, said.1)
+
+-- a reliable one that is the next of its dialog is told, and its PRACK is owed
+abbrev pub reliable : ℕ → Client → Dialogs → Answer → Replied
+reliable rseq client dialogs answer =
+    let owed = prack_owed rseq client dialogs answer in
+    let told = told_of_prack answer owed.1 in
+    (heard_again client.asks rseq client, owed.0, told.0, told.1)
+
+-- ---- a 2xx to an INVITE
+
+-- the ACK of its 2xx goes out again, the same bytes to the same address
+abbrev pub ack_again : Client → Answer → List CallOut
+ack_again client answer = option_map_or (λ ack. direct ack ∷ []) (ack_of answer.name client.answers) []
+
+-- the INVITE is held for 64*T1 after its first 2xx
+abbrev pub answered : Answer → Option SentAck → Client → Client
+answered answer ack client = record client {
+  answers = insert_entry is_named client.answers answer.name ack;
+  removal = Some (unwrap_or client.removal ((answer.event).moment + LIFETIME));
+}
+
+unfoldable pub ack_owed : Client → Dialogs → Answer → Dialogs × Service
+ack_owed client dialogs answer =
+    owed_at answer.name answer.event (Ack client.id ((client.request).cseq).number) (offer_to client answer.response) (accepted client answer dialogs)
+
+abbrev pub told_of_ack : Answer → Service → List CallOut × Option SentAck
+told_of_ack answer service =
+    let said = ack_said answer.event answer.call_id service in (notice answer ++ said.0, said.1)
+
+-- the first 2xx of a dialog is told, and its ACK is owed
+abbrev pub accepted_by_ack : Client → Dialogs → Answer → Replied
+accepted_by_ack client dialogs answer =
+    let owed = ack_owed client dialogs answer in
+    let told = told_of_ack answer owed.1 in
+    (answered answer told.1 client, owed.0, told.0, Stays)
+
+-- ---- all of it
+
+abbrev pub by_case : ReplyCase → Client → Dialogs → Answer → Replied
+by_case reply.Final client dialogs answer = finished client dialogs answer
+by_case reply.Repeated client dialogs answer = (client, dialogs, ack_again client answer, Stays)
+by_case reply.Accepted client dialogs answer = accepted_by_ack client dialogs answer
+by_case reply.Late client dialogs answer = (answered answer None client, dialogs, notice answer, Stays)
+by_case (reply.Reliable rseq) client dialogs answer = reliable rseq client dialogs answer
+by_case reply.Passed client dialogs answer = (client, dialogs, [], Stays)
+by_case reply.Early client dialogs answer = early client dialogs answer
+by_case reply.Told client dialogs answer = (client, dialogs, notice answer, Stays)
+
+abbrev pub reply_taken : Client → Dialogs → Answer → Replied
+reply_taken client dialogs answer = by_case (reply_case client dialogs answer) client dialogs answer

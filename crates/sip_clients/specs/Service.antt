@@ -1,0 +1,78 @@
+-- What becomes of a request that is to be sent in a dialog (RFC 3261, sections 12.2.1 and 13.2.2.4; RFC 3262, section 4).
+use Rattle.std.specs.Prelude.{ℕ, ◌+◌, List, Option, None, Some, codes}
+use Rattle.sip_dialog.specs.declared.fault.DialogFault.{DialogFault}
+use Rattle.sip_dialog.specs.declared.fault.DialogFault.TheVariants as fault
+use Rattle.sip_dialog.specs.Fault.{ack_fault, request_fault}
+use Rattle.sip_dialog.specs.Request.{ack_in, request_in}
+use Rattle.sip_dialog.specs.Route.{hop_of}
+use Rattle.sip_dialog.specs.Step.{with_next_number}
+use Rattle.sip_message.specs.declared.message.Message.{Message}
+use Rattle.sip_message.specs.declared.rack.RAck.{RAck}
+use Rattle.sip_served.specs.declared.debt.Debt.{Debt}
+use Rattle.sip_served.specs.declared.debt.Debt.TheVariants.{Ack, Prack}
+use Rattle.sip_served.specs.declared.held_dialog.HeldDialog.{HeldDialog}
+use Rattle.sip_served.specs.declared.refusal.Refusal.{Refusal}
+use Rattle.sip_served.specs.declared.refusal.Refusal.TheVariants as refusal
+use Rattle.sip_clients.specs.declared.event.Event.{Event}
+use Rattle.sip_clients.specs.declared.service.Sending.{Sending}
+use Rattle.sip_clients.specs.declared.service.Service.{Service}
+use Rattle.sip_clients.specs.declared.service.Service.TheVariants.{Sent, Waits, Refused}
+use Rattle.sip_clients.specs.Event.{branch_of}
+
+-- a dialog after a request that is to be sent in it, and what becomes of that
+abbrev pub Served : Type 0
+Served = HeldDialog × Service
+
+-- why a request isn't sent; a held dialog hasn't ended
+abbrev pub refusal_of : DialogFault → Refusal
+refusal_of fault.NotConfirmed = refusal.BadMethod
+refusal_of fault.StrictRoute = refusal.StrictRoute
+refusal_of fault.Ended = refusal.DialogEnded
+refusal_of fault.SequenceUsedUp = refusal.SequenceUsedUp
+refusal_of fault.OutOfOrder = refusal.SequenceUsedUp
+refusal_of fault.NoMemory = refusal.SequenceUsedUp
+
+abbrev pub service_by : Option DialogFault → Sending → Service
+service_by None sending = Sent sending
+service_by (Some fault) sending = Refused (refusal_of fault)
+
+abbrev pub with_rack : Option RAck → Message → Message
+with_rack rack message = record message { rack = rack }
+
+-- a request that is sent takes the next number
+abbrev pub numbered : Option DialogFault → HeldDialog → HeldDialog
+numbered None held = record held { dialog = with_next_number held.dialog }
+numbered (Some fault) held = held
+
+-- a request of this method, with a RAck where it is a PRACK
+abbrev pub requested : Event → List ℕ → Option RAck → List ℕ → HeldDialog → Served
+requested event method rack body held = (
+  numbered (request_fault held.dialog method) held,
+  service_by (request_fault held.dialog method) record {
+    message = with_rack rack (request_in held.dialog method (held.dialog.local_cseq + 1) body (branch_of event) event.local);
+    to = hop_of held.dialog held.address;
+    born = held.born;
+  },
+)
+
+-- the PRACK of a response of this RSeq to the INVITE of this number
+abbrev pub pracked : Event → ℕ → ℕ → List ℕ → HeldDialog → Served
+pracked event rseq number body held =
+    requested event (codes "PRACK") (Some record { rseq = rseq; cseq = number; method = codes "INVITE" }) body held
+
+-- the ACK of the INVITE of this number
+abbrev pub acked : Event → HeldDialog → ℕ → List ℕ → Service
+acked event held number body = service_by (ack_fault held.dialog) record {
+  message = ack_in held.dialog number body (branch_of event) event.local;
+  to = hop_of held.dialog held.address;
+  born = held.born;
+}
+
+abbrev pub served_with : Event → Debt → List ℕ → HeldDialog → Served
+served_with event (Ack invite number) body held = (held, acked event held number body)
+served_with event (Prack rseq number) body held = pracked event rseq number body held
+
+-- what is owed is served with the body that its request carries; without one it waits for the user
+unfoldable pub served : Event → Debt → Option (List ℕ) → HeldDialog → Served
+served event debt None held = (held, Waits)
+served event debt (Some body) held = served_with event debt body held

@@ -1,0 +1,44 @@
+-- A tick: the INVITEs that are removed, and the end of the dialogs that are early still (RFC 3261, section 13.2.2.4; RFC 6026,
+-- section 7.2).
+use Rattle.std.specs.Prelude.{ℕ, Bool, false, not, ◌&&◌, nat_le, List, [], Option, None, filter, fold, if◌then◌else◌}
+use Rattle.std.specs.List.{flat_map, list_any}
+use Rattle.std.specs.Map.{values_of}
+use Rattle.std.specs.Option.{option_map_or}
+use Rattle.sip_timers.specs.Earlier.{earlier}
+use Rattle.sip_served.specs.declared.held_dialog.HeldDialog.{HeldDialog}
+use Rattle.sip_served.specs.declared.item.CallOut.{CallOut}
+use Rattle.sip_served.specs.Dialogs.{early_ended, is_early_of}
+use Rattle.sip_served.specs.State.{Dialogs}
+use Rattle.sip_clients.specs.declared.client.Client.{Client}
+use Rattle.sip_clients.specs.Client.{Clients, Side, Taken}
+
+-- an INVITE is removed 64*T1 after its first 2xx
+abbrev pub is_over : ℕ → Client → Bool
+is_over now client = option_map_or (λ moment. nat_le moment now) client.removal false
+
+-- a dialog is early still when an INVITE that made it is removed
+abbrev pub ends_at : ℕ → Clients → HeldDialog → Bool
+ends_at now clients held = list_any (λ client. is_over now client && is_early_of client.id held) (values_of clients)
+
+abbrev pub dialogs_left : ℕ → Dialogs → Clients → Dialogs
+dialogs_left now dialogs clients = filter (λ entry. not (ends_at now clients entry.1)) dialogs
+
+abbrev pub clients_left : ℕ → Clients → Clients
+clients_left now clients = filter (λ entry. not (is_over now entry.1)) clients
+
+-- the end of each is told, of one INVITE after the other
+abbrev pub notices_of : ℕ → Dialogs → Client → List CallOut
+notices_of now dialogs client = if is_over now client then (early_ended client.id dialogs).1 else []
+
+abbrev pub over_notices : ℕ → Dialogs → Clients → List CallOut
+over_notices now dialogs clients = flat_map (notices_of now dialogs) (values_of clients)
+
+abbrev pub tick_taken : Side → ℕ → Taken
+tick_taken side now = (
+  record { dialogs = dialogs_left now side.dialogs side.clients; clients = clients_left now side.clients },
+  over_notices now side.dialogs side.clients,
+)
+
+-- the first moment at which an INVITE is removed
+abbrev pub next_due : Clients → Option ℕ
+next_due clients = fold (λ due client. earlier due client.removal) None (values_of clients)

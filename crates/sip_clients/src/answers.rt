@@ -1,0 +1,83 @@
+//! The 2xx responses that came to an INVITE, by the dialog that each is of.
+
+ghost use Rattle.std.specs.Prelude.{◌≡◌, [], IfOk, OnOk};
+ghost use Rattle.std.specs.Option.{option_copied};
+ghost use Rattle.indexmap.specs.IndexMap.{insert_entry};
+ghost use Rattle.sip_served.specs.Dialogs.{is_named};
+ghost use Rattle.sip_clients.specs.Answers as spec;
+
+use indexmap::IndexMap;
+use sip_message::Addr;
+use sip_served::DialogName;
+use sip_text::Text;
+use std::alloc::{AllocError, Global};
+use std::marker::Model;
+
+/// An ACK that was sent: its bytes go out again each time its 2xx comes again (RFC 3261, section 13.2.2.4).
+pub struct SentAck {
+    pub to: Addr,
+    pub bytes: Text,
+}
+
+impl Drop for SentAck {
+    fn drop(self) {
+        let SentAck { to: _, bytes: _ } = self;
+    }
+}
+
+/// The dialogs of the 2xx responses that came, each with the ACK of its 2xx once one was sent. A contract sees their list.
+pub struct Answers {
+    acks: IndexMap<DialogName, Option<SentAck>>,
+}
+
+impl Model for Answers {
+    ghost use Rattle.std.specs.Prelude.{List, Option};
+    ghost use Rattle.sip_served.specs.declared.held_dialog.DialogName.{DialogName};
+    ghost use Rattle.sip_clients.specs.declared.answers.SentAck.{SentAck};
+
+    ghost Value = { List (DialogName × Option SentAck) };
+
+    ghost view = { λ a. a.acks.entries };
+}
+
+impl Answers {
+    /// None came. Takes no memory.
+    pub(crate) fn new(alloc: Global) -> Answers
+        ensures { result ≡ [] }
+    {
+        Answers {
+            acks: IndexMap::new(alloc),
+        }
+    }
+
+    /// Whether one of this dialog came.
+    pub(crate) fn contains(&self, name: &DialogName) -> bool
+        ensures { result ≡ spec.has_answer name.now self.now }
+    {
+        self.acks.get(name).is_some()
+    }
+
+    /// The ACK that was sent for that of this dialog, if one was.
+    pub(crate) fn ack(&self, name: &DialogName) -> Option<&SentAck>
+        ensures { option_copied result ≡ spec.ack_of name.now self.now }
+    {
+        match self.acks.get(name) {
+            Some(Some(ack)) => Some(ack),
+            Some(None) | None => None,
+        }
+    }
+
+    /// Notes one of this dialog, with its ACK where one was sent.
+    pub(crate) fn note(&mut self, name: DialogName, ack: Option<SentAck>) -> Result<(), AllocError>
+        ensures { OnOk result (self.new ≡ insert_entry is_named self.old name ack) }
+    {
+        self.acks.insert(name, ack)?;
+        Ok(())
+    }
+}
+
+impl Drop for Answers {
+    fn drop(self) {
+        let Answers { acks: _ } = self;
+    }
+}

@@ -1,0 +1,92 @@
+//! A client request that is held.
+
+ghost use Rattle.std.specs.Prelude.{◌≡◌};
+ghost use Rattle.sip_clients.specs.Client as spec;
+
+use crate::answers::Answers;
+use sip_message::{Addr, Id, Message};
+use sip_reliable::Inbound;
+use sip_served::DialogLife;
+use std::alloc::Global;
+
+/// What a client request is found by: the event that sent it.
+#[derive(Clone, Copy, PartialEq, Eq, Hash)]
+pub struct ClientId {
+    pub round: u64,
+    pub place: u32,
+}
+
+/// What a client request is for.
+pub enum Asks {
+    /// The INVITE of a call, whose responses make dialogs (RFC 3261, section 13.2).
+    First,
+    /// An INVITE in this dialog (RFC 3261, section 14.1).
+    Again(DialogLife),
+    /// Any other request in this dialog (RFC 3261, section 12.2.1).
+    Inside(DialogLife),
+    /// Any other request outside of dialogs.
+    Plain,
+}
+
+/// Whether a CANCEL of an INVITE was asked for.
+#[derive(Clone, Copy)]
+pub enum Cancelling {
+    NotAsked,
+}
+
+/// A request that was sent and whose responses the user is told of.
+pub struct Client {
+    pub id: Id,
+    pub asks: Asks,
+    pub request: Message,
+    /// Where it was sent.
+    pub to: Addr,
+    pub cancel: Cancelling,
+    /// The reliable provisional responses to an INVITE in a dialog.
+    pub heard: Inbound,
+    /// The 2xx responses to an INVITE.
+    pub answers: Answers,
+    /// After the first of them: the moment in ms at which it is removed.
+    pub removal: Option<u64>,
+}
+
+/// A request that was just sent.
+pub(crate) fn client_for(alloc: Global, id: Id, asks: Asks, request: Message, to: Addr) -> Client
+    ensures { result ≡ spec.client_for id asks request to }
+{
+    Client {
+        id,
+        asks,
+        request,
+        to,
+        cancel: Cancelling::NotAsked,
+        heard: Inbound::new(),
+        answers: Answers::new(alloc),
+        removal: None,
+    }
+}
+
+impl Drop for Asks {
+    fn drop(self) {
+        match self {
+            Asks::First | Asks::Plain => {}
+            Asks::Again(_) => {}
+            Asks::Inside(_) => {}
+        }
+    }
+}
+
+impl Drop for Client {
+    fn drop(self) {
+        let Client {
+            id: _,
+            asks: _,
+            request: _,
+            to: _,
+            cancel: _,
+            heard: _,
+            answers: _,
+            removal: _,
+        } = self;
+    }
+}

@@ -1,0 +1,220 @@
+//! The user's commands that send a request in a dialog.
+
+ghost use Rattle.std.specs.Prelude.{◌≡◌, IfOk, OnOk};
+ghost use Rattle.sip_served.specs.Dialogs.{tag_text};
+ghost use Rattle.sip_clients.specs.Commands as spec;
+
+use crate::answers::SentAck;
+use crate::debts::{DebtKind, oldest};
+use crate::dialogs::pay_at;
+use crate::event::Event;
+use crate::outputs::{Rest, ack_said, request_said};
+use crate::service::{Service, request};
+use sip_dialog::{DialogState, Side};
+use sip_message::Token;
+use sip_served::dialogs::end;
+use sip_served::{
+    CallOut, Debt, DialogBody, DialogName, DialogRequest, Dialogs, HeldDialog, Refusal,
+};
+use sip_text::Text;
+use std::alloc::{AllocError, Global};
+
+/// The bytes of a tag, none where it is absent.
+pub(crate) fn tag_bytes(tag: &Option<Token>) -> &[u8]
+    ensures { result.now ≡ tag_text tag.now }
+{
+    match tag {
+        Some(tag) => tag.as_slice(),
+        None => &[],
+    }
+}
+
+// ---- a request
+
+/// What becomes of a request that the user asks for in the dialog of this name: what is told, the request that is sent, and what is
+/// told last, of the end of the dialog.
+pub(crate) fn request_told(
+    alloc: Global,
+    dialogs: &mut Dialogs,
+    event: Event,
+    name: &DialogName,
+    command: &DialogRequest,
+) -> Result<(Vec<CallOut>, Rest, Vec<CallOut>), AllocError>
+    ensures dialogs { OnOk result (dialogs.new.entries ≡ (spec.request_told event name.now command.now dialogs.old.entries).0) }
+    ensures outs { IfOk result (λ told. told.0.items ≡ (spec.request_told event name.now command.now dialogs.old.entries).1) }
+    ensures rest { IfOk result (λ told. told.1 ≡ (spec.request_told event name.now command.now dialogs.old.entries).2) }
+    ensures ends { IfOk result (λ told. told.2.items ≡ (spec.request_told event name.now command.now dialogs.old.entries).3) }
+{
+    let service = request_by(alloc, dialogs, name, event, command)?;
+    let ends = bye_end(alloc, dialogs, name, &command.method, &service)?;
+    let (outs, rest) = request_said(alloc, event, &command.call_id, name, service)?;
+    Ok((outs, rest, ends))
+}
+
+#[tactic(auto, unfolding(crate::specs::Commands::requested_by))]
+fn request_by(
+    alloc: Global,
+    dialogs: &mut Dialogs,
+    name: &DialogName,
+    event: Event,
+    command: &DialogRequest,
+) -> Result<Service, AllocError>
+    ensures service { IfOk result (λ service. service ≡ (spec.requested_by name.now event command.now dialogs.old.entries).1) }
+    ensures dialogs { OnOk result (dialogs.new.entries ≡ (spec.requested_by name.now event command.now dialogs.old.entries).0) }
+{
+    let method = command.method.clone()?;
+    let body = command.body.clone()?;
+    request_at(alloc, dialogs, name, event, method, body)
+}
+
+fn request_at(
+    alloc: Global,
+    dialogs: &mut Dialogs,
+    name: &DialogName,
+    event: Event,
+    method: Token,
+    body: Text,
+) -> Result<Service, AllocError>
+    ensures service { IfOk result (λ service. service ≡ (spec.requested_at name.now event method body dialogs.old.entries).1) }
+    ensures dialogs { OnOk result (dialogs.new.entries ≡ (spec.requested_at name.now event method body dialogs.old.entries).0) }
+{
+    let Some(held) = dialogs.get_mut(name) else {
+        return Ok(Service::Refused(Refusal::NoSuchDialog));
+    };
+    request_in(alloc, held, event, method, body)
+}
+
+#[tactic(auto, unfolding(crate::specs::Commands::requesting))]
+fn request_in(
+    alloc: Global,
+    held: &mut HeldDialog,
+    event: Event,
+    method: Token,
+    body: Text,
+) -> Result<Service, AllocError>
+    ensures service { IfOk result (λ service. service ≡ (spec.request_in event method body held.old).1) }
+    ensures held { OnOk result (held.new ≡ spec.requesting event method body held.old) }
+{
+    if is_bad_in(held, &method) {
+        return Ok(Service::Refused(Refusal::BadMethod));
+    }
+    request(alloc, held, event, method, None, body)
+}
+
+fn is_bad_in(held: &HeldDialog, method: &Token) -> bool
+    ensures { result ≡ spec.is_bad_in held.now method.now }
+{
+    is_own_kind(method)
+        || (held.dialog.state() == DialogState::Early && is_bad_early(held.dialog.side(), method))
+}
+
+// A request that the user sends by another command.
+fn is_own_kind(method: &Token) -> bool
+    ensures { result ≡ spec.is_own_kind method.now }
+{
+    method.as_slice() == b"ACK".as_slice()
+        || method.as_slice() == b"CANCEL".as_slice()
+        || method.as_slice() == b"PRACK".as_slice()
+}
+
+fn is_bad_early(side: Side, method: &Token) -> bool
+    ensures { result ≡ spec.is_bad_early side method.now }
+{
+    method.as_slice() == b"INVITE".as_slice()
+        || (side == Side::Callee && method.as_slice() == b"BYE".as_slice())
+}
+
+/// Whether a method isn't for a request outside of dialogs.
+pub(crate) fn is_bad_outside(method: &Token) -> bool
+    ensures { result ≡ spec.is_bad_outside method.now }
+{
+    is_own_kind(method)
+        || method.as_slice() == b"INVITE".as_slice()
+        || method.as_slice() == b"BYE".as_slice()
+}
+
+// A BYE ends its dialog at once (RFC 3261, section 15.1.1).
+fn bye_end(
+    alloc: Global,
+    dialogs: &mut Dialogs,
+    name: &DialogName,
+    method: &Token,
+    service: &Service,
+) -> Result<Vec<CallOut>, AllocError>
+    ensures { IfOk result (λ outs. (dialogs.new.entries, outs.items) ≡ spec.bye_ended name.now method.now service.now dialogs.old.entries) }
+{
+    match service {
+        Service::Sent(_) if method.as_slice() == b"BYE".as_slice() => end(alloc, dialogs, name),
+        _ => Ok(Vec::new(alloc)),
+    }
+}
+
+// ---- an ACK or a PRACK
+
+/// The debt of a kind that is the oldest of the dialog of this name, or why there is none.
+pub(crate) fn debt_for(
+    dialogs: &Dialogs,
+    name: &DialogName,
+    kind: DebtKind,
+) -> Result<Debt, Refusal>
+    ensures { result ≡ spec.debt_for kind name.now dialogs.now.entries }
+{
+    match dialogs.get(name) {
+        None => Err(Refusal::NoSuchDialog),
+        Some(held) => oldest_debt(held, kind),
+    }
+}
+
+fn oldest_debt(held: &HeldDialog, kind: DebtKind) -> Result<Debt, Refusal>
+    ensures { result ≡ spec.oldest_debt kind held.now }
+{
+    match oldest(held.owed.as_slice(), kind) {
+        Some(debt) => Ok(*debt),
+        None => Err(nothing_owed(kind)),
+    }
+}
+
+fn nothing_owed(kind: DebtKind) -> Refusal
+    ensures { result ≡ spec.nothing_owed kind }
+{
+    match kind {
+        DebtKind::Ack => Refusal::NothingToAck,
+        DebtKind::Prack => Refusal::NothingToPrack,
+    }
+}
+
+/// What becomes of an ACK that the user gives: what is told or sent, and the ACK where it is sent.
+pub(crate) fn ack_told(
+    alloc: Global,
+    dialogs: &mut Dialogs,
+    event: Event,
+    name: &DialogName,
+    command: &DialogBody,
+    debt: Debt,
+) -> Result<(Vec<CallOut>, Option<SentAck>), AllocError>
+    ensures dialogs { OnOk result (dialogs.new.entries ≡ (spec.ack_told event name.now debt command.now dialogs.old.entries).0) }
+    ensures outs { IfOk result (λ told. told.0.items ≡ (spec.ack_told event name.now debt command.now dialogs.old.entries).1) }
+    ensures ack { IfOk result (λ told. told.1 ≡ (spec.ack_told event name.now debt command.now dialogs.old.entries).2) }
+{
+    let body = command.body.clone()?;
+    let service = pay_at(alloc, dialogs, name, event, debt, body)?;
+    ack_said(alloc, event, &command.call_id, service)
+}
+
+/// What becomes of a PRACK that the user gives: what is told, and the request that is sent.
+pub(crate) fn prack_told(
+    alloc: Global,
+    dialogs: &mut Dialogs,
+    event: Event,
+    name: &DialogName,
+    command: &DialogBody,
+    debt: Debt,
+) -> Result<(Vec<CallOut>, Rest), AllocError>
+    ensures dialogs { OnOk result (dialogs.new.entries ≡ (spec.prack_told event name.now debt command.now dialogs.old.entries).0) }
+    ensures outs { IfOk result (λ told. told.0.items ≡ (spec.prack_told event name.now debt command.now dialogs.old.entries).1) }
+    ensures rest { IfOk result (λ told. told.1 ≡ (spec.prack_told event name.now debt command.now dialogs.old.entries).2) }
+{
+    let body = command.body.clone()?;
+    let service = pay_at(alloc, dialogs, name, event, debt, body)?;
+    request_said(alloc, event, &command.call_id, name, service)
+}

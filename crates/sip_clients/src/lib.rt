@@ -1,0 +1,27 @@
+//! The client side of one Call-ID: the requests that were sent and wait for their responses, the dialogs that these make, and the
+//! names that the agent makes.
+#![tactic(auto)]
+
+mod answers;
+mod client;
+mod clients;
+mod commands;
+mod debts;
+mod dialogs;
+mod event;
+mod held;
+mod laws;
+mod name;
+mod outputs;
+mod outside;
+mod replied;
+mod reply;
+mod service;
+mod tick;
+
+pub use answers::{Answers, SentAck};
+pub use client::{Asks, Cancelling, Client, ClientId};
+pub use clients::Clients;
+pub use event::Event;
+pub use laws::{names_differ, quiet_until_due};
+pub use name::made_name;

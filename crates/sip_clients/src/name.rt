@@ -1,0 +1,80 @@
+//! Made names: the tags and branches that the agent makes.
+
+ghost use Rattle.std.specs.Prelude.{◌≡◌, ◌<◌, ◌^◌, ◌++◌, IfOk, OnOk};
+ghost use Rattle.sip_clients.specs.Name.{digit_of, hex, name_of, word_of_name};
+
+use rand_chacha::ChaCha20Rng;
+use rand_core::SeedableRng;
+use rand_core::utils::NextWord;
+use sip_message::{Id, Token};
+use sip_text::Text;
+use std::alloc::{AllocError, Global};
+
+/// The name of an index that an event makes: 16 hexadecimal digits of the round, 16 of the place, one of the index, and 8 of a
+/// word of the ChaCha20 stream of the round under the seed, so that two names differ and no peer can guess one.
+pub fn made_name(alloc: Global, seed: [u8; 32], id: Id, index: u8) -> Result<Token, AllocError>
+    requires { index < 16 }
+    ensures { IfOk result (λ name. name ≡ name_of seed id index) }
+{
+    Ok(Token::from_text(digits_of(alloc, seed, id, index)?))
+}
+
+fn digits_of(alloc: Global, seed: [u8; 32], id: Id, index: u8) -> Result<Text, AllocError>
+    requires { index < 16 }
+    ensures { IfOk result (λ digits. digits ≡ name_of seed id index) }
+{
+    let mut digits = Vec::with_capacity(alloc, 41)?;
+    push_name(&mut digits, seed, id, index)?;
+    Ok(Text::from_vec(digits))
+}
+
+/// Appends the name of an index that an event makes.
+pub(crate) fn push_name(
+    text: &mut Vec<u8>,
+    seed: [u8; 32],
+    id: Id,
+    index: u8,
+) -> Result<(), AllocError>
+    requires { index < 16 }
+    ensures { OnOk result (text.new.items ≡ text.old.items ++ name_of seed id index) }
+{
+    push_hex(text, 16, id.round)?;
+    push_hex(text, 16, u64::from(id.place))?;
+    push_hex(text, 1, u64::from(index))?;
+    push_hex(text, 8, u64::from(word_of(seed, id, index)))?;
+    Ok(())
+}
+
+// The word of a name: each place has 16 of them.
+fn word_of(seed: [u8; 32], id: Id, index: u8) -> u32
+    requires { index < 16 }
+    ensures { result ≡ word_of_name seed id index }
+{
+    let mut rng = ChaCha20Rng::from_seed(seed);
+    rng.set_stream(id.round);
+    rng.set_word_pos(16 * u128::from(id.place) + u128::from(index));
+    rng.next_word()
+}
+
+// Appends the last so many hexadecimal digits of a number.
+fn push_hex(digits: &mut Vec<u8>, count: u8, number: u64) -> Result<(), AllocError>
+    ensures { OnOk result (digits.new.items ≡ digits.old.items ++ hex count number) }
+{
+    if count == 0 {
+        return Ok(());
+    }
+    push_hex(digits, count - 1, number / 16)?;
+    digits.push(hex_digit((number % 16) as u8))?;
+    Ok(())
+}
+
+fn hex_digit(value: u8) -> u8
+    requires { value < 16 }
+    ensures { result ≡ digit_of value }
+{
+    if value < 10 {
+        b'0' + value
+    } else {
+        b'a' + (value - 10)
+    }
+}

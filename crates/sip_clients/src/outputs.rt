@@ -1,0 +1,184 @@
+//! What the user is told of a client request, and what is sent for it.
+
+ghost use Rattle.std.specs.Prelude.{◌≡◌, ◌∷◌, [], IfOk};
+ghost use Rattle.sip_clients.specs.Outputs as spec;
+
+use crate::answers::SentAck;
+use crate::client::{Asks, Client, client_for};
+use crate::event::Event;
+use crate::reply::Reply;
+use crate::service::{Sending, Service};
+use sip_message::{CallId, Key, Message, write};
+use sip_served::request::is_invite;
+use sip_served::{CallOut, DialogLife, DialogName, Notice, Refusal};
+use sip_text::Text;
+use sip_transactions::Command;
+use std::alloc::{AllocError, Global};
+
+/// What becomes of the client requests after a response or a command.
+#[derive(Drop)]
+pub(crate) enum Rest {
+    Stays,
+    /// The request is over.
+    Over,
+    /// This request is sent.
+    Starts(Client),
+}
+
+/// One output.
+pub(crate) fn one(alloc: Global, out: CallOut) -> Result<Vec<CallOut>, AllocError>
+    ensures { IfOk result (λ outs. outs.items ≡ out ∷ []) }
+{
+    let mut outs = Vec::new(alloc);
+    outs.push(out)?;
+    Ok(outs)
+}
+
+/// How the user is told of a response.
+pub(crate) fn response_notice(alloc: Global, reply: &Reply) -> Result<CallOut, AllocError>
+    ensures { IfOk result (λ out. out ≡ spec.response_notice reply.now) }
+{
+    Ok(CallOut::Notice(Notice::Response {
+        call_id: reply.call_id.clone()?,
+        id: reply.id,
+        status: reply.status,
+        local_tag: Text::copy_of(alloc, reply.response.from.tag())?,
+        remote_tag: Text::copy_of(alloc, reply.response.to.tag())?,
+        body: reply.response.body.clone()?,
+    }))
+}
+
+// How the user is told that a request of an event isn't sent.
+fn refused_notice(event: Event, call_id: &CallId, refusal: Refusal) -> Result<CallOut, AllocError>
+    ensures { IfOk result (λ out. out ≡ spec.refused_notice event call_id.now refusal) }
+{
+    Ok(CallOut::Notice(Notice::Refused {
+        call_id: call_id.clone()?,
+        place: event.id.place,
+        refusal,
+    }))
+}
+
+/// The same, alone.
+pub(crate) fn refused(
+    alloc: Global,
+    event: Event,
+    call_id: &CallId,
+    refusal: Refusal,
+) -> Result<Vec<CallOut>, AllocError>
+    ensures { IfOk result (λ outs. outs.items ≡ spec.refused_notice event call_id.now refusal ∷ []) }
+{
+    one(alloc, refused_notice(event, call_id, refusal)?)
+}
+
+/// What is told of a request in the dialog of this name, and the request that is sent.
+pub(crate) fn request_said(
+    alloc: Global,
+    event: Event,
+    call_id: &CallId,
+    name: &DialogName,
+    service: Service,
+) -> Result<(Vec<CallOut>, Rest), AllocError>
+    ensures outs { IfOk result (λ said. said.0.items ≡ (spec.request_said event call_id.now name.now service).0) }
+    ensures rest { IfOk result (λ said. said.1 ≡ (spec.request_said event call_id.now name.now service).1) }
+{
+    match service {
+        Service::Sent(sending) => {
+            let client = client_of(alloc, event, name, sending)?;
+            Ok((Vec::new(alloc), Rest::Starts(client)))
+        }
+        Service::Waits => Ok((Vec::new(alloc), Rest::Stays)),
+        Service::Refused(refusal) => { Ok((refused(alloc, event, call_id, refusal)?, Rest::Stays)) }
+    }
+}
+
+fn client_of(
+    alloc: Global,
+    event: Event,
+    name: &DialogName,
+    sending: Sending,
+) -> Result<Client, AllocError>
+    ensures { IfOk result (λ client. client ≡ spec.client_of event name.now sending) }
+{
+    let life = DialogLife {
+        name: name.clone()?,
+        born: sending.born,
+    };
+    let (message, to) = sending.into_parts();
+    let asks = asks_in(life, &message);
+    Ok(client_for(alloc, event.id, asks, message, to))
+}
+
+fn asks_in(life: DialogLife, message: &Message) -> Asks
+    ensures { result ≡ spec.asks_in life message.now }
+{
+    if is_invite(message) {
+        Asks::Again(life)
+    } else {
+        Asks::Inside(life)
+    }
+}
+
+/// What is told of an ACK or sent for it, and the ACK where it is sent.
+pub(crate) fn ack_said(
+    alloc: Global,
+    event: Event,
+    call_id: &CallId,
+    service: Service,
+) -> Result<(Vec<CallOut>, Option<SentAck>), AllocError>
+    ensures outs { IfOk result (λ said. said.0.items ≡ (spec.ack_said event call_id.now service).0) }
+    ensures ack { IfOk result (λ said. said.1 ≡ (spec.ack_said event call_id.now service).1) }
+{
+    match service {
+        Service::Sent(sending) => {
+            let ack = sent_ack(alloc, &sending)?;
+            Ok((one(alloc, direct(&ack)?)?, Some(ack)))
+        }
+        Service::Waits => Ok((Vec::new(alloc), None)),
+        Service::Refused(refusal) => Ok((refused(alloc, event, call_id, refusal)?, None)),
+    }
+}
+
+fn sent_ack(alloc: Global, sending: &Sending) -> Result<SentAck, AllocError>
+    ensures { IfOk result (λ ack. ack ≡ spec.sent_ack sending.now) }
+{
+    Ok(SentAck {
+        to: sending.to,
+        bytes: Text::from_vec(write(alloc, &sending.message)?),
+    })
+}
+
+/// An ACK goes out.
+pub(crate) fn direct(ack: &SentAck) -> Result<CallOut, AllocError>
+    ensures { IfOk result (λ out. out ≡ spec.direct ack.now) }
+{
+    Ok(CallOut::Direct {
+        to: ack.to,
+        bytes: ack.bytes.clone()?,
+    })
+}
+
+/// The command that starts the transaction of a client request.
+#[tactic(auto, unfolding(crate::specs::Outputs::start_command))]
+pub(crate) fn start_command(
+    alloc: Global,
+    event: Event,
+    client: &Client,
+) -> Result<CallOut, AllocError>
+    ensures { IfOk result (λ out. out ≡ spec.start_command event client.now) }
+{
+    let branch = event.branch(alloc)?;
+    let method = client.request.method().clone()?;
+    let key = Key::client(alloc, branch.as_slice(), method)?;
+    let call_id = client.request.call_id.clone()?;
+    let message = client.request.clone()?;
+    Ok(CallOut::Command(
+        event.id,
+        Command::Start {
+            key,
+            call_id,
+            message,
+            to: client.to,
+        },
+    ))
+}

@@ -1,0 +1,146 @@
+//! The requests that are sent outside of dialogs (RFC 3261, sections 8.1.1 and 13.2.1).
+
+ghost use Rattle.std.specs.Prelude.{◌≡◌, ◌∷◌, [], IfOk, IsTrue, codes};
+ghost use Rattle.sip_text.specs.Token.{is_token};
+ghost use Rattle.sip_clients.specs.Outside as spec;
+
+use crate::event::Event;
+use sip_dialog::{own_contact, own_via};
+use sip_message::{Addr, CSeq, CallId, Message, Party, RequestUri, StartLine, Token, Uri};
+use sip_served::{Invite, Plain, ProvisionalSupport};
+use sip_text::{Series, Text};
+use std::alloc::{AllocError, Global};
+
+/// How many hops a made request may take (RFC 3261, section 8.1.1.6).
+const MAX_FORWARDS: u32 = 70;
+
+/// The CSeq number of a request outside of dialogs.
+const FIRST_CSEQ: u32 = 1;
+
+/// The INVITE that the user asks for.
+pub(crate) fn invite_of(alloc: Global, event: Event, invite: &Invite) -> Result<Message, AllocError>
+    ensures { IfOk result (λ made. made ≡ spec.invite_of event invite.now) }
+{
+    let message = bare_invite(alloc, event, invite)?;
+    message.with_body(alloc, invite.body.clone()?)
+}
+
+/// The request that the user asks for outside of dialogs.
+pub(crate) fn plain_of(alloc: Global, event: Event, plain: &Plain) -> Result<Message, AllocError>
+    ensures { IfOk result (λ made. made ≡ spec.plain_of event plain.now) }
+{
+    let message = bare_plain(alloc, event, plain)?;
+    message.with_body(alloc, plain.body.clone()?)
+}
+
+#[tactic(auto, unfolding(sip_text::specs::Token::is_token, sip_text::specs::Character::is_token_byte))]
+fn bare_invite(alloc: Global, event: Event, invite: &Invite) -> Result<Message, AllocError>
+    ensures { IfOk result (λ made. made ≡ spec.bare_invite event invite.now) }
+{
+    let method = token_of(alloc, b"INVITE")?;
+    let call_id = invite.call_id.clone()?;
+    let uri = invite.request_uri.clone()?;
+    let from = invite.from.clone()?;
+    let to = invite.to.clone()?;
+    let message = bare_request(alloc, event, call_id, method, uri, from, to)?;
+    calling(alloc, event.local, invite.support, message)
+}
+
+fn bare_plain(alloc: Global, event: Event, plain: &Plain) -> Result<Message, AllocError>
+    ensures { IfOk result (λ made. made ≡ spec.bare_plain event plain.now) }
+{
+    let method = plain.method.clone()?;
+    let call_id = plain.call_id.clone()?;
+    let uri = plain.request_uri.clone()?;
+    let from = plain.from.clone()?;
+    let to = plain.to.clone()?;
+    bare_request(alloc, event, call_id, method, uri, from, to)
+}
+
+// An INVITE has a Contact, and names its use of reliable provisional responses.
+fn calling(
+    alloc: Global,
+    local: Addr,
+    support: ProvisionalSupport,
+    mut message: Message,
+) -> Result<Message, AllocError>
+    ensures { IfOk result (λ made. made ≡ spec.supporting support (spec.with_contact local message)) }
+{
+    let mut contacts = Series::new(alloc);
+    contacts.push(own_contact(alloc, local)?)?;
+    message.contacts = contacts;
+    support_in(alloc, support, message)
+}
+
+fn support_in(
+    alloc: Global,
+    support: ProvisionalSupport,
+    mut message: Message,
+) -> Result<Message, AllocError>
+    ensures { IfOk result (λ made. made ≡ spec.supporting support message) }
+{
+    match support {
+        ProvisionalSupport::None => {}
+        ProvisionalSupport::Supported => message.supported = only_100rel(alloc)?,
+        ProvisionalSupport::Required => message.require = only_100rel(alloc)?,
+    }
+    Ok(message)
+}
+
+#[tactic(auto, unfolding(sip_text::specs::Token::is_token, sip_text::specs::Character::is_token_byte))]
+fn only_100rel(alloc: Global) -> Result<Series<Token>, AllocError>
+    ensures { IfOk result (λ options. options ≡ codes "100rel" ∷ []) }
+{
+    let mut options = Series::new(alloc);
+    options.push(token_of(alloc, b"100rel")?)?;
+    Ok(options)
+}
+
+// The request of a method from one URI to another, without a body.
+#[tactic(auto, unfolding(crate::specs::Outside::bare_request))]
+fn bare_request(
+    alloc: Global,
+    event: Event,
+    call_id: CallId,
+    method: Token,
+    uri: Uri,
+    from: Uri,
+    to: Uri,
+) -> Result<Message, AllocError>
+    ensures { IfOk result (λ made. made ≡ spec.bare_request event call_id method uri from to) }
+{
+    let vias = own_via(alloc, event.local, event.branch(alloc)?)?;
+    let from = Party::new(alloc, from, Some(event.from_tag(alloc)?))?;
+    let to = Party::new(alloc, to, None)?;
+    Ok(Message {
+        start: StartLine::Request {
+            uri: RequestUri::from_uri(uri),
+        },
+        vias,
+        max_forwards: Some(MAX_FORWARDS),
+        from,
+        to,
+        call_id,
+        cseq: CSeq {
+            number: FIRST_CSEQ,
+            method,
+        },
+        contacts: Series::new(alloc),
+        record_routes: Series::new(alloc),
+        routes: Series::new(alloc),
+        require: Series::new(alloc),
+        supported: Series::new(alloc),
+        rseq: None,
+        rack: None,
+        others: Series::new(alloc),
+        body: Text::from_vec(Vec::new(alloc)),
+    })
+}
+
+/// The token that a word is.
+pub(crate) fn token_of(alloc: Global, word: &[u8]) -> Result<Token, AllocError>
+    requires { IsTrue (is_token word.now) }
+    ensures { IfOk result (λ token. token ≡ word.now) }
+{
+    Ok(Token::from_text(Text::copy_of(alloc, word)?))
+}

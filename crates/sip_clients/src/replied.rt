@@ -1,0 +1,275 @@
+//! What a response does to its client request and to the held dialogs, and what is told of it.
+
+ghost use Rattle.std.specs.Prelude.{◌≡◌, ◌≤◌, ◌^◌, IfOk, OnOk, Option};
+ghost use Rattle.sip_clients.specs.Dialogs as dialog_specs;
+ghost use Rattle.sip_clients.specs.Replied as spec;
+
+use crate::answers::SentAck;
+use crate::client::{Asks, Client};
+use crate::dialogs::{accept, end_with, hear, open, owe_at};
+use crate::outputs::{Rest, ack_said, direct, one, request_said, response_notice};
+use crate::reply::{Reply, ReplyCase, reply_case};
+use crate::service::Service;
+use sip_message::Message;
+use sip_served::{CallOut, Debt, Dialogs};
+use sip_text::Text;
+use sip_transactions::LIFETIME;
+use std::alloc::{AllocError, Global};
+
+/// The status of a response to a request for what isn't there (RFC 3261, section 12.2.1.2).
+const NOT_THERE: u16 = 481;
+
+/// The status of a response that says that a request timed out.
+const TIMED_OUT: u16 = 408;
+
+/// What a response does.
+pub(crate) fn take_reply(
+    alloc: Global,
+    client: &mut Client,
+    dialogs: &mut Dialogs,
+    reply: &Reply,
+) -> Result<(Vec<CallOut>, Rest), AllocError>
+    requires { reply.now.event.moment ≤ 2 ^ 62 }
+    ensures { IfOk result (λ told. (client.new, dialogs.new.entries, told.0.items, told.1) ≡ spec.reply_taken client.old dialogs.old.entries reply.now) }
+{
+    match reply_case(client, dialogs, reply) {
+        ReplyCase::Final => finish(alloc, client, dialogs, reply),
+        ReplyCase::Repeated => repeat(alloc, client, reply),
+        ReplyCase::Accepted => accepted(alloc, client, dialogs, reply),
+        ReplyCase::Late => late(alloc, client, reply),
+        ReplyCase::Reliable(rseq) => reliable(alloc, client, dialogs, reply, rseq),
+        ReplyCase::Passed => Ok((Vec::new(alloc), Rest::Stays)),
+        ReplyCase::Early => early(alloc, client, dialogs, reply),
+        ReplyCase::Told => told(alloc, reply),
+    }
+}
+
+fn told(alloc: Global, reply: &Reply) -> Result<(Vec<CallOut>, Rest), AllocError>
+    ensures outs { IfOk result (λ told. told.0.items ≡ spec.notice reply.now) }
+    ensures rest { IfOk result (λ told. told.1 ≡ Rest.Stays) }
+{
+    Ok((one(alloc, response_notice(alloc, reply)?)?, Rest::Stays))
+}
+
+// The request is over, and what ends with it ends.
+fn finish(
+    alloc: Global,
+    client: &Client,
+    dialogs: &mut Dialogs,
+    reply: &Reply,
+) -> Result<(Vec<CallOut>, Rest), AllocError>
+    ensures { IfOk result (λ told. (client.now, dialogs.new.entries, told.0.items, told.1) ≡ spec.finished client.now dialogs.old.entries reply.now) }
+{
+    let mut outs = one(alloc, response_notice(alloc, reply)?)?;
+    let ends = ends_dialog(reply.status.code());
+    outs.append(&mut end_with(alloc, dialogs, client, ends)?)?;
+    Ok((outs, Rest::Over))
+}
+
+fn ends_dialog(status: u16) -> bool
+    ensures { result ≡ spec.ends_dialog status }
+{
+    status == NOT_THERE || status == TIMED_OUT
+}
+
+// A 2xx that came before gets the same ACK again.
+fn repeat(alloc: Global, client: &Client, reply: &Reply) -> Result<(Vec<CallOut>, Rest), AllocError>
+    ensures outs { IfOk result (λ told. told.0.items ≡ spec.ack_again client.now reply.now) }
+    ensures rest { IfOk result (λ told. told.1 ≡ Rest.Stays) }
+{
+    let mut outs = Vec::new(alloc);
+    if let Some(ack) = client.answers.ack(&reply.name) {
+        outs.push(direct(ack)?)?;
+    }
+    Ok((outs, Rest::Stays))
+}
+
+fn early(
+    alloc: Global,
+    client: &Client,
+    dialogs: &mut Dialogs,
+    reply: &Reply,
+) -> Result<(Vec<CallOut>, Rest), AllocError>
+    ensures { IfOk result (λ told. (client.now, dialogs.new.entries, told.0.items, told.1) ≡ spec.early client.now dialogs.old.entries reply.now) }
+{
+    open(alloc, dialogs, client, reply)?;
+    told(alloc, reply)
+}
+
+// ---- a reliable provisional response
+
+fn reliable(
+    alloc: Global,
+    client: &mut Client,
+    dialogs: &mut Dialogs,
+    reply: &Reply,
+    rseq: u32,
+) -> Result<(Vec<CallOut>, Rest), AllocError>
+    ensures { IfOk result (λ told. (client.new, dialogs.new.entries, told.0.items, told.1) ≡ spec.reliable rseq client.old dialogs.old.entries reply.now) }
+{
+    let service = owe_prack(alloc, client, dialogs, reply, rseq)?;
+    hear_again(client, rseq);
+    told_of_prack(alloc, reply, service)
+}
+
+fn told_of_prack(
+    alloc: Global,
+    reply: &Reply,
+    service: Service,
+) -> Result<(Vec<CallOut>, Rest), AllocError>
+    ensures outs { IfOk result (λ told. told.0.items ≡ (spec.told_of_prack reply.now service).0) }
+    ensures rest { IfOk result (λ told. told.1 ≡ (spec.told_of_prack reply.now service).1) }
+{
+    let mut outs = one(alloc, response_notice(alloc, reply)?)?;
+    let mut said = request_said(alloc, reply.event, &reply.call_id, &reply.name, service)?;
+    outs.append(&mut said.0)?;
+    Ok((outs, said.1))
+}
+
+// Its PRACK is owed in its dialog.
+#[tactic(auto, unfolding(crate::specs::Replied::prack_owed))]
+fn owe_prack(
+    alloc: Global,
+    client: &Client,
+    dialogs: &mut Dialogs,
+    reply: &Reply,
+    rseq: u32,
+) -> Result<Service, AllocError>
+    ensures service { IfOk result (λ service. service ≡ (spec.prack_owed rseq client.now dialogs.old.entries reply.now).1) }
+    ensures dialogs { OnOk result (dialogs.new.entries ≡ (spec.prack_owed rseq client.now dialogs.old.entries reply.now).0) }
+{
+    open_and_hear(alloc, client, dialogs, reply, rseq)?;
+    let debt = Debt::Prack {
+        rseq,
+        number: client.request.cseq.number,
+    };
+    let offer = offer_to(alloc, client, &reply.response);
+    owe_at(alloc, dialogs, &reply.name, reply.event, debt, offer)
+}
+
+fn open_and_hear(
+    alloc: Global,
+    client: &Client,
+    dialogs: &mut Dialogs,
+    reply: &Reply,
+    rseq: u32,
+) -> Result<(), AllocError>
+    ensures { OnOk result (dialogs.new.entries ≡ spec.opened_and_heard rseq client.now reply.now dialogs.old.entries) }
+{
+    open(alloc, dialogs, client, reply)?;
+    hear_first(dialogs, client, reply, rseq);
+    Ok(())
+}
+
+// The dialog of a first INVITE keeps what came in it.
+fn hear_first(dialogs: &mut Dialogs, client: &Client, reply: &Reply, rseq: u32)
+    ensures { dialogs.new.entries ≡ spec.heard_first client.now.asks rseq reply.now dialogs.old.entries }
+{
+    match &client.asks {
+        Asks::First => hear(dialogs, &reply.name, rseq),
+        Asks::Again(_) | Asks::Inside(_) | Asks::Plain => {}
+    }
+}
+
+// An INVITE in a dialog keeps itself what came for it.
+fn hear_again(client: &mut Client, rseq: u32)
+    ensures { client.new ≡ spec.heard_again client.old.asks rseq client.old }
+{
+    match &client.asks {
+        Asks::First => {}
+        Asks::Again(_) | Asks::Inside(_) | Asks::Plain => {
+            let _ = client.heard.offer(rseq);
+        }
+    }
+}
+
+// The body of what a response asks for: none where the INVITE had an offer or the response has none. Otherwise it has to be the
+// answer to the offer in the response, which the user gives (RFC 3261, section 13.2.1; RFC 3262, section 5).
+fn offer_to(alloc: Global, client: &Client, response: &Message) -> Option<Text>
+    ensures { result ≡ spec.offer_to client.now response.now }
+{
+    if !client.request.body.is_empty() || response.body.is_empty() {
+        Some(Text::from_vec(Vec::new(alloc)))
+    } else {
+        None
+    }
+}
+
+// ---- the first 2xx of a dialog
+
+fn accepted(
+    alloc: Global,
+    client: &mut Client,
+    dialogs: &mut Dialogs,
+    reply: &Reply,
+) -> Result<(Vec<CallOut>, Rest), AllocError>
+    requires { reply.now.event.moment ≤ 2 ^ 62 }
+    ensures { IfOk result (λ told. (client.new, dialogs.new.entries, told.0.items, told.1) ≡ spec.accepted_by_ack client.old dialogs.old.entries reply.now) }
+{
+    let service = owe_ack(alloc, client, dialogs, reply)?;
+    let (outs, ack) = told_of_ack(alloc, reply, service)?;
+    note_answer(client, reply, ack)?;
+    Ok((outs, Rest::Stays))
+}
+
+// Its ACK is owed in its dialog.
+#[tactic(auto, unfolding(crate::specs::Replied::ack_owed))]
+fn owe_ack(
+    alloc: Global,
+    client: &Client,
+    dialogs: &mut Dialogs,
+    reply: &Reply,
+) -> Result<Service, AllocError>
+    ensures service { IfOk result (λ service. service ≡ (spec.ack_owed client.now dialogs.old.entries reply.now).1) }
+    ensures dialogs { OnOk result (dialogs.new.entries ≡ (spec.ack_owed client.now dialogs.old.entries reply.now).0) }
+{
+    accept(alloc, dialogs, client, reply)?;
+    let debt = Debt::Ack {
+        invite: client.id,
+        number: client.request.cseq.number,
+    };
+    let offer = offer_to(alloc, client, &reply.response);
+    owe_at(alloc, dialogs, &reply.name, reply.event, debt, offer)
+}
+
+fn told_of_ack(
+    alloc: Global,
+    reply: &Reply,
+    service: Service,
+) -> Result<(Vec<CallOut>, Option<SentAck>), AllocError>
+    ensures outs { IfOk result (λ told. told.0.items ≡ (spec.told_of_ack reply.now service).0) }
+    ensures ack { IfOk result (λ told. told.1 ≡ (spec.told_of_ack reply.now service).1) }
+{
+    let mut outs = one(alloc, response_notice(alloc, reply)?)?;
+    let mut said = ack_said(alloc, reply.event, &reply.call_id, service)?;
+    outs.append(&mut said.0)?;
+    Ok((outs, said.1))
+}
+
+fn late(
+    alloc: Global,
+    client: &mut Client,
+    reply: &Reply,
+) -> Result<(Vec<CallOut>, Rest), AllocError>
+    requires { reply.now.event.moment ≤ 2 ^ 62 }
+    ensures client { OnOk result (client.new ≡ spec.answered reply.now None client.old) }
+    ensures outs { IfOk result (λ told. told.0.items ≡ spec.notice reply.now) }
+    ensures rest { IfOk result (λ told. told.1 ≡ Rest.Stays) }
+{
+    note_answer(client, reply, None)?;
+    told(alloc, reply)
+}
+
+// The INVITE is held for 64*T1 after its first 2xx (RFC 6026, section 7.2).
+fn note_answer(client: &mut Client, reply: &Reply, ack: Option<SentAck>) -> Result<(), AllocError>
+    requires { reply.now.event.moment ≤ 2 ^ 62 }
+    ensures { OnOk result (client.new ≡ spec.answered reply.now ack client.old) }
+{
+    client.answers.note(reply.name.clone()?, ack)?;
+    client.removal = Some(
+        client
+            .removal
+            .unwrap_or(reply.event.moment + u64::from(LIFETIME)),
+    );
+    Ok(())
+}

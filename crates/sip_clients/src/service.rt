@@ -1,0 +1,170 @@
+//! What becomes of a request that is to be sent in a dialog.
+
+ghost use Rattle.std.specs.Prelude.{◌≡◌, ◌∷◌, ◌++◌, [], IfOk, OnOk, Option, Some, codes};
+ghost use Rattle.sip_dialog.specs.declared.fault.DialogFault.{DialogFault};
+ghost use Rattle.sip_dialog.specs.Fault.{or_no_memory};
+ghost use Rattle.sip_clients.specs.declared.service.Sending.{Sending};
+ghost use Rattle.sip_served.specs.declared.held_dialog.HeldDialog.{HeldDialog};
+ghost use Rattle.sip_clients.specs.Service as spec;
+
+use crate::event::Event;
+use crate::outside::token_of;
+use sip_dialog::DialogFault;
+use sip_message::{Addr, Id, Message, RAck, Token};
+use sip_served::{Debt, HeldDialog, Refusal};
+use sip_text::Text;
+use std::alloc::{AllocError, Global};
+
+/// A request that is sent in a dialog.
+pub(crate) struct Sending {
+    pub(crate) message: Message,
+    pub(crate) to: Addr,
+    /// The event that made the dialog.
+    pub(crate) born: Id,
+}
+
+/// What becomes of a request that is to be sent in a dialog.
+#[derive(Drop)]
+pub(crate) enum Service {
+    Sent(Sending),
+    /// It waits for the user's command.
+    Waits,
+    Refused(Refusal),
+}
+
+impl Sending {
+    /// The request, and where it goes.
+    pub(crate) fn into_parts(self) -> (Message, Addr)
+        ensures { result ≡ (self.message, self.to) }
+    {
+        let Sending {
+            message,
+            to,
+            born: _,
+        } = self;
+        (message, to)
+    }
+}
+
+impl Drop for Sending {
+    fn drop(self) {
+        let Sending {
+            message: _,
+            to: _,
+            born: _,
+        } = self;
+    }
+}
+
+/// Sends a request of this method, with a RAck where it is a PRACK.
+pub(crate) fn request(
+    alloc: Global,
+    held: &mut HeldDialog,
+    event: Event,
+    method: Token,
+    rack: Option<RAck>,
+    body: Text,
+) -> Result<Service, AllocError>
+    ensures service { IfOk result (λ service. service ≡ (spec.requested event method rack body held.old).1) }
+    ensures held { OnOk result (held.new ≡ (spec.requested event method rack body held.old).0) }
+{
+    let to = held.dialog.hop(held.address);
+    let born = held.born;
+    let branch = event.branch(alloc)?;
+    match held.dialog.next_request(method, body, branch, event.local) {
+        Ok(message) => Ok(Service::Sent(Sending {
+            message: with_rack(message, rack),
+            to,
+            born,
+        })),
+        Err(fault) => refused_by(fault),
+    }
+}
+
+fn with_rack(mut message: Message, rack: Option<RAck>) -> Message
+    ensures { result ≡ spec.with_rack rack message }
+{
+    message.rack = rack;
+    message
+}
+
+// The ACK of the INVITE of this number.
+fn ack(
+    alloc: Global,
+    held: &HeldDialog,
+    event: Event,
+    number: u32,
+    body: Text,
+) -> Result<Service, AllocError>
+    ensures { IfOk result (λ service. service ≡ spec.acked event held.now number body) }
+{
+    let to = held.dialog.hop(held.address);
+    let branch = event.branch(alloc)?;
+    match held.dialog.ack(number, body, branch, event.local) {
+        Ok(message) => Ok(Service::Sent(Sending {
+            message,
+            to,
+            born: held.born,
+        })),
+        Err(fault) => refused_by(fault),
+    }
+}
+
+// The PRACK of this RSeq.
+#[tactic(auto, unfolding(sip_text::specs::Token::is_token, sip_text::specs::Character::is_token_byte))]
+fn prack(
+    alloc: Global,
+    held: &mut HeldDialog,
+    event: Event,
+    rseq: u32,
+    number: u32,
+    body: Text,
+) -> Result<Service, AllocError>
+    ensures service { IfOk result (λ service. service ≡ (spec.pracked event rseq number body held.old).1) }
+    ensures held { OnOk result (held.new ≡ (spec.pracked event rseq number body held.old).0) }
+{
+    let rack = RAck {
+        rseq,
+        cseq: number,
+        method: token_of(alloc, b"INVITE")?,
+    };
+    let method = token_of(alloc, b"PRACK")?;
+    request(alloc, held, event, method, Some(rack), body)
+}
+
+// Why a dialog refused, or want of memory.
+fn refused_by(fault: DialogFault) -> Result<Service, AllocError>
+    ensures service { (found : Option DialogFault) (sending : Sending) → fault ≡ or_no_memory found → IfOk result (λ service. service ≡ spec.service_by found sending) }
+    ensures held { (found : Option DialogFault) (held : HeldDialog) → fault ≡ or_no_memory found → OnOk result (held ≡ spec.numbered found held) }
+{
+    match fault {
+        DialogFault::NoMemory => Err(AllocError),
+        DialogFault::StrictRoute => Ok(Service::Refused(Refusal::StrictRoute)),
+        DialogFault::NotConfirmed => Ok(Service::Refused(Refusal::BadMethod)),
+        DialogFault::Ended => Ok(Service::Refused(Refusal::DialogEnded)),
+        DialogFault::SequenceUsedUp | DialogFault::OutOfOrder => {
+            Ok(Service::Refused(Refusal::SequenceUsedUp))
+        }
+    }
+}
+
+/// Serves a debt with the body that its request carries; without one it waits for the user.
+#[tactic(auto, unfolding(crate::specs::Service::served))]
+pub(crate) fn serve(
+    alloc: Global,
+    held: &mut HeldDialog,
+    event: Event,
+    debt: Debt,
+    offer: Option<Text>,
+) -> Result<Service, AllocError>
+    ensures service { IfOk result (λ service. service ≡ (spec.served event debt offer held.old).1) }
+    ensures held { OnOk result (held.new ≡ (spec.served event debt offer held.old).0) }
+{
+    let Some(body) = offer else {
+        return Ok(Service::Waits);
+    };
+    match debt {
+        Debt::Ack { invite: _, number } => ack(alloc, held, event, number, body),
+        Debt::Prack { rseq, number } => prack(alloc, held, event, rseq, number, body),
+    }
+}

@@ -1,0 +1,176 @@
+//! The lines of the user's commands.
+
+ghost use Rattle.std.specs.Prelude.{◌≡◌, IfOk};
+ghost use Rattle.sip_files.specs.ReadLine as reading;
+
+use crate::fields::{
+    address_of_call, call_id_field, dialog_fields, id_field, method_field, read_reason,
+    reliability_field, status_field, support_field, uri_fields, word_field,
+};
+use crate::words::read_word;
+use sip_served::{DialogBody, DialogRequest, Invite, Plain, Respond, UserCommand};
+use std::alloc::{AllocError, Global};
+
+/// What the line of a command says, where it is one, by its first word.
+pub(crate) fn read_command(
+    alloc: Global,
+    keyword: &[u8],
+    fields: &[u8],
+) -> Result<Option<UserCommand>, AllocError>
+    ensures { IfOk result (λ command. command ≡ reading.command_at keyword.now fields.now) }
+{
+    if keyword == b"invite".as_slice() {
+        return Ok(read_invite(alloc, fields)?.map(UserCommand::Invite));
+    }
+    if keyword == b"plain".as_slice() {
+        return Ok(read_plain(alloc, fields)?.map(UserCommand::Plain));
+    }
+    if keyword == b"request".as_slice() {
+        return Ok(read_request(alloc, fields)?.map(UserCommand::Request));
+    }
+    if keyword == b"respond".as_slice() {
+        return Ok(read_respond(alloc, fields)?.map(UserCommand::Respond));
+    }
+    if keyword == b"ack".as_slice() {
+        return Ok(read_body(alloc, fields)?.map(UserCommand::Ack));
+    }
+    if keyword == b"prack".as_slice() {
+        return Ok(read_body(alloc, fields)?.map(UserCommand::Prack));
+    }
+    Ok(None)
+}
+
+// The Call-ID as a word, the address, three URIs as words, the support, and the body as a word.
+#[tactic(auto, unfolding(crate::specs::ReadLine::invite_at))]
+fn read_invite(alloc: Global, fields: &[u8]) -> Result<Option<Invite>, AllocError>
+    ensures { IfOk result (λ invite. invite ≡ reading.invite_at fields.now) }
+{
+    let Some(((call_id, address), fields)) = address_of_call(alloc, fields)? else {
+        return Ok(None);
+    };
+    let Some((uris, fields)) = uri_fields(alloc, fields)? else {
+        return Ok(None);
+    };
+    let Some((support, body)) = support_field(fields) else {
+        return Ok(None);
+    };
+    let Some(body) = read_word(alloc, body)? else {
+        return Ok(None);
+    };
+    let (request_uri, from, to) = uris.apart();
+    Ok(Some(Invite {
+        call_id,
+        address,
+        request_uri,
+        from,
+        to,
+        support,
+        body,
+    }))
+}
+
+// The Call-ID as a word, the address, the method, three URIs as words, and the body as a word.
+#[tactic(auto, unfolding(crate::specs::ReadLine::plain_at))]
+fn read_plain(alloc: Global, fields: &[u8]) -> Result<Option<Plain>, AllocError>
+    ensures { IfOk result (λ plain. plain ≡ reading.plain_at fields.now) }
+{
+    let Some(((call_id, address), fields)) = address_of_call(alloc, fields)? else {
+        return Ok(None);
+    };
+    let Some((method, fields)) = method_field(alloc, fields)? else {
+        return Ok(None);
+    };
+    let Some((uris, body)) = uri_fields(alloc, fields)? else {
+        return Ok(None);
+    };
+    let Some(body) = read_word(alloc, body)? else {
+        return Ok(None);
+    };
+    let (request_uri, from, to) = uris.apart();
+    Ok(Some(Plain {
+        call_id,
+        address,
+        method,
+        request_uri,
+        from,
+        to,
+        body,
+    }))
+}
+
+// The Call-ID and both tags as words, the method, and the body as a word.
+#[tactic(auto, unfolding(crate::specs::ReadLine::request_at))]
+fn read_request(alloc: Global, fields: &[u8]) -> Result<Option<DialogRequest>, AllocError>
+    ensures { IfOk result (λ request. request ≡ reading.request_at fields.now) }
+{
+    let Some((dialog, fields)) = dialog_fields(alloc, fields)? else {
+        return Ok(None);
+    };
+    let Some((method, body)) = method_field(alloc, fields)? else {
+        return Ok(None);
+    };
+    let Some(body) = read_word(alloc, body)? else {
+        return Ok(None);
+    };
+    let (call_id, local_tag, remote_tag) = dialog.apart();
+    Ok(Some(DialogRequest {
+        call_id,
+        local_tag,
+        remote_tag,
+        method,
+        body,
+    }))
+}
+
+// The Call-ID and both tags as words, and the body as a word.
+#[tactic(auto, unfolding(crate::specs::ReadLine::body_at))]
+fn read_body(alloc: Global, fields: &[u8]) -> Result<Option<DialogBody>, AllocError>
+    ensures { IfOk result (λ body. body ≡ reading.body_at fields.now) }
+{
+    let Some((dialog, body)) = dialog_fields(alloc, fields)? else {
+        return Ok(None);
+    };
+    let Some(body) = read_word(alloc, body)? else {
+        return Ok(None);
+    };
+    let (call_id, local_tag, remote_tag) = dialog.apart();
+    Ok(Some(DialogBody {
+        call_id,
+        local_tag,
+        remote_tag,
+        body,
+    }))
+}
+
+// The Call-ID as a word, the request's id, the status, `plain` or `reliable`, the body as a word, and the reason as a rest.
+#[tactic(auto, unfolding(crate::specs::ReadLine::respond_at))]
+fn read_respond(alloc: Global, fields: &[u8]) -> Result<Option<Respond>, AllocError>
+    ensures { IfOk result (λ respond. respond ≡ reading.respond_at fields.now) }
+{
+    let Some((call_id, fields)) = call_id_field(alloc, fields)? else {
+        return Ok(None);
+    };
+    let Some((id, fields)) = id_field(fields) else {
+        return Ok(None);
+    };
+    let Some((status, fields)) = status_field(fields) else {
+        return Ok(None);
+    };
+    let Some((reliability, fields)) = reliability_field(fields) else {
+        return Ok(None);
+    };
+    let Some((body, reason)) = word_field(alloc, fields)? else {
+        return Ok(None);
+    };
+    let Some(reason) = read_reason(alloc, reason)? else {
+        return Ok(None);
+    };
+    Ok(Some(Respond {
+        call_id,
+        id,
+        status,
+        reliability,
+        body,
+        reason,
+    }))
+}

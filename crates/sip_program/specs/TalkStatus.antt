@@ -1,0 +1,20 @@
+-- The status of `ua listen` and `ua call`: 0 where all turns were taken; 2 for a bad argument; 3
+-- for a refused round; 4 for the random source, the socket or an output that failed; 5 for want of
+-- memory.
+use Rattle.std.specs.Prelude.{ℕ}
+use Rattle.sip_udp.specs.declared.fault.UaFault.{UaFault}
+use Rattle.sip_udp.specs.declared.fault.UaFault.TheVariants as ua
+use Rattle.sip_program.specs.declared.talk_fault.TalkFault.{TalkFault}
+use Rattle.sip_program.specs.declared.talk_fault.TalkFault.TheVariants.{BadArgument, Random, Ua}
+use Rattle.sip_program.specs.RoundStatus.{round_status}
+
+abbrev pub ua_status : UaFault → ℕ
+ua_status ua.Socket = 4
+ua_status ua.Output = 4
+ua_status (ua.Round number fault) = round_status fault
+ua_status ua.NoMemory = 5
+
+abbrev pub talk_status : TalkFault → ℕ
+talk_status BadArgument = 2
+talk_status Random = 4
+talk_status (Ua fault) = ua_status fault

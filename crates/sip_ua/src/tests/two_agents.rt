@@ -1,0 +1,165 @@
+//! Two agents that call each other over a network that loses, doubles and delays datagrams.
+
+ghost use Rattle.std.specs.Prelude.{◌<◌};
+
+use sip_files::{read_events, write_outputs};
+use sip_message::{Addr, Spread};
+use sip_round::{Agent, Config, Gate};
+use std::alloc::Global;
+use std::mem;
+use std::test::Fail;
+use std::thread::Threads;
+
+const INVITE: &str =
+    "invite c 192.0.2.9:5060 sip:b@192.0.2.9 sip:a@192.0.2.1 sip:b@h supported -\n";
+
+/// A gate that holds no piece of work up.
+struct Open;
+
+impl Gate for Open {
+    fn begin(&self, _shard: usize) {}
+}
+
+/// A network that loses so many of eight datagrams, and doubles one.
+#[derive(Drop)]
+struct Network {
+    random: u32,
+    lost: u32,
+    sent: u32,
+}
+
+impl Network {
+    fn below(&mut self, limit: u32) -> u32
+        requires { 0 < limit }
+    {
+        let product = self.random.wrapping_mul(1_664_525);
+        self.random = product.wrapping_add(1_013_904_223);
+        (self.random >> 16) % limit
+    }
+
+    // How often a datagram that is sent now arrives.
+    fn copies(&mut self) -> u32 {
+        self.sent = self.sent.wrapping_add(1);
+        let drawn = self.below(8);
+        if drawn < self.lost { 0 } else { 1 + drawn / 7 }
+    }
+}
+
+/// One of the two: its events to come, each with its round, and the responses it was shown.
+#[derive(Drop)]
+struct Side {
+    agent: Agent<Spread>,
+    local: Addr,
+    events: Vec<(u32, String)>,
+    shown: String,
+}
+
+fn side_at(alloc: Global, last: u8) -> Result<Side, Fail> {
+    let (ip, port) = ([192, 0, 2, last], 5060);
+    let (local, seed, first) = (Addr { ip, port }, [0; 32], 0);
+    Ok(Side {
+        agent: Agent::new(alloc, Config { local, seed, first }, 2, Spread)?,
+        local,
+        events: Vec::new(alloc),
+        shown: String::new(alloc),
+    })
+}
+
+// Whether nothing is held, and nothing is on its way.
+fn is_over(side: &Side) -> bool {
+    side.agent.live() == (0, 0) && side.events.is_empty()
+}
+
+// What a user says to a notice. Two reliable provisional responses and a 200 answer an INVITE; the
+// second and the 200 have a body, so their PRACK and ACK wait for the caller, who then says BYE.
+fn said(alloc: Global, notice: &str) -> Result<String, Fail> {
+    let words: Vec<&str> = notice.split(' ').collect(alloc)?;
+    Ok(match words.as_slice() {
+        ["request", id, "INVITE", ..] => format!(in alloc; "respond c {id} 181 reliable - A\n")?,
+        ["request", id, ..] => format!(in alloc; "respond c {id} 200 plain - B\n")?,
+        ["prack", id, "1", ..] => format!(in alloc; "respond c {id} 182 reliable v=0 C\n")?,
+        ["prack", id, ..] => format!(in alloc; "respond c {id} 200 plain v=0 D\n")?,
+        ["noprack", id] => format!(in alloc; "respond c {id} 503 plain - E\n")?,
+        ["response", "0.1", "182", me, peer, ..] => format!(in alloc; "prack c {me} {peer} -\n")?,
+        ["response", "0.1", "200", me, peer, ..] => {
+            format!(in alloc; "ack c {me} {peer} -\nrequest c {me} {peer} BYE -\n")?
+        }
+        _ => String::new(alloc),
+    })
+}
+
+// The output file of a round of one side.
+fn file<T: Threads + Sync>(rt: &T, alloc: Global, me: &mut Side, at: u32) -> Result<Vec<u8>, Fail> {
+    let (local, moment) = (me.local, 500 * u64::from(at));
+    let mut text = format!(in alloc; "sip-events 1\nlocal {local}\nround {moment}\n")?;
+    for (due, event) in mem::replace(&mut me.events, Vec::new(alloc)) {
+        if due <= at {
+            text.push_str(event.as_str())?;
+        } else {
+            me.events.push((due, event))?;
+        }
+    }
+    let (_, rounds) = read_events(alloc, text.as_bytes())?;
+    let round = rounds.first().ok_or("a round")?;
+    let outputs = me.agent.run_round(rt, round, 1, &Open)?;
+    Ok(write_outputs(alloc, &[(moment, outputs)])?)
+}
+
+// A round of one side: its user is told, and what is sent is on its way to the peer.
+fn turn<T: Threads + Sync>(
+    rt: &T,
+    alloc: Global,
+    network: &mut Network,
+    me: &mut Side,
+    peer: &mut Side,
+    at: u32,
+) -> Result<(), Fail> {
+    let (file, local) = (file(rt, alloc, me, at)?, me.local);
+    for line in str::from_utf8(&file)?.lines() {
+        if let Some(notice) = line.strip_prefix("notice c ") {
+            me.events.push((0, said(alloc, notice)?))?;
+            if let Some(response) = notice.strip_prefix("response 0.1 ") {
+                let (status, _) = response.split_once(' ').ok_or("a status")?;
+                let status = if status == "100" { "" } else { status };
+                me.shown.push_str(status)?;
+            }
+        } else if let Some(("send", datagram)) = line.split_once(' ') {
+            let (_, bytes) = datagram.split_once(' ').ok_or("an address")?;
+            for _ in 0..network.copies() {
+                let due = at.saturating_add(network.below(5)).saturating_add(1);
+                let event = format!(in alloc; "datagram {local} {bytes}\n")?;
+                peer.events.push((due, event))?;
+            }
+        }
+    }
+    Ok(())
+}
+
+// Each reliable provisional response is shown once and in order, and nothing is held at the end.
+// How many calls come about, and how many datagrams are sent, another program worked out.
+#[test]
+fn calls_over_a_network_that_loses_datagrams(rt: HostRuntime) -> Result<(), Fail> {
+    let (alloc, mut whole, mut sent) = (rt.alloc(), 0u32, 0u32);
+    for random in 0..200u32 {
+        let lost = random % 4 + 1;
+        let mut network = Network { random, lost, sent };
+        let (mut caller, mut callee) = (side_at(alloc, 1)?, side_at(alloc, 9)?);
+        caller.events.push((0, String::from_str(alloc, INVITE)?))?;
+        for at in 0..400u32 {
+            turn(&rt, alloc, &mut network, &mut caller, &mut callee, at)?;
+            turn(&rt, alloc, &mut network, &mut callee, &mut caller, at)?;
+            if is_over(&caller) && is_over(&callee) {
+                break;
+            }
+        }
+        sent = network.sent;
+        assert!(rt; is_over(&caller) && is_over(&callee), "{random}");
+        match caller.shown.as_str() {
+            "181182200" => whole = whole.wrapping_add(1),
+            "" | "503" | "181503" | "181182503" => {}
+            _ => return Err("out of order".into()),
+        }
+    }
+    assert!(rt; (whole, sent) == (197, 7_950));
+    Ok(())
+}

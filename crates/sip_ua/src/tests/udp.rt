@@ -1,0 +1,286 @@
+//! The agent over UDP: outlets and inlets that fail, and calls on loopback.
+
+ghost use Rattle.std.specs.Prelude.{Some, ◌≤◌};
+
+use sip_desk::{Desk, NoMemory, Poster, open};
+use sip_message::{Addr, CallId, Key, Token, Uri};
+use sip_round::{Event, Output};
+use sip_text::{Series, Text};
+use sip_transactions::DropReason;
+use sip_udp::{Asked, Flags, Inlet, Outlet, Received, UaFault, call, hear, listen, send_all};
+use std::alloc::{AllocError, Global};
+use std::net::{Ipv4Addr, Net, SocketAddrV4, UdpSocket};
+use std::process::Abort;
+use std::sync::Arc;
+use std::sync::atomic::Ordering;
+use std::test::Fail;
+use std::thread::Threads;
+use std::time::{Clock, Duration};
+use std::{io, thread};
+
+const PEER: Addr = Addr {
+    ip: [192, 0, 2, 9],
+    port: 5060,
+};
+
+/// An outlet over memory, which tells what it was asked. It fails at one call.
+#[derive(Drop)]
+struct Told<'a, R: Abort> {
+    rt: &'a R,
+    alloc: Global,
+    asked: Series<Asked>,
+    fails_at: usize,
+}
+
+impl<'a, R: Abort> Outlet for Told<'a, R> {
+    ghost asked = { λ told. Some told.asked };
+
+    fn send(&mut self, to: Addr, bytes: &[u8]) -> bool {
+        let is_sent = self.asked.len() != self.fails_at;
+        let bytes = Text::copy_of(self.alloc, bytes).expect(self.rt, "memory");
+        let asked = Asked { to, bytes, is_sent };
+        self.asked.push(asked).expect(self.rt, "memory");
+        is_sent
+    }
+}
+
+// A Send of these bytes, with a key of this branch, where it isn't empty.
+fn output(alloc: Global, branch: &[u8], bytes: &[u8]) -> Result<Output, Fail> {
+    let options = Token::new(Text::copy_of(alloc, b"OPTIONS")?).ok_or("a method")?;
+    let key = Key::client(alloc, branch, options)?;
+    Ok(Output::Send {
+        key: if branch.is_empty() { None } else { Some(key) },
+        to: PEER,
+        bytes: Text::copy_of(alloc, bytes)?,
+    })
+}
+
+// The branches of failed client transactions, with a space after each.
+fn branches(alloc: Global, failed: &[Event]) -> Result<Vec<u8>, Fail> {
+    let mut branches = Vec::new(alloc);
+    for event in failed {
+        if let Event::Failed(Key::Client { branch, .. }) = event {
+            branches.extend_from_slice(branch.as_slice())?;
+            branches.push(b' ')?;
+        }
+    }
+    Ok(branches)
+}
+
+// All that an outlet was asked, with `+` before what was sent and `-` before what wasn't.
+fn asked_text(alloc: Global, asked: &[Asked]) -> Result<Vec<u8>, Fail> {
+    let mut text = Vec::new(alloc);
+    for one in asked {
+        text.push(if one.is_sent { b'+' } else { b'-' })?;
+        text.extend_from_slice(one.bytes.as_slice())?;
+    }
+    Ok(text)
+}
+
+// Each Send is asked for once, in order, also after one that fails; a failure without a key is told to nobody.
+#[test]
+fn an_outlet_that_fails_each_of_its_sends(rt: HostRuntime) -> Result<(), Fail> {
+    let alloc = rt.alloc();
+    let reason = DropReason::NotOurs;
+    let mut outputs = Vec::new(alloc);
+    outputs.push(output(alloc, b"a", b"1")?)?;
+    outputs.push(Output::Dropped { place: 1, reason })?;
+    outputs.push(output(alloc, b"", b"2")?)?;
+    outputs.push(output(alloc, b"c", b"3")?)?;
+    let cases = [
+        (0, b"-1+2+3".as_slice(), b"a ".as_slice()),
+        (1, b"+1-2+3".as_slice(), b"".as_slice()),
+        (2, b"+1+2-3".as_slice(), b"c ".as_slice()),
+        (3, b"+1+2+3".as_slice(), b"".as_slice()),
+    ];
+    for (fails_at, asked, failed) in cases {
+        let mut outlet = Told {
+            rt: &rt,
+            alloc,
+            asked: Series::new(alloc),
+            fails_at,
+        };
+        let failures = send_all(alloc, &mut outlet, outputs.as_slice())?;
+        assert!(rt;
+            branches(alloc, &failures)?.as_slice() == failed,
+            "at {fails_at}"
+        );
+        let told = asked_text(alloc, outlet.asked.as_slice())?;
+        assert!(rt; told.as_slice() == asked, "at {fails_at}");
+    }
+    Ok(())
+}
+
+/// An inlet that fails so many times in a row, gives one datagram of no bytes, and then fails.
+#[derive(Drop)]
+struct Broken {
+    failures_left: u32,
+    gives: u32,
+}
+
+impl Inlet for Broken {
+    fn receive(&mut self, _buffer: &mut [u8]) -> Received {
+        if self.failures_left == 0 && self.gives > 0 {
+            self.gives -= 1;
+            return Received::Datagram {
+                from: PEER,
+                length: 0,
+            };
+        }
+        self.failures_left = self.failures_left.saturating_sub(1);
+        Received::Failed
+    }
+}
+
+fn one_line(alloc: Global) -> Result<(Desk<Event>, Poster<Event>), NoMemory> {
+    let (desk, mut posters) = open(alloc, 1, 4)?;
+    let line = posters.pop().ok_or(NoMemory)?;
+    Ok((desk, line))
+}
+
+// How many datagrams come before the listener gives up, where so many receives fail before the first.
+fn heard_after(rt: &impl Abort, alloc: Global, failures_left: u32) -> Result<usize, Fail> {
+    let (mut desk, line) = one_line(alloc)?;
+    let gives = 2;
+    let inlet = Broken {
+        failures_left,
+        gives,
+    };
+    let buffer = vec![in alloc; 0u8; 8]?;
+    let flags = Arc::new(alloc, Flags::new())?;
+    let heard = hear(alloc, inlet, buffer, line, flags.clone()?);
+    assert!(rt; heard.fault == Some(UaFault::Socket));
+    assert!(rt; flags.ended.load(Ordering::SeqCst));
+    assert!(rt; heard.end.is_some());
+    Ok(desk.collect(4)?.len())
+}
+
+#[test]
+fn a_listener_gives_up_after_a_hundred_failures_in_a_row(rt: HostRuntime) -> Result<(), Fail> {
+    assert!(rt; heard_after(&rt, rt.alloc(), 0)? == 2);
+    assert!(rt; heard_after(&rt, rt.alloc(), 99)? == 2);
+    assert!(rt; heard_after(&rt, rt.alloc(), 100)? == 0);
+    Ok(())
+}
+
+// A socket on loopback, and its address.
+fn bound<R: Net>(rt: &R) -> io::Result<(UdpSocket, Addr)> {
+    let socket = UdpSocket::bind(rt, (Ipv4Addr::LOCALHOST, 0))?;
+    socket.set_read_timeout(Some(Duration::from_millis(2_000)))?;
+    let port = socket.local_addr()?.port();
+    let ip = [127, 0, 0, 1];
+    Ok((socket, Addr { ip, port }))
+}
+
+// The notices of a listener that takes so many turns.
+fn listened<R: Threads + Clock + Sync>(
+    rt: &R,
+    alloc: Global,
+    socket: UdpSocket,
+    local: Addr,
+    turns: u32,
+) -> Option<Vec<u8>> {
+    let mut notices = Vec::new(alloc);
+    listen(rt, alloc, socket, local, [7; 32], turns, &mut notices).ok()?;
+    Some(notices)
+}
+
+// The notices of a caller that takes so many turns.
+fn called<R: Threads + Clock + Sync>(
+    rt: &R,
+    alloc: Global,
+    socket: UdpSocket,
+    local: Addr,
+    to: Addr,
+    turns: u32,
+) -> Option<Vec<u8>> {
+    let uri = Uri::new(Text::copy_of(alloc, b"sip:b@127.0.0.1").ok()?)?;
+    let call_id = CallId::new(Text::copy_of(alloc, b"c1").ok()?)?;
+    let mut notices = Vec::new(alloc);
+    let seed = [8; 32];
+    call(
+        rt,
+        alloc,
+        socket,
+        local,
+        to,
+        uri,
+        call_id,
+        seed,
+        turns,
+        &mut notices,
+    )
+    .ok()?;
+    Some(notices)
+}
+
+// Whether these stand in the text in this order.
+fn stand_in_order(text: &[u8], parts: &[&str]) -> Result<bool, Fail> {
+    let mut left = str::from_utf8(text).ok().ok_or("a text")?;
+    for part in parts {
+        let Some((_, after)) = left.split_once(*part) else {
+            return Ok(false);
+        };
+        left = after;
+    }
+    Ok(true)
+}
+
+#[test]
+fn a_call_between_two_agents_on_loopback(rt: HostRuntime) -> Result<(), Fail> {
+    let (theirs, to) = bound(&rt)?;
+    let (own, from) = bound(&rt)?;
+    let alloc = rt.alloc();
+    let (heard, told) = thread::join(
+        &rt,
+        || listened(&rt, alloc, theirs, to, 400),
+        || called(&rt, alloc, own, from, to, 200),
+    );
+    let heard = heard.ok_or("a listener that ends")?;
+    let told = told.ok_or("a caller that ends")?;
+    let served = [
+        " request ",
+        " INVITE ",
+        "notice c1 ack ",
+        " request ",
+        " BYE ",
+        "notice c1 ended ",
+    ];
+    assert!(rt; stand_in_order(&heard, &served)?);
+    let answered = [
+        " response 0.1 200 ",
+        "notice c1 ended ",
+        " response ",
+        " 200 ",
+    ];
+    assert!(rt; stand_in_order(&told, &answered)?);
+    Ok(())
+}
+
+/// A request for which a listener has no service.
+const INFO: &[u8] =
+    b"INFO sip:b@127.0.0.1 SIP/2.0\r\nVia: SIP/2.0/UDP 127.0.0.1;rport;branch=z9hG4bKn1\r\nFrom: <sip:a@127.0.0.1>;tag=f\r\nTo: <sip:b@127.0.0.1>\r\nCall-ID: c1\r\nCSeq: 1 INFO\r\n\r\n";
+
+// The first bytes of what a listener answers to it.
+fn answer_to_info(alloc: Global, socket: &UdpSocket, to: Addr) -> Option<bool> {
+    let address = SocketAddrV4::new(Ipv4Addr::from_octets(to.ip), to.port);
+    socket.send_to(INFO, address).ok()?;
+    let mut buffer = vec![in alloc; 0u8; 4096].ok()?;
+    let (length, _) = socket.recv_from(&mut buffer).ok()?;
+    Some(buffer.get(..length)?.starts_with(b"SIP/2.0 501 "))
+}
+
+#[test]
+fn a_listener_on_loopback_has_no_service_for_info(rt: HostRuntime) -> Result<(), Fail> {
+    let (theirs, to) = bound(&rt)?;
+    let (own, _) = bound(&rt)?;
+    let alloc = rt.alloc();
+    let (heard, answered) = thread::join(
+        &rt,
+        || listened(&rt, alloc, theirs, to, 50),
+        || answer_to_info(alloc, &own, to),
+    );
+    assert!(rt; heard.is_some());
+    assert!(rt; answered == Some(true));
+    Ok(())
+}

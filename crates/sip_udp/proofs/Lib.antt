@@ -1,0 +1,3 @@
+pub mod Ends
+pub mod OwnUri
+pub mod Sendings

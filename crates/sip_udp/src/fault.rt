@@ -1,0 +1,61 @@
+//! Why a user agent stopped before its last turn.
+
+ghost use Rattle.std.specs.Prelude.{◌≡◌};
+
+use sip_round::RoundFault;
+use std::alloc::AllocError;
+use thiserror::Error;
+
+/// Why a user agent stopped before its last turn.
+#[derive(Clone, Copy, Debug, PartialEq, Eq, Error)]
+pub enum UaFault {
+    /// The socket can't be used, the clock fails, or the thread of the listener can't be started.
+    #[error("socket failed")]
+    Socket,
+    /// The notices can't be written.
+    #[error("output failed")]
+    Output,
+    /// The round of this number was refused.
+    #[error("round {number}: {fault}")]
+    Round { number: u64, fault: RoundFault },
+    #[error("no memory")]
+    NoMemory,
+}
+
+impl From<AllocError> for UaFault {
+    ghost use Rattle.sip_udp.specs.declared.fault.UaFault.TheVariants.{NoMemory};
+
+    ghost from_gives = { λ _ fault. fault ≡ NoMemory };
+
+    fn from(_error: AllocError) -> UaFault {
+        UaFault::NoMemory
+    }
+}
+
+impl From<sip_desk::NoMemory> for UaFault {
+    ghost use Rattle.sip_udp.specs.declared.fault.UaFault.TheVariants.{NoMemory};
+
+    ghost from_gives = { λ _ fault. fault ≡ NoMemory };
+
+    fn from(_error: sip_desk::NoMemory) -> UaFault {
+        UaFault::NoMemory
+    }
+}
+
+impl From<sip_round::NoMemory> for UaFault {
+    ghost use Rattle.sip_udp.specs.declared.fault.UaFault.TheVariants.{NoMemory};
+
+    ghost from_gives = { λ _ fault. fault ≡ NoMemory };
+
+    fn from(_error: sip_round::NoMemory) -> UaFault {
+        UaFault::NoMemory
+    }
+}
+
+/// The fault of a round of this number that was refused: want of memory is that of the whole.
+pub(crate) fn refused_round(number: u64, fault: RoundFault) -> UaFault {
+    match fault {
+        RoundFault::NoMemory { .. } => UaFault::NoMemory,
+        _ => UaFault::Round { number, fault },
+    }
+}

@@ -1,0 +1,48 @@
+//! Where datagrams come from.
+
+ghost use Rattle.std.specs.Prelude.{◌≤◌, length};
+ghost use Rattle.sip_udp.specs.Receiving.{Fits};
+
+use sip_message::Addr;
+use std::io::ErrorKind;
+use std::net::{SocketAddr, UdpSocket};
+
+/// What a wait for a datagram gave.
+#[derive(Clone, Copy)]
+pub enum Received {
+    /// A datagram of this length; it stands at the front of the buffer.
+    Datagram { from: Addr, length: usize },
+    /// Nothing came in time.
+    Nothing,
+    /// The receive failed.
+    Failed,
+}
+
+/// A way in for datagrams.
+pub trait Inlet {
+    /// Waits a while for a datagram.
+    fn receive(&mut self, buffer: &mut [u8]) -> Received
+        ensures { Fits result buffer.new };
+}
+
+/// The socket waits as long as its read timeout says. A datagram of an IPv6 address is passed over.
+impl Inlet for UdpSocket {
+    fn receive(&mut self, buffer: &mut [u8]) -> Received
+        ensures { Fits result buffer.new }
+    {
+        match self.recv_from(buffer) {
+            Ok((length, SocketAddr::V4(from))) => Received::Datagram {
+                from: Addr {
+                    ip: from.ip().octets(),
+                    port: from.port(),
+                },
+                length,
+            },
+            Ok((_, SocketAddr::V6(_))) => Received::Nothing,
+            Err(error) => match error.kind() {
+                ErrorKind::WouldBlock | ErrorKind::TimedOut => Received::Nothing,
+                _ => Received::Failed,
+            },
+        }
+    }
+}

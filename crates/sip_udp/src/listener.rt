@@ -1,0 +1,99 @@
+//! The listener: it reads datagrams on a thread of its own and posts them.
+
+ghost use Rattle.std.specs.Prelude.{◌≡◌, IfSome};
+ghost use Rattle.sip_desk.specs.Lines.{IsEndOfLine, SameLine};
+
+use crate::fault::UaFault;
+use crate::inlet::{Inlet, Received};
+use sip_desk::{Ended, Poster};
+use sip_message::Addr;
+use sip_round::Event;
+use sip_text::Text;
+use std::alloc::{AllocError, Global};
+use std::sync::Arc;
+use std::sync::atomic::{AtomicBool, Ordering};
+
+/// How many receives may fail in a row.
+const MAX_FAILED: u32 = 100;
+
+/// What the listener and the turns tell each other.
+#[derive(Drop)]
+pub struct Flags {
+    /// The turns are over.
+    pub stop: AtomicBool,
+    /// The listener has ended.
+    pub ended: AtomicBool,
+}
+
+impl Flags {
+    /// Neither.
+    pub fn new() -> Flags {
+        Flags {
+            stop: AtomicBool::new(false),
+            ended: AtomicBool::new(false),
+        }
+    }
+}
+
+/// What is left of a listener.
+#[derive(Drop)]
+pub struct Heard {
+    /// The end of its line, where there is a desk.
+    pub end: Option<Ended<Event>>,
+    /// Why it ended before it was told to.
+    pub fault: Option<UaFault>,
+}
+
+/// Posts each datagram that comes in, until it is told to stop, and ends the line. A datagram for
+/// which the line has no room is lost.
+pub fn hear<I: Inlet + Drop>(
+    alloc: Global,
+    mut inlet: I,
+    mut buffer: Vec<u8>,
+    mut line: Poster<Event>,
+    flags: Arc<Flags>,
+) -> Heard
+    ensures { IfSome result.end (λ end. IsEndOfLine line end) }
+{
+    let fault = post_all(alloc, &mut inlet, &mut buffer, &mut line, &flags.stop).err();
+    let end = line.finish().ok();
+    flags.ended.store(true, Ordering::SeqCst);
+    Heard { end, fault }
+}
+
+// Posts datagrams until it is told to stop.
+fn post_all<I: Inlet>(
+    alloc: Global,
+    inlet: &mut I,
+    buffer: &mut [u8],
+    line: &mut Poster<Event>,
+    stop: &AtomicBool,
+) -> Result<(), UaFault>
+    ensures { SameLine line.old line.new }
+{
+    let mut failed = 0;
+    for _ in 0..u64::MAX {
+        if stop.load(Ordering::SeqCst) {
+            break;
+        }
+        match inlet.receive(buffer) {
+            Received::Datagram { from, length } => {
+                post(alloc, line, from, &buffer[..length])?;
+                failed = 0;
+            }
+            Received::Nothing => failed = 0,
+            Received::Failed if failed == MAX_FAILED - 1 => return Err(UaFault::Socket),
+            Received::Failed => failed += 1,
+        }
+    }
+    Ok(())
+}
+
+// Posts a datagram, where there is room.
+fn post(alloc: Global, line: &mut Poster<Event>, from: Addr, bytes: &[u8]) -> Result<(), AllocError>
+    ensures { SameLine line.old line.new }
+{
+    let bytes = Text::copy_of(alloc, bytes)?;
+    let _ = line.post(Event::Datagram { from, bytes });
+    Ok(())
+}

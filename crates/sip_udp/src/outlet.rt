@@ -1,0 +1,43 @@
+//! Where datagrams are sent.
+
+ghost use Rattle.std.specs.Prelude.{Option, List, ℕ, [], ◌∷◌, None};
+ghost use Rattle.sip_udp.specs.Sending.{Asks};
+ghost use Rattle.sip_udp.specs.declared.outlet.Asked.{Asked};
+
+use sip_message::Addr;
+use sip_text::Text;
+use std::net::{Ipv4Addr, SocketAddrV4, UdpSocket};
+
+/// What an outlet was asked once: to send these bytes to this address; and whether it did.
+#[derive(Drop)]
+pub struct Asked {
+    pub to: Addr,
+    pub bytes: Text,
+    pub is_sent: bool,
+}
+
+/// A way out for datagrams.
+pub trait Outlet {
+    // All that it was asked, in order, where it tells.
+    ghost asked: { Self → Option (List Asked) };
+
+    /// Sends a datagram, and says whether it could.
+    fn send(&mut self, to: Addr, bytes: &[u8]) -> bool
+        ensures { Asks (asked self.old) (asked self.new) (record { to = to; bytes = bytes.now; is_sent = result } ∷ []) };
+}
+
+/// A socket tells nothing of what it was asked.
+impl Outlet for UdpSocket {
+    ghost asked = { λ _. None };
+
+    fn send(&mut self, to: Addr, bytes: &[u8]) -> bool {
+        match self.send_to(bytes, socket_address(to)) {
+            Ok(count) => count == bytes.len(),
+            Err(_) => false,
+        }
+    }
+}
+
+fn socket_address(to: Addr) -> SocketAddrV4 {
+    SocketAddrV4::new(Ipv4Addr::from_octets(to.ip), to.port)
+}
