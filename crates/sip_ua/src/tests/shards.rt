@@ -10,7 +10,7 @@ use sip_text::{Series, Text};
 use std::alloc::Global;
 use std::sync::atomic::{AtomicU64, Ordering};
 use std::test::Fail;
-use std::thread::Threads;
+use std::thread::{self, Threads};
 
 const LOCAL: Addr = Addr {
     ip: [192, 0, 2, 1],
@@ -41,20 +41,25 @@ impl Gate for Open {
 /// A gate at which two pieces of a phase wait for each other; it counts those that waited in vain.
 #[derive(Drop)]
 struct Meeting {
+    looks: u32,
     begun: AtomicU64,
     alone: AtomicU64,
 }
 
-/// How many times at most a piece looks whether the other has begun.
-const LOOKS: u32 = 10_000_000;
+/// How many times at most a piece looks whether the other has begun, where another worker is there.
+const MOST_LOOKS: u32 = 100_000_000;
+
+/// The same, where no other worker is there.
+const FEW_LOOKS: u32 = 1_000;
 
 impl Gate for Meeting {
     fn begin(&self, _shard: usize) {
         let both = self.begun.fetch_add(1, Ordering::SeqCst) / 2 * 2;
-        for _ in 0..LOOKS {
+        for _ in 0..self.looks {
             if self.begun.load(Ordering::SeqCst) / 2 * 2 > both {
                 return;
             }
+            thread::yield_now();
         }
         self.alone.fetch_add(1, Ordering::SeqCst);
     }
@@ -204,11 +209,17 @@ fn the_same_bytes_each_time(rt: HostRuntime) -> Result<(), Fail> {
 }
 
 // How many pieces of a round without events, in two shards, waited for the other in vain.
-fn alone<T: Threads + Sync>(rt: &T, alloc: Global, workers: usize) -> Result<u64, Fail>
+fn alone<T: Threads + Sync>(
+    rt: &T,
+    alloc: Global,
+    workers: usize,
+    looks: u32,
+) -> Result<u64, Fail>
     requires some { 0 < workers }
     requires most { workers ≤ 64 }
 {
     let gate = Meeting {
+        looks,
         begun: AtomicU64::new(0),
         alone: AtomicU64::new(0),
     };
@@ -220,8 +231,8 @@ fn alone<T: Threads + Sync>(rt: &T, alloc: Global, workers: usize) -> Result<u64
 
 #[test]
 fn two_shards_are_dealt_with_at_the_same_time(rt: HostRuntime) -> Result<(), Fail> {
-    assert!(rt; alone(&rt, rt.alloc(), 2)? == 0);
-    assert!(rt; alone(&rt, rt.alloc(), 1)? > 0);
+    assert!(rt; alone(&rt, rt.alloc(), 2, MOST_LOOKS)? == 0);
+    assert!(rt; alone(&rt, rt.alloc(), 1, FEW_LOOKS)? > 0);
     Ok(())
 }
 
