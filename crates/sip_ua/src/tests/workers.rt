@@ -36,13 +36,11 @@ impl<'a> Job for Waits<'a> {
 
     fn run(self) -> bool {
         self.running.fetch_add(1, Ordering::SeqCst);
-        for turn in 0..MOST_TURNS {
+        for _ in 0..MOST_TURNS {
             if self.running.load(Ordering::SeqCst) >= self.until {
                 return true;
             }
-            if turn % 64 == 0 {
-                thread::yield_now();
-            }
+            thread::yield_now();
         }
         false
     }
