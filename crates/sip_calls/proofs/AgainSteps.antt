@@ -30,7 +30,8 @@ use Rattle.sip_calls.proofs.KeptSides.{kept_side}
 
 module _ (life : DialogLife) (invite : Id) where
   abbrev Result : Option Id → Option ℕ → Clients → Side → List CallOut → Type 0
-  Result event number before after outs = AgainResult life invite event before after.dialogs after.clients number outs
+  Result event number before after outs =
+      AgainResult life invite event before after.dialogs after.clients number outs
 
   abbrev Step : Option Id → Option ℕ → Clients → CallTaken → Type 0
   Step event number before taken = Result event number before (side_of taken.0) taken.1
@@ -39,94 +40,150 @@ module _ (life : DialogLife) (invite : Id) where
   abbrev Once : Option Id → Clients → Type 0
   Once event clients = event ≡ Some invite → ear_of life invite clients ≡ None
 
-  silent : (event : Option Id) (before : Clients) (after : Side) (outs : List CallOut) → Keeps life invite event before after.clients → Result event None before after outs
-  silent event before after outs keeps = silent_result life invite event before after.clients after.dialogs outs keeps
+  silent : (event : Option Id) (before : Clients) (after : Side) (outs : List CallOut)
+      → Keeps life invite event before after.clients → Result event None before after outs
+  silent event before after outs keeps =
+      silent_result life invite event before after.clients after.dialogs outs keeps
 
-  lost_step : (call : Call) (of : Event) (up : AnUp) (timed_out : Bool) (event : Option Id) → AreApart call.clients → Step event None call.clients (lost_taken call of up timed_out)
+  lost_step : (call : Call) (of : Event) (up : AnUp) (timed_out : Bool) (event : Option Id)
+      → AreApart call.clients → Step event None call.clients (lost_taken call of up timed_out)
   lost_step call of up timed_out event apart =
       let first = (served_taken call of (Up up)).0 in
       let taken = lost_taken call of up timed_out in
-      silent event call.clients (side_of taken.0) taken.1 (keeps_lost life invite event up.id timed_out (client_at up.id call.clients) (side_of first) apart)
+      silent event call.clients (side_of taken.0) taken.1
+      (keeps_lost life invite event up.id timed_out (client_at up.id call.clients)
+      (side_of first) apart)
 
-  unchanged : (event : Option Id) (call after : Call) (outs : List CallOut) → AreApart call.clients → after.clients ≡ call.clients → Result event None call.clients (side_of after) outs
+  unchanged : (event : Option Id) (call after : Call) (outs : List CallOut) → AreApart call.clients
+      → after.clients ≡ call.clients → Result event None call.clients (side_of after) outs
   unchanged event call after outs apart same =
-      silent event call.clients (side_of after) outs (subst (Keeps life invite event call.clients) (sym same) (keeps_same life invite event call.clients apart))
+      silent event call.clients (side_of after) outs
+      (subst (Keeps life invite event call.clients) (sym same)
+      (keeps_same life invite event call.clients apart))
 
-  up_step : (call : Call) (calls : Calls) (id : Id) (now : ℕ) (up : AnUp) (k : Kind) → AreApart call.clients → Once (event_of_kind id k) call.clients
-      → Step (event_of_kind id k) (number_up (InTheDialog invite) life up.id k (side_of call)) call.clients (up_taken call (event_of calls id now) up k)
+  up_step : (call : Call) (calls : Calls) (id : Id) (now : ℕ) (up : AnUp) (k : Kind)
+      → AreApart call.clients → Once (event_of_kind id k) call.clients
+      → Step (event_of_kind id k) (number_up (InTheDialog invite) life up.id k (side_of call))
+      call.clients (up_taken call (event_of calls id now) up k)
   up_step call calls id now up (kind.Request request reply_to) apart once =
-      let taken = up_taken call (event_of calls id now) up (kind.Request request reply_to) in unchanged (Some id) call taken.0 taken.1 apart refl
+      let taken = up_taken call (event_of calls id now) up (kind.Request request reply_to) in
+      unchanged (Some id) call taken.0 taken.1 apart refl
   up_step call calls id now up (kind.Ack ack) apart once =
-      let taken = up_taken call (event_of calls id now) up (kind.Ack ack) in unchanged (Some id) call taken.0 taken.1 apart refl
+      let taken = up_taken call (event_of calls id now) up (kind.Ack ack) in
+      unchanged (Some id) call taken.0 taken.1 apart refl
   up_step call calls id now up (kind.Response response) apart once =
-      response_again life invite (Some id) (event_of calls id now) refl up.id up.call_id response (side_of call) apart once
-  up_step call calls id now up kind.Timeout apart once = lost_step call (event_of calls id now) up true None apart
-  up_step call calls id now up kind.Failed apart once = lost_step call (event_of calls id now) up false None apart
+      response_again life invite (Some id) (event_of calls id now) refl up.id up.call_id response
+      (side_of call) apart once
+  up_step call calls id now up kind.Timeout apart once =
+      lost_step call (event_of calls id now) up true None apart
+  up_step call calls id now up kind.Failed apart once =
+      lost_step call (event_of calls id now) up false None apart
 
   -- ---- a command of the user, and a tick
 
-  keeps_of : (id : Id) (call : Call) (taken : CallTaken) → Keeps life invite (Some id) call.clients (taken.0).clients → Step (Some id) None call.clients taken
+  keeps_of : (id : Id) (call : Call) (taken : CallTaken)
+      → Keeps life invite (Some id) call.clients (taken.0).clients
+      → Step (Some id) None call.clients taken
   keeps_of id call taken keeps = silent (Some id) call.clients (side_of taken.0) taken.1 keeps
 
-  nothing : (id : Id) (call : Call) (outs : List CallOut) → AreApart call.clients → Step (Some id) None call.clients (call, outs)
-  nothing id call outs apart = keeps_of id call (call, outs) (keeps_same life invite (Some id) call.clients apart)
+  nothing : (id : Id) (call : Call) (outs : List CallOut) → AreApart call.clients
+      → Step (Some id) None call.clients (call, outs)
+  nothing id call outs apart =
+      keeps_of id call (call, outs) (keeps_same life invite (Some id) call.clients apart)
 
-  first_command_step : (call : Call) (calls : Calls) (id : Id) (now : ℕ) (command : UserCommand) → AreApart call.clients
+  first_command_step : (call : Call) (calls : Calls) (id : Id) (now : ℕ) (command : UserCommand)
+      → AreApart call.clients
       → Step (Some id) None call.clients (first_command_taken call (event_of calls id now) command)
   first_command_step call calls id now (Invite invite_command) apart =
-      keeps_of id call (first_command_taken call (event_of calls id now) (Invite invite_command)) (keeps_invite life invite (Some id) (event_of calls id now) invite_command refl call.clients apart)
+      keeps_of id call (first_command_taken call (event_of calls id now) (Invite invite_command))
+      (keeps_invite life invite (Some id)
+      (event_of calls id now) invite_command refl call.clients apart)
   first_command_step call calls id now (PlainCommand plain) apart =
-      keeps_of id call (first_command_taken call (event_of calls id now) (PlainCommand plain)) (keeps_plain life invite (Some id) (event_of calls id now) plain refl call.clients apart)
+      keeps_of id call (first_command_taken call (event_of calls id now) (PlainCommand plain))
+      (keeps_plain life invite (Some id) (event_of calls id now) plain refl call.clients apart)
   first_command_step call calls id now (Request request) apart = nothing id call _ apart
   first_command_step call calls id now (Respond respond) apart = nothing id call _ apart
   first_command_step call calls id now (Ack ack) apart = nothing id call _ apart
   first_command_step call calls id now (Prack prack) apart = nothing id call _ apart
   first_command_step call calls id now (Cancel cancel) apart = nothing id call _ apart
 
-  command_step : (call : Call) (calls : Calls) (id : Id) (now : ℕ) (command : UserCommand) → AreApart call.clients
+  command_step : (call : Call) (calls : Calls) (id : Id) (now : ℕ) (command : UserCommand)
+      → AreApart call.clients
       → Step (Some id) None call.clients (command_taken call (event_of calls id now) command)
   command_step call calls id now (Invite invite_command) apart = nothing id call _ apart
   command_step call calls id now (PlainCommand plain) apart = nothing id call _ apart
   command_step call calls id now (Request request) apart =
-      keeps_of id call (command_taken call (event_of calls id now) (Request request)) (keeps_request life invite (Some id) (event_of calls id now) request refl (side_of call) apart)
+      keeps_of id call (command_taken call (event_of calls id now) (Request request))
+      (keeps_request life invite (Some id) (event_of calls id now) request refl
+      (side_of call) apart)
   command_step call calls id now (Respond respond) apart =
-      let taken = command_taken call (event_of calls id now) (Respond respond) in unchanged (Some id) call taken.0 taken.1 apart refl
+      let taken = command_taken call (event_of calls id now) (Respond respond) in
+      unchanged (Some id) call taken.0 taken.1 apart refl
   command_step call calls id now (Ack ack) apart =
-      keeps_of id call (command_taken call (event_of calls id now) (Ack ack)) (keeps_ack life invite (Some id) (event_of calls id now) ack (side_of call) apart)
+      keeps_of id call (command_taken call (event_of calls id now) (Ack ack))
+      (keeps_ack life invite (Some id) (event_of calls id now) ack (side_of call) apart)
   command_step call calls id now (Prack prack) apart =
-      keeps_of id call (command_taken call (event_of calls id now) (Prack prack)) (keeps_prack life invite (Some id) (event_of calls id now) prack refl (side_of call) apart)
+      keeps_of id call (command_taken call (event_of calls id now) (Prack prack))
+      (keeps_prack life invite (Some id) (event_of calls id now) prack refl
+      (side_of call) apart)
   command_step call calls id now (Cancel cancel) apart = nothing id call _ apart
 
-  tick_step : (call : Call) (now : ℕ) → AreApart call.clients → Step None None call.clients (ticked call now)
+  tick_step : (call : Call) (now : ℕ) → AreApart call.clients
+      → Step None None call.clients (ticked call now)
   tick_step call now apart =
       let taken = ticked call now in
-      silent None call.clients (side_of taken.0) taken.1 (keeps_tick life invite None now call.clients apart)
+      silent None call.clients (side_of taken.0) taken.1
+      (keeps_tick life invite None now call.clients apart)
 
   -- ---- all of it
 
   abbrev KeptStep : Option Id → Option ℕ → Clients → Option Call × List CallOut → Type 0
   KeptStep event number before taken = Result event number before (side_held taken.0) taken.1
 
-  kept_step : (event : Option Id) (number : Option ℕ) (before : Clients) (taken : CallTaken) → Step event number before taken → KeptStep event number before (kept taken)
-  kept_step event number before taken step = subst (λ (side : Side). Result event number before side taken.1) (sym (kept_side taken.0)) step
+  kept_step : (event : Option Id) (number : Option ℕ) (before : Clients) (taken : CallTaken)
+      → Step event number before taken → KeptStep event number before (kept taken)
+  kept_step event number before taken step =
+      subst (λ (side : Side). Result event number before side taken.1)
+      (sym (kept_side taken.0)) step
 
-  by_happening : (calls : Calls) (state : Option Call) (happening : Happening) (now : ℕ) → AreApart (side_held state).clients → Once (event_in happening) (side_held state).clients
-      → KeptStep (event_in happening) (number_in (InTheDialog invite) life happening (side_held state)) (side_held state).clients (call_step calls state happening now)
-  by_happening calls None Tick now apart once = silent None [] (side_held None) [] (keeps_same life invite None [] apart)
-  by_happening calls (Some call) Tick now apart once = kept_step None None call.clients (ticked call now) (tick_step call now apart)
+  by_happening : (calls : Calls) (state : Option Call) (happening : Happening) (now : ℕ)
+      → AreApart (side_held state).clients → Once (event_in happening) (side_held state).clients
+      → KeptStep (event_in happening)
+      (number_in (InTheDialog invite) life happening (side_held state)) (side_held state).clients
+      (call_step calls state happening now)
+  by_happening calls None Tick now apart once =
+      silent None [] (side_held None) [] (keeps_same life invite None [] apart)
+  by_happening calls (Some call) Tick now apart once =
+      kept_step None None call.clients (ticked call now) (tick_step call now apart)
   by_happening calls None (AnItem id (Up up)) now apart once =
       let call = new_call calls.local in
-      kept_step (event_of_kind id up.kind) (number_up (InTheDialog invite) life up.id up.kind (side_of call)) call.clients (up_taken call (event_of calls id now) up up.kind) (up_step call calls id now up up.kind apart once)
+      kept_step (event_of_kind id up.kind)
+      (number_up (InTheDialog invite) life up.id up.kind (side_of call)) call.clients
+      (up_taken call (event_of calls id now) up up.kind)
+      (up_step call calls id now up up.kind apart once)
   by_happening calls None (AnItem id (User command)) now apart once =
       let call = new_call calls.local in
-      kept_step (Some id) None call.clients (first_command_taken call (event_of calls id now) command) (first_command_step call calls id now command apart)
+      kept_step (Some id) None call.clients
+      (first_command_taken call (event_of calls id now) command)
+      (first_command_step call calls id now command apart)
   by_happening calls (Some call) (AnItem id (Up up)) now apart once =
-      kept_step (event_of_kind id up.kind) (number_up (InTheDialog invite) life up.id up.kind (side_of call)) call.clients (up_taken call (event_of calls id now) up up.kind) (up_step call calls id now up up.kind apart once)
+      kept_step (event_of_kind id up.kind)
+      (number_up (InTheDialog invite) life up.id up.kind (side_of call)) call.clients
+      (up_taken call (event_of calls id now) up up.kind)
+      (up_step call calls id now up up.kind apart once)
   by_happening calls (Some call) (AnItem id (User command)) now apart once =
-      kept_step (Some id) None call.clients (command_taken call (event_of calls id now) command) (command_step call calls id now command apart)
+      kept_step (Some id) None call.clients (command_taken call (event_of calls id now) command)
+      (command_step call calls id now command apart)
 
-  pub again_in_order : (calls : Calls) (inputs : List CallInput) → EventsDiffer inputs → shown calls (InTheDialog invite) life inputs ≡ in_order (came calls (InTheDialog invite) life inputs)
+  pub again_in_order : (calls : Calls) (inputs : List CallInput) → EventsDiffer inputs
+      → shown calls (InTheDialog invite) life inputs
+      ≡ in_order (came calls (InTheDialog invite) life inputs)
   again_in_order calls inputs differ =
-      heard_in_order (λ state input. (done calls (InTheDialog invite) life state input).0) (λ input. event_in input.happening) (number_of calls (InTheDialog invite) life)
-      (λ state input. told_of (number_of calls (InTheDialog invite) life state input) (done calls (InTheDialog invite) life state input).1) (λ state. ear_of life invite (side_held state).clients) (λ state. AreApart (side_held state).clients) invite
-      (λ state input apart once. by_happening calls state input.happening input.now apart once) inputs None (none_apart is_client) differ refl
+      heard_in_order (λ state input. (done calls (InTheDialog invite) life state input).0)
+      (λ input. event_in input.happening) (number_of calls (InTheDialog invite) life)
+      (λ state input. told_of (number_of calls (InTheDialog invite) life state input)
+      (done calls (InTheDialog invite) life state input).1)
+      (λ state. ear_of life invite (side_held state).clients)
+      (λ state. AreApart (side_held state).clients) invite
+      (λ state input apart once. by_happening calls state input.happening input.now apart once)
+      inputs None (none_apart is_client) differ refl

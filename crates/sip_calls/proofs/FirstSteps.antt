@@ -41,34 +41,52 @@ module _ (life : DialogLife) where
   abbrev Step : Option Id → Option ℕ → Dialogs → CallTaken → Type 0
   Step event number before taken = ResultOf life event before (dialogs_of taken.0) number taken.1
 
-  lost_step : (call : Call) (event : Event) (up : AnUp) (timed_out : Bool) (of : Option Id) → AreApart (dialogs_of call) → Step of None (dialogs_of call) (lost_taken call event up timed_out)
+  lost_step : (call : Call) (event : Event) (up : AnUp) (timed_out : Bool) (of : Option Id)
+      → AreApart (dialogs_of call) → Step of None (dialogs_of call)
+      (lost_taken call event up timed_out)
   lost_step call event up timed_out of apart =
       let first = (served_taken call event (Up up)).0 in
       let taken = lost_taken call event up timed_out in
       silent life of (dialogs_of call) (dialogs_of taken.0) taken.1
-      (leads_then (λ id. of ≡ Some id) (dialogs_of call) (dialogs_of first) (dialogs_of taken.0) (kind_leads (λ id. of ≡ Some id) (call.served).state _ up up.kind apart)
+      (leads_then (λ id. of ≡ Some id) (dialogs_of call) (dialogs_of first) (dialogs_of taken.0)
+      (kind_leads (λ id. of ≡ Some id) (call.served).state _ up up.kind apart)
       (lost_leads of up.id timed_out (client_at up.id call.clients) (side_of first)))
 
-  up_step : (call : Call) (calls : Calls) (id : Id) (now : ℕ) (up : AnUp) (k : Kind) → AreApart (dialogs_of call)
-      → Step (event_of_kind id k) (number_up OfTheCall life up.id k (side_of call)) (dialogs_of call) (up_taken call (event_of calls id now) up k)
+  up_step : (call : Call) (calls : Calls) (id : Id) (now : ℕ) (up : AnUp) (k : Kind)
+      → AreApart (dialogs_of call)
+      → Step (event_of_kind id k) (number_up OfTheCall life up.id k (side_of call))
+      (dialogs_of call) (up_taken call (event_of calls id now) up k)
   up_step call calls id now up (kind.Request request reply_to) apart =
       let taken = served_taken call (event_of calls id now) (Up up) in
-      silent life (Some id) (dialogs_of call) (dialogs_of taken.0) taken.1 (kind_leads (λ x. Some id ≡ Some x) (call.served).state _ up up.kind apart)
+      silent life (Some id) (dialogs_of call) (dialogs_of taken.0) taken.1
+      (kind_leads (λ x. Some id ≡ Some x) (call.served).state _ up up.kind apart)
   up_step call calls id now up (kind.Ack ack) apart =
       let taken = served_taken call (event_of calls id now) (Up up) in
-      silent life (Some id) (dialogs_of call) (dialogs_of taken.0) taken.1 (kind_leads (λ x. Some id ≡ Some x) (call.served).state _ up up.kind apart)
-  up_step call calls id now up (kind.Response response) apart = response_step life (Some id) (event_of calls id now) refl up.id up.call_id response (side_of call) apart
-  up_step call calls id now up kind.Timeout apart = lost_step call (event_of calls id now) up true None apart
-  up_step call calls id now up kind.Failed apart = lost_step call (event_of calls id now) up false None apart
+      silent life (Some id) (dialogs_of call) (dialogs_of taken.0) taken.1
+      (kind_leads (λ x. Some id ≡ Some x) (call.served).state _ up up.kind apart)
+  up_step call calls id now up (kind.Response response) apart =
+      response_step life (Some id) (event_of calls id now) refl up.id up.call_id response
+      (side_of call) apart
+  up_step call calls id now up kind.Timeout apart =
+      lost_step call (event_of calls id now) up true None apart
+  up_step call calls id now up kind.Failed apart =
+      lost_step call (event_of calls id now) up false None apart
 
-  no_leads : (id : Id) (call : Call) (outs : List CallOut) → AreApart (dialogs_of call) → ResultOf life (Some id) (dialogs_of call) (dialogs_of call) None outs
-  no_leads id call outs apart = silent life (Some id) (dialogs_of call) (dialogs_of call) outs (leads_same (λ x. Some id ≡ Some x) (dialogs_of call) apart)
+  no_leads : (id : Id) (call : Call) (outs : List CallOut) → AreApart (dialogs_of call)
+      → ResultOf life (Some id) (dialogs_of call) (dialogs_of call) None outs
+  no_leads id call outs apart = silent life (Some id) (dialogs_of call) (dialogs_of call) outs
+      (leads_same (λ x. Some id ≡ Some x) (dialogs_of call) apart)
 
-  leads_of : (id : Id) (call : Call) (taken : CallTaken) → Leads (λ x. Some id ≡ Some x) (dialogs_of call) (dialogs_of taken.0) → Step (Some id) None (dialogs_of call) taken
-  leads_of id call taken leads = silent life (Some id) (dialogs_of call) (dialogs_of taken.0) taken.1 leads
+  leads_of : (id : Id) (call : Call) (taken : CallTaken)
+      → Leads (λ x. Some id ≡ Some x) (dialogs_of call) (dialogs_of taken.0)
+      → Step (Some id) None (dialogs_of call) taken
+  leads_of id call taken leads =
+      silent life (Some id) (dialogs_of call) (dialogs_of taken.0) taken.1 leads
 
-  first_command_step : (call : Call) (calls : Calls) (id : Id) (now : ℕ) (command : UserCommand) → AreApart (dialogs_of call)
-      → Step (Some id) None (dialogs_of call) (first_command_taken call (event_of calls id now) command)
+  first_command_step : (call : Call) (calls : Calls) (id : Id) (now : ℕ) (command : UserCommand)
+      → AreApart (dialogs_of call)
+      → Step (Some id) None (dialogs_of call)
+      (first_command_taken call (event_of calls id now) command)
   first_command_step call calls id now (Invite invite) apart = no_leads id call _ apart
   first_command_step call calls id now (PlainCommand plain) apart = no_leads id call _ apart
   first_command_step call calls id now (Request request) apart = no_leads id call _ apart
@@ -77,14 +95,18 @@ module _ (life : DialogLife) where
   first_command_step call calls id now (Prack prack) apart = no_leads id call _ apart
   first_command_step call calls id now (Cancel cancel) apart = no_leads id call _ apart
 
-  command_step : (call : Call) (calls : Calls) (id : Id) (now : ℕ) (command : UserCommand) → AreApart (dialogs_of call)
+  command_step : (call : Call) (calls : Calls) (id : Id) (now : ℕ) (command : UserCommand)
+      → AreApart (dialogs_of call)
       → Step (Some id) None (dialogs_of call) (command_taken call (event_of calls id now) command)
   command_step call calls id now (Invite invite) apart = no_leads id call _ apart
   command_step call calls id now (PlainCommand plain) apart = no_leads id call _ apart
   command_step call calls id now (Request request) apart =
-      leads_of id call (command_taken call (event_of calls id now) (Request request)) (request_leads (λ x. Some id ≡ Some x) (event_of calls id now) request (side_of call) apart)
+      leads_of id call (command_taken call (event_of calls id now) (Request request))
+      (request_leads (λ x. Some id ≡ Some x) (event_of calls id now) request
+      (side_of call) apart)
   command_step call calls id now (Respond respond) apart =
-      leads_of id call (command_taken call (event_of calls id now) (Respond respond)) (respond_leads (λ x. Some id ≡ Some x) id refl (call.served).state respond now apart)
+      leads_of id call (command_taken call (event_of calls id now) (Respond respond))
+      (respond_leads (λ x. Some id ≡ Some x) id refl (call.served).state respond now apart)
   command_step call calls id now (Ack ack) apart =
       leads_of id call (command_taken call (event_of calls id now) (Ack ack))
       (ack_leads (λ x. Some id ≡ Some x) (event_of calls id now) ack (side_of call) apart)
@@ -93,36 +115,60 @@ module _ (life : DialogLife) where
       (prack_leads (λ x. Some id ≡ Some x) (event_of calls id now) prack (side_of call) apart)
   command_step call calls id now (Cancel cancel) apart = no_leads id call _ apart
 
-  tick_step : (call : Call) (now : ℕ) → AreApart (dialogs_of call) → Step None None (dialogs_of call) (ticked call now)
+  tick_step : (call : Call) (now : ℕ) → AreApart (dialogs_of call)
+      → Step None None (dialogs_of call) (ticked call now)
   tick_step call now apart =
       let taken = ticked call now in
-      silent life None (dialogs_of call) (dialogs_of taken.0) taken.1 (leads_filtered (λ x. None ≡ Some x) (λ held. not (ends_at now call.clients held)) (dialogs_of call) apart)
+      silent life None (dialogs_of call) (dialogs_of taken.0) taken.1
+      (leads_filtered (λ x. None ≡ Some x) (λ held. not (ends_at now call.clients held))
+      (dialogs_of call) apart)
 
   -- ---- all of it
 
   abbrev KeptStep : Option Id → Option ℕ → Dialogs → Option Call × List CallOut → Type 0
-  KeptStep event number before taken = ResultOf life event before (side_held taken.0).dialogs number taken.1
+  KeptStep event number before taken =
+      ResultOf life event before (side_held taken.0).dialogs number taken.1
 
-  kept_step : (event : Option Id) (number : Option ℕ) (before : Dialogs) (taken : CallTaken) → Step event number before taken → KeptStep event number before (kept taken)
-  kept_step event number before taken step = subst (λ (side : Side). ResultOf life event before side.dialogs number taken.1) (sym (kept_side taken.0)) step
+  kept_step : (event : Option Id) (number : Option ℕ) (before : Dialogs) (taken : CallTaken)
+      → Step event number before taken → KeptStep event number before (kept taken)
+  kept_step event number before taken step =
+      subst (λ (side : Side). ResultOf life event before side.dialogs number taken.1)
+      (sym (kept_side taken.0)) step
 
-  by_happening : (calls : Calls) (state : Option Call) (happening : Happening) (now : ℕ) → AreApart (side_held state).dialogs
-      → KeptStep (event_in happening) (number_in OfTheCall life happening (side_held state)) (side_held state).dialogs (call_step calls state happening now)
-  by_happening calls None Tick now apart = silent life None [] [] [] (leads_same (λ x. None ≡ Some x) [] apart)
-  by_happening calls (Some call) Tick now apart = kept_step None None (dialogs_of call) (ticked call now) (tick_step call now apart)
+  by_happening : (calls : Calls) (state : Option Call) (happening : Happening) (now : ℕ)
+      → AreApart (side_held state).dialogs
+      → KeptStep (event_in happening) (number_in OfTheCall life happening (side_held state))
+      (side_held state).dialogs (call_step calls state happening now)
+  by_happening calls None Tick now apart =
+      silent life None [] [] [] (leads_same (λ x. None ≡ Some x) [] apart)
+  by_happening calls (Some call) Tick now apart =
+      kept_step None None (dialogs_of call) (ticked call now) (tick_step call now apart)
   by_happening calls None (AnItem id (Up up)) now apart =
       let call = new_call calls.local in
-      kept_step (event_of_kind id up.kind) (number_up OfTheCall life up.id up.kind (side_of call)) (dialogs_of call) (up_taken call (event_of calls id now) up up.kind) (up_step call calls id now up up.kind apart)
+      kept_step (event_of_kind id up.kind) (number_up OfTheCall life up.id up.kind (side_of call))
+      (dialogs_of call) (up_taken call (event_of calls id now) up up.kind)
+      (up_step call calls id now up up.kind apart)
   by_happening calls None (AnItem id (User command)) now apart =
       let call = new_call calls.local in
-      kept_step (Some id) None (dialogs_of call) (first_command_taken call (event_of calls id now) command) (first_command_step call calls id now command apart)
+      kept_step (Some id) None (dialogs_of call)
+      (first_command_taken call (event_of calls id now) command)
+      (first_command_step call calls id now command apart)
   by_happening calls (Some call) (AnItem id (Up up)) now apart =
-      kept_step (event_of_kind id up.kind) (number_up OfTheCall life up.id up.kind (side_of call)) (dialogs_of call) (up_taken call (event_of calls id now) up up.kind) (up_step call calls id now up up.kind apart)
+      kept_step (event_of_kind id up.kind) (number_up OfTheCall life up.id up.kind (side_of call))
+      (dialogs_of call) (up_taken call (event_of calls id now) up up.kind)
+      (up_step call calls id now up up.kind apart)
   by_happening calls (Some call) (AnItem id (User command)) now apart =
-      kept_step (Some id) None (dialogs_of call) (command_taken call (event_of calls id now) command) (command_step call calls id now command apart)
+      kept_step (Some id) None (dialogs_of call)
+      (command_taken call (event_of calls id now) command)
+      (command_step call calls id now command apart)
 
-  pub first_in_order : (calls : Calls) (inputs : List CallInput) → EventsDiffer inputs → shown calls OfTheCall life inputs ≡ in_order (came calls OfTheCall life inputs)
+  pub first_in_order : (calls : Calls) (inputs : List CallInput) → EventsDiffer inputs
+      → shown calls OfTheCall life inputs ≡ in_order (came calls OfTheCall life inputs)
   first_in_order calls inputs differ =
-      heard_in_order (λ state input. (done calls OfTheCall life state input).0) (λ input. event_in input.happening) (number_of calls OfTheCall life)
-      (λ state input. told_of (number_of calls OfTheCall life state input) (done calls OfTheCall life state input).1) (λ state. ear life (side_held state).dialogs) (λ state. AreApart (side_held state).dialogs) life.born
-      (λ state input apart _. by_happening calls state input.happening input.now apart) inputs None (none_apart is_named) differ refl
+      heard_in_order (λ state input. (done calls OfTheCall life state input).0)
+      (λ input. event_in input.happening) (number_of calls OfTheCall life)
+      (λ state input. told_of (number_of calls OfTheCall life state input)
+      (done calls OfTheCall life state input).1) (λ state. ear life (side_held state).dialogs)
+      (λ state. AreApart (side_held state).dialogs) life.born
+      (λ state input apart _. by_happening calls state input.happening input.now apart) inputs None
+      (none_apart is_named) differ refl

@@ -1,4 +1,5 @@
--- The machine of one call: what is held after each input, and what it gives (RFC 3261, sections 8, 12 and 13; RFC 3262).
+-- The machine of one call: what is held after each input, and what it gives (RFC 3261, sections 8,
+-- 12 and 13; RFC 3262).
 use Rattle.std.specs.Prelude.{ℕ, Bool, true, false, List, [], ◌∷◌, Option, None, Some, if◌then◌else◌}
 use Rattle.sip_message.specs.declared.addr.Addr.{Addr}
 use Rattle.sip_message.specs.declared.id.Id.{Id}
@@ -41,7 +42,10 @@ kept taken = (kept_call taken.0, taken.1)
 
 -- a call of which nothing is held yet
 abbrev pub new_call : Addr → Call
-new_call local = record { served = record { broken = false; local = local; state = empty_at local }; clients = [] }
+new_call local = record {
+  served = record { broken = false; local = local; state = empty_at local };
+  clients = [];
+}
 
 -- an event, and what its agent makes requests from
 abbrev pub event_of : Calls → Id → ℕ → Event
@@ -51,17 +55,21 @@ event_of calls id now = record { local = calls.local; seed = calls.seed; id = id
 
 -- an item of the server side, whose event makes the To tag of a request without one
 abbrev pub served_taken : Call → Event → Item → CallTaken
-served_taken call event item = by_server call (served_item (call.served).state (name_of event.seed event.id 0) event.id item event.moment)
+served_taken call event item =
+    by_server call (served_item (call.served).state
+    (name_of event.seed event.id 0) event.id item event.moment)
 
 -- that a transaction is lost is told, and then what ends with its request ends
 abbrev pub lost_taken : Call → Event → AnUp → Bool → CallTaken
 lost_taken call event up timed_out =
-    followed (served_taken call event (Up up)) (λ call. by_clients call (lost up.id timed_out (side_of call)))
+    followed (served_taken call event (Up up))
+    (λ call. by_clients call (lost up.id timed_out (side_of call)))
 
 abbrev pub up_taken : Call → Event → AnUp → Kind → CallTaken
 up_taken call event up (kind.Request request reply_to) = served_taken call event (Up up)
 up_taken call event up (kind.Ack ack) = served_taken call event (Up up)
-up_taken call event up (kind.Response response) = by_clients call (response_taken event up.id up.call_id response (side_of call))
+up_taken call event up (kind.Response response) =
+    by_clients call (response_taken event up.id up.call_id response (side_of call))
 up_taken call event up kind.Timeout = lost_taken call event up true
 up_taken call event up kind.Failed = lost_taken call event up false
 
@@ -75,8 +83,10 @@ with_clients call taken = (record call { clients = taken.0 }, taken.1)
 
 -- where nothing is held, only a first request is sent
 abbrev pub first_command_taken : Call → Event → UserCommand → CallTaken
-first_command_taken call event (Invite invite) = with_clients call (invite_taken event invite call.clients)
-first_command_taken call event (Plain plain) = with_clients call (plain_taken event plain call.clients)
+first_command_taken call event (Invite invite) =
+    with_clients call (invite_taken event invite call.clients)
+first_command_taken call event (Plain plain) =
+    with_clients call (plain_taken event plain call.clients)
 first_command_taken call event (Request request) = (call, refused event request.call_id NoSuchCall)
 first_command_taken call event (Respond respond) = (call, refused event respond.call_id NoSuchCall)
 first_command_taken call event (Ack ack) = (call, refused event ack.call_id NoSuchCall)
@@ -87,7 +97,8 @@ first_command_taken call event (Cancel cancel) = (call, [])
 abbrev pub command_taken : Call → Event → UserCommand → CallTaken
 command_taken call event (Invite invite) = (call, refused event invite.call_id CallInUse)
 command_taken call event (Plain plain) = (call, refused event plain.call_id CallInUse)
-command_taken call event (Request request) = by_clients call (request_taken event request (side_of call))
+command_taken call event (Request request) =
+    by_clients call (request_taken event request (side_of call))
 command_taken call event (Respond respond) = served_taken call event (User (Respond respond))
 command_taken call event (Ack ack) = by_clients call (ack_taken event ack (side_of call))
 command_taken call event (Prack prack) = by_clients call (prack_taken event prack (side_of call))
@@ -107,13 +118,16 @@ item_taken call event (User command) = command_taken call event command
 -- what happens to a call
 abbrev pub call_step : Calls → Option Call → Happening → ℕ → Taken
 call_step calls None Tick now = (None, [])
-call_step calls None (AnItem id item) now = kept (first_item_taken (new_call calls.local) (event_of calls id now) item)
+call_step calls None (AnItem id item) now =
+    kept (first_item_taken (new_call calls.local) (event_of calls id now) item)
 call_step calls (Some call) Tick now = kept (ticked call now)
-call_step calls (Some call) (AnItem id item) now = kept (item_taken call (event_of calls id now) item)
+call_step calls (Some call) (AnItem id item) now =
+    kept (item_taken call (event_of calls id now) item)
 
 -- one machine for every Call-ID
 abbrev pub call_machine : Calls → Machine (List ℕ) Call CallInput CallOut
-call_machine calls = record { step = λ key state input. call_step calls state input.happening input.now }
+call_machine calls =
+    record { step = λ key state input. call_step calls state input.happening input.now }
 
 -- the moment at which something is due of a call; one under which nothing is held is over at once
 abbrev pub call_due : Call → Option ℕ

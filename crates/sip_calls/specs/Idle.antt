@@ -24,24 +24,37 @@ neither true y e = absurd cc
 neither false y e = (refl, e)
 
 -- a call of which nothing is due
-calm_tick : (now : ℕ) (call : Call) → is_due now (next_due call) ≡ false → ticked call now ≡ (call, [])
+calm_tick : (now : ℕ) (call : Call) → is_due now (next_due call) ≡ false
+    → ticked call now ≡ (call, [])
 calm_tick now call calm =
-    let parts = neither _ _ (sym (earlier_due now (served.next_due (call.served).state) (clients.next_due call.clients)) ∙ calm) in
-    let first : by_server call (served.tick_taken (call.served).state now) ≡ (call, []) = ap (by_server call) (quiet_before (call.served).state now parts.0) in
-    let second : by_clients call (clients.tick_taken (side_of call) now) ≡ (call, []) = ap (by_clients call) (clients_quiet_before (side_of call) now parts.1) in
-    (λ i. let done : CallTaken = first i in
-    ((by_clients done.0 (clients.tick_taken (side_of done.0) now)).0, done.1 ++ (by_clients done.0 (clients.tick_taken (side_of done.0) now)).1))
+    let parts = neither _ _ (sym (earlier_due now (served.next_due (call.served).state)
+    (clients.next_due call.clients)) ∙ calm) in
+    let first : by_server call (served.tick_taken (call.served).state now) ≡ (call, []) =
+    ap (by_server call) (quiet_before (call.served).state now parts.0) in
+    let second : by_clients call (clients.tick_taken (side_of call) now) ≡ (call, []) =
+    ap (by_clients call) (clients_quiet_before (side_of call) now parts.1) in
+    (λ i. let done : CallTaken = first i in (
+      (by_clients done.0 (clients.tick_taken (side_of done.0) now)).0,
+      done.1
+          ++ (by_clients done.0 (clients.tick_taken (side_of done.0) now)).1,
+    ))
     ∙ second
 
 -- a call that holds something, of which nothing is due
-held_is_calm : (calls : Calls) (now : ℕ) (key : List ℕ) (call : Call) → holds_any call ≡ true → is_due now (call_due call) ≡ false
+held_is_calm : (calls : Calls) (now : ℕ) (key : List ℕ) (call : Call) → holds_any call ≡ true
+    → is_due now (call_due call) ≡ false
     → (call_machine calls).step key (Some call) (tick_input now) ≡ (Some call, [])
 held_is_calm calls now key call some calm =
-    let later : is_due now (next_due call) ≡ false = ap (λ b. is_due now (if b then next_due call else Some 0)) (sym some) ∙ calm in
-    ap (λ (taken : CallTaken). (kept_call taken.0, taken.1)) (calm_tick now call later) ∙ (λ i. (if some i then Some call else None, []))
+    let later : is_due now (next_due call) ≡ false =
+    ap (λ b. is_due now (if b then next_due call else Some 0)) (sym some) ∙ calm in
+    ap (λ (taken : CallTaken). (kept_call taken.0, taken.1)) (calm_tick now call later)
+    ∙ (λ i. (if some i then Some call else None, []))
 
-pub ticks_are_idle : (calls : Calls) (now : ℕ) → IsIdle (call_machine calls) call_due now (tick_input now)
+pub ticks_are_idle : (calls : Calls) (now : ℕ)
+    → IsIdle (call_machine calls) call_due now (tick_input now)
 ticks_are_idle calls now key None calm = refl
 ticks_are_idle calls now key (Some call) calm =
     by_bool (holds_any call) (λ some. held_is_calm calls now key call some calm)
-    (λ none. absurd (true≢false (sym (ap (λ b. is_due now (if b then next_due call else Some 0)) none ∙ due_at_once now) ∙ calm)))
+    (λ none. absurd (true≢false (sym
+    (ap (λ b. is_due now (if b then next_due call else Some 0)) none ∙ due_at_once now)
+    ∙ calm)))

@@ -1,5 +1,5 @@
--- The reliable provisional responses that come to an INVITE in one life of a dialog, and those that the user is told of (RFC 3262,
--- section 4).
+-- The reliable provisional responses that come to an INVITE in one life of a dialog, and those that
+-- the user is told of (RFC 3262, section 4).
 use Rattle.std.specs.Prelude.{◌≡◌, ◌≢◌, ℕ, List, [], ◌∷◌, ◌++◌, Option, None, Some, AllPairs, filter_map}
 use Rattle.std.specs.List.{IsDistinct}
 use Rattle.std.specs.Option.{option_and_then, option_to_list}
@@ -22,9 +22,11 @@ use Rattle.sip_calls.specs.declared.calls.Happening.TheVariants.{Tick, Item as A
 use Rattle.sip_calls.specs.Call.{call_step}
 use Rattle.sip_calls.specs.Sides.{side_of}
 
--- the RSeq of the reliable provisional response that comes up to that INVITE in that life of a dialog, where one does
+-- the RSeq of the reliable provisional response that comes up to that INVITE in that life of a
+-- dialog, where one does
 abbrev pub number_up : AnInvite → DialogLife → Id → Kind → Side → Option ℕ
-number_up invite life id (kind.Response response) side = option_and_then (number_for invite life id response) (client_at id side.clients)
+number_up invite life id (kind.Response response) side =
+    option_and_then (number_for invite life id response) (client_at id side.clients)
 number_up invite life id _ side = None
 
 abbrev pub number_in : AnInvite → DialogLife → Happening → Side → Option ℕ
@@ -44,17 +46,20 @@ module _ (calls : Calls) (invite : AnInvite) (life : DialogLife) where
   done call input = call_step calls call input.happening input.now
 
   abbrev pub number_of : Option Call → CallInput → Option ℕ
-  number_of call input = in_life (lives (side_held (done call input).0).dialogs life) (number_in invite life input.happening (side_held call))
+  number_of call input = in_life (lives (side_held (done call input).0).dialogs life)
+      (number_in invite life input.happening (side_held call))
 
   -- the RSeqs that came, in order
   abbrev pub came_from : Option Call → List CallInput → List ℕ
   came_from call [] = []
-  came_from call (input ∷ inputs) = option_to_list (number_of call input) ++ came_from (done call input).0 inputs
+  came_from call (input ∷ inputs) =
+      option_to_list (number_of call input) ++ came_from (done call input).0 inputs
 
   -- those of the responses that the user is told of, in order
   abbrev pub shown_from : Option Call → List CallInput → List ℕ
   shown_from call [] = []
-  shown_from call (input ∷ inputs) = told_of (number_of call input) (done call input).1 ++ shown_from (done call input).0 inputs
+  shown_from call (input ∷ inputs) =
+      told_of (number_of call input) (done call input).1 ++ shown_from (done call input).0 inputs
 
   -- over all inputs of a call, of which nothing was held before
   abbrev pub came : List CallInput → List ℕ
@@ -87,11 +92,13 @@ EventsDiffer inputs = IsDistinct is_id (filter_map (λ input. event_in input.hap
 
 -- A law of the numbers that came, and of those shown, to an INVITE in a life of a dialog.
 abbrev pub OfEachLife : (List ℕ → List ℕ → Type 0) → Type 0
-OfEachLife Law = (calls : Calls) (inputs : List CallInput) → EventsDiffer inputs → (invite : AnInvite) (life : DialogLife)
+OfEachLife Law = (calls : Calls) (inputs : List CallInput) → EventsDiffer inputs
+    → (invite : AnInvite) (life : DialogLife)
     → Law (came calls invite life inputs) (shown calls invite life inputs)
 
--- Whatever comes to a call: of the reliable provisional responses that came to an INVITE in a life of a dialog the user is told of the
--- first, and then of each that is one more than the one told before it.
+-- Whatever comes to a call: of the reliable provisional responses that came to an INVITE in a life
+-- of a dialog the user is told of the first, and then of each that is one more than the one told
+-- before it.
 abbrev pub ShownInOrder : Type 0
 ShownInOrder = OfEachLife (λ came shown. shown ≡ in_order came)
 

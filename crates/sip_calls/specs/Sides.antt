@@ -25,7 +25,10 @@ side_of call = record { dialogs = ((call.served).state).dialogs; clients = call.
 abbrev pub by_clients : Call → ClientTaken → CallTaken
 by_clients call taken = (
   record call {
-    served = record call.served { state = record (call.served).state { dialogs = (taken.0).dialogs } };
+    served = record call.served {
+      state = record
+          (call.served).state { dialogs = (taken.0).dialogs };
+    };
     clients = (taken.0).clients;
   },
   taken.1,
@@ -42,7 +45,8 @@ holds_any call = holds (call.served).state || not (length call.clients == 0)
 -- first the server side, and then the client side
 abbrev pub ticked : Call → ℕ → CallTaken
 ticked call now =
-    followed (by_server call (served.tick_taken (call.served).state now)) (λ call. by_clients call (clients.tick_taken (side_of call) now))
+    followed (by_server call (served.tick_taken (call.served).state now))
+    (λ call. by_clients call (clients.tick_taken (side_of call) now))
 
 -- the first moment at which something is due
 abbrev pub next_due : Call → Option ℕ

@@ -14,7 +14,8 @@ use sip_served::{CallOut, DialogBody, DialogRequest, Item, Served};
 use sip_timers::earlier;
 use std::alloc::{AllocError, Global};
 
-/// All that is held under one Call-ID: the server requests and the dialogs, and the client requests.
+/// All that is held under one Call-ID: the server requests and the dialogs, and the client
+/// requests.
 pub struct Call {
     pub served: Served,
     pub clients: Clients,
@@ -45,7 +46,9 @@ impl Call {
         item: Item,
     ) -> Result<Vec<CallOut>, AllocError>
         requires { event.moment ≤ 2 ^ 62 }
-        ensures { IfOk result (λ outs. (self.new, outs.items) ≡ spec.by_server self.old (item_taken (self.old.served).state (name_of event.seed event.id 0) event.id item event.moment)) }
+        ensures { IfOk result (λ outs. (self.new, outs.items)
+            ≡ spec.by_server self.old (item_taken (self.old.served).state
+            (name_of event.seed event.id 0) event.id item event.moment)) }
     {
         let tag = made_name(alloc, event.seed, event.id, 0)?;
         match self.served.item(tag, event.id, item, event.moment) {
@@ -66,7 +69,8 @@ impl Call {
 
     fn tick_server(&mut self, now: u64) -> Result<Vec<CallOut>, AllocError>
         requires { now ≤ 2 ^ 62 }
-        ensures { IfOk result (λ outs. (self.new, outs.items) ≡ spec.by_server self.old (served.tick_taken (self.old.served).state now)) }
+        ensures { IfOk result (λ outs. (self.new, outs.items)
+            ≡ spec.by_server self.old (served.tick_taken (self.old.served).state now)) }
     {
         match self.served.tick(now) {
             Ok(outs) => Ok(outs),
@@ -77,7 +81,8 @@ impl Call {
     // ---- the client side
 
     fn tick_clients(&mut self, now: u64) -> Result<Vec<CallOut>, AllocError>
-        ensures { IfOk result (λ outs. (self.new, outs.items) ≡ spec.by_clients self.old (tick_taken (spec.side_of self.old) now)) }
+        ensures { IfOk result (λ outs. (self.new, outs.items)
+            ≡ spec.by_clients self.old (tick_taken (spec.side_of self.old) now)) }
     {
         self.clients.tick(self.served.dialogs(), now)
     }
@@ -91,7 +96,9 @@ impl Call {
         response: Message,
     ) -> Result<Vec<CallOut>, AllocError>
         requires { event.moment ≤ 2 ^ 62 }
-        ensures { IfOk result (λ outs. (self.new, outs.items) ≡ spec.by_clients self.old (clients.response_taken event id call_id response (spec.side_of self.old))) }
+        ensures { IfOk result (λ outs. (self.new, outs.items)
+            ≡ spec.by_clients self.old (clients.response_taken event id call_id response
+            (spec.side_of self.old))) }
     {
         self.clients
             .response(self.served.dialogs(), event, id, call_id, response)
@@ -99,7 +106,8 @@ impl Call {
 
     /// The transaction of the request that the event `id` sent is lost.
     pub(crate) fn lose(&mut self, id: Id, timed_out: bool) -> Result<Vec<CallOut>, AllocError>
-        ensures { IfOk result (λ outs. (self.new, outs.items) ≡ spec.by_clients self.old (clients.lost id timed_out (spec.side_of self.old))) }
+        ensures { IfOk result (λ outs. (self.new, outs.items)
+            ≡ spec.by_clients self.old (clients.lost id timed_out (spec.side_of self.old))) }
     {
         self.clients.lose(self.served.dialogs(), id, timed_out)
     }
@@ -110,7 +118,9 @@ impl Call {
         event: Event,
         command: &DialogRequest,
     ) -> Result<Vec<CallOut>, AllocError>
-        ensures { IfOk result (λ outs. (self.new, outs.items) ≡ spec.by_clients self.old (clients.request_taken event command.now (spec.side_of self.old))) }
+        ensures { IfOk result (λ outs. (self.new, outs.items)
+            ≡ spec.by_clients self.old (clients.request_taken event command.now
+            (spec.side_of self.old))) }
     {
         self.clients.request(self.served.dialogs(), event, command)
     }
@@ -121,7 +131,9 @@ impl Call {
         event: Event,
         command: &DialogBody,
     ) -> Result<Vec<CallOut>, AllocError>
-        ensures { IfOk result (λ outs. (self.new, outs.items) ≡ spec.by_clients self.old (clients.ack_taken event command.now (spec.side_of self.old))) }
+        ensures { IfOk result (λ outs. (self.new, outs.items)
+            ≡ spec.by_clients self.old (clients.ack_taken event command.now
+            (spec.side_of self.old))) }
     {
         self.clients.ack(self.served.dialogs(), event, command)
     }
@@ -132,7 +144,9 @@ impl Call {
         event: Event,
         command: &DialogBody,
     ) -> Result<Vec<CallOut>, AllocError>
-        ensures { IfOk result (λ outs. (self.new, outs.items) ≡ spec.by_clients self.old (clients.prack_taken event command.now (spec.side_of self.old))) }
+        ensures { IfOk result (λ outs. (self.new, outs.items)
+            ≡ spec.by_clients self.old (clients.prack_taken event command.now
+            (spec.side_of self.old))) }
     {
         self.clients.prack(self.served.dialogs(), event, command)
     }

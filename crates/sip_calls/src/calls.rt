@@ -87,8 +87,10 @@ impl StateMachine for Calls {
         input: CallInput,
     ) -> Result<(Option<Call>, Vec<CallOut>), AllocError>
         requires { input.now ≤ 2 ^ 62 }
-        ensures next { IfOk result (λ after. after.0 ≡ (call_step self.now state input.happening input.now).0) }
-        ensures adds { IfOk result (λ after. after.1.items ≡ (call_step self.now state input.happening input.now).1) }
+        ensures next { IfOk result (λ after. after.0
+            ≡ (call_step self.now state input.happening input.now).0) }
+        ensures adds { IfOk result (λ after. after.1.items
+            ≡ (call_step self.now state input.happening input.now).1) }
     {
         let now = input.now;
         match (state, input.happening) {
@@ -135,8 +137,10 @@ impl Calls {
         item: Item,
     ) -> Result<(Option<Call>, Vec<CallOut>), AllocError>
         requires { event.moment ≤ 2 ^ 62 }
-        ensures next { IfOk result (λ after. after.0 ≡ (spec.kept (spec.first_item_taken call event item)).0) }
-        ensures adds { IfOk result (λ after. after.1.items ≡ (spec.kept (spec.first_item_taken call event item)).1) }
+        ensures next { IfOk result (λ after. after.0
+            ≡ (spec.kept (spec.first_item_taken call event item)).0) }
+        ensures adds { IfOk result (λ after. after.1.items
+            ≡ (spec.kept (spec.first_item_taken call event item)).1) }
     {
         let outs = match item {
             Item::Up(up) => take_up(alloc, &mut call, event, up)?,
@@ -154,8 +158,10 @@ impl Calls {
         item: Item,
     ) -> Result<(Option<Call>, Vec<CallOut>), AllocError>
         requires { event.moment ≤ 2 ^ 62 }
-        ensures next { IfOk result (λ after. after.0 ≡ (spec.kept (spec.item_taken call event item)).0) }
-        ensures adds { IfOk result (λ after. after.1.items ≡ (spec.kept (spec.item_taken call event item)).1) }
+        ensures next { IfOk result (λ after. after.0
+            ≡ (spec.kept (spec.item_taken call event item)).0) }
+        ensures adds { IfOk result (λ after. after.1.items
+            ≡ (spec.kept (spec.item_taken call event item)).1) }
     {
         let outs = match item {
             Item::Up(up) => take_up(alloc, &mut call, event, up)?,
@@ -185,7 +191,8 @@ fn kept(call: Call) -> Option<Call>
 // What a transaction hands up.
 fn take_up(alloc: Global, call: &mut Call, event: Event, up: Up) -> Result<Vec<CallOut>, AllocError>
     requires { event.moment ≤ 2 ^ 62 }
-    ensures { IfOk result (λ outs. (call.new, outs.items) ≡ spec.up_taken call.old event up up.kind) }
+    ensures { IfOk result (λ outs. (call.new, outs.items)
+        ≡ spec.up_taken call.old event up up.kind) }
 {
     let Up {
         key,
@@ -237,7 +244,8 @@ fn lose(
     timed_out: bool,
 ) -> Result<Vec<CallOut>, AllocError>
     requires { event.moment ≤ 2 ^ 62 }
-    ensures { IfOk result (λ outs. (call.new, outs.items) ≡ spec.lost_taken call.old event up timed_out) }
+    ensures { IfOk result (λ outs. (call.new, outs.items)
+        ≡ spec.lost_taken call.old event up timed_out) }
 {
     let id = up.id;
     let mut outs = call.serve(alloc, event, Item::Up(up))?;
@@ -252,7 +260,8 @@ fn take_first_command(
     event: Event,
     command: UserCommand,
 ) -> Result<Vec<CallOut>, AllocError>
-    ensures { IfOk result (λ outs. (call.new, outs.items) ≡ spec.first_command_taken call.old event command) }
+    ensures { IfOk result (λ outs. (call.new, outs.items)
+        ≡ spec.first_command_taken call.old event command) }
 {
     match &command {
         UserCommand::Invite(invite) => call.clients.invite(event, invite),
@@ -270,7 +279,8 @@ fn take_command(
     command: UserCommand,
 ) -> Result<Vec<CallOut>, AllocError>
     requires { event.moment ≤ 2 ^ 62 }
-    ensures { IfOk result (λ outs. (call.new, outs.items) ≡ spec.command_taken call.old event command) }
+    ensures { IfOk result (λ outs. (call.new, outs.items)
+        ≡ spec.command_taken call.old event command) }
 {
     match command {
         UserCommand::Invite(invite) => { refuse(alloc, event, &invite.call_id, Refusal::CallInUse) }

@@ -16,8 +16,8 @@ use std::marker::Model;
 
 /// Calls by Call-ID. A Call-ID under which nothing is held has no call.
 ///
-/// After a call of a method answered [`ShardFault::NoMemory`] the shard is broken: it holds nothing, and every later call that can
-/// fail answers [`ShardFault::Broken`].
+/// After a call of a method answered [`ShardFault::NoMemory`] the shard is broken: it holds
+/// nothing, and every later call that can fail answers [`ShardFault::Broken`].
 #[derive(Drop)]
 pub struct CallShard {
     calls: Calls,
@@ -35,9 +35,13 @@ impl Model for CallShard {
 impl CallShard {
     ghost use Rattle.sip_calls.specs.CallShard.{HeldCalls, call_cmp, item_input};
 
-    /// A shard without a call, of an agent at the address `local` whose made names are keyed by `seed`. Takes no memory.
+    /// A shard without a call, of an agent at the address `local` whose made names are keyed by
+    /// `seed`. Takes no memory.
     pub fn new(alloc: Global, local: Addr, seed: [u8; 32]) -> CallShard
-        ensures { result ≡ record { calls = record { local = local; seed = seed }; held = Some [] } }
+        ensures { result ≡ record {
+          calls = record { local = local; seed = seed };
+          held = Some [];
+        } }
     {
         CallShard {
             calls: Calls { local, seed },
@@ -48,33 +52,45 @@ impl CallShard {
     /// How many calls are held.
     pub fn live(&self) -> usize
         ensures entries { result ≡ length (entries_of self.now.held) }
-        ensures counts { (keys : List (List ℕ)) → Covers call_cmp keys (state_at call_cmp self.now.held) → result ≡ count_by (λ key. is_some (state_at call_cmp self.now.held key)) keys }
+        ensures counts { (keys : List (List ℕ))
+            → Covers call_cmp keys (state_at call_cmp self.now.held)
+            → result ≡ count_by (λ key. is_some (state_at call_cmp self.now.held key)) keys }
     {
         self.table.live()
     }
 
-    /// Tells every held call, in the order of their Call-IDs, that the moment `now`, in ms, has come.
+    /// Tells every held call, in the order of their Call-IDs, that the moment `now`, in ms, has
+    /// come.
     pub fn tick(&mut self, now: u64) -> Result<Vec<CallOut>, ShardFault>
         requires { now ≤ 2 ^ 62 }
         ensures shared { self.new.calls ≡ self.old.calls }
         ensures broken { self.old.held ≡ None → result ≡ Err ShardFault.Broken }
         ensures only_broken { result ≡ Err ShardFault.Broken → self.old.held ≡ None }
         ensures err { OnErr result (self.new.held ≡ None) }
-        ensures step { IfOk result (λ outs. StepsAll call_cmp (call_machine self.old.calls) self.old.held self.new.held (tick_input now) outs.items) }
-        ensures histories { IfOk result (λ outs. AddsInputs call_cmp (call_machine self.old.calls) self.old.held self.new.held (tick_input now) outs.items) }
+        ensures step { IfOk result (λ outs.
+            StepsAll call_cmp (call_machine self.old.calls) self.old.held self.new.held
+            (tick_input now) outs.items) }
+        ensures histories { IfOk result
+            (λ outs. AddsInputs call_cmp (call_machine self.old.calls) self.old.held self.new.held
+            (tick_input now) outs.items) }
     {
         self.table.tick(&self.calls, now)
     }
 
-    /// Gives the call of an item's Call-ID that item, at the moment `now` in ms. The id is that of the item's event.
+    /// Gives the call of an item's Call-ID that item, at the moment `now` in ms. The id is that of
+    /// the item's event.
     pub fn item(&mut self, id: Id, item: Item, now: u64) -> Result<Vec<CallOut>, ShardFault>
         requires { now ≤ 2 ^ 62 }
         ensures shared { self.new.calls ≡ self.old.calls }
         ensures broken { self.old.held ≡ None → result ≡ Err ShardFault.Broken }
         ensures only_broken { result ≡ Err ShardFault.Broken → self.old.held ≡ None }
         ensures err { OnErr result (self.new.held ≡ None) }
-        ensures step { IfOk result (λ outs. StepsKey call_cmp (call_machine self.old.calls) self.old.held self.new.held (call_of_item item) (item_input id item now) outs.items) }
-        ensures histories { IfOk result (λ outs. AddsInput call_cmp (call_machine self.old.calls) self.old.held self.new.held (call_of_item item) (item_input id item now) outs.items) }
+        ensures step { IfOk result (λ outs.
+            StepsKey call_cmp (call_machine self.old.calls) self.old.held self.new.held
+            (call_of_item item) (item_input id item now) outs.items) }
+        ensures histories { IfOk result
+            (λ outs. AddsInput call_cmp (call_machine self.old.calls) self.old.held self.new.held
+            (call_of_item item) (item_input id item now) outs.items) }
     {
         let call_id = self.table.check(item.call_id().clone())?;
         let happening = Happening::Item(id, item);

@@ -61,7 +61,8 @@ AreApart clients = entries.Apart client_laws clients
 -- what was heard last for a request, where it is an INVITE in the life
 abbrev pub asks_ear : DialogLife → Asks → Option ℕ → Option (Option ℕ)
 asks_ear life First heard = None
-asks_ear life (Again own) heard = if is_named life.name own.name && is_id own.born life.born then Some heard else None
+asks_ear life (Again own) heard =
+    if is_named life.name own.name && is_id own.born life.born then Some heard else None
 asks_ear life (Inside own) heard = None
 asks_ear life Plain heard = None
 
@@ -69,17 +70,21 @@ abbrev pub client_ear : DialogLife → Option Client → Option (Option ℕ)
 client_ear life None = None
 client_ear life (Some client) = asks_ear life client.asks client.heard
 
-asks_fresh : (life : DialogLife) (asks : Asks) (heard : Option ℕ) → heard ≡ None → (asks_ear life asks heard ≡ None) ⊎ (asks_ear life asks heard ≡ Some None)
+asks_fresh : (life : DialogLife) (asks : Asks) (heard : Option ℕ) → heard ≡ None
+    → (asks_ear life asks heard ≡ None) ⊎ (asks_ear life asks heard ≡ Some None)
 asks_fresh life First heard none = inl refl
 asks_fresh life (Again own) heard none =
-    elim (is_named life.name own.name && is_id own.born life.born) as (λ b. ((if b then Some heard else None) ≡ None) ⊎ ((if b then Some heard else None) ≡ Some None)) [
+    elim (is_named life.name own.name
+    && is_id own.born life.born) as (λ b. ((if b then Some heard else None) ≡ None)
+    ⊎ ((if b then Some heard else None) ≡ Some None)) [
       | true ↦ inr (ap (λ h. Some h) none)
       | false ↦ inl refl
     ]
 asks_fresh life (Inside own) heard none = inl refl
 asks_fresh life Plain heard none = inl refl
 
-pub silent_then : (Begins : Type 0) (x y z : Option (Option ℕ)) → Silent Begins x y → Silent Begins y z → Silent Begins x z
+pub silent_then : (Begins : Type 0) (x y z : Option (Option ℕ)) → Silent Begins x y
+    → Silent Begins y z → Silent Begins x z
 silent_then Begins x y z first (inl none) = inl none
 silent_then Begins x y z first (inr (inr begins)) = inr (inr begins)
 silent_then Begins x y z (inl none) (inr (inl same)) = inl (same ∙ none)
@@ -92,7 +97,8 @@ StartsUnheard Stays = Unit {0}
 StartsUnheard Over = Unit {0}
 StartsUnheard (Starts client) = client.heard ≡ None
 
-pub said_unheard : (event : Event) (call_id : List ℕ) (name : DialogName) (service : Service) → StartsUnheard (request_said event call_id name service).1
+pub said_unheard : (event : Event) (call_id : List ℕ) (name : DialogName) (service : Service)
+    → StartsUnheard (request_said event call_id name service).1
 said_unheard event call_id name (Sent sending) = refl
 said_unheard event call_id name Waits = tt
 said_unheard event call_id name (Refused refusal) = tt
@@ -100,12 +106,14 @@ said_unheard event call_id name (Refused refusal) = tt
 abbrev pub ear_of : DialogLife → Id → Clients → Option (Option ℕ)
 ear_of life invite clients = client_ear life (client_at invite clients)
 
--- what was heard is so, after what makes such requests of those before, beside these dialogs, where this number may have come and this
--- is given
-abbrev pub AgainResult : DialogLife → Id → Option Id → Clients → Dialogs → Clients → Option ℕ → List CallOut → Type 0
+-- what was heard is so, after what makes such requests of those before, beside these dialogs, where
+-- this number may have come and this is given
+abbrev pub AgainResult : DialogLife → Id → Option Id → Clients → Dialogs → Clients → Option ℕ
+    → List CallOut → Type 0
 AgainResult life invite event before dialogs after number outs =
     AreApart after
-    × Listens (event ≡ Some invite) (ear_of life invite before) (ear_of life invite after) (in_life (lives dialogs life) number) (told_of (in_life (lives dialogs life) number) outs)
+    × Listens (event ≡ Some invite) (ear_of life invite before) (ear_of life invite after)
+    (in_life (lives dialogs life) number) (told_of (in_life (lives dialogs life) number) outs)
 
 module _ (life : DialogLife) (invite : Id) (event : Option Id) where
   abbrev ear : Clients → Option (Option ℕ)
@@ -119,8 +127,13 @@ module _ (life : DialogLife) (invite : Id) (event : Option Id) where
     pub apart : AreApart after
     pub silent : Silent Begins (ear before) (ear after)
 
-  pub silent_result : (before after : Clients) (dialogs : Dialogs) (outs : List CallOut) → Keeps before after → AgainResult life invite event before dialogs after None outs
-  silent_result before after dialogs outs keeps = (keeps.apart, no_number (event ≡ Some invite) (lives dialogs life) (ear before) (ear after) outs keeps.silent)
+  pub silent_result : (before after : Clients) (dialogs : Dialogs) (outs : List CallOut)
+      → Keeps before after → AgainResult life invite event before dialogs after None outs
+  silent_result before after dialogs outs keeps = (
+    keeps.apart,
+    no_number (event ≡ Some invite) (lives dialogs life) (ear before)
+        (ear after) outs keeps.silent,
+  )
 
   abbrev Found : Option Client → Option Client → Type 0
   Found before after = Silent Begins (client_ear life before) (client_ear life after)
@@ -137,94 +150,136 @@ module _ (life : DialogLife) (invite : Id) (event : Option Id) where
   pub keeps_then : (x y z : Clients) → Keeps x y → (AreApart y → Keeps y z) → Keeps x z
   keeps_then x y z first second =
       let later = second first.apart in
-      record { apart = later.apart; silent = silent_then Begins (ear x) (ear y) (ear z) first.silent later.silent }
+      record {
+        apart = later.apart;
+        silent = silent_then Begins (ear x) (ear y)
+            (ear z) first.silent later.silent;
+      }
 
-  pub keeps_changed : (id : Id) (change : Client → Client) → ((client : Client) → client_ear life (Some (change client)) ≡ client_ear life (Some client)) → (clients : Clients) → AreApart clients
+  pub keeps_changed : (id : Id) (change : Client → Client)
+      → ((client : Client) → client_ear life (Some (change client)) ≡ client_ear life (Some client))
+      → (clients : Clients) → AreApart clients
       → Keeps clients (client_changed id change clients)
   keeps_changed id change same clients apart = record {
-    apart = entries.apart_changed client_laws (client_id id) change clients (client_at id clients) apart;
-    silent = entries.by_change client_laws Found found_same found_none (client_id id) (client_id invite) change (λ client. inr (inl (same client))) clients;
+    apart = entries.apart_changed client_laws (client_id id) change clients
+        (client_at id clients) apart;
+    silent = entries.by_change client_laws Found found_same found_none (client_id id)
+        (client_id invite) change (λ client. inr (inl (same client))) clients;
   }
 
-  pub keeps_removed : (id : Id) (clients : Clients) → AreApart clients → Keeps clients (without id clients)
+  pub keeps_removed : (id : Id) (clients : Clients) → AreApart clients
+      → Keeps clients (without id clients)
   keeps_removed id clients apart = record {
     apart = entries.apart_removed client_laws (is_client (client_id id)) clients apart;
-    silent = entries.by_removal client_laws Found found_same found_none (client_id id) (client_id invite) clients apart;
+    silent = entries.by_removal client_laws Found found_same found_none (client_id id)
+        (client_id invite) clients apart;
   }
 
-  put_found : (before : Option Client) (client : Client) → Begins → client.heard ≡ None → Found before (Some client)
+  put_found : (before : Option Client) (client : Client) → Begins → client.heard ≡ None
+      → Found before (Some client)
   put_found before client begins none = by_fresh (asks_fresh life client.asks client.heard none)
     where
-      by_fresh : ((client_ear life (Some client) ≡ None) ⊎ (client_ear life (Some client) ≡ Some None)) → Found before (Some client)
+      by_fresh : ((client_ear life (Some client) ≡ None)
+          ⊎ (client_ear life (Some client) ≡ Some None)) → Found before (Some client)
       by_fresh (inl gone) = inl gone
       by_fresh (inr fresh) = inr (inr (begins, fresh))
 
-  pub keeps_started : (id : Id) (client : Client) → event ≡ Some id → client.heard ≡ None → (clients : Clients) → AreApart clients → Keeps clients (with_client id client clients)
+  pub keeps_started : (id : Id) (client : Client) → event ≡ Some id → client.heard ≡ None
+      → (clients : Clients) → AreApart clients → Keeps clients (with_client id client clients)
   keeps_started id client made none clients apart = record {
     apart = entries.apart_inserted client_laws (client_id id) client clients apart;
-    silent = entries.by_insertion client_laws Found found_same found_none (client_id id) (client_id invite) client clients
-        (λ same. put_found (client_at invite clients) client (made ∙ ap (λ x. Some x) (id_exact id invite same)) none);
+    silent = entries.by_insertion client_laws Found found_same found_none (client_id id)
+        (client_id invite) client clients
+        (λ same. put_found (client_at invite clients) client
+        (made ∙ ap (λ x. Some x) (id_exact id invite same)) none);
   }
 
-  pub keeps_settled : (of : Event) (id : Id) (rest : Rest) → event ≡ Some of.id → StartsUnheard rest → (clients : Clients) → AreApart clients → Keeps clients (settled of id rest clients).0
+  pub keeps_settled : (of : Event) (id : Id) (rest : Rest) → event ≡ Some of.id → StartsUnheard rest
+      → (clients : Clients) → AreApart clients → Keeps clients (settled of id rest clients).0
   keeps_settled of id Stays made unheard clients apart = keeps_same clients apart
   keeps_settled of id Over made unheard clients apart = keeps_removed id clients apart
-  keeps_settled of id (Starts client) made unheard clients apart = keeps_started of.id client made unheard clients apart
+  keeps_settled of id (Starts client) made unheard clients apart =
+      keeps_started of.id client made unheard clients apart
 
   -- ---- a request that is lost, commands of the user, and a tick
 
-  pub keeps_lost : (id : Id) (timed_out : Bool) (o : Option Client) (side : Side) → AreApart side.clients → Keeps side.clients ((lost_of id timed_out o side).0).clients
+  pub keeps_lost : (id : Id) (timed_out : Bool) (o : Option Client) (side : Side)
+      → AreApart side.clients → Keeps side.clients ((lost_of id timed_out o side).0).clients
   keeps_lost id timed_out None side apart = keeps_removed id side.clients apart
   keeps_lost id timed_out (Some client) side apart = keeps_removed id side.clients apart
 
-  pub keeps_invite : (of : Event) (command : Invite) → event ≡ Some of.id → (clients : Clients) → AreApart clients → Keeps clients (invite_taken of command clients).0
-  keeps_invite of command made clients apart = keeps_started of.id (client_for of.id First (invite_of of command) command.address) made refl clients apart
+  pub keeps_invite : (of : Event) (command : Invite) → event ≡ Some of.id → (clients : Clients)
+      → AreApart clients → Keeps clients (invite_taken of command clients).0
+  keeps_invite of command made clients apart =
+      keeps_started of.id (client_for of.id First (invite_of of command) command.address) made refl
+      clients apart
 
-  keeps_either : (b : Bool) (refused sent : List CallOut) (clients after : Clients) → Keeps clients clients → Keeps clients after
+  keeps_either : (b : Bool) (refused sent : List CallOut) (clients after : Clients)
+      → Keeps clients clients → Keeps clients after
       → Keeps clients (cond {A = Clients × List CallOut} b (clients, refused) (after, sent)).0
   keeps_either true refused sent clients after same more = same
   keeps_either false refused sent clients after same more = more
 
-  pub keeps_plain : (of : Event) (command : PlainCommand) → event ≡ Some of.id → (clients : Clients) → AreApart clients → Keeps clients (plain_taken of command clients).0
+  pub keeps_plain : (of : Event) (command : PlainCommand) → event ≡ Some of.id → (clients : Clients)
+      → AreApart clients → Keeps clients (plain_taken of command clients).0
   keeps_plain of command made clients apart =
       let client = client_for of.id Plain (plain_of of command) command.address in
-      keeps_either (is_bad_outside command.method) (refused_notice of command.call_id BadMethod ∷ []) (start_command of client ∷ []) clients (with_client of.id client clients)
+      keeps_either (is_bad_outside command.method)
+      (refused_notice of command.call_id BadMethod ∷ []) (start_command of client ∷ []) clients
+      (with_client of.id client clients)
       (keeps_same clients apart) (keeps_started of.id client made refl clients apart)
 
-  pub keeps_request : (of : Event) (command : DialogRequest) → event ≡ Some of.id → (side : Side) → AreApart side.clients → Keeps side.clients ((request_taken of command side).0).clients
+  pub keeps_request : (of : Event) (command : DialogRequest) → event ≡ Some of.id → (side : Side)
+      → AreApart side.clients → Keeps side.clients ((request_taken of command side).0).clients
   keeps_request of command made side apart =
       let name = name_in command.local_tag command.remote_tag in
       let service = (requested_by name of command side.dialogs).1 in
-      keeps_settled of of.id (request_said of command.call_id name service).1 made (said_unheard of command.call_id name service) side.clients apart
+      keeps_settled of of.id (request_said of command.call_id name service).1 made
+      (said_unheard of command.call_id name service) side.clients apart
 
-  keeps_noted : (debt : Debt) (name : DialogName) (ack : Option SentAck) (clients : Clients) → AreApart clients → Keeps clients (ack_noted debt name ack clients)
+  keeps_noted : (debt : Debt) (name : DialogName) (ack : Option SentAck) (clients : Clients)
+      → AreApart clients → Keeps clients (ack_noted debt name ack clients)
   keeps_noted (Ack of number) name None clients apart = keeps_same clients apart
-  keeps_noted (Ack of number) name (Some ack) clients apart = keeps_changed of (acked_with name ack) (λ client. refl) clients apart
+  keeps_noted (Ack of number) name (Some ack) clients apart =
+      keeps_changed of (acked_with name ack) (λ client. refl) clients apart
   keeps_noted (Prack rseq number) name ack clients apart = keeps_same clients apart
 
-  by_ack : (of : Event) (command : DialogBody) (side : Side) (o : Result Debt Refusal) → AreApart side.clients
-      → Keeps side.clients ((paid_or_refused of command (ack_paid of command (name_in command.local_tag command.remote_tag)) o side).0).clients
+  by_ack : (of : Event) (command : DialogBody) (side : Side) (o : Result Debt Refusal)
+      → AreApart side.clients
+      → Keeps side.clients ((paid_or_refused of command
+      (ack_paid of command (name_in command.local_tag command.remote_tag)) o side).0).clients
   by_ack of command side (Err refusal) apart = keeps_same side.clients apart
   by_ack of command side (Ok debt) apart =
       let name = name_in command.local_tag command.remote_tag in
       keeps_noted debt name (ack_told of name debt command side.dialogs).2 side.clients apart
 
-  pub keeps_ack : (of : Event) (command : DialogBody) (side : Side) → AreApart side.clients → Keeps side.clients ((ack_taken of command side).0).clients
-  keeps_ack of command side apart = by_ack of command side (debt_for kind.Ack (name_in command.local_tag command.remote_tag) side.dialogs) apart
+  pub keeps_ack : (of : Event) (command : DialogBody) (side : Side) → AreApart side.clients
+      → Keeps side.clients ((ack_taken of command side).0).clients
+  keeps_ack of command side apart =
+      by_ack of command side (debt_for kind.Ack
+      (name_in command.local_tag command.remote_tag) side.dialogs) apart
 
-  by_prack : (of : Event) (command : DialogBody) → event ≡ Some of.id → (side : Side) (o : Result Debt Refusal) → AreApart side.clients
-      → Keeps side.clients ((paid_or_refused of command (prack_paid of command (name_in command.local_tag command.remote_tag)) o side).0).clients
+  by_prack : (of : Event) (command : DialogBody) → event ≡ Some of.id
+      → (side : Side) (o : Result Debt Refusal) → AreApart side.clients
+      → Keeps side.clients ((paid_or_refused of command
+      (prack_paid of command (name_in command.local_tag command.remote_tag)) o side).0).clients
   by_prack of command made side (Err refusal) apart = keeps_same side.clients apart
   by_prack of command made side (Ok debt) apart =
       let name = name_in command.local_tag command.remote_tag in
       let service = (paid_at name of debt command.body side.dialogs).1 in
-      keeps_settled of of.id (request_said of command.call_id name service).1 made (said_unheard of command.call_id name service) side.clients apart
+      keeps_settled of of.id (request_said of command.call_id name service).1 made
+      (said_unheard of command.call_id name service) side.clients apart
 
-  pub keeps_prack : (of : Event) (command : DialogBody) → event ≡ Some of.id → (side : Side) → AreApart side.clients → Keeps side.clients ((prack_taken of command side).0).clients
-  keeps_prack of command made side apart = by_prack of command made side (debt_for kind.Prack (name_in command.local_tag command.remote_tag) side.dialogs) apart
+  pub keeps_prack : (of : Event) (command : DialogBody) → event ≡ Some of.id → (side : Side)
+      → AreApart side.clients → Keeps side.clients ((prack_taken of command side).0).clients
+  keeps_prack of command made side apart =
+      by_prack of command made side (debt_for kind.Prack
+      (name_in command.local_tag command.remote_tag) side.dialogs) apart
 
-  pub keeps_tick : (now : ℕ) (clients : Clients) → AreApart clients → Keeps clients (clients_left now clients)
+  pub keeps_tick : (now : ℕ) (clients : Clients) → AreApart clients
+      → Keeps clients (clients_left now clients)
   keeps_tick now clients apart = record {
     apart = entries.apart_filtered client_laws (λ entry. not (is_over now entry.1)) clients apart;
-    silent = entries.by_filter client_laws Found found_same found_none (λ client. not (is_over now client)) (client_id invite) clients apart;
+    silent = entries.by_filter client_laws Found found_same found_none
+        (λ client. not (is_over now client)) (client_id invite) clients apart;
   }

@@ -44,7 +44,8 @@ again own client = record client { asks = Again own }
 
 -- ---- the request after a response
 
-asks_kept : (case : ReplyCase) (client : Client) (dialogs : Dialogs) (answer : Answer) → ((by_case case client dialogs answer).0).asks ≡ client.asks
+asks_kept : (case : ReplyCase) (client : Client) (dialogs : Dialogs) (answer : Answer)
+    → ((by_case case client dialogs answer).0).asks ≡ client.asks
 asks_kept reply.Final client dialogs answer = refl
 asks_kept reply.Repeated client dialogs answer = refl
 asks_kept reply.Accepted client dialogs answer = refl
@@ -60,7 +61,8 @@ asks_kept reply.Passed client dialogs answer = refl
 asks_kept reply.Early client dialogs answer = refl
 asks_kept reply.Told client dialogs answer = refl
 
-heard_kept : (case : ReplyCase) (client : Client) (dialogs : Dialogs) (answer : Answer) → Unheard case → ((by_case case client dialogs answer).0).heard ≡ client.heard
+heard_kept : (case : ReplyCase) (client : Client) (dialogs : Dialogs) (answer : Answer)
+    → Unheard case → ((by_case case client dialogs answer).0).heard ≡ client.heard
 heard_kept reply.Final client dialogs answer none = refl
 heard_kept reply.Repeated client dialogs answer none = refl
 heard_kept reply.Accepted client dialogs answer none = refl
@@ -70,13 +72,15 @@ heard_kept reply.Passed client dialogs answer none = refl
 heard_kept reply.Early client dialogs answer none = refl
 heard_kept reply.Told client dialogs answer none = refl
 
-rest_unheard : (case : ReplyCase) (client : Client) (dialogs : Dialogs) (answer : Answer) → StartsUnheard (by_case case client dialogs answer).3
+rest_unheard : (case : ReplyCase) (client : Client) (dialogs : Dialogs) (answer : Answer)
+    → StartsUnheard (by_case case client dialogs answer).3
 unfolding prack_owed
 rest_unheard reply.Final client dialogs answer = tt
 rest_unheard reply.Repeated client dialogs answer = tt
 rest_unheard reply.Accepted client dialogs answer = tt
 rest_unheard reply.Late client dialogs answer = tt
-rest_unheard (reply.Reliable number) client dialogs answer = said_unheard answer.event answer.call_id answer.name (prack_owed number client dialogs answer).1
+rest_unheard (reply.Reliable number) client dialogs answer =
+    said_unheard answer.event answer.call_id answer.name (prack_owed number client dialogs answer).1
 rest_unheard reply.Passed client dialogs answer = tt
 rest_unheard reply.Early client dialogs answer = tt
 rest_unheard reply.Told client dialogs answer = tt
@@ -85,7 +89,9 @@ rest_unheard reply.Told client dialogs answer = tt
 
 abbrev case_by : Bool → Bool → Bool → Bool → ReplyCase → Option ℕ → Option ℕ → ReplyCase
 case_by final success inside alive winning heard rseq =
-    if final && not success then reply.Final else (if final then winning else (if inside && alive then reliable_case heard rseq else reply.Told))
+    if final && not success then reply.Final
+    else (if final then winning else (if inside
+    && alive then reliable_case heard rseq else reply.Told))
 
 -- the dialog isn't there: there is no number, or the response is told as any other
 abbrev Gone : Option ℕ → ReplyCase → Type 0
@@ -93,77 +99,109 @@ Gone None case = Unheard case
 Gone (Some number) case = case ≡ reply.Told
 
 gone : (final success inside : Bool) (winning : ReplyCase) (heard rseq : Option ℕ) → Unheard winning
-    → Gone (if final then None else (if inside then rseq else None)) (case_by final success inside false winning heard rseq)
+    → Gone (if final then None else (if inside then rseq else None))
+    (case_by final success inside false winning heard rseq)
 gone true true inside winning heard rseq none = none
 gone true false inside winning heard rseq none = refl
 gone false success true winning heard None none = refl
 gone false success true winning heard (Some number) none = refl
 gone false success false winning heard rseq none = refl
 
-success_unheard : (own : DialogLife) (client : Client) (answer : Answer) (dialogs : Dialogs) → Unheard (success_case (again own client) dialogs answer.name)
+success_unheard : (own : DialogLife) (client : Client) (answer : Answer) (dialogs : Dialogs)
+    → Unheard (success_case (again own client) dialogs answer.name)
 success_unheard own client answer dialogs =
-    elim (has_answer answer.name client.answers) as (λ b. Unheard (if b then reply.Repeated else (if lives dialogs own then reply.Accepted else reply.Late))) [
+    elim (has_answer answer.name client.answers) as (λ b.
+    Unheard (if b then reply.Repeated
+    else (if lives dialogs own then reply.Accepted else reply.Late))) [
       | true ↦ refl
-      | false ↦ elim (lives dialogs own) as (λ b. Unheard (if b then reply.Accepted else reply.Late)) [ true ↦ refl | false ↦ refl ]
+      | false ↦ elim (lives dialogs own) as (λ b.
+          Unheard (if b then reply.Accepted else reply.Late)) [ true ↦ refl | false ↦ refl ]
     ]
 
 -- ---- lives
 
-lives_same : (life own : DialogLife) (dialogs : Dialogs) → (is_named life.name own.name && is_id own.born life.born) ≡ true → lives dialogs own ≡ lives dialogs life
+lives_same : (life own : DialogLife) (dialogs : Dialogs)
+    → (is_named life.name own.name && is_id own.born life.born) ≡ true
+    → lives dialogs own ≡ lives dialogs life
 lives_same life own dialogs same =
     let named = first_so (is_named life.name own.name) (is_id own.born life.born) same in
-    let born = id_exact own.born life.born (second_so (is_named life.name own.name) (is_id own.born life.born) same) in
-    λ i. option_map_or (λ (held : HeldDialog). is_id held.born (born i)) (entries.same_key name_laws life.name own.name dialogs named i) false
+    let born = id_exact own.born life.born
+    (second_so (is_named life.name own.name) (is_id own.born life.born) same) in
+    λ i. option_map_or (λ (held : HeldDialog). is_id held.born (born i))
+    (entries.same_key name_laws life.name own.name dialogs named i) false
 
-born_kept : (life : DialogLife) (change : HeldDialog → HeldDialog) → ((held : HeldDialog) → DialogKeeps held (change held)) → (b : Bool) (o : Option HeldDialog)
-    → option_map_or (λ (held : HeldDialog). is_id held.born life.born) (cond b (option_map change o) o) false ≡ option_map_or (λ (held : HeldDialog). is_id held.born life.born) o false
+born_kept : (life : DialogLife) (change : HeldDialog → HeldDialog)
+    → ((held : HeldDialog) → DialogKeeps held (change held)) → (b : Bool) (o : Option HeldDialog)
+    → option_map_or (λ (held : HeldDialog). is_id held.born life.born)
+    (cond b (option_map change o) o) false
+    ≡ option_map_or (λ (held : HeldDialog). is_id held.born life.born) o false
 born_kept life change keeps true None = refl
 born_kept life change keeps true (Some held) = ap (λ born. is_id born life.born) (keeps held).0
 born_kept life change keeps false o = refl
 
-lives_changed : (life : DialogLife) (name : DialogName) (change : HeldDialog → HeldDialog) → ((held : HeldDialog) → DialogKeeps held (change held)) → (dialogs : Dialogs)
+lives_changed : (life : DialogLife) (name : DialogName) (change : HeldDialog → HeldDialog)
+    → ((held : HeldDialog) → DialogKeeps held (change held)) → (dialogs : Dialogs)
     → lives (dialog_changed name change dialogs) life ≡ lives dialogs life
 lives_changed life name change keeps dialogs =
-    ap (λ o. option_map_or (λ (held : HeldDialog). is_id held.born life.born) o false) (entries.found_changed name_laws name life.name change dialogs)
+    ap (λ o. option_map_or (λ (held : HeldDialog). is_id held.born life.born) o false)
+    (entries.found_changed name_laws name life.name change dialogs)
     ∙ born_kept life change keeps (is_named name life.name) (dialog_at life.name dialogs)
 
-lives_owed : (life own : DialogLife) (number : ℕ) (client : Client) (dialogs : Dialogs) (answer : Answer) → lives (prack_owed number (again own client) dialogs answer).0 life ≡ lives dialogs life
+lives_owed : (life own : DialogLife) (number : ℕ) (client : Client) (dialogs : Dialogs)
+    (answer : Answer) → lives (prack_owed number (again own client) dialogs answer).0 life
+    ≡ lives dialogs life
 unfolding prack_owed
 lives_owed life own number client dialogs answer =
     let debt = Prack number ((client.request).cseq).number in
     let offer = offer_to client answer.response in
-    lives_changed life answer.name (owing answer.event debt offer) (owing_keeps answer.event debt offer) dialogs
+    lives_changed life answer.name (owing answer.event debt offer)
+    (owing_keeps answer.event debt offer) dialogs
 
 -- ---- one response
 
-module _ (life : DialogLife) (invite : Id) (event : Option Id) (answer : Answer) (made : event ≡ Some (answer.event).id) (side : Side) (apart : AreApart side.clients)
+module _ (life : DialogLife) (invite : Id) (event : Option Id) (answer : Answer)
+    (made : event ≡ Some (answer.event).id) (side : Side) (apart : AreApart side.clients)
     (once : event ≡ Some invite → ear_of life invite side.clients ≡ None) where
   abbrev ear : Clients → Option (Option ℕ)
   ear clients = ear_of life invite clients
 
   abbrev pub ResultOf : Dialogs → Clients → Option ℕ → List CallOut → Type 0
-  ResultOf dialogs clients number outs = AgainResult life invite event side.clients dialogs clients number outs
+  ResultOf dialogs clients number outs =
+      AgainResult life invite event side.clients dialogs clients number outs
 
   -- ---- what is left to do once the request is as it is after the response
 
-  module _ (clients : Clients) (left : AreApart clients) (dialogs : Dialogs) (rest : Rest) (starts : StartsUnheard rest) (outs : List CallOut) where
+  module _ (clients : Clients) (left : AreApart clients) (dialogs : Dialogs) (rest : Rest)
+      (starts : StartsUnheard rest) (outs : List CallOut) where
     settles : Keeps life invite event clients (settled answer.event answer.id rest clients).0
     settles = keeps_settled life invite event answer.event answer.id rest made starts clients left
 
-    finish_silent : Silent (event ≡ Some invite) (ear side.clients) (ear clients) → ResultOf dialogs (settled answer.event answer.id rest clients).0 None outs
+    finish_silent : Silent (event ≡ Some invite) (ear side.clients) (ear clients)
+        → ResultOf dialogs (settled answer.event answer.id rest clients).0 None outs
     finish_silent silent =
-        let after = (settled answer.event answer.id rest clients).0 in
-        (settles.apart, no_number (event ≡ Some invite) (lives dialogs life) (ear side.clients) (ear after) outs (silent_then (event ≡ Some invite) (ear side.clients) (ear clients) (ear after) silent settles.silent))
+        let after = (settled answer.event answer.id rest clients).0 in (
+          settles.apart,
+          no_number (event ≡ Some invite) (lives dialogs life) (ear side.clients)
+              (ear after) outs (silent_then (event ≡ Some invite) (ear side.clients) (ear clients)
+              (ear after) silent settles.silent),
+        )
 
-    finish_gone : (number : Option ℕ) → lives dialogs life ≡ false → Silent (event ≡ Some invite) (ear side.clients) (ear clients) → ResultOf dialogs (settled answer.event answer.id rest clients).0 number outs
+    finish_gone : (number : Option ℕ) → lives dialogs life ≡ false
+        → Silent (event ≡ Some invite) (ear side.clients) (ear clients)
+        → ResultOf dialogs (settled answer.event answer.id rest clients).0 number outs
     finish_gone number dead silent =
         let after = (settled answer.event answer.id rest clients).0 in (
           settles.apart,
-          subst (λ b. Listens (event ≡ Some invite) (ear side.clients) (ear after) (in_life b number) (told_of (in_life b number) outs)) (sym dead)
-              (silent_then (event ≡ Some invite) (ear side.clients) (ear clients) (ear after) silent settles.silent, refl),
+          subst (λ b. Listens (event ≡ Some invite) (ear side.clients) (ear after)
+              (in_life b number) (told_of (in_life b number) outs)) (sym dead) (
+                silent_then (event ≡ Some invite) (ear side.clients) (ear clients)
+                    (ear after) silent settles.silent,
+                refl,
+              ),
         )
 
-    now_heard : (heard now : Option ℕ) (after : Option (Option ℕ)) → ear side.clients ≡ Some heard → ear clients ≡ Some now → Silent (event ≡ Some invite) (ear clients) after
+    now_heard : (heard now : Option ℕ) (after : Option (Option ℕ)) → ear side.clients ≡ Some heard
+        → ear clients ≡ Some now → Silent (event ≡ Some invite) (ear clients) after
         → (after ≡ None) ⊎ (after ≡ Some now)
     now_heard heard now after was is (inl none) = inl none
     now_heard heard now after was is (inr (inl same)) = inr (same ∙ is)
@@ -172,13 +210,23 @@ module _ (life : DialogLife) (invite : Id) (event : Option Id) (answer : Answer)
         never : None ≡ Some heard → ⊥
         never e = absurd cc
 
-    finish_heard : (number : ℕ) (heard : Option ℕ) → lives dialogs life ≡ true → ear side.clients ≡ Some heard → ear clients ≡ Some (latest_after (offered heard number) heard number)
-        → map (λ out. number) (filter is_response outs) ≡ taken (offered heard number) number → ResultOf dialogs (settled answer.event answer.id rest clients).0 (Some number) outs
+    finish_heard : (number : ℕ) (heard : Option ℕ) → lives dialogs life ≡ true
+        → ear side.clients ≡ Some heard
+        → ear clients ≡ Some (latest_after (offered heard number) heard number)
+        → map (λ out. number) (filter is_response outs) ≡ taken (offered heard number) number
+        → ResultOf dialogs (settled answer.event answer.id rest clients).0 (Some number) outs
     finish_heard number heard alive was is told =
         let after = (settled answer.event answer.id rest clients).0 in (
           settles.apart,
-          subst (λ b. Listens (event ≡ Some invite) (ear side.clients) (ear after) (in_life b (Some number)) (told_of (in_life b (Some number)) outs)) (sym alive)
-              (record { last = heard; was = inl was; now = now_heard heard (latest_after (offered heard number) heard number) (ear after) was is settles.silent; shows = told }),
+          subst (λ b. Listens (event ≡ Some invite) (ear side.clients) (ear after)
+              (in_life b (Some number)) (told_of (in_life b (Some number)) outs)) (sym alive)
+              (record {
+                last = heard;
+                was = inl was;
+                now = now_heard heard (latest_after (offered heard number) heard number)
+                    (ear after) was is settles.silent;
+                shows = told;
+              }),
         )
 
   -- ---- the request that is found
@@ -191,46 +239,65 @@ module _ (life : DialogLife) (invite : Id) (event : Option Id) (answer : Answer)
     changed = client_changed answer.id change side.clients
 
     abbrev pub Done : Option ℕ → Replied → Type 0
-    Done number done = ResultOf done.1 (settled answer.event answer.id done.3 changed).0 number (done.2 ++ (settled answer.event answer.id done.3 changed).1)
+    Done number done = ResultOf done.1 (settled answer.event answer.id done.3 changed).0 number
+        (done.2 ++ (settled answer.event answer.id done.3 changed).1)
 
     left : AreApart changed
-    left = entries.apart_changed client_laws (client_id answer.id) change side.clients (client_at answer.id side.clients) apart
+    left = entries.apart_changed client_laws (client_id answer.id) change side.clients
+        (client_at answer.id side.clients) apart
 
     ear_other : is_id answer.id invite ≡ false → ear changed ≡ ear side.clients
     ear_other other =
-        ap (client_ear life) (entries.found_changed client_laws (client_id answer.id) (client_id invite) change side.clients
-        ∙ ap (λ b. cond b (option_map change (client_at invite side.clients)) (client_at invite side.clients)) other)
+        ap (client_ear life) (entries.found_changed client_laws (client_id answer.id)
+        (client_id invite) change side.clients
+        ∙ ap (λ b. cond b (option_map change (client_at invite side.clients))
+        (client_at invite side.clients)) other)
 
     there : is_id answer.id invite ≡ true → client_at invite side.clients ≡ Some client
-    there same = entries.same_key client_laws (client_id answer.id) (client_id invite) side.clients same ∙ is
+    there same = entries.same_key client_laws (client_id answer.id)
+        (client_id invite) side.clients same ∙ is
 
     ear_own : is_id answer.id invite ≡ true → ear changed ≡ client_ear life (Some (change client))
     ear_own same =
-        ap (client_ear life) (entries.found_changed client_laws (client_id answer.id) (client_id invite) change side.clients
-        ∙ ap (λ b. cond b (option_map change (client_at invite side.clients)) (client_at invite side.clients)) same ∙ ap (option_map change) (there same))
+        ap (client_ear life) (entries.found_changed client_laws (client_id answer.id)
+        (client_id invite) change side.clients
+        ∙ ap (λ b. cond b (option_map change (client_at invite side.clients))
+        (client_at invite side.clients)) same ∙ ap (option_map change) (there same))
 
     -- a request that is no INVITE of the life
-    no_ear : ((heard : Option ℕ) → asks_ear life client.asks heard ≡ None) → is_id answer.id invite ≡ true → ear changed ≡ None
+    no_ear : ((heard : Option ℕ) → asks_ear life client.asks heard ≡ None)
+        → is_id answer.id invite ≡ true → ear changed ≡ None
     no_ear none same =
         let after = change client in
-        ear_own same ∙ ap (λ asks. asks_ear life asks after.heard) (asks_kept (reply_case client side.dialogs answer) client side.dialogs answer) ∙ none after.heard
+        ear_own same ∙ ap (λ asks. asks_ear life asks after.heard)
+        (asks_kept (reply_case client side.dialogs answer) client side.dialogs answer)
+        ∙ none after.heard
 
-    other_silent : is_id answer.id invite ≡ false → Silent (event ≡ Some invite) (ear side.clients) (ear changed)
+    other_silent : is_id answer.id invite ≡ false
+        → Silent (event ≡ Some invite) (ear side.clients) (ear changed)
     other_silent other = inr (inl (ear_other other))
 
-    finish : Silent (event ≡ Some invite) (ear side.clients) (ear changed) → Done None (reply_taken client side.dialogs answer)
+    finish : Silent (event ≡ Some invite) (ear side.clients) (ear changed)
+        → Done None (reply_taken client side.dialogs answer)
     finish silent =
         let done = reply_taken client side.dialogs answer in
-        finish_silent changed left done.1 done.3 (rest_unheard (reply_case client side.dialogs answer) client side.dialogs answer) (done.2 ++ (settled answer.event answer.id done.3 changed).1) silent
+        finish_silent changed left done.1 done.3
+        (rest_unheard (reply_case client side.dialogs answer) client side.dialogs answer)
+        (done.2 ++ (settled answer.event answer.id done.3 changed).1) silent
 
-    pub no_invite : ((heard : Option ℕ) → asks_ear life client.asks heard ≡ None) → Done None (reply_taken client side.dialogs answer)
-    no_invite none = finish (by_bool (is_id answer.id invite) (λ same. inl (no_ear none same)) other_silent)
+    pub no_invite : ((heard : Option ℕ) → asks_ear life client.asks heard ≡ None)
+        → Done None (reply_taken client side.dialogs answer)
+    no_invite none =
+        finish (by_bool (is_id answer.id invite) (λ same. inl (no_ear none same)) other_silent)
 
-    pub another : is_id answer.id invite ≡ false → Done None (reply_taken client side.dialogs answer)
+    pub another : is_id answer.id invite ≡ false
+        → Done None (reply_taken client side.dialogs answer)
     another other = finish (other_silent other)
 
   -- an INVITE of the life
-  module _ (own : DialogLife) (client : Client) (is : client_at answer.id side.clients ≡ Some (again own client)) (same : is_id answer.id invite ≡ true)
+  module _ (own : DialogLife) (client : Client)
+      (is : client_at answer.id side.clients ≡ Some (again own client))
+      (same : is_id answer.id invite ≡ true)
       (ours : (is_named life.name own.name && is_id own.born life.born) ≡ true) where
     abbrev found : Client
     found = again own client
@@ -242,59 +309,84 @@ module _ (life : DialogLife) (invite : Id) (event : Option Id) (answer : Answer)
     DoneSo number done = Done found is number done
 
     was : ear side.clients ≡ Some client.heard
-    was = ap (client_ear life) (there found is same) ∙ (λ i. if ours i then Some client.heard else None)
+    was = ap (client_ear life) (there found is same)
+        ∙ (λ i. if ours i then Some client.heard else None)
 
     -- it has heard this since
     abbrev Heard : ReplyCase → Type 0
     Heard case = ear after ≡ client_ear life (Some (by_case case found side.dialogs answer).0)
 
-    now_is : (case : ReplyCase) → Heard case → Unheard case → Silent (event ≡ Some invite) (ear side.clients) (ear after)
+    now_is : (case : ReplyCase) → Heard case → Unheard case
+        → Silent (event ≡ Some invite) (ear side.clients) (ear after)
     now_is case heard none =
         let client_after = (by_case case found side.dialogs answer).0 in
-        inr (inl (heard ∙ (λ i. asks_ear life (asks_kept case found side.dialogs answer i) (heard_kept case found side.dialogs answer none i)) ∙ (λ i. if ours i then Some client.heard else None) ∙ sym was))
+        inr (inl (heard ∙ (λ i. asks_ear life (asks_kept case found side.dialogs answer i)
+        (heard_kept case found side.dialogs answer none i))
+        ∙ (λ i. if ours i then Some client.heard else None) ∙ sym was))
 
-    unheard : (case : ReplyCase) → Heard case → Unheard case → DoneSo None (by_case case found side.dialogs answer)
+    unheard : (case : ReplyCase) → Heard case → Unheard case
+        → DoneSo None (by_case case found side.dialogs answer)
     unheard case heard none =
         let done = by_case case found side.dialogs answer in
-        finish_silent after (left found is) done.1 done.3 (rest_unheard case found side.dialogs answer) (done.2 ++ (settled answer.event answer.id done.3 after).1) (now_is case heard none)
+        finish_silent after (left found is) done.1 done.3
+        (rest_unheard case found side.dialogs answer)
+        (done.2 ++ (settled answer.event answer.id done.3 after).1) (now_is case heard none)
 
-    passed : (number : ℕ) (offer : Offer) → offered client.heard number ≡ offer → taken offer number ≡ [] → ((last : Option ℕ) → latest_after offer last number ≡ last)
-        → lives side.dialogs life ≡ true → Heard reply.Passed → DoneSo (Some number) (by_case reply.Passed found side.dialogs answer)
+    passed : (number : ℕ) (offer : Offer) → offered client.heard number ≡ offer
+        → taken offer number ≡ [] → ((last : Option ℕ) → latest_after offer last number ≡ last)
+        → lives side.dialogs life ≡ true → Heard reply.Passed
+        → DoneSo (Some number) (by_case reply.Passed found side.dialogs answer)
     passed number offer is_offered none kept alive heard =
         finish_heard after (left found is) side.dialogs Stays tt [] number client.heard alive was
-        (heard ∙ (λ i. if ours i then Some client.heard else None) ∙ ap (λ h. Some h) (sym (ap (λ o. latest_after o client.heard number) is_offered ∙ kept client.heard)))
+        (heard ∙ (λ i. if ours i then Some client.heard else None)
+        ∙ ap (λ h. Some h) (sym (ap (λ o. latest_after o client.heard number) is_offered
+        ∙ kept client.heard)))
         (sym (ap (λ o. taken o number) is_offered ∙ none))
 
-    by_offer : (number : ℕ) (offer : Offer) → offered client.heard number ≡ offer → lives side.dialogs life ≡ true → Heard (offer_case offer number)
+    by_offer : (number : ℕ) (offer : Offer) → offered client.heard number ≡ offer
+        → lives side.dialogs life ≡ true → Heard (offer_case offer number)
         → DoneSo (Some number) (by_case (offer_case offer number) found side.dialogs answer)
     unfolding prack_owed
     by_offer number Taken is_offered alive heard =
         let done = by_case (reply.Reliable number) found side.dialogs answer in
-        finish_heard after (left found is) done.1 done.3 (rest_unheard (reply.Reliable number) found side.dialogs answer) (done.2 ++ (settled answer.event answer.id done.3 after).1) number client.heard
+        finish_heard after (left found is) done.1 done.3
+        (rest_unheard (reply.Reliable number) found side.dialogs answer)
+        (done.2 ++ (settled answer.event answer.id done.3 after).1) number client.heard
         (lives_owed life own number client side.dialogs answer ∙ alive) was
-        (heard ∙ (λ i. if ours i then Some (latest_after (offered client.heard number) client.heard number) else None))
-        (told_once number answer answer.id (prack_owed number found side.dialogs answer).1 after ∙ ap (λ o. taken o number) (sym is_offered))
-    by_offer number Repeat is_offered alive heard = passed number Repeat is_offered refl (λ last. refl) alive heard
-    by_offer number Gap is_offered alive heard = passed number Gap is_offered refl (λ last. refl) alive heard
+        (heard ∙ (λ i. if ours i then Some
+        (latest_after (offered client.heard number) client.heard number) else None))
+        (told_once number answer answer.id (prack_owed number found side.dialogs answer).1 after
+        ∙ ap (λ o. taken o number) (sym is_offered))
+    by_offer number Repeat is_offered alive heard =
+        passed number Repeat is_offered refl (λ last. refl) alive heard
+    by_offer number Gap is_offered alive heard =
+        passed number Gap is_offered refl (λ last. refl) alive heard
 
-    by_number : (number : Option ℕ) (case : ReplyCase) → lives side.dialogs life ≡ true → Heard case → Decided Unheard client.heard number case → DoneSo number (by_case case found side.dialogs answer)
+    by_number : (number : Option ℕ) (case : ReplyCase) → lives side.dialogs life ≡ true → Heard case
+        → Decided Unheard client.heard number case
+        → DoneSo number (by_case case found side.dialogs answer)
     by_number None case alive heard none = unheard case heard none
     by_number (Some number) case alive heard case_is =
         subst (λ c. DoneSo (Some number) (by_case c found side.dialogs answer)) (sym case_is)
         (by_offer number (offered client.heard number) refl alive (subst Heard case_is heard))
 
-    by_gone : (number : Option ℕ) (case : ReplyCase) → lives side.dialogs life ≡ false → Heard case → Gone number case → DoneSo number (by_case case found side.dialogs answer)
+    by_gone : (number : Option ℕ) (case : ReplyCase) → lives side.dialogs life ≡ false → Heard case
+        → Gone number case → DoneSo number (by_case case found side.dialogs answer)
     by_gone None case dead heard none = unheard case heard none
     by_gone (Some number) case dead heard case_is =
         let told = subst Heard case_is heard in
         subst (λ c. DoneSo (Some number) (by_case c found side.dialogs answer)) (sym case_is)
-        (finish_gone after (left found is) side.dialogs Stays tt (notice answer ++ []) (Some number) dead (now_is reply.Told told refl))
+        (finish_gone after (left found is) side.dialogs Stays tt (notice answer ++ [])
+        (Some number) dead (now_is reply.Told told refl))
 
     abbrev decides : Bool → ReplyCase
     decides alive =
-        case_by (is_final answer.status) (is_success answer.status) (not (answer.status == 100) && is_inside answer.response) alive (success_case found side.dialogs answer.name) client.heard (rseq_of answer.response)
+        case_by (is_final answer.status) (is_success answer.status)
+        (not (answer.status == 100) && is_inside answer.response) alive
+        (success_case found side.dialogs answer.name) client.heard (rseq_of answer.response)
 
-    pub invite_replied : DoneSo (provisional_number (Some answer.status) answer.response) (reply_taken found side.dialogs answer)
+    pub invite_replied : DoneSo (provisional_number (Some answer.status) answer.response)
+        (reply_taken found side.dialogs answer)
     invite_replied =
         let case = reply_case found side.dialogs answer in
         let number = provisional_number (Some answer.status) answer.response in
@@ -304,7 +396,13 @@ module _ (life : DialogLife) (invite : Id) (event : Option Id) (answer : Answer)
         by_bool (lives side.dialogs own)
         (λ alive. by_number number case (sym lives_is ∙ alive) heard
         (subst (λ b. Decided Unheard client.heard number (decides b)) (sym alive)
-        (decided (is_final answer.status) (is_success answer.status) (not (answer.status == 100) && is_inside answer.response) (success_case found side.dialogs answer.name) client.heard (rseq_of answer.response) none)))
+        (decided (is_final answer.status) (is_success answer.status)
+        (not (answer.status == 100) && is_inside answer.response)
+        (success_case found side.dialogs answer.name) client.heard
+        (rseq_of answer.response) none)))
         (λ dead. by_gone number case (sym lives_is ∙ dead) heard
         (subst (λ b. Gone number (decides b)) (sym dead)
-        (gone (is_final answer.status) (is_success answer.status) (not (answer.status == 100) && is_inside answer.response) (success_case found side.dialogs answer.name) client.heard (rseq_of answer.response) none)))
+        (gone (is_final answer.status) (is_success answer.status)
+        (not (answer.status == 100) && is_inside answer.response)
+        (success_case found side.dialogs answer.name) client.heard
+        (rseq_of answer.response) none)))

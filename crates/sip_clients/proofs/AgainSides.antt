@@ -24,29 +24,47 @@ use Rattle.sip_clients.proofs.FirstInvite.{none_in_life}
 abbrev with_asks : Asks → Client → Client
 with_asks asks client = record client { asks = asks }
 
-module _ (life : DialogLife) (invite : Id) (event : Option Id) (of : Event) (made : event ≡ Some of.id) (id : Id) (call_id : List ℕ) (response : Message) (side : Side) (apart : AreApart side.clients)
+module _ (life : DialogLife) (invite : Id) (event : Option Id) (of : Event)
+    (made : event ≡ Some of.id) (id : Id) (call_id : List ℕ) (response : Message) (side : Side)
+    (apart : AreApart side.clients)
     (once : event ≡ Some invite → ear_of life invite side.clients ≡ None) where
   abbrev answer_for : ℕ → Client → Answer
-  answer_for status client = record { event = of; id = id; call_id = call_id; name = reply_name client.asks client response; status = status; response = response }
+  answer_for status client = record {
+    event = of;
+    id = id;
+    call_id = call_id;
+    name = reply_name client.asks client response;
+    status = status;
+    response = response;
+  }
 
   abbrev number_at : Option ℕ → Client → Option ℕ
-  number_at status client = if is_for (InTheDialog invite) life id client client.asks response then provisional_number status response else None
+  number_at status client = if is_for (InTheDialog invite) life id client client.asks response
+      then provisional_number status response else None
 
   abbrev pub SideResult : Option ℕ → ClientTaken → Type 0
-  SideResult number taken = AgainResult life invite event side.clients (taken.0).dialogs (taken.0).clients number taken.1
+  SideResult number taken =
+      AgainResult life invite event side.clients (taken.0).dialogs (taken.0).clients number taken.1
 
   unchanged : SideResult None (side, [])
-  unchanged = silent_result life invite event side.clients side.clients side.dialogs [] (keeps_same life invite event side.clients apart)
+  unchanged = silent_result life invite event side.clients side.clients side.dialogs []
+      (keeps_same life invite event side.clients apart)
 
   abbrev changed : Answer → Clients
-  changed answer = client_changed id (λ client. (reply_taken client side.dialogs answer).0) side.clients
+  changed answer =
+      client_changed id (λ client. (reply_taken client side.dialogs answer).0) side.clients
 
   abbrev AtFound : Answer → Replied → Option ℕ → Type 0
   AtFound answer done number =
-      AgainResult life invite event side.clients done.1 (settled of id done.3 (changed answer)).0 number (done.2 ++ (settled of id done.3 (changed answer)).1)
+      AgainResult life invite event side.clients done.1
+      (settled of id done.3 (changed answer)).0 number
+      (done.2 ++ (settled of id done.3 (changed answer)).1)
 
-  settled_at : (status : ℕ) (client : Client) (number : Option ℕ) → client_at id side.clients ≡ Some client
-      → AtFound (answer_for status client) (reply_taken client side.dialogs (answer_for status client)) number → SideResult number (reply_settled (answer_for status client) side)
+  settled_at : (status : ℕ) (client : Client) (number : Option ℕ)
+      → client_at id side.clients ≡ Some client
+      → AtFound (answer_for status client)
+      (reply_taken client side.dialogs (answer_for status client)) number
+      → SideResult number (reply_settled (answer_for status client) side)
   settled_at status client number is result =
       let answer = answer_for status client in
       let P : Option Client → Type 0 = λ o. AtFound answer (
@@ -57,39 +75,63 @@ module _ (life : DialogLife) (invite : Id) (event : Option Id) (of : Event) (mad
       ) number in
       subst P (sym is) result
 
-  by_life : (status : ℕ) (client : Client) (own : DialogLife) → client_at id side.clients ≡ Some (with_asks (Again own) client)
-      → (b ours : Bool) → is_id id invite ≡ b → (is_named life.name own.name && is_id own.born life.born) ≡ ours
-      → SideResult (if b && ours then provisional_number (Some status) response else None) (reply_settled (answer_for status (with_asks (Again own) client)) side)
+  by_life : (status : ℕ) (client : Client) (own : DialogLife)
+      → client_at id side.clients ≡ Some (with_asks (Again own) client)
+      → (b ours : Bool) → is_id id invite ≡ b
+      → (is_named life.name own.name && is_id own.born life.born) ≡ ours
+      → SideResult (if b && ours then provisional_number (Some status) response else None)
+      (reply_settled (answer_for status (with_asks (Again own) client)) side)
   by_life status client own is false ours same is_ours =
       let found = with_asks (Again own) client in
-      settled_at status found None is (another life invite event (answer_for status found) made side apart once found is same)
+      settled_at status found None is
+      (another life invite event (answer_for status found) made side apart once found is same)
   by_life status client own is true false same is_ours =
       let found = with_asks (Again own) client in
-      settled_at status found None is (no_invite life invite event (answer_for status found) made side apart once found is (λ heard i. if is_ours i then Some heard else None))
+      settled_at status found None is
+      (no_invite life invite event (answer_for status found) made side apart once found is
+      (λ heard i. if is_ours i then Some heard else None))
   by_life status client own is true true same is_ours =
       let found = with_asks (Again own) client in
-      settled_at status found (provisional_number (Some status) response) is (invite_replied life invite event (answer_for status found) made side apart once own client is same is_ours)
+      settled_at status found (provisional_number (Some status) response) is
+      (invite_replied life invite event
+      (answer_for status found) made side apart once own client is same is_ours)
 
-  by_asks : (status : ℕ) (client : Client) (asks : Asks) → client_at id side.clients ≡ Some (with_asks asks client)
-      → SideResult (number_at (Some status) (with_asks asks client)) (reply_settled (answer_for status (with_asks asks client)) side)
+  by_asks : (status : ℕ) (client : Client) (asks : Asks)
+      → client_at id side.clients ≡ Some (with_asks asks client)
+      → SideResult (number_at (Some status) (with_asks asks client))
+      (reply_settled (answer_for status (with_asks asks client)) side)
   by_asks status client First is =
       let found = with_asks First client in
-      settled_at status found None is (no_invite life invite event (answer_for status found) made side apart once found is (λ heard. refl))
-  by_asks status client (Again own) is = by_life status client own is (is_id id invite) (is_named life.name own.name && is_id own.born life.born) refl refl
+      settled_at status found None is
+      (no_invite life invite event (answer_for status found) made side apart once found is
+      (λ heard. refl))
+  by_asks status client (Again own) is =
+      by_life status client own is (is_id id invite)
+      (is_named life.name own.name && is_id own.born life.born) refl refl
   by_asks status client (Inside own) is =
       let found = with_asks (Inside own) client in
-      settled_at status found None is (no_invite life invite event (answer_for status found) made side apart once found is (λ heard. refl))
+      settled_at status found None is
+      (no_invite life invite event (answer_for status found) made side apart once found is
+      (λ heard. refl))
   by_asks status client Plain is =
       let found = with_asks Plain client in
-      settled_at status found None is (no_invite life invite event (answer_for status found) made side apart once found is (λ heard. refl))
+      settled_at status found None is
+      (no_invite life invite event (answer_for status found) made side apart once found is
+      (λ heard. refl))
 
   by_client : (status : Option ℕ) (o : Option Client) → client_at id side.clients ≡ o
-      → SideResult (option_and_then (number_at status) o) (named_taken of id call_id response status (option_map (λ client. reply_name client.asks client response) o) side)
+      → SideResult (option_and_then (number_at status) o)
+      (named_taken of id call_id response status
+      (option_map (λ client. reply_name client.asks client response) o) side)
   by_client None None is = unchanged
   by_client (Some status) None is = unchanged
   by_client None (Some client) is =
-      subst (λ number. SideResult number (side, [])) (sym (none_in_life (is_for (InTheDialog invite) life id client client.asks response))) unchanged
+      subst (λ number. SideResult number (side, []))
+      (sym (none_in_life (is_for (InTheDialog invite) life id client client.asks response)))
+      unchanged
   by_client (Some status) (Some client) is = by_asks status client client.asks is
 
-  pub response_again : SideResult (option_and_then (number_for (InTheDialog invite) life id response) (client_at id side.clients)) (response_taken of id call_id response side)
+  pub response_again : SideResult
+      (option_and_then (number_for (InTheDialog invite) life id response)
+      (client_at id side.clients)) (response_taken of id call_id response side)
   response_again = by_client (status_of response.start) (client_at id side.clients) refl

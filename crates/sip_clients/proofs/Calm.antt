@@ -22,40 +22,55 @@ or_false : (x : Bool) → (x || false) ≡ x
 or_false true = refl
 or_false false = refl
 
-over_is_due : (now : ℕ) (o : Option ℕ) (client : Client) → client.removal ≡ o → is_due now o ≡ is_over now client
-over_is_due now None client e = sym (ap (λ removal. is_over now (record client { removal = removal })) e)
-over_is_due now (Some moment) client e = sym (ap (λ removal. is_over now (record client { removal = removal })) e)
+over_is_due : (now : ℕ) (o : Option ℕ) (client : Client) → client.removal ≡ o
+    → is_due now o ≡ is_over now client
+over_is_due now None client e =
+    sym (ap (λ removal. is_over now (record client { removal = removal })) e)
+over_is_due now (Some moment) client e =
+    sym (ap (λ removal. is_over now (record client { removal = removal })) e)
 
-all_due : (now : ℕ) (due : Option ℕ) (clients : List Client) → is_due now (fold (λ due client. earlier due client.removal) due clients) ≡ (is_due now due || list_any (is_over now) clients)
+all_due : (now : ℕ) (due : Option ℕ) (clients : List Client)
+    → is_due now (fold (λ due client. earlier due client.removal) due clients)
+    ≡ (is_due now due || list_any (is_over now) clients)
 all_due now due [] = sym (or_false (is_due now due))
 all_due now due (client ∷ clients) =
-    all_due now (earlier due client.removal) clients ∙ ap (λ b. b || list_any (is_over now) clients) (earlier_due now due client.removal ∙ ap (λ b. is_due now due || b) (over_is_due now client.removal client refl))
+    all_due now (earlier due client.removal) clients
+    ∙ ap (λ b. b || list_any (is_over now) clients)
+    (earlier_due now due client.removal
+    ∙ ap (λ b. is_due now due || b) (over_is_due now client.removal client refl))
     ∙ or_assoc (is_due now due) (is_over now client) (list_any (is_over now) clients)
 
-none_over : (now : ℕ) (clients : Clients) → is_due now (next_due clients) ≡ false → list_any (is_over now) (values_of clients) ≡ false
+none_over : (now : ℕ) (clients : Clients) → is_due now (next_due clients) ≡ false
+    → list_any (is_over now) (values_of clients) ≡ false
 none_over now clients calm = sym (all_due now None (values_of clients)) ∙ calm
 
 -- ---- lists of which none passes
 
-silent_step : (over : Bool) (outs rest : List CallOut) → over ≡ false → rest ≡ [] → (if over then outs else []) ++ rest ≡ []
+silent_step : (over : Bool) (outs rest : List CallOut) → over ≡ false → rest ≡ []
+    → (if over then outs else []) ++ rest ≡ []
 silent_step true outs rest e silent = absurd cc
 silent_step false outs rest e silent = silent
 
-silent : (now : ℕ) (dialogs : Dialogs) (clients : List Client) → list_any (is_over now) clients ≡ false → flat_map (notices_of now dialogs) clients ≡ []
+silent : (now : ℕ) (dialogs : Dialogs) (clients : List Client)
+    → list_any (is_over now) clients ≡ false → flat_map (notices_of now dialogs) clients ≡ []
 silent now dialogs [] calm = refl
 silent now dialogs (client ∷ clients) calm =
     let parts = neither (is_over now client) (list_any (is_over now) clients) calm in
-    silent_step (is_over now client) (early_ended client.id dialogs).1 (flat_map (notices_of now dialogs) clients) parts.0 (silent now dialogs clients parts.1)
+    silent_step (is_over now client) (early_ended client.id dialogs).1
+    (flat_map (notices_of now dialogs) clients) parts.0 (silent now dialogs clients parts.1)
 
-kept_step : {X : Type 0} (dropped : Bool) (x : X) (xs rest : List X) → dropped ≡ false → rest ≡ xs → cond (not dropped) (x ∷ rest) rest ≡ x ∷ xs
+kept_step : {X : Type 0} (dropped : Bool) (x : X) (xs rest : List X) → dropped ≡ false → rest ≡ xs
+    → cond (not dropped) (x ∷ rest) rest ≡ x ∷ xs
 kept_step true x xs rest e same = absurd cc
 kept_step false x xs rest e same = ap (λ ys. x ∷ ys) same
 
-kept_clients : (now : ℕ) (clients : Clients) → list_any (is_over now) (values_of clients) ≡ false → clients_left now clients ≡ clients
+kept_clients : (now : ℕ) (clients : Clients) → list_any (is_over now) (values_of clients) ≡ false
+    → clients_left now clients ≡ clients
 kept_clients now [] calm = refl
 kept_clients now (entry ∷ clients) calm =
     let parts = neither (is_over now entry.1) (list_any (is_over now) (values_of clients)) calm in
-    kept_step (is_over now entry.1) entry clients (clients_left now clients) parts.0 (kept_clients now clients parts.1)
+    kept_step (is_over now entry.1) entry clients (clients_left now clients) parts.0
+    (kept_clients now clients parts.1)
 
 and_false : (x y : Bool) → x ≡ false → (x && y) ≡ false
 and_false true y e = absurd cc
@@ -65,19 +80,26 @@ or_neither : (x y : Bool) → x ≡ false → y ≡ false → (x || y) ≡ false
 or_neither true y e f = absurd cc
 or_neither false y e f = f
 
-none_ends : (now : ℕ) (held : HeldDialog) (clients : List Client) → list_any (is_over now) clients ≡ false → list_any (λ client. is_over now client && is_early_of client.id held) clients ≡ false
+none_ends : (now : ℕ) (held : HeldDialog) (clients : List Client)
+    → list_any (is_over now) clients ≡ false
+    → list_any (λ client. is_over now client && is_early_of client.id held) clients ≡ false
 none_ends now held [] calm = refl
 none_ends now held (client ∷ clients) calm =
     let parts = neither (is_over now client) (list_any (is_over now) clients) calm in
-    or_neither (is_over now client && is_early_of client.id held) (list_any (λ client. is_over now client && is_early_of client.id held) clients)
-    (and_false (is_over now client) (is_early_of client.id held) parts.0) (none_ends now held clients parts.1)
+    or_neither (is_over now client && is_early_of client.id held)
+    (list_any (λ client. is_over now client && is_early_of client.id held) clients)
+    (and_false (is_over now client) (is_early_of client.id held) parts.0)
+    (none_ends now held clients parts.1)
 
-kept_dialogs : (now : ℕ) (clients : Clients) → list_any (is_over now) (values_of clients) ≡ false → (dialogs : Dialogs) → dialogs_left now dialogs clients ≡ dialogs
+kept_dialogs : (now : ℕ) (clients : Clients) → list_any (is_over now) (values_of clients) ≡ false
+    → (dialogs : Dialogs) → dialogs_left now dialogs clients ≡ dialogs
 kept_dialogs now clients calm [] = refl
 kept_dialogs now clients calm (entry ∷ dialogs) =
-    kept_step (ends_at now clients entry.1) entry dialogs (dialogs_left now dialogs clients) (none_ends now entry.1 (values_of clients) calm) (kept_dialogs now clients calm dialogs)
+    kept_step (ends_at now clients entry.1) entry dialogs (dialogs_left now dialogs clients)
+    (none_ends now entry.1 (values_of clients) calm) (kept_dialogs now clients calm dialogs)
 
-pub clients_quiet_before : (side : Side) (now : ℕ) → is_due now (next_due side.clients) ≡ false → tick_taken side now ≡ quiet side
+pub clients_quiet_before : (side : Side) (now : ℕ) → is_due now (next_due side.clients) ≡ false
+    → tick_taken side now ≡ quiet side
 clients_quiet_before side now calm =
     let none = none_over now side.clients calm in
     let dialogs = kept_dialogs now side.clients none side.dialogs in

@@ -1,4 +1,5 @@
--- The client side of a call starts at most one transaction at an event, of a client and under the event's id.
+-- The client side of a call starts at most one transaction at an event, of a client and under the
+-- event's id.
 use Rattle.std.proofs.Common.{◌≡◌, ◌⊎◌, inl, inr, ℕ, Bool, true, false, cond, List, [], ◌∷◌, ◌++◌, refl, sym, ap, subst, ◌∙◌, append-nil}
 use Rattle.std.specs.Prelude.{Option, None, Some, Result, Ok, Err, codes, if◌then◌else◌}
 use Rattle.std.specs.Map.{values_of}
@@ -48,41 +49,53 @@ use Rattle.sip_clients.specs.Tick.{is_over, notices_of, over_notices}
 
 -- none, or one of a client under this id
 abbrev pub One : Id → List (Id × Key) → Type 0
-One id started = (started ≡ []) ⊎ ((branch : List ℕ) × (method : List ℕ) × (started ≡ (id, key.Client branch method) ∷ []))
+One id started = (started ≡ [])
+    ⊎ ((branch : List ℕ) × (method : List ℕ) × (started ≡ (id, key.Client branch method) ∷ []))
 
-pub one_then_none : (id : Id) (xs ys : List CallOut) → One id (starts xs) → starts ys ≡ [] → One id (starts (xs ++ ys))
+pub one_then_none : (id : Id) (xs ys : List CallOut) → One id (starts xs) → starts ys ≡ []
+    → One id (starts (xs ++ ys))
 one_then_none id xs ys one none =
-    subst (One id) (sym (filter_map-append start_in xs ys ∙ ap (λ zs. starts xs ++ zs) none ∙ append-nil (starts xs))) one
+    subst (One id) (sym (filter_map-append start_in xs ys ∙ ap (λ zs. starts xs ++ zs) none
+    ∙ append-nil (starts xs))) one
 
-pub none_then_one : (id : Id) (xs ys : List CallOut) → starts xs ≡ [] → One id (starts ys) → One id (starts (xs ++ ys))
-none_then_one id xs ys none one = subst (One id) (sym (filter_map-append start_in xs ys ∙ ap (λ zs. zs ++ starts ys) none)) one
+pub none_then_one : (id : Id) (xs ys : List CallOut) → starts xs ≡ [] → One id (starts ys)
+    → One id (starts (xs ++ ys))
+none_then_one id xs ys none one =
+    subst (One id) (sym (filter_map-append start_in xs ys ∙ ap (λ zs. zs ++ starts ys) none)) one
 
-started_one : (event : Event) (client : Client) → One event.id (starts (start_command event client ∷ []))
+started_one : (event : Event) (client : Client)
+    → One event.id (starts (start_command event client ∷ []))
 unfolding start_command
-started_one event client = inr (str_to_ascii_lowercase (branch_of event), ((client.request).cseq).method, refl)
+started_one event client =
+    inr (str_to_ascii_lowercase (branch_of event), ((client.request).cseq).method, refl)
 
-settled_one : (event : Event) (id : Id) (rest : Rest) (clients : Clients) → One event.id (starts (settled event id rest clients).1)
+settled_one : (event : Event) (id : Id) (rest : Rest) (clients : Clients)
+    → One event.id (starts (settled event id rest clients).1)
 settled_one event id Stays clients = inl refl
 settled_one event id Over clients = inl refl
 settled_one event id (Starts client) clients = started_one event client
 
 -- ---- what is told beside it
 
-request_said_none : (event : Event) (call_id : List ℕ) (name : DialogName) (service : Service) → starts (request_said event call_id name service).0 ≡ []
+request_said_none : (event : Event) (call_id : List ℕ) (name : DialogName) (service : Service)
+    → starts (request_said event call_id name service).0 ≡ []
 request_said_none event call_id name (Sent sending) = refl
 request_said_none event call_id name Waits = refl
 request_said_none event call_id name (Refused refusal) = refl
 
-ack_said_none : (event : Event) (call_id : List ℕ) (service : Service) → starts (ack_said event call_id service).0 ≡ []
+ack_said_none : (event : Event) (call_id : List ℕ) (service : Service)
+    → starts (ack_said event call_id service).0 ≡ []
 ack_said_none event call_id (Sent sending) = refl
 ack_said_none event call_id Waits = refl
 ack_said_none event call_id (Refused refusal) = refl
 
-at_or_none : (b : Bool) (name : DialogName) (dialogs : Dialogs) → starts (cond {A = Dialogs × List CallOut} b (ended_at name dialogs) (dialogs, [])).1 ≡ []
+at_or_none : (b : Bool) (name : DialogName) (dialogs : Dialogs)
+    → starts (cond {A = Dialogs × List CallOut} b (ended_at name dialogs) (dialogs, [])).1 ≡ []
 at_or_none true name dialogs = ended_starts name dialogs
 at_or_none false name dialogs = refl
 
-own_none : (asks : Asks) (ends : Bool) (dialogs : Dialogs) → starts (own_ended asks ends dialogs).1 ≡ []
+own_none : (asks : Asks) (ends : Bool) (dialogs : Dialogs)
+    → starts (own_ended asks ends dialogs).1 ≡ []
 own_none First ends dialogs = refl
 own_none (Again life) true dialogs = at_or_none (lives dialogs life) life.name dialogs
 own_none (Again life) false dialogs = refl
@@ -90,69 +103,101 @@ own_none (Inside life) true dialogs = at_or_none (lives dialogs life) life.name 
 own_none (Inside life) false dialogs = refl
 own_none Plain ends dialogs = refl
 
-ended_none : (client : Client) (ends : Bool) (dialogs : Dialogs) → starts (ended_with client ends dialogs).1 ≡ []
+ended_none : (client : Client) (ends : Bool) (dialogs : Dialogs)
+    → starts (ended_with client ends dialogs).1 ≡ []
 ended_none client ends dialogs =
     let early = early_ended client.id dialogs in
-    none_of_both early.1 (own_ended client.asks ends early.0).1 (early_starts client.id dialogs) (own_none client.asks ends early.0)
+    none_of_both early.1 (own_ended client.asks ends early.0).1 (early_starts client.id dialogs)
+    (own_none client.asks ends early.0)
 
 again_none : (o : Option SentAck) → starts (option_map_or (λ ack. direct ack ∷ []) o []) ≡ []
 again_none None = refl
 again_none (Some ack) = refl
 
-case_none : (case : ReplyCase) (client : Client) (dialogs : Dialogs) (answer : Answer) → starts (by_case case client dialogs answer).2 ≡ []
+case_none : (case : ReplyCase) (client : Client) (dialogs : Dialogs) (answer : Answer)
+    → starts (by_case case client dialogs answer).2 ≡ []
 unfolding ack_owed prack_owed
 case_none reply.Final client dialogs answer = ended_none client (ends_dialog answer.status) dialogs
 case_none reply.Repeated client dialogs answer = again_none (ack_of answer.name client.answers)
-case_none reply.Accepted client dialogs answer = ack_said_none answer.event answer.call_id (ack_owed client dialogs answer).1
+case_none reply.Accepted client dialogs answer =
+    ack_said_none answer.event answer.call_id (ack_owed client dialogs answer).1
 case_none reply.Late client dialogs answer = refl
-case_none (reply.Reliable number) client dialogs answer = request_said_none answer.event answer.call_id answer.name (prack_owed number client dialogs answer).1
+case_none (reply.Reliable number) client dialogs answer =
+    request_said_none answer.event answer.call_id answer.name
+    (prack_owed number client dialogs answer).1
 case_none reply.Passed client dialogs answer = refl
 case_none reply.Early client dialogs answer = refl
 case_none reply.Told client dialogs answer = refl
 
 -- ---- a response, and a request that is lost
 
-replied_none : (answer : Answer) (dialogs : Dialogs) (o : Option Client) → starts (option_map_or (λ client. (reply_taken client dialogs answer).2) o []) ≡ []
+replied_none : (answer : Answer) (dialogs : Dialogs) (o : Option Client)
+    → starts (option_map_or (λ client. (reply_taken client dialogs answer).2) o []) ≡ []
 replied_none answer dialogs None = refl
-replied_none answer dialogs (Some client) = case_none (reply_case client dialogs answer) client dialogs answer
+replied_none answer dialogs (Some client) =
+    case_none (reply_case client dialogs answer) client dialogs answer
 
-named_one : (event : Event) (id : Id) (call_id : List ℕ) (response : Message) (status : Option ℕ) (name : Option DialogName) (side : Side)
+named_one : (event : Event) (id : Id) (call_id : List ℕ) (response : Message) (status : Option ℕ)
+    (name : Option DialogName) (side : Side)
     → One event.id (starts (named_taken event id call_id response status name side).1)
 named_one event id call_id response None name side = inl refl
 named_one event id call_id response (Some status) None side = inl refl
 named_one event id call_id response (Some status) (Some name) side =
-    let answer : Answer = record { event = event; id = id; call_id = call_id; name = name; status = status; response = response } in
+    let answer : Answer = record {
+      event = event;
+      id = id;
+      call_id = call_id;
+      name = name;
+      status = status;
+      response = response;
+    } in
     let done = replied_at answer side.dialogs side.clients in
-    none_then_one event.id done.2 (settled event id done.3 done.0).1 (replied_none answer side.dialogs (client_at id side.clients)) (settled_one event id done.3 done.0)
+    none_then_one event.id done.2 (settled event id done.3 done.0).1
+    (replied_none answer side.dialogs (client_at id side.clients))
+    (settled_one event id done.3 done.0)
 
-pub response_one : (event : Event) (id : Id) (call_id : List ℕ) (response : Message) (side : Side) → One event.id (starts (response_taken event id call_id response side).1)
+pub response_one : (event : Event) (id : Id) (call_id : List ℕ) (response : Message) (side : Side)
+    → One event.id (starts (response_taken event id call_id response side).1)
 response_one event id call_id response side =
-    named_one event id call_id response (status_of response.start) (option_map (λ client. reply_name client.asks client response) (client_at id side.clients)) side
+    named_one event id call_id response (status_of response.start)
+    (option_map (λ client. reply_name client.asks client response) (client_at id side.clients))
+    side
 
-pub lost_none : (id : Id) (timed_out : Bool) (o : Option Client) (side : Side) → starts (lost_of id timed_out o side).1 ≡ []
+pub lost_none : (id : Id) (timed_out : Bool) (o : Option Client) (side : Side)
+    → starts (lost_of id timed_out o side).1 ≡ []
 lost_none id timed_out None side = refl
 lost_none id timed_out (Some client) side = ended_none client timed_out side.dialogs
 
 -- ---- commands of the user, and a tick
 
-pub invite_one : (event : Event) (command : Invite) (clients : Clients) → One event.id (starts (invite_taken event command clients).1)
-invite_one event command clients = started_one event (client_for event.id First (invite_of event command) command.address)
+pub invite_one : (event : Event) (command : Invite) (clients : Clients)
+    → One event.id (starts (invite_taken event command clients).1)
+invite_one event command clients =
+    started_one event (client_for event.id First (invite_of event command) command.address)
 
-plain_by : (b : Bool) (event : Event) (client : Client) (clients : Clients) (refused : List CallOut) → starts refused ≡ []
-    → One event.id (starts (cond {A = Clients × List CallOut} b (clients, refused) (started event client clients)).1)
+plain_by : (b : Bool) (event : Event) (client : Client) (clients : Clients) (refused : List CallOut)
+    → starts refused ≡ []
+    → One event.id (starts (cond {A = Clients × List CallOut} b (clients, refused)
+    (started event client clients)).1)
 plain_by true event client clients refused none = inl none
 plain_by false event client clients refused none = started_one event client
 
-pub plain_one : (event : Event) (command : PlainCommand) (clients : Clients) → One event.id (starts (plain_taken event command clients).1)
+pub plain_one : (event : Event) (command : PlainCommand) (clients : Clients)
+    → One event.id (starts (plain_taken event command clients).1)
 plain_one event command clients =
-    plain_by (is_bad_outside command.method) event (client_for event.id Plain (plain_of event command) command.address) clients (refused_notice event command.call_id BadMethod ∷ []) refl
+    plain_by (is_bad_outside command.method) event
+    (client_for event.id Plain (plain_of event command) command.address) clients
+    (refused_notice event command.call_id BadMethod ∷ []) refl
 
-bye_none : (name : DialogName) (method : List ℕ) (service : Service) (dialogs : Dialogs) → starts (bye_ended name method service dialogs).1 ≡ []
-bye_none name method (Sent sending) dialogs = at_or_none (bytes_eq method (codes "BYE")) name dialogs
+bye_none : (name : DialogName) (method : List ℕ) (service : Service) (dialogs : Dialogs)
+    → starts (bye_ended name method service dialogs).1 ≡ []
+bye_none name method (Sent sending) dialogs =
+    at_or_none (bytes_eq method (codes "BYE")) name dialogs
 bye_none name method Waits dialogs = refl
 bye_none name method (Refused refusal) dialogs = refl
 
-pub request_one : (event : Event) (command : DialogRequest) (side : Side) → One event.id (starts (request_taken event command side).1)
+pub request_one : (event : Event) (command : DialogRequest) (side : Side)
+    → One event.id (starts (request_taken event command side).1)
 request_one event command side =
     let name = name_in command.local_tag command.remote_tag in
     let done = requested_by name event command side.dialogs in
@@ -160,32 +205,48 @@ request_one event command side =
     let ends = bye_ended name command.method done.1 done.0 in
     let after = settled event event.id said.1 side.clients in
     one_then_none event.id (said.0 ++ after.1) ends.1
-    (none_then_one event.id said.0 after.1 (request_said_none event command.call_id name done.1) (settled_one event event.id said.1 side.clients)) (bye_none name command.method done.1 done.0)
+    (none_then_one event.id said.0 after.1 (request_said_none event command.call_id name done.1)
+    (settled_one event event.id said.1 side.clients))
+    (bye_none name command.method done.1 done.0)
 
 ack_by : (event : Event) (command : DialogBody) (side : Side) (o : Result Debt Refusal)
-    → starts (paid_or_refused event command (ack_paid event command (name_in command.local_tag command.remote_tag)) o side).1 ≡ []
+    → starts (paid_or_refused event command
+    (ack_paid event command (name_in command.local_tag command.remote_tag)) o side).1 ≡ []
 ack_by event command side (Err refusal) = refl
-ack_by event command side (Ok debt) = ack_said_none event command.call_id (paid_at (name_in command.local_tag command.remote_tag) event debt command.body side.dialogs).1
+ack_by event command side (Ok debt) =
+    ack_said_none event command.call_id
+    (paid_at (name_in command.local_tag command.remote_tag) event debt command.body side.dialogs).1
 
-pub ack_none : (event : Event) (command : DialogBody) (side : Side) → starts (ack_taken event command side).1 ≡ []
-ack_none event command side = ack_by event command side (debt_for kind.Ack (name_in command.local_tag command.remote_tag) side.dialogs)
+pub ack_none : (event : Event) (command : DialogBody) (side : Side)
+    → starts (ack_taken event command side).1 ≡ []
+ack_none event command side = ack_by event command side
+    (debt_for kind.Ack (name_in command.local_tag command.remote_tag) side.dialogs)
 
 prack_by : (event : Event) (command : DialogBody) (side : Side) (o : Result Debt Refusal)
-    → One event.id (starts (paid_or_refused event command (prack_paid event command (name_in command.local_tag command.remote_tag)) o side).1)
+    → One event.id (starts (paid_or_refused event command
+    (prack_paid event command (name_in command.local_tag command.remote_tag)) o side).1)
 prack_by event command side (Err refusal) = inl refl
 prack_by event command side (Ok debt) =
     let name = name_in command.local_tag command.remote_tag in
     let service = (paid_at name event debt command.body side.dialogs).1 in
     let said = request_said event command.call_id name service in
-    none_then_one event.id said.0 (settled event event.id said.1 side.clients).1 (request_said_none event command.call_id name service) (settled_one event event.id said.1 side.clients)
+    none_then_one event.id said.0 (settled event event.id said.1 side.clients).1
+    (request_said_none event command.call_id name service)
+    (settled_one event event.id said.1 side.clients)
 
-pub prack_one : (event : Event) (command : DialogBody) (side : Side) → One event.id (starts (prack_taken event command side).1)
-prack_one event command side = prack_by event command side (debt_for kind.Prack (name_in command.local_tag command.remote_tag) side.dialogs)
+pub prack_one : (event : Event) (command : DialogBody) (side : Side)
+    → One event.id (starts (prack_taken event command side).1)
+prack_one event command side =
+    prack_by event command side (debt_for kind.Prack
+    (name_in command.local_tag command.remote_tag) side.dialogs)
 
 over_by : (b : Bool) (outs : List CallOut) → starts outs ≡ [] → starts (if b then outs else []) ≡ []
 over_by true outs none = none
 over_by false outs none = refl
 
-pub tick_none : (now : ℕ) (dialogs : Dialogs) (clients : Clients) → starts (over_notices now dialogs clients) ≡ []
+pub tick_none : (now : ℕ) (dialogs : Dialogs) (clients : Clients)
+    → starts (over_notices now dialogs clients) ≡ []
 tick_none now dialogs clients =
-    none_of_all (notices_of now dialogs) (λ client. over_by (is_over now client) (early_ended client.id dialogs).1 (early_starts client.id dialogs)) (values_of clients)
+    none_of_all (notices_of now dialogs)
+    (λ client. over_by (is_over now client) (early_ended client.id dialogs).1
+    (early_starts client.id dialogs)) (values_of clients)

@@ -41,81 +41,120 @@ deaf life (Some held) e = ap (λ b. if b then Some held.heard else None) e
 
 -- ---- nothing came
 
-begun_silent : (event : Option Id) (life : DialogLife) (before : Option (Option ℕ)) (held : HeldDialog) → event ≡ Some held.born → held.heard ≡ None
+begun_silent : (event : Option Id) (life : DialogLife) (before : Option (Option ℕ))
+    (held : HeldDialog) → event ≡ Some held.born → held.heard ≡ None
     → Silent (event ≡ Some life.born) before (ear_in life (Some held))
 begun_silent event life before held made none =
     by_bool (is_id held.born life.born)
-    (λ e. inr (inr (made ∙ ap (λ id. Some id) (id_exact held.born life.born e), (λ i. if e i then Some (none i) else None))))
+    (λ e. inr (inr (
+      made ∙ ap (λ id. Some id) (id_exact held.born life.born e),
+      (λ i. if e i then Some (none i) else None),
+    )))
     (λ e. inl (ap (λ b. if b then Some held.heard else None) e))
 
-pub silent_from : (event : Option Id) (life : DialogLife) (before after : Option HeldDialog) → Goes (λ id. event ≡ Some id) before after
+pub silent_from : (event : Option Id) (life : DialogLife) (before after : Option HeldDialog)
+    → Goes (λ id. event ≡ Some id) before after
     → Silent (event ≡ Some life.born) (ear_in life before) (ear_in life after)
 silent_from event life before None goes = inl refl
 silent_from event life None (Some after) (inl stays) = absurd stays
-silent_from event life (Some before) (Some after) (inl stays) = inr (inl (λ i. if is_id (stays.0 i) life.born then Some (stays.1 i) else None))
-silent_from event life before (Some after) (inr begins) = begun_silent event life (ear_in life before) after begins.0 begins.1
+silent_from event life (Some before) (Some after) (inl stays) =
+    inr (inl (λ i. if is_id (stays.0 i) life.born then Some (stays.1 i) else None))
+silent_from event life before (Some after) (inr begins) =
+    begun_silent event life (ear_in life before) after begins.0 begins.1
 
 pub none_in_life : (b : Bool) → in_life b None ≡ None
 none_in_life true = refl
 none_in_life false = refl
 
-pub no_number : (Begins : Type 0) (b : Bool) (before after : Option (Option ℕ)) (outs : List CallOut) → Silent Begins before after
+pub no_number : (Begins : Type 0) (b : Bool) (before after : Option (Option ℕ))
+    (outs : List CallOut) → Silent Begins before after
     → Listens Begins before after (in_life b None) (told_of (in_life b None) outs)
 no_number Begins b before after outs silent =
-    subst (λ o. Listens Begins before after o (told_of o outs)) (sym (none_in_life b)) (silent, refl)
+    subst (λ o. Listens Begins before after o (told_of o outs)) (sym (none_in_life b))
+    (silent, refl)
 
 -- ---- a number came
 
 -- where it is taken
-taken_held : (event : Option Id) (life : DialogLife) (number : ℕ) (before : Option HeldDialog) (middle after : HeldDialog) (shown : List ℕ)
-    → Goes (λ id. event ≡ Some id) before (Some middle) → after.born ≡ middle.born → after.heard ≡ latest_after (offered middle.heard number) middle.heard number
-    → is_id after.born life.born ≡ true → offered (option_and_then (λ held. held.heard) before) number ≡ Taken → shown ≡ number ∷ []
+taken_held : (event : Option Id) (life : DialogLife) (number : ℕ) (before : Option HeldDialog)
+    (middle after : HeldDialog) (shown : List ℕ)
+    → Goes (λ id. event ≡ Some id) before (Some middle) → after.born ≡ middle.born
+    → after.heard ≡ latest_after (offered middle.heard number) middle.heard number
+    → is_id after.born life.born ≡ true
+    → offered (option_and_then (λ held. held.heard) before) number ≡ Taken → shown ≡ number ∷ []
     → Hears (event ≡ Some life.born) (ear_in life before) (ear_in life (Some after)) number shown
 taken_held event life number before middle after shown goes born heard own offer is =
-    let own_middle : is_id middle.born life.born ≡ true = ap (λ id. is_id id life.born) (sym born) ∙ own in
-    let now : ear_in life (Some after) ≡ Some (latest_after (offered middle.heard number) middle.heard number) = λ i. if own i then Some (heard i) else None in
+    let own_middle : is_id middle.born life.born ≡ true =
+    ap (λ id. is_id id life.born) (sym born) ∙ own in
+    let now : ear_in life (Some after)
+    ≡ Some (latest_after (offered middle.heard number) middle.heard number) =
+    λ i. if own i then Some (heard i) else None in
     by_way before own_middle now goes offer
   where
-    by_way : (before : Option HeldDialog) → is_id middle.born life.born ≡ true → ear_in life (Some after) ≡ Some (latest_after (offered middle.heard number) middle.heard number)
-        → Goes (λ id. event ≡ Some id) before (Some middle) → offered (option_and_then (λ held. held.heard) before) number ≡ Taken
-        → Hears (event ≡ Some life.born) (ear_in life before) (ear_in life (Some after)) number shown
+    by_way : (before : Option HeldDialog) → is_id middle.born life.born ≡ true
+        → ear_in life (Some after) ≡ Some
+        (latest_after (offered middle.heard number) middle.heard number)
+        → Goes (λ id. event ≡ Some id) before (Some middle)
+        → offered (option_and_then (λ held. held.heard) before) number ≡ Taken
+        → Hears (event ≡ Some life.born) (ear_in life before)
+        (ear_in life (Some after)) number shown
     by_way None own_middle now (inl stays) offer = absurd stays
     by_way (Some held) own_middle now (inl stays) offer = record {
       last = middle.heard;
-      was = inl (λ i. if (ap (λ id. is_id id life.born) (sym stays.0) ∙ own_middle) i then Some (sym stays.1 i) else None);
+      was = inl (λ i. if (ap (λ id. is_id id life.born) (sym stays.0) ∙ own_middle) i
+          then Some (sym stays.1 i) else None);
       now = inr now;
-      shows = is ∙ ap (λ o. taken o number) (sym offer) ∙ ap (λ h. taken (offered h number) number) (sym stays.1);
+      shows = is ∙ ap (λ o. taken o number) (sym offer)
+          ∙ ap (λ h. taken (offered h number) number) (sym stays.1);
     }
     by_way before own_middle now (inr begins) offer = record {
       last = middle.heard;
-      was = inr (begins.0 ∙ ap (λ id. Some id) (id_exact middle.born life.born own_middle), begins.1);
+      was = inr (
+        begins.0 ∙ ap (λ id. Some id) (id_exact middle.born life.born own_middle),
+        begins.1,
+      );
       now = inr now;
       shows = is ∙ ap (λ h. taken (offered h number) number) (sym begins.1);
     }
 
-pub taken_so : (event : Option Id) (life : DialogLife) (number : ℕ) (before after : Option HeldDialog) (b : Bool) (outs : List CallOut) → is_own life after ≡ b
-    → HeardAt (λ id. event ≡ Some id) (Some number) before after → offered (option_and_then (λ held. held.heard) before) number ≡ Taken → map (λ out. number) (filter is_response outs) ≡ number ∷ []
-    → Listens (event ≡ Some life.born) (ear_in life before) (ear_in life after) (in_life b (Some number)) (told_of (in_life b (Some number)) outs)
-taken_so event life number before after false outs own heard offer is = (inl (deaf life after own), refl)
+pub taken_so : (event : Option Id) (life : DialogLife) (number : ℕ)
+    (before after : Option HeldDialog) (b : Bool) (outs : List CallOut) → is_own life after ≡ b
+    → HeardAt (λ id. event ≡ Some id) (Some number) before after
+    → offered (option_and_then (λ held. held.heard) before) number ≡ Taken
+    → map (λ out. number) (filter is_response outs) ≡ number ∷ []
+    → Listens (event ≡ Some life.born) (ear_in life before) (ear_in life after)
+    (in_life b (Some number)) (told_of (in_life b (Some number)) outs)
+taken_so event life number before after false outs own heard offer is =
+    (inl (deaf life after own), refl)
 taken_so event life number before None true outs own heard offer is = absurd cc
-taken_so event life number before (Some after) true outs own heard offer is = by_middle heard.0 heard.1 heard.2
+taken_so event life number before (Some after) true outs own heard offer is =
+    by_middle heard.0 heard.1 heard.2
   where
-    by_middle : (middle : Option HeldDialog) → Goes (λ id. event ≡ Some id) before middle → Stays (option_map (hearing number) middle) (Some after)
-        → Hears (event ≡ Some life.born) (ear_in life before) (ear_in life (Some after)) number (map (λ out. number) (filter is_response outs))
+    by_middle : (middle : Option HeldDialog) → Goes (λ id. event ≡ Some id) before middle
+        → Stays (option_map (hearing number) middle) (Some after)
+        → Hears (event ≡ Some life.born) (ear_in life before) (ear_in life (Some after)) number
+        (map (λ out. number) (filter is_response outs))
     by_middle None goes stays = absurd stays
-    by_middle (Some middle) goes stays = taken_held event life number before middle after (map (λ out. number) (filter is_response outs)) goes stays.0 stays.1 own offer is
+    by_middle (Some middle) goes stays =
+        taken_held event life number before middle after
+        (map (λ out. number) (filter is_response outs)) goes stays.0 stays.1 own offer is
 
 -- where it isn't, nothing changes and nothing is told
-pub passed_so : (Begins : Type 0) (life : DialogLife) (number : ℕ) (held : Option HeldDialog) (offer : Offer) (b : Bool) → is_own life held ≡ b
-    → offered (option_and_then (λ held. held.heard) held) number ≡ offer → taken offer number ≡ [] → ((last : Option ℕ) → latest_after offer last number ≡ last)
-    → Listens Begins (ear_in life held) (ear_in life held) (in_life b (Some number)) (told_of (in_life b (Some number)) [])
+pub passed_so : (Begins : Type 0) (life : DialogLife) (number : ℕ) (held : Option HeldDialog)
+    (offer : Offer) (b : Bool) → is_own life held ≡ b
+    → offered (option_and_then (λ held. held.heard) held) number ≡ offer → taken offer number ≡ []
+    → ((last : Option ℕ) → latest_after offer last number ≡ last)
+    → Listens Begins (ear_in life held) (ear_in life held) (in_life b (Some number))
+    (told_of (in_life b (Some number)) [])
 passed_so Begins life number held offer false own is none same = (inl (deaf life held own), refl)
 passed_so Begins life number None offer true own is none same = absurd cc
 passed_so Begins life number (Some held) offer true own is none same =
-    let now : ear_in life (Some held) ≡ Some held.heard = λ i. if own i then Some held.heard else None in
+    let now : ear_in life (Some held) ≡ Some held.heard =
+    λ i. if own i then Some held.heard else None in
     record {
       last = held.heard;
       was = inl now;
-      now = inr (now ∙ ap (λ h. Some h) (sym (ap (λ o. latest_after o held.heard number) is ∙ same held.heard)));
+      now = inr (now ∙ ap (λ h. Some h)
+          (sym (ap (λ o. latest_after o held.heard number) is ∙ same held.heard)));
       shows = sym (ap (λ o. taken o number) is ∙ none);
     }

@@ -34,7 +34,8 @@ use Rattle.sip_served.proofs.Heard.{AreApart, Leads, leads_changed, leads_same, 
 use Rattle.sip_clients.proofs.Hearing.{Listens}
 
 -- nothing is heard of other requests
-unheard_again : (own : DialogLife) (case : ReplyCase) (named : Bool) → heard_number case (Again own) named ≡ None
+unheard_again : (own : DialogLife) (case : ReplyCase) (named : Bool)
+    → heard_number case (Again own) named ≡ None
 unheard_again own reply.Final named = refl
 unheard_again own reply.Repeated named = refl
 unheard_again own reply.Accepted named = refl
@@ -44,7 +45,8 @@ unheard_again own reply.Passed named = refl
 unheard_again own reply.Early named = refl
 unheard_again own reply.Told named = refl
 
-unheard_inside : (own : DialogLife) (case : ReplyCase) (named : Bool) → heard_number case (Inside own) named ≡ None
+unheard_inside : (own : DialogLife) (case : ReplyCase) (named : Bool)
+    → heard_number case (Inside own) named ≡ None
 unheard_inside own reply.Final named = refl
 unheard_inside own reply.Repeated named = refl
 unheard_inside own reply.Accepted named = refl
@@ -71,38 +73,62 @@ module _ (life : DialogLife) where
   abbrev pub ear : Dialogs → Option (Option ℕ)
   ear dialogs = ear_in life (dialog_at life.name dialogs)
 
-  -- what was heard is so, after what makes such dialogs of these, where this number may have come and this is given
+  -- what was heard is so, after what makes such dialogs of these, where this number may have come
+  -- and this is given
   abbrev pub ResultOf : Option Id → Dialogs → Dialogs → Option ℕ → List CallOut → Type 0
   ResultOf event before after number outs =
-      AreApart after × Listens (event ≡ Some life.born) (ear before) (ear after) (in_life (lives after life) number) (told_of (in_life (lives after life) number) outs)
+      AreApart after × Listens (event ≡ Some life.born) (ear before) (ear after)
+      (in_life (lives after life) number) (told_of (in_life (lives after life) number) outs)
 
-  pub silent : (event : Option Id) (before after : Dialogs) (outs : List CallOut) → Leads (λ id. event ≡ Some id) before after → ResultOf event before after None outs
-  silent event before after outs leads =
-      (leads.apart, no_number (event ≡ Some life.born) (lives after life) (ear before) (ear after) outs (silent_from event life (dialog_at life.name before) (dialog_at life.name after) (leads.goes life.name)))
+  pub silent : (event : Option Id) (before after : Dialogs) (outs : List CallOut)
+      → Leads (λ id. event ≡ Some id) before after → ResultOf event before after None outs
+  silent event before after outs leads = (
+    leads.apart,
+    no_number (event ≡ Some life.born) (lives after life) (ear before)
+        (ear after) outs (silent_from event life (dialog_at life.name before)
+        (dialog_at life.name after) (leads.goes life.name)),
+  )
 
   -- ---- a response
 
-  module _ (call : Option Id) (event : Event) (made : call ≡ Some event.id) (id : Id) (call_id : List ℕ) (response : Message) (side : Side) (apart : AreApart side.dialogs) where
+  module _ (call : Option Id) (event : Event) (made : call ≡ Some event.id) (id : Id)
+      (call_id : List ℕ) (response : Message) (side : Side) (apart : AreApart side.dialogs) where
     abbrev pub SideResult : Option ℕ → ClientTaken → Type 0
     SideResult number taken = ResultOf call side.dialogs (taken.0).dialogs number taken.1
 
     unchanged : SideResult None (side, [])
-    unchanged = silent call side.dialogs side.dialogs [] (leads_same (λ id. call ≡ Some id) side.dialogs apart)
+    unchanged = silent call side.dialogs side.dialogs []
+        (leads_same (λ id. call ≡ Some id) side.dialogs apart)
 
     abbrev answer_for : ℕ → Client → Answer
-    answer_for status client = record { event = event; id = id; call_id = call_id; name = reply_name client.asks client response; status = status; response = response }
+    answer_for status client = record {
+      event = event;
+      id = id;
+      call_id = call_id;
+      name = reply_name client.asks client response;
+      status = status;
+      response = response;
+    }
 
     abbrev number_at : Option ℕ → Client → Option ℕ
-    number_at status client = if is_for OfTheCall life id client client.asks response then provisional_number status response else None
+    number_at status client = if is_for OfTheCall life id client client.asks response
+        then provisional_number status response else None
 
     -- all of it, for the request that is found
-    settled_at : (status : ℕ) (client : Client) (number : Option ℕ) → client_at id side.clients ≡ Some client
-        → ((clients : Clients) → ResultOf call side.dialogs (reply_taken client side.dialogs (answer_for status client)).1 number (given (answer_for status client) (reply_taken client side.dialogs (answer_for status client)) clients))
+    settled_at : (status : ℕ) (client : Client) (number : Option ℕ)
+        → client_at id side.clients ≡ Some client
+        → ((clients : Clients) → ResultOf call side.dialogs
+        (reply_taken client side.dialogs (answer_for status client)).1 number
+        (given (answer_for status client)
+        (reply_taken client side.dialogs (answer_for status client)) clients))
         → SideResult number (reply_settled (answer_for status client) side)
     settled_at status client number is result =
         let answer = answer_for status client in
         let clients = (replied_at answer side.dialogs side.clients).0 in
-        let P : Option Client → Type 0 = λ o. ResultOf call side.dialogs (option_map_or (λ client. (reply_taken client side.dialogs answer).1) o side.dialogs) number
+        let P : Option Client → Type 0 =
+        λ o. ResultOf call side.dialogs
+        (option_map_or (λ client. (reply_taken client side.dialogs answer).1) o side.dialogs)
+        number
         (given answer (
           client,
           side.dialogs,
@@ -111,64 +137,97 @@ module _ (life : DialogLife) where
         ) clients) in
         subst P (sym is) (result clients)
 
-    by_asks : (status : ℕ) (client : Client) (asks : Asks) → client_at id side.clients ≡ Some (with_asks asks client)
-        → SideResult (number_at (Some status) (with_asks asks client)) (reply_settled (answer_for status (with_asks asks client)) side)
+    by_asks : (status : ℕ) (client : Client) (asks : Asks)
+        → client_at id side.clients ≡ Some (with_asks asks client)
+        → SideResult (number_at (Some status) (with_asks asks client))
+        (reply_settled (answer_for status (with_asks asks client)) side)
     by_asks status client First is =
         let answer = answer_for status (first client) in
         settled_at status (first client) (number_at (Some status) (first client)) is
-        (λ clients. first_replied call life client answer side.dialogs apart made clients (is_named life.name answer.name) refl)
+        (λ clients. first_replied call life client answer side.dialogs apart made clients
+        (is_named life.name answer.name) refl)
     by_asks status client (Again own) is =
         settled_at status (with_asks (Again own) client) None is
-        (λ clients. other_replied call life client (answer_for status (with_asks (Again own) client)) side.dialogs apart made (with_asks (Again own) client) clients (unheard_again own))
+        (λ clients. other_replied call life client
+        (answer_for status (with_asks (Again own) client)) side.dialogs apart made
+        (with_asks (Again own) client) clients (unheard_again own))
     by_asks status client (Inside own) is =
         settled_at status (with_asks (Inside own) client) None is
-        (λ clients. other_replied call life client (answer_for status (with_asks (Inside own) client)) side.dialogs apart made (with_asks (Inside own) client) clients (unheard_inside own))
+        (λ clients. other_replied call life client
+        (answer_for status (with_asks (Inside own) client)) side.dialogs apart made
+        (with_asks (Inside own) client) clients (unheard_inside own))
     by_asks status client Plain is =
         settled_at status (with_asks Plain client) None is
-        (λ clients. other_replied call life client (answer_for status (with_asks Plain client)) side.dialogs apart made (with_asks Plain client) clients unheard_plain)
+        (λ clients. other_replied call life client
+        (answer_for status (with_asks Plain client)) side.dialogs apart made
+        (with_asks Plain client) clients unheard_plain)
 
     by_client : (status : Option ℕ) (o : Option Client) → client_at id side.clients ≡ o
-        → SideResult (option_and_then (number_at status) o) (named_taken event id call_id response status (option_map (λ client. reply_name client.asks client response) o) side)
+        → SideResult (option_and_then (number_at status) o)
+        (named_taken event id call_id response status
+        (option_map (λ client. reply_name client.asks client response) o) side)
     by_client None None is = unchanged
     by_client (Some status) None is = unchanged
     by_client None (Some client) is =
-        subst (λ number. SideResult number (side, [])) (sym (none_in_life (is_for OfTheCall life id client client.asks response))) unchanged
+        subst (λ number. SideResult number (side, []))
+        (sym (none_in_life (is_for OfTheCall life id client client.asks response))) unchanged
     by_client (Some status) (Some client) is = by_asks status client client.asks is
 
-    pub response_step : SideResult (option_and_then (number_for OfTheCall life id response) (client_at id side.clients)) (response_taken event id call_id response side)
+    pub response_step : SideResult
+        (option_and_then (number_for OfTheCall life id response) (client_at id side.clients))
+        (response_taken event id call_id response side)
     response_step = by_client (status_of response.start) (client_at id side.clients) refl
 
 -- ---- a request that is lost, and commands of the user
 
-pub lost_leads : (event : Option Id) (id : Id) (timed_out : Bool) (o : Option Client) (side : Side) → AreApart side.dialogs
+pub lost_leads : (event : Option Id) (id : Id) (timed_out : Bool) (o : Option Client) (side : Side)
+    → AreApart side.dialogs
     → Leads (λ id. event ≡ Some id) side.dialogs ((lost_of id timed_out o side).0).dialogs
-lost_leads event id timed_out None side apart = leads_same (λ id. event ≡ Some id) side.dialogs apart
-lost_leads event id timed_out (Some client) side apart = ended_leads (λ id. event ≡ Some id) client timed_out side.dialogs apart
+lost_leads event id timed_out None side apart =
+    leads_same (λ id. event ≡ Some id) side.dialogs apart
+lost_leads event id timed_out (Some client) side apart =
+    ended_leads (λ id. event ≡ Some id) client timed_out side.dialogs apart
 
 module _ (Makes : Id → Type 0) where
-  pub request_leads : (event : Event) (command : DialogRequest) (side : Side) → AreApart side.dialogs → Leads Makes side.dialogs ((request_taken event command side).0).dialogs
+  pub request_leads : (event : Event) (command : DialogRequest) (side : Side)
+      → AreApart side.dialogs → Leads Makes side.dialogs
+      ((request_taken event command side).0).dialogs
   unfolding requested_by
   request_leads event command side apart =
       let name = name_in command.local_tag command.remote_tag in
       let done = requested_by name event command side.dialogs in
       leads_then Makes side.dialogs done.0 (bye_ended name command.method done.1 done.0).0
-      (leads_changed Makes name (requesting event command.method command.body) (requesting_keeps event command.method command.body) side.dialogs apart)
+      (leads_changed Makes name (requesting event command.method command.body)
+      (requesting_keeps event command.method command.body) side.dialogs apart)
       (bye_leads Makes name command.method done.1 done.0)
 
-  by_ack : (event : Event) (command : DialogBody) (side : Side) (o : Result Debt Refusal) → AreApart side.dialogs
-      → Leads Makes side.dialogs ((paid_or_refused event command (ack_paid event command (name_in command.local_tag command.remote_tag)) o side).0).dialogs
+  by_ack : (event : Event) (command : DialogBody) (side : Side) (o : Result Debt Refusal)
+      → AreApart side.dialogs
+      → Leads Makes side.dialogs ((paid_or_refused event command
+      (ack_paid event command (name_in command.local_tag command.remote_tag)) o side).0).dialogs
   by_ack event command side (Err refusal) apart = leads_same Makes side.dialogs apart
   by_ack event command side (Ok debt) apart =
-      leads_changed Makes (name_in command.local_tag command.remote_tag) (paying event debt command.body) (paying_keeps event debt command.body) side.dialogs apart
+      leads_changed Makes (name_in command.local_tag command.remote_tag)
+      (paying event debt command.body) (paying_keeps event debt command.body) side.dialogs apart
 
-  pub ack_leads : (event : Event) (command : DialogBody) (side : Side) → AreApart side.dialogs → Leads Makes side.dialogs ((ack_taken event command side).0).dialogs
-  ack_leads event command side apart = by_ack event command side (debt_for kind.Ack (name_in command.local_tag command.remote_tag) side.dialogs) apart
+  pub ack_leads : (event : Event) (command : DialogBody) (side : Side) → AreApart side.dialogs
+      → Leads Makes side.dialogs ((ack_taken event command side).0).dialogs
+  ack_leads event command side apart =
+      by_ack event command side (debt_for kind.Ack
+      (name_in command.local_tag command.remote_tag) side.dialogs) apart
 
-  by_prack : (event : Event) (command : DialogBody) (side : Side) (o : Result Debt Refusal) → AreApart side.dialogs
-      → Leads Makes side.dialogs ((paid_or_refused event command (prack_paid event command (name_in command.local_tag command.remote_tag)) o side).0).dialogs
+  by_prack : (event : Event) (command : DialogBody) (side : Side) (o : Result Debt Refusal)
+      → AreApart side.dialogs
+      → Leads Makes side.dialogs ((paid_or_refused event command
+      (prack_paid event command (name_in command.local_tag command.remote_tag)) o
+      side).0).dialogs
   by_prack event command side (Err refusal) apart = leads_same Makes side.dialogs apart
   by_prack event command side (Ok debt) apart =
-      leads_changed Makes (name_in command.local_tag command.remote_tag) (paying event debt command.body) (paying_keeps event debt command.body) side.dialogs apart
+      leads_changed Makes (name_in command.local_tag command.remote_tag)
+      (paying event debt command.body) (paying_keeps event debt command.body) side.dialogs apart
 
-  pub prack_leads : (event : Event) (command : DialogBody) (side : Side) → AreApart side.dialogs → Leads Makes side.dialogs ((prack_taken event command side).0).dialogs
-  prack_leads event command side apart = by_prack event command side (debt_for kind.Prack (name_in command.local_tag command.remote_tag) side.dialogs) apart
+  pub prack_leads : (event : Event) (command : DialogBody) (side : Side) → AreApart side.dialogs
+      → Leads Makes side.dialogs ((prack_taken event command side).0).dialogs
+  prack_leads event command side apart =
+      by_prack event command side (debt_for kind.Prack
+      (name_in command.local_tag command.remote_tag) side.dialogs) apart

@@ -1,5 +1,5 @@
--- Numbers that come one after the other, where each is shown by what was heard before it: in a life that one event begins, those in
--- order are shown.
+-- Numbers that come one after the other, where each is shown by what was heard before it: in a life
+-- that one event begins, those in order are shown.
 use Rattle.std.proofs.Common.{◌≡◌, ◌⊎◌, inl, inr, ℕ, List, [], ◌∷◌, ◌++◌, true, false, refl, sym, ap, subst, ◌∙◌, append_assoc, append-nil, arith}
 use Rattle.std.specs.Prelude.{Option, None, Some, unwrap_or}
 use Rattle.std.specs.List.{AllByRecursion, IsDistinct, filter_map, cons_option}
@@ -19,7 +19,8 @@ abbrev pub Silent : Type 0 → Option (Option ℕ) → Option (Option ℕ) → T
 Silent Begins before after = (after ≡ None) ⊎ ((after ≡ before) ⊎ (Begins × (after ≡ Some None)))
 
 -- a number came, in a life that was there or that begins
-pub record Hears (Begins : Type 0) (before after : Option (Option ℕ)) (number : ℕ) (shown : List ℕ) : Type 0 where
+pub record Hears (Begins : Type 0) (before after : Option (Option ℕ)) (number : ℕ)
+    (shown : List ℕ) : Type 0 where
   pub last : Option ℕ
   pub was : (before ≡ Some last) ⊎ (Begins × (last ≡ None))
   pub now : (after ≡ None) ⊎ (after ≡ Some (latest_after (offered last number) last number))
@@ -41,15 +42,21 @@ id_itself x = grind (arith, common_steps)
 abbrev NoneOf : Id → List Id → Type 0
 NoneOf born ids = AllByRecursion (λ id. is_id born id ≡ false) ids
 
-none_now : (born : Id) (o : Option Id) (rest : List Id) → NoneOf born (cons_option o rest) → (o ≡ Some born → ⊥) × NoneOf born rest
+none_now : (born : Id) (o : Option Id) (rest : List Id) → NoneOf born (cons_option o rest)
+    → (o ≡ Some born → ⊥) × NoneOf born rest
 none_now born None rest all = (λ e. absurd cc, all)
-none_now born (Some id) rest all =
-    (λ e. absurd (false≢true (sym all.0 ∙ ap (is_id born) (same_id id born e) ∙ id_itself born)), all.1)
+none_now born (Some id) rest all = (
+  λ e. absurd (false≢true (sym all.0 ∙ ap (is_id born) (same_id id born e) ∙ id_itself born)),
+  all.1,
+)
 
-apart_now : (born : Id) (o : Option Id) (rest : List Id) → IsDistinct is_id (cons_option o rest) → IsDistinct is_id rest × (o ≡ Some born → NoneOf born rest)
+apart_now : (born : Id) (o : Option Id) (rest : List Id) → IsDistinct is_id (cons_option o rest)
+    → IsDistinct is_id rest × (o ≡ Some born → NoneOf born rest)
 apart_now born None rest apart = (apart, λ e. absurd cc)
-apart_now born (Some id) rest apart =
-    (IsDistinct-tail is_id id rest apart, λ e. subst (λ x. NoneOf x rest) (same_id id born e) (IsDistinct-head is_id id rest apart))
+apart_now born (Some id) rest apart = (
+  IsDistinct-tail is_id id rest apart,
+  λ e. subst (λ x. NoneOf x rest) (same_id id born e) (IsDistinct-head is_id id rest apart),
+)
 
 abbrev InOrderFrom : List ℕ → List ℕ → List ℕ → Type 0
 InOrderFrom before shown came = in_order before ++ shown ≡ in_order (before ++ came)
@@ -59,7 +66,8 @@ abbrev Heard : Option (Option ℕ) → List ℕ → Type 0
 Heard ear before = (ear ≡ None) ⊎ (ear ≡ Some (latest before))
 
 -- one number more
-one_more : (before : List ℕ) (last : Option ℕ) (n : ℕ) (now shown came : List ℕ) → last ≡ latest before → now ≡ taken (offered last n) n
+one_more : (before : List ℕ) (last : Option ℕ) (n : ℕ) (now shown came : List ℕ)
+    → last ≡ latest before → now ≡ taken (offered last n) n
     → InOrderFrom (before ++ n ∷ []) shown came → InOrderFrom before (now ++ shown) (n ∷ came)
 one_more before last n now shown came is shown_now later =
     ap (λ xs. in_order before ++ (xs ++ shown)) shown_now
@@ -67,37 +75,49 @@ one_more before last n now shown came is shown_now later =
     ∙ ap (λ xs. xs ++ shown) (sym (takes last (offered last n) before n refl is))
     ∙ later ∙ ap in_order (append_assoc before (n ∷ []) came)
 
-last_is : (before : List ℕ) (ear : Option (Option ℕ)) (last : Option ℕ) → Heard ear before → ear ≡ Some last → last ≡ latest before
+last_is : (before : List ℕ) (ear : Option (Option ℕ)) (last : Option ℕ) → Heard ear before
+    → ear ≡ Some last → last ≡ latest before
 last_is before ear last (inl none) is = absurd cc
 last_is before ear last (inr heard) is = ap (λ o. unwrap_or o last) (sym is ∙ heard)
 
-heard_next : (before : List ℕ) (n : ℕ) (last : Option ℕ) (ear : Option (Option ℕ)) → last ≡ latest before
-    → ((ear ≡ None) ⊎ (ear ≡ Some (latest_after (offered last n) last n))) → Heard ear (before ++ n ∷ [])
+heard_next : (before : List ℕ) (n : ℕ) (last : Option ℕ) (ear : Option (Option ℕ))
+    → last ≡ latest before
+    → ((ear ≡ None) ⊎ (ear ≡ Some (latest_after (offered last n) last n)))
+    → Heard ear (before ++ n ∷ [])
 heard_next before n last ear is (inl none) = inl none
-heard_next before n last ear is (inr now) = inr (now ∙ ap (λ l. Some l) (stays last (latest_after (offered last n) last n) (offered last n) before n refl refl is))
+heard_next before n last ear is (inr now) =
+    inr (now ∙ ap (λ l. Some l) (stays last (latest_after (offered last n) last n)
+    (offered last n) before n refl refl is))
 
-still_heard : (Begins : Type 0) (before : List ℕ) (old new : Option (Option ℕ)) → (Begins → ⊥) → Heard old before → Silent Begins old new → Heard new before
+still_heard : (Begins : Type 0) (before : List ℕ) (old new : Option (Option ℕ)) → (Begins → ⊥)
+    → Heard old before → Silent Begins old new → Heard new before
 still_heard Begins before old new never heard (inl none) = inl none
 still_heard Begins before old new never (inl none) (inr (inl same)) = inl (same ∙ none)
 still_heard Begins before old new never (inr is) (inr (inl same)) = inr (same ∙ is)
 still_heard Begins before old new never heard (inr (inr begins)) = absurd (never begins.0)
 
 -- in the life
-in_life : (Begins : Type 0) (before : List ℕ) (old new : Option (Option ℕ)) (o : Option ℕ) (now shown came : List ℕ) → (Begins → ⊥) → Heard old before → Listens Begins old new o now
-    → ((so_far : List ℕ) → Heard new so_far → InOrderFrom so_far shown came) → InOrderFrom before (now ++ shown) (option_to_list o ++ came)
+in_life : (Begins : Type 0) (before : List ℕ) (old new : Option (Option ℕ)) (o : Option ℕ)
+    (now shown came : List ℕ) → (Begins → ⊥) → Heard old before → Listens Begins old new o now
+    → ((so_far : List ℕ) → Heard new so_far → InOrderFrom so_far shown came)
+    → InOrderFrom before (now ++ shown) (option_to_list o ++ came)
 in_life Begins before old new None now shown came never heard silent later =
-    subst (λ xs. InOrderFrom before (xs ++ shown) came) (sym silent.1) (later before (still_heard Begins before old new never heard silent.0))
+    subst (λ xs. InOrderFrom before (xs ++ shown) came) (sym silent.1)
+    (later before (still_heard Begins before old new never heard silent.0))
 in_life Begins before old new (Some n) now shown came never heard hears later =
     let is : hears.last ≡ latest before = by_was hears.was in
-    one_more before hears.last n now shown came is hears.shows (later (before ++ n ∷ []) (heard_next before n hears.last new is hears.now))
+    one_more before hears.last n now shown came is hears.shows
+    (later (before ++ n ∷ []) (heard_next before n hears.last new is hears.now))
   where
     by_was : ((old ≡ Some hears.last) ⊎ (Begins × (hears.last ≡ None))) → hears.last ≡ latest before
     by_was (inl is) = last_is before old hears.last heard is
     by_was (inr begins) = absurd (never begins.0)
 
 -- before it
-before_life : (Begins : Type 0) (old new : Option (Option ℕ)) (o : Option ℕ) (now shown came : List ℕ) → old ≡ None → Listens Begins old new o now
-    → (Begins → (so_far : List ℕ) → Heard new so_far → InOrderFrom so_far shown came) → (new ≡ None → InOrderFrom [] shown came)
+before_life : (Begins : Type 0) (old new : Option (Option ℕ)) (o : Option ℕ)
+    (now shown came : List ℕ) → old ≡ None → Listens Begins old new o now
+    → (Begins → (so_far : List ℕ) → Heard new so_far → InOrderFrom so_far shown came)
+    → (new ≡ None → InOrderFrom [] shown came)
     → InOrderFrom [] (now ++ shown) (option_to_list o ++ came)
 before_life Begins old new None now shown came none silent begun later =
     subst (λ xs. InOrderFrom [] (xs ++ shown) came) (sym silent.1) (by_silence silent.0)
@@ -108,45 +128,59 @@ before_life Begins old new None now shown came none silent begun later =
     by_silence (inr (inr begins)) = begun begins.0 [] (inr begins.1)
 before_life Begins old new (Some n) now shown came none hears begun later = by_was hears.was
   where
-    by_was : ((old ≡ Some hears.last) ⊎ (Begins × (hears.last ≡ None))) → InOrderFrom [] (now ++ shown) (n ∷ came)
+    by_was : ((old ≡ Some hears.last) ⊎ (Begins × (hears.last ≡ None)))
+        → InOrderFrom [] (now ++ shown) (n ∷ came)
     by_was (inl is) = absurd (never (sym none ∙ is))
       where
         never : None ≡ Some hears.last → ⊥
         never e = absurd cc
-    by_was (inr begins) = one_more [] hears.last n now shown came begins.1 hears.shows (begun begins.0 (n ∷ []) (heard_next [] n hears.last new begins.1 hears.now))
+    by_was (inr begins) = one_more [] hears.last n now shown came begins.1 hears.shows
+        (begun begins.0 (n ∷ []) (heard_next [] n hears.last new begins.1 hears.now))
 
 -- ---- all inputs
 
-module _ {S I : Type 0} (next : S → I → S) (event : I → Option Id) (number : S → I → Option ℕ) (shows : S → I → List ℕ) (ear : S → Option (Option ℕ)) (Sound : S → Type 0) (born : Id)
+module _ {S I : Type 0} (next : S → I → S) (event : I → Option Id) (number : S → I → Option ℕ)
+    (shows : S → I → List ℕ) (ear : S → Option (Option ℕ)) (Sound : S → Type 0) (born : Id)
     (step : (state : S) (input : I) → Sound state → (event input ≡ Some born → ear state ≡ None)
-    → Sound (next state input) × Listens (event input ≡ Some born) (ear state) (ear (next state input)) (number state input) (shows state input)) where
+    → Sound (next state input) × Listens (event input ≡ Some born) (ear state)
+    (ear (next state input)) (number state input) (shows state input)) where
   abbrev pub came_from : S → List I → List ℕ
   came_from state [] = []
-  came_from state (input ∷ inputs) = option_to_list (number state input) ++ came_from (next state input) inputs
+  came_from state (input ∷ inputs) =
+      option_to_list (number state input) ++ came_from (next state input) inputs
 
   abbrev pub shown_from : S → List I → List ℕ
   shown_from state [] = []
   shown_from state (input ∷ inputs) = shows state input ++ shown_from (next state input) inputs
 
-  from_life : (inputs : List I) (state : S) (before : List ℕ) → Sound state → NoneOf born (filter_map event inputs) → Heard (ear state) before
+  from_life : (inputs : List I) (state : S) (before : List ℕ) → Sound state
+      → NoneOf born (filter_map event inputs) → Heard (ear state) before
       → InOrderFrom before (shown_from state inputs) (came_from state inputs)
-  from_life [] state before sound others heard = append-nil (in_order before) ∙ ap in_order (sym (append-nil before))
+  from_life [] state before sound others heard =
+      append-nil (in_order before) ∙ ap in_order (sym (append-nil before))
   from_life (input ∷ inputs) state before sound others heard =
       let now = none_now born (event input) (filter_map event inputs) others in
       let done = step state input sound (λ is. absurd (now.0 is)) in
-      in_life (event input ≡ Some born) before (ear state) (ear (next state input)) (number state input) (shows state input) (shown_from (next state input) inputs) (came_from (next state input) inputs)
+      in_life (event input ≡ Some born) before (ear state) (ear (next state input))
+      (number state input) (shows state input) (shown_from (next state input) inputs)
+      (came_from (next state input) inputs)
       now.0 heard done.1 (λ so_far. from_life inputs (next state input) so_far done.0 now.1)
 
-  from_before : (inputs : List I) (state : S) → Sound state → IsDistinct is_id (filter_map event inputs) → ear state ≡ None
+  from_before : (inputs : List I) (state : S) → Sound state
+      → IsDistinct is_id (filter_map event inputs) → ear state ≡ None
       → InOrderFrom [] (shown_from state inputs) (came_from state inputs)
   from_before [] state sound apart none = refl
   from_before (input ∷ inputs) state sound apart none =
       let now = apart_now born (event input) (filter_map event inputs) apart in
       let done = step state input sound (λ _. none) in
-      before_life (event input ≡ Some born) (ear state) (ear (next state input)) (number state input) (shows state input) (shown_from (next state input) inputs) (came_from (next state input) inputs)
-      none done.1 (λ begins so_far. from_life inputs (next state input) so_far done.0 (now.1 begins)) (λ gone. from_before inputs (next state input) done.0 now.0 gone)
+      before_life (event input ≡ Some born) (ear state) (ear (next state input))
+      (number state input) (shows state input) (shown_from (next state input) inputs)
+      (came_from (next state input) inputs)
+      none done.1 (λ begins so_far. from_life inputs (next state input) so_far done.0
+      (now.1 begins)) (λ gone. from_before inputs (next state input) done.0 now.0 gone)
 
   -- where nothing was heard before, and events differ
-  pub heard_in_order : (inputs : List I) (state : S) → Sound state → IsDistinct is_id (filter_map event inputs) → ear state ≡ None
+  pub heard_in_order : (inputs : List I) (state : S) → Sound state
+      → IsDistinct is_id (filter_map event inputs) → ear state ≡ None
       → shown_from state inputs ≡ in_order (came_from state inputs)
   heard_in_order inputs state sound apart none = from_before inputs state sound apart none

@@ -9,7 +9,8 @@ use Rattle.sip_message.specs.Via.{has_cookie}
 use Rattle.sip_clients.specs.Name.{digit_of, hex, name_of, word_of_name}
 
 -- so many digits are one fewer of the number without its last digit, and that digit
-pub hex-last : (count number : ℕ) → 0 < count → hex count number ≡ hex (count - 1) (number / 16) ++ digit_of (number % 16) ∷ []
+pub hex-last : (count number : ℕ) → 0 < count
+    → hex count number ≡ hex (count - 1) (number / 16) ++ digit_of (number % 16) ∷ []
 unfolding hex
 hex-last zero number some = absurd (omega arith)
 hex-last (suc count) number some = let e : suc count - 1 ≡ count = omega arith in rw e refl
@@ -34,11 +35,17 @@ digit-token (suc (suc (suc (suc (suc (suc (suc (suc zero)))))))) small = refl
 digit-token (suc (suc (suc (suc (suc (suc (suc (suc (suc zero))))))))) small = refl
 digit-token (suc (suc (suc (suc (suc (suc (suc (suc (suc (suc zero)))))))))) small = refl
 digit-token (suc (suc (suc (suc (suc (suc (suc (suc (suc (suc (suc zero))))))))))) small = refl
-digit-token (suc (suc (suc (suc (suc (suc (suc (suc (suc (suc (suc (suc zero)))))))))))) small = refl
-digit-token (suc (suc (suc (suc (suc (suc (suc (suc (suc (suc (suc (suc (suc zero))))))))))))) small = refl
-digit-token (suc (suc (suc (suc (suc (suc (suc (suc (suc (suc (suc (suc (suc (suc zero)))))))))))))) small = refl
-digit-token (suc (suc (suc (suc (suc (suc (suc (suc (suc (suc (suc (suc (suc (suc (suc zero))))))))))))))) small = refl
-digit-token (suc (suc (suc (suc (suc (suc (suc (suc (suc (suc (suc (suc (suc (suc (suc (suc n)))))))))))))))) small = absurd (omega arith)
+digit-token (suc (suc (suc (suc (suc (suc (suc (suc (suc (suc (suc (suc zero)))))))))))) small =
+    refl
+digit-token (suc (suc (suc (suc (suc (suc (suc (suc (suc (suc (suc (suc (suc zero)))))))))))))
+    small = refl
+digit-token (suc (suc (suc (suc (suc (suc (suc (suc (suc (suc (suc (suc (suc (suc zero))))))))))))))
+    small = refl
+digit-token (suc (suc (suc (suc
+    (suc (suc (suc (suc (suc (suc (suc (suc (suc (suc (suc zero))))))))))))))) small = refl
+digit-token (suc (suc (suc (suc
+    (suc (suc (suc (suc (suc (suc (suc (suc (suc (suc (suc (suc n)))))))))))))))) small =
+    absurd (omega arith)
 
 hex-token : (count number : ℕ) → list_all is_token_byte (hex count number) ≡ true
 unfolding hex
@@ -50,21 +57,31 @@ hex-token (suc count) number =
 pub length-hex : (count number : ℕ) → length (hex count number) ≡ count
 unfolding hex
 length-hex zero number = refl
-length-hex (suc count) number = omega (arith, length-append (hex count (number / 16)) (digit_of (number % 16) ∷ []), length-hex count (number / 16))
+length-hex (suc count) number =
+    omega (
+      arith,
+      length-append (hex count (number / 16)) (digit_of (number % 16) ∷ []),
+      length-hex count (number / 16),
+    )
 
-run-all : (test : ℕ → Bool) (text : List ℕ) → 0 < length text → list_all test text ≡ true → is_run test text ≡ true
+run-all : (test : ℕ → Bool) (text : List ℕ) → 0 < length text → list_all test text ≡ true
+    → is_run test text ≡ true
 run-all test [] some all = absurd (omega arith)
 run-all test (b ∷ bs) some all = all
 
 -- parts of which each passes pass together
-all-append : (xs ys : List ℕ) → list_all is_token_byte xs ≡ true → list_all is_token_byte ys ≡ true → list_all is_token_byte (xs ++ ys) ≡ true
+all-append : (xs ys : List ℕ) → list_all is_token_byte xs ≡ true → list_all is_token_byte ys ≡ true
+    → list_all is_token_byte (xs ++ ys) ≡ true
 all-append xs ys p q = rw (list_all-append, p, q) refl
 
-name_bytes : (seed : List ℕ) (id : Id) (index : ℕ) → list_all is_token_byte (name_of seed id index) ≡ true
+name_bytes : (seed : List ℕ) (id : Id) (index : ℕ)
+    → list_all is_token_byte (name_of seed id index) ≡ true
 name_bytes seed id index =
     let word = word_of_name seed id index in
     let front : List ℕ = (hex 16 id.round ++ hex 16 id.place) ++ hex 1 index in
-    all-append front (hex 8 word) (all-append (hex 16 id.round ++ hex 16 id.place) (hex 1 index) (all-append (hex 16 id.round) (hex 16 id.place) (hex-token 16 id.round) (hex-token 16 id.place)) (hex-token 1 index)) (hex-token 8 word)
+    all-append front (hex 8 word) (all-append (hex 16 id.round ++ hex 16 id.place) (hex 1 index)
+    (all-append (hex 16 id.round) (hex 16 id.place) (hex-token 16 id.round)
+    (hex-token 16 id.place)) (hex-token 1 index)) (hex-token 8 word)
 
 name_is_long : (seed : List ℕ) (id : Id) (index : ℕ) → 0 < length (name_of seed id index)
 name_is_long seed id index =
@@ -72,18 +89,22 @@ name_is_long seed id index =
     let front : List ℕ = (hex 16 id.round ++ hex 16 id.place) ++ hex 1 index in
     omega (arith, length-append front (hex 8 word), length-hex 8 word)
 
-pub name_is_token : (seed : List ℕ) (id : Id) (index : ℕ) → IsTrue (is_token (name_of seed id index))
+pub name_is_token : (seed : List ℕ) (id : Id) (index : ℕ)
+    → IsTrue (is_token (name_of seed id index))
 unfolding is_token
-name_is_token seed id index = run-all is_token_byte (name_of seed id index) (name_is_long seed id index) (name_bytes seed id index)
+name_is_token seed id index = run-all is_token_byte (name_of seed id index)
+    (name_is_long seed id index) (name_bytes seed id index)
 
 cookie_bytes : list_all is_token_byte (codes "z9hG4bK") ≡ true
 unfolding is_token_byte
 cookie_bytes = refl
 
 -- a branch is a token, and begins with its cookie
-pub branch_is_token : (seed : List ℕ) (id : Id) (index : ℕ) → IsTrue (is_token (codes "z9hG4bK" ++ name_of seed id index))
+pub branch_is_token : (seed : List ℕ) (id : Id) (index : ℕ)
+    → IsTrue (is_token (codes "z9hG4bK" ++ name_of seed id index))
 unfolding is_token
-branch_is_token seed id index = all-append (codes "z9hG4bK") (name_of seed id index) cookie_bytes (name_bytes seed id index)
+branch_is_token seed id index =
+    all-append (codes "z9hG4bK") (name_of seed id index) cookie_bytes (name_bytes seed id index)
 
 pub branch_has_cookie : (name : List ℕ) → IsTrue (has_cookie (codes "z9hG4bK" ++ name))
 unfolding has_cookie

@@ -9,21 +9,34 @@ use Rattle.sip_clients.specs.Name.{digit_of, hex, NamesDiffer}
 -- two texts of two parts each, where the first parts are as long
 module _ (xs ys zs ws : List ℕ) (long : length xs ≡ length ys) (same : xs ++ zs ≡ ys ++ ws) where
   first_parts : xs ≡ ys
-  first_parts = sym (take-append_seam xs zs) ∙ ap (take (length xs)) same ∙ ap (λ n. take n (ys ++ ws)) long ∙ take-append_seam ys ws
+  first_parts = sym (take-append_seam xs zs) ∙ ap (take (length xs)) same
+      ∙ ap (λ n. take n (ys ++ ws)) long ∙ take-append_seam ys ws
 
   last_parts : zs ≡ ws
-  last_parts = sym (drop-append_seam xs zs) ∙ ap (drop (length xs)) same ∙ ap (λ n. drop n (ys ++ ws)) long ∙ drop-append_seam ys ws
+  last_parts = sym (drop-append_seam xs zs) ∙ ap (drop (length xs)) same
+      ∙ ap (λ n. drop n (ys ++ ws)) long ∙ drop-append_seam ys ws
 
 -- a digit tells its value
 digit-injective : (a b : ℕ) → digit_of a ≡ digit_of b → a ≡ b
 digit-injective a b e =
     by_bool (nat_lt a 10)
     (λ small. by_bool (nat_lt b 10)
-    (λ other_small. let f : 48 + a ≡ 48 + b = sym (ap (λ t. if t then 48 + a else 97 + (a - 10)) small) ∙ e ∙ ap (λ t. if t then 48 + b else 97 + (b - 10)) other_small in omega (arith, f))
-    (λ other_large. let f : 48 + a ≡ 97 + (b - 10) = sym (ap (λ t. if t then 48 + a else 97 + (a - 10)) small) ∙ e ∙ ap (λ t. if t then 48 + b else 97 + (b - 10)) other_large in omega (arith, f, ltb-true a 10 small, ltb-false b 10 other_large)))
+    (λ other_small. let f : 48 + a ≡ 48
+    + b = sym (ap (λ t. if t then 48 + a else 97 + (a - 10)) small) ∙ e
+    ∙ ap (λ t. if t then 48 + b else 97 + (b - 10)) other_small in omega (arith, f))
+    (λ other_large. let f : 48 + a ≡ 97
+    + (b - 10) = sym (ap (λ t. if t then 48 + a else 97 + (a - 10)) small) ∙ e
+    ∙ ap (λ t. if t then 48 + b else 97 + (b - 10)) other_large in
+    omega (arith, f, ltb-true a 10 small, ltb-false b 10 other_large)))
     (λ large. by_bool (nat_lt b 10)
-    (λ other_small. let f : 97 + (a - 10) ≡ 48 + b = sym (ap (λ t. if t then 48 + a else 97 + (a - 10)) large) ∙ e ∙ ap (λ t. if t then 48 + b else 97 + (b - 10)) other_small in omega (arith, f, ltb-false a 10 large, ltb-true b 10 other_small))
-    (λ other_large. let f : 97 + (a - 10) ≡ 97 + (b - 10) = sym (ap (λ t. if t then 48 + a else 97 + (a - 10)) large) ∙ e ∙ ap (λ t. if t then 48 + b else 97 + (b - 10)) other_large in omega (arith, f, ltb-false a 10 large, ltb-false b 10 other_large)))
+    (λ other_small. let f : 97 + (a - 10) ≡ 48
+    + b = sym (ap (λ t. if t then 48 + a else 97 + (a - 10)) large) ∙ e
+    ∙ ap (λ t. if t then 48 + b else 97 + (b - 10)) other_small in
+    omega (arith, f, ltb-false a 10 large, ltb-true b 10 other_small))
+    (λ other_large. let f : 97 + (a - 10) ≡ 97
+    + (b - 10) = sym (ap (λ t. if t then 48 + a else 97 + (a - 10)) large) ∙ e
+    ∙ ap (λ t. if t then 48 + b else 97 + (b - 10)) other_large in
+    omega (arith, f, ltb-false a 10 large, ltb-false b 10 other_large)))
 
 abbrev head_of : List ℕ → ℕ
 head_of [] = 0
@@ -36,19 +49,25 @@ smaller : (count m : ℕ) → m < 16 ^ suc count → m / 16 < 16 ^ count
 smaller count m lt = omega (arith, lt)
 
 -- so many digits tell a number of so many
-hex-injective : (count m n : ℕ) → m < 16 ^ count → n < 16 ^ count → hex count m ≡ hex count n → m ≡ n
+hex-injective : (count m n : ℕ) → m < 16 ^ count → n < 16 ^ count → hex count m ≡ hex count n
+    → m ≡ n
 unfolding hex
 hex-injective zero m n small other e = omega (arith, small, other)
 hex-injective (suc count) m n small other e =
-    let long : length (hex count (m / 16)) ≡ length (hex count (n / 16)) = length-hex count (m / 16) ∙ sym (length-hex count (n / 16)) in
-    let fronts : hex count (m / 16) ≡ hex count (n / 16) = first_parts _ _ (digit_of (m % 16) ∷ []) (digit_of (n % 16) ∷ []) long e in
-    let lasts : digit_of (m % 16) ≡ digit_of (n % 16) = ap head_of (last_parts (hex count (m / 16)) (hex count (n / 16)) _ _ long e) in
-    joined_again m n count (hex-injective count (m / 16) (n / 16) (smaller count m small) (smaller count n other) fronts) (digit-injective (m % 16) (n % 16) lasts)
+    let long : length (hex count (m / 16)) ≡ length (hex count (n / 16)) =
+    length-hex count (m / 16) ∙ sym (length-hex count (n / 16)) in
+    let fronts : hex count (m / 16) ≡ hex count (n / 16) =
+    first_parts _ _ (digit_of (m % 16) ∷ []) (digit_of (n % 16) ∷ []) long e in
+    let lasts : digit_of (m % 16) ≡ digit_of (n % 16) =
+    ap head_of (last_parts (hex count (m / 16)) (hex count (n / 16)) _ _ long e) in
+    joined_again m n count (hex-injective count (m / 16) (n / 16) (smaller count m small)
+    (smaller count n other) fronts) (digit-injective (m % 16) (n % 16) lasts)
 
 alike : (count m n : ℕ) → length (hex count m) ≡ length (hex count n)
 alike count m n = length-hex count m ∙ sym (length-hex count n)
 
-both : (xs ys zs ws : List ℕ) → length xs ≡ length ys → length zs ≡ length ws → length (xs ++ zs) ≡ length (ys ++ ws)
+both : (xs ys zs ws : List ℕ) → length xs ≡ length ys → length zs ≡ length ws
+    → length (xs ++ zs) ≡ length (ys ++ ws)
 both xs ys zs ws e f = omega (arith, length-append xs zs, length-append ys ws, e, f)
 
 pub names_differ : NamesDiffer
@@ -58,9 +77,15 @@ names_differ seed other_seed id other index other_index r1 r2 p1 p2 i1 i2 same =
     let ax : length a ≡ length x = alike 16 id.round other.round in
     let by : length b ≡ length y = alike 16 id.place other.place in
     let cz : length c ≡ length z = alike 1 index other_index in
-    let three : (a ++ b) ++ c ≡ (x ++ y) ++ z = first_parts ((a ++ b) ++ c) ((x ++ y) ++ z) _ _ (both (a ++ b) (x ++ y) c z (both a x b y ax by) cz) same in
+    let three : (a ++ b) ++ c ≡ (x ++ y) ++ z =
+    first_parts ((a ++ b) ++ c) ((x ++ y) ++ z) _ _
+    (both (a ++ b) (x ++ y) c z (both a x b y ax by) cz) same in
     let two : a ++ b ≡ x ++ y = first_parts (a ++ b) (x ++ y) c z (both a x b y ax by) three in
-    let round : id.round ≡ other.round = hex-injective 16 id.round other.round r1 r2 (first_parts a x b y ax two) in
-    let place : id.place ≡ other.place = hex-injective 16 id.place other.place p1 p2 (last_parts a x b y ax two) in
-    let at : index ≡ other_index = hex-injective 1 index other_index i1 i2 (last_parts (a ++ b) (x ++ y) c z (both a x b y ax by) three) in
+    let round : id.round ≡ other.round =
+    hex-injective 16 id.round other.round r1 r2 (first_parts a x b y ax two) in
+    let place : id.place ≡ other.place =
+    hex-injective 16 id.place other.place p1 p2 (last_parts a x b y ax two) in
+    let at : index ≡ other_index =
+    hex-injective 1 index other_index i1 i2
+    (last_parts (a ++ b) (x ++ y) c z (both a x b y ax by) three) in
     (λ i. record { round = round i; place = place i }, at)

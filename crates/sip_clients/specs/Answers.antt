@@ -1,4 +1,5 @@
--- The 2xx responses that came to an INVITE, by the dialog that each is of (RFC 3261, section 13.2.2.4).
+-- The 2xx responses that came to an INVITE, by the dialog that each is of (RFC 3261, section
+-- 13.2.2.4).
 use Rattle.std.specs.Prelude.{Bool, List, Option}
 use Rattle.std.specs.Map.{lookup}
 use Rattle.std.specs.Option.{is_some, option_and_then}

@@ -28,7 +28,16 @@ client_at id clients = lookup (is_client (client_id id)) clients
 -- a request that was just sent
 abbrev pub client_for : Id → Asks → Message → Addr → Client
 client_for id asks request to =
-    record { id = id; asks = asks; request = request; to = to; cancel = NotAsked; heard = None; answers = []; removal = None }
+    record {
+      id = id;
+      asks = asks;
+      request = request;
+      to = to;
+      cancel = NotAsked;
+      heard = None;
+      answers = [];
+      removal = None;
+    }
 
 -- the held dialogs, and the held client requests
 pub record Side : Type 0 where

@@ -1,5 +1,5 @@
--- The client side of one Call-ID: what each response, loss and command does to the held dialogs and the held client requests, and
--- what is told of it.
+-- The client side of one Call-ID: what each response, loss and command does to the held dialogs and
+-- the held client requests, and what is told of it.
 use Rattle.std.specs.Prelude.{ℕ, Bool, List, [], ◌∷◌, ◌++◌, Option, None, Some, Result, Ok, Err, if◌then◌else◌}
 use Rattle.std.specs.Map.{remove_entry, set_value}
 use Rattle.std.specs.Option.{option_map, option_map_or}
@@ -41,7 +41,8 @@ use Rattle.sip_clients.specs.Replied.{reply_taken}
 -- the request that the event of this id sent is changed so
 abbrev pub client_changed : Id → (Client → Client) → Clients → Clients
 client_changed id change clients =
-    option_map_or (λ client. set_value (is_client (client_id id)) clients (change client)) (client_at id clients) clients
+    option_map_or (λ client. set_value (is_client (client_id id)) clients (change client))
+    (client_at id clients) clients
 
 abbrev pub without : Id → Clients → Clients
 without id clients = remove_entry (is_client (client_id id)) clients
@@ -70,7 +71,8 @@ reply_name (Inside life) client response = life.name
 reply_name Plain client response = name_of_tags (tag_of (client.request).from) (tag_of response.to)
 
 abbrev pub name_at : Id → Message → Clients → Option DialogName
-name_at id response clients = option_map (λ client. reply_name client.asks client response) (client_at id clients)
+name_at id response clients =
+    option_map (λ client. reply_name client.asks client response) (client_at id clients)
 
 abbrev pub status_of : StartLine → Option ℕ
 status_of (start.Request uri) = None
@@ -80,7 +82,8 @@ status_of (start.Response status reason) = Some status
 abbrev pub replied_at : Answer → Dialogs → Clients → Clients × Dialogs × List CallOut × Rest
 replied_at reply dialogs clients = (
   client_changed reply.id (λ client. (reply_taken client dialogs reply).0) clients,
-  option_map_or (λ client. (reply_taken client dialogs reply).1) (client_at reply.id clients) dialogs,
+  option_map_or (λ client. (reply_taken client dialogs reply).1)
+      (client_at reply.id clients) dialogs,
   option_map_or (λ client. (reply_taken client dialogs reply).2) (client_at reply.id clients) [],
   option_map_or (λ client. (reply_taken client dialogs reply).3) (client_at reply.id clients) Stays,
 )
@@ -95,17 +98,26 @@ abbrev pub named_taken : Event → Id → List ℕ → Message → Option ℕ �
 named_taken event id call_id response None name side = quiet side
 named_taken event id call_id response (Some status) None side = quiet side
 named_taken event id call_id response (Some status) (Some name) side =
-    reply_settled record { event = event; id = id; call_id = call_id; name = name; status = status; response = response } side
+    reply_settled record {
+      event = event;
+      id = id;
+      call_id = call_id;
+      name = name;
+      status = status;
+      response = response;
+    } side
 
 -- where its request isn't held, nothing happens
 abbrev pub response_taken : Event → Id → List ℕ → Message → Side → Taken
 response_taken event id call_id response side =
-    named_taken event id call_id response (status_of response.start) (name_at id response side.clients) side
+    named_taken event id call_id response (status_of response.start)
+    (name_at id response side.clients) side
 
 -- ---- a request is lost: its transaction timed out, or its message could not be sent
 
 abbrev pub lost_of : Id → Bool → Option Client → Side → Taken
-lost_of id timed_out None side = (record { dialogs = side.dialogs; clients = without id side.clients }, [])
+lost_of id timed_out None side =
+    (record { dialogs = side.dialogs; clients = without id side.clients }, [])
 lost_of id timed_out (Some client) side =
     let ended = ended_with client timed_out side.dialogs in
     (record { dialogs = ended.0; clients = without id side.clients }, ended.1)
@@ -116,7 +128,8 @@ lost id timed_out side = lost_of id timed_out (client_at id side.clients) side
 -- ---- commands outside of dialogs
 
 abbrev pub invite_taken : Event → Invite → Clients → Clients × List CallOut
-invite_taken event invite clients = started event (client_for event.id First (invite_of event invite) invite.address) clients
+invite_taken event invite clients =
+    started event (client_for event.id First (invite_of event invite) invite.address) clients
 
 abbrev pub plain_taken : Event → PlainCommand → Clients → Clients × List CallOut
 plain_taken event plain clients =
@@ -125,23 +138,27 @@ plain_taken event plain clients =
 
 -- ---- commands in a dialog
 
-abbrev pub request_settled : Event → List CallOut → Rest → List CallOut → Clients → Clients × List CallOut
+abbrev pub request_settled : Event → List CallOut → Rest → List CallOut → Clients
+    → Clients × List CallOut
 request_settled event outs rest ends clients =
     let after = settled event event.id rest clients in (after.0, outs ++ after.1 ++ ends)
 
 abbrev pub request_taken : Event → DialogRequest → Side → Taken
 request_taken event command side =
-    let told = request_told event (name_in command.local_tag command.remote_tag) command side.dialogs in
+    let told = request_told event (name_in command.local_tag command.remote_tag) command
+    side.dialogs in
     let after = request_settled event told.1 told.2 told.3 side.clients in
     (record { dialogs = told.0; clients = after.0 }, after.1)
 
 -- the ACK that the user gave is that of its 2xx
 abbrev pub acked_with : DialogName → SentAck → Client → Client
-acked_with name ack client = record client { answers = insert_entry is_named client.answers name (Some ack) }
+acked_with name ack client =
+    record client { answers = insert_entry is_named client.answers name (Some ack) }
 
 abbrev pub ack_noted : Debt → DialogName → Option SentAck → Clients → Clients
 ack_noted (Ack invite number) name None clients = clients
-ack_noted (Ack invite number) name (Some ack) clients = client_changed invite (acked_with name ack) clients
+ack_noted (Ack invite number) name (Some ack) clients =
+    client_changed invite (acked_with name ack) clients
 ack_noted (Prack rseq number) name ack clients = clients
 
 abbrev pub ack_paid : Event → DialogBody → DialogName → Debt → Side → Taken
@@ -155,17 +172,21 @@ prack_paid event command name debt side =
     let after = settled event event.id told.2 side.clients in
     (record { dialogs = told.0; clients = after.0 }, told.1 ++ after.1)
 
-abbrev pub paid_or_refused : Event → DialogBody → (Debt → Side → Taken) → Result Debt Refusal → Side → Taken
-paid_or_refused event command pay (Err refusal) side = (side, refused_notice event command.call_id refusal ∷ [])
+abbrev pub paid_or_refused : Event → DialogBody → (Debt → Side → Taken) → Result Debt Refusal → Side
+    → Taken
+paid_or_refused event command pay (Err refusal) side =
+    (side, refused_notice event command.call_id refusal ∷ [])
 paid_or_refused event command pay (Ok debt) side = pay debt side
 
 -- each serves the oldest response of the dialog that is owed one
 abbrev pub ack_taken : Event → DialogBody → Side → Taken
 ack_taken event command side =
     let name = name_in command.local_tag command.remote_tag in
-    paid_or_refused event command (ack_paid event command name) (debt_for kind.Ack name side.dialogs) side
+    paid_or_refused event command (ack_paid event command name)
+    (debt_for kind.Ack name side.dialogs) side
 
 abbrev pub prack_taken : Event → DialogBody → Side → Taken
 prack_taken event command side =
     let name = name_in command.local_tag command.remote_tag in
-    paid_or_refused event command (prack_paid event command name) (debt_for kind.Prack name side.dialogs) side
+    paid_or_refused event command (prack_paid event command name)
+    (debt_for kind.Prack name side.dialogs) side

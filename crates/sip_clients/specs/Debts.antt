@@ -1,5 +1,5 @@
--- What is owed in a dialog: the ACKs of 2xx responses and the PRACKs of reliable provisional ones, the oldest first (RFC 3261,
--- section 13.2.2.4; RFC 3262, section 4).
+-- What is owed in a dialog: the ACKs of 2xx responses and the PRACKs of reliable provisional ones,
+-- the oldest first (RFC 3261, section 13.2.2.4; RFC 3262, section 4).
 use Rattle.std.specs.Prelude.{ℕ, Bool, true, false, not, ◌&&◌, ◌==◌, List, [], ◌∷◌, ◌++◌, Option, Some, filter}
 use Rattle.sip_served.specs.declared.debt.Debt.{Debt}
 use Rattle.sip_served.specs.declared.debt.Debt.TheVariants.{Ack, Prack}
@@ -19,10 +19,12 @@ is_of kind.Prack (Ack invite number) = false
 is_of kind.Prack (Prack rseq number) = true
 
 abbrev pub is_same : Debt → Debt → Bool
-is_same (Ack invite number) (Ack other_invite other_number) = is_id invite other_invite && (number == other_number)
+is_same (Ack invite number) (Ack other_invite other_number) =
+    is_id invite other_invite && (number == other_number)
 is_same (Ack invite number) (Prack other_rseq other_number) = false
 is_same (Prack rseq number) (Ack other_invite other_number) = false
-is_same (Prack rseq number) (Prack other_rseq other_number) = (rseq == other_rseq) && (number == other_number)
+is_same (Prack rseq number) (Prack other_rseq other_number) =
+    (rseq == other_rseq) && (number == other_number)
 
 -- ---- a response asks for it: it stays owed where it isn't sent
 

@@ -1,4 +1,5 @@
--- What a response, or the end of a client request, does to the held dialogs (RFC 3261, sections 12.1.2, 12.2.1.2 and 13.2.2).
+-- What a response, or the end of a client request, does to the held dialogs (RFC 3261, sections
+-- 12.1.2, 12.2.1.2 and 13.2.2).
 use Rattle.std.specs.Prelude.{ℕ, Bool, List, [], ◌++◌, Option, None, Some, is_some, if◌then◌else◌}
 use Rattle.std.specs.Option.{option_map_or}
 use Rattle.indexmap.specs.IndexMap.{insert_entry}
@@ -43,7 +44,8 @@ is_held dialogs name = is_some (dialog_at name dialogs)
 -- ---- an early dialog
 
 abbrev pub made_unless_held : Client → Answer → Dialogs → Dialogs
-made_unless_held client reply dialogs = if is_held dialogs reply.name then dialogs else made client reply dialogs
+made_unless_held client reply dialogs =
+    if is_held dialogs reply.name then dialogs else made client reply dialogs
 
 -- a provisional response to the first INVITE makes one, where none of its tags is held
 abbrev pub opened_by : Asks → Client → Answer → Dialogs → Dialogs
@@ -64,11 +66,13 @@ refreshed response held = retargeted (contact_uri response) held
 -- that to the first INVITE confirms its dialog, or makes it
 abbrev pub confirmed_or_made : Client → Answer → Dialogs → Dialogs
 confirmed_or_made client reply dialogs =
-    if is_held dialogs reply.name then dialog_changed reply.name (confirmed reply.response) dialogs else made client reply dialogs
+    if is_held dialogs reply.name then dialog_changed reply.name (confirmed reply.response) dialogs
+    else made client reply dialogs
 
 abbrev pub accepted_by : Asks → Client → Answer → Dialogs → Dialogs
 accepted_by First client reply dialogs = confirmed_or_made client reply dialogs
-accepted_by (Again life) client reply dialogs = dialog_changed reply.name (refreshed reply.response) dialogs
+accepted_by (Again life) client reply dialogs =
+    dialog_changed reply.name (refreshed reply.response) dialogs
 accepted_by (Inside life) client reply dialogs = dialogs
 accepted_by Plain client reply dialogs = dialogs
 
@@ -86,12 +90,16 @@ abbrev pub service_at : DialogName → (HeldDialog → Service) → Service → 
 service_at name serve otherwise dialogs = option_map_or serve (dialog_at name dialogs) otherwise
 
 abbrev pub owed_at : DialogName → Event → Debt → Option (List ℕ) → Dialogs → Dialogs × Service
-owed_at name event debt offer dialogs =
-    (dialog_changed name (owing event debt offer) dialogs, service_at name (λ held. (served event debt offer held).1) Waits dialogs)
+owed_at name event debt offer dialogs = (
+  dialog_changed name (owing event debt offer) dialogs,
+  service_at name (λ held. (served event debt offer held).1) Waits dialogs,
+)
 
 abbrev pub paid_at : DialogName → Event → Debt → List ℕ → Dialogs → Dialogs × Service
-paid_at name event debt body dialogs =
-    (dialog_changed name (paying event debt body) dialogs, service_at name (λ held. (served event debt (Some body) held).1) Waits dialogs)
+paid_at name event debt body dialogs = (
+  dialog_changed name (paying event debt body) dialogs,
+  service_at name (λ held. (served event debt (Some body) held).1) Waits dialogs,
+)
 
 -- ---- what ends with a client request
 

@@ -1,4 +1,5 @@
--- Names that the agent makes: its tags, and its branches behind their cookie (RFC 3261, sections 8.1.1.7 and 19.3).
+-- Names that the agent makes: its tags, and its branches behind their cookie (RFC 3261, sections
+-- 8.1.1.7 and 19.3).
 use Rattle.std.specs.Prelude.{◌≡◌, ◌<◌, ◌^◌, ℕ, ◌+◌, ◌*◌, ◌-◌, ◌/◌, ◌%◌, zero, suc, List, [], ◌∷◌, ◌++◌, nat_lt, if◌then◌else◌}
 use Rattle.rand_chacha.specs.ChaCha.{word_at, key_of}
 use Rattle.sip_message.specs.declared.id.Id.{Id}
@@ -12,16 +13,20 @@ unfoldable pub hex : ℕ → ℕ → List ℕ
 hex zero number = []
 hex (suc count) number = hex count (number / 16) ++ digit_of (number % 16) ∷ []
 
--- the word of ChaCha20 that a name ends in: the seed is the key, the round the stream, and each place has 16 words
+-- the word of ChaCha20 that a name ends in: the seed is the key, the round the stream, and each
+-- place has 16 words
 abbrev pub word_of_name : List ℕ → Id → ℕ → ℕ
 word_of_name seed id index = word_at 10 (key_of seed) id.round (16 * id.place + index)
 
 -- the round, the place, the index and the word
 abbrev pub name_of : List ℕ → Id → ℕ → List ℕ
-name_of seed id index = ((hex 16 id.round ++ hex 16 id.place) ++ hex 1 index) ++ hex 8 (word_of_name seed id index)
+name_of seed id index =
+    ((hex 16 id.round ++ hex 16 id.place) ++ hex 1 index) ++ hex 8 (word_of_name seed id index)
 
 -- names of different rounds, places or indexes differ, whatever the seeds
 abbrev pub NamesDiffer : Type 0
 NamesDiffer = (seed other_seed : List ℕ) (id other : Id) (index other_index : ℕ)
-    → id.round < 2 ^ 64 → other.round < 2 ^ 64 → id.place < 2 ^ 64 → other.place < 2 ^ 64 → index < 16 → other_index < 16
-    → name_of seed id index ≡ name_of other_seed other other_index → (id ≡ other) × (index ≡ other_index)
+    → id.round < 2 ^ 64 → other.round < 2 ^ 64 → id.place < 2 ^ 64 → other.place < 2 ^ 64
+    → index < 16 → other_index < 16
+    → name_of seed id index ≡ name_of other_seed other other_index
+    → (id ≡ other) × (index ≡ other_index)

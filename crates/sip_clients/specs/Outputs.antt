@@ -28,7 +28,8 @@ use Rattle.sip_clients.specs.Event.{branch_of}
 
 abbrev pub response_notice : Answer → CallOut
 response_notice reply =
-    out.Notice (notice.Response reply.call_id reply.id reply.status (tag_of reply.response.from) (tag_of reply.response.to) reply.response.body)
+    out.Notice (notice.Response reply.call_id reply.id reply.status (tag_of reply.response.from)
+    (tag_of reply.response.to) reply.response.body)
 
 abbrev pub refused_notice : Event → List ℕ → Refusal → CallOut
 refused_notice event call_id refusal = out.Notice (notice.Refused call_id (event.id).place refusal)
@@ -40,18 +41,21 @@ asks_in life message = if is_invite message then Again life else Inside life
 
 abbrev pub client_of : Event → DialogName → Sending → Client
 client_of event name sending =
-    client_for event.id (asks_in record { name = name; born = sending.born } sending.message) sending.message sending.to
+    client_for event.id (asks_in record { name = name; born = sending.born } sending.message)
+    sending.message sending.to
 
 -- what is told of it, and the request that is sent
 abbrev pub request_said : Event → List ℕ → DialogName → Service → List CallOut × Rest
 request_said event call_id name (Sent sending) = ([], Starts (client_of event name sending))
 request_said event call_id name Waits = ([], Stays)
-request_said event call_id name (Refused refusal) = (refused_notice event call_id refusal ∷ [], Stays)
+request_said event call_id name (Refused refusal) =
+    (refused_notice event call_id refusal ∷ [], Stays)
 
 -- a request is sent through a transaction of its own
 unfoldable pub start_command : Event → Client → CallOut
 start_command event client =
-    out.Command event.id (Start (client_key (branch_of event) ((client.request).cseq).method) (client.request).call_id client.request client.to)
+    out.Command event.id (Start (client_key (branch_of event) ((client.request).cseq).method)
+    (client.request).call_id client.request client.to)
 
 -- ---- an ACK
 

@@ -1,4 +1,5 @@
--- The requests that are sent outside of dialogs (RFC 3261, sections 8.1.1 and 13.2.1; RFC 3262, section 4).
+-- The requests that are sent outside of dialogs (RFC 3261, sections 8.1.1 and 13.2.1; RFC 3262,
+-- section 4).
 use Rattle.std.specs.Prelude.{ℕ, List, [], ◌∷◌, Some, None, codes}
 use Rattle.sip_dialog.specs.Request.{contact_of, via_of}
 use Rattle.sip_message.specs.declared.addr.Addr.{Addr}
@@ -46,14 +47,17 @@ supporting support.Required message = record message { require = codes "100rel" 
 -- the INVITE that the user asks for
 abbrev pub bare_invite : Event → Invite → Message
 bare_invite event invite =
-    supporting invite.support (with_contact event.local (bare_request event invite.call_id (codes "INVITE") invite.request_uri invite.from invite.to))
+    supporting invite.support (with_contact event.local
+    (bare_request event invite.call_id
+    (codes "INVITE") invite.request_uri invite.from invite.to))
 
 abbrev pub invite_of : Event → Invite → Message
 invite_of event invite = with_body_of (bare_invite event invite) invite.body
 
 -- the request of another method that the user asks for
 abbrev pub bare_plain : Event → Plain → Message
-bare_plain event plain = bare_request event plain.call_id plain.method plain.request_uri plain.from plain.to
+bare_plain event plain =
+    bare_request event plain.call_id plain.method plain.request_uri plain.from plain.to
 
 abbrev pub plain_of : Event → Plain → Message
 plain_of event plain = with_body_of (bare_plain event plain) plain.body

@@ -1,5 +1,5 @@
--- A reliable provisional response that comes to an INVITE in one life of a dialog, and whether the user is told of it (RFC 3262,
--- section 4).
+-- A reliable provisional response that comes to an INVITE in one life of a dialog, and whether the
+-- user is told of it (RFC 3262, section 4).
 use Rattle.std.specs.Prelude.{ℕ, Bool, true, false, ◌&&◌, not, ◌==◌, List, [], Option, None, Some, filter, map, if◌then◌else◌}
 use Rattle.sip_message.specs.declared.id.Id.{Id}
 use Rattle.sip_message.specs.declared.message.Message.{Message}
@@ -21,14 +21,17 @@ pub data AnInvite : Type 0 where
   OfTheCall : AnInvite
   InTheDialog : Id → AnInvite
 
--- A request of this id, which asks so, is that INVITE, and this response to it is of this life of a dialog.
+-- A request of this id, which asks so, is that INVITE, and this response to it is of this life of a
+-- dialog.
 abbrev pub is_for : AnInvite → DialogLife → Id → Client → Asks → Message → Bool
-is_for OfTheCall life id client First response = is_named life.name (reply_name First client response)
+is_for OfTheCall life id client First response =
+    is_named life.name (reply_name First client response)
 is_for (InTheDialog invite) life id client (Again own) response =
     is_id id invite && (is_named life.name own.name && is_id own.born life.born)
 is_for _ life id client _ response = false
 
--- the RSeq of a reliable provisional response of a dialog: it isn't final and no 100, and has a To tag
+-- the RSeq of a reliable provisional response of a dialog: it isn't final and no 100, and has a To
+-- tag
 abbrev pub provisional_number : Option ℕ → Message → Option ℕ
 provisional_number None response = None
 provisional_number (Some status) response =
@@ -38,7 +41,8 @@ provisional_number (Some status) response =
 
 abbrev pub number_for : AnInvite → DialogLife → Id → Message → Client → Option ℕ
 number_for invite life id response client =
-    if is_for invite life id client client.asks response then provisional_number (status_of response.start) response else None
+    if is_for invite life id client client.asks response
+    then provisional_number (status_of response.start) response else None
 
 -- the user is told of a response
 abbrev pub is_response : CallOut → Bool

@@ -1,5 +1,5 @@
--- What a response does to its client request and to the held dialogs, and what is told of it (RFC 3261, sections 12.2.1.2, 13.2.2
--- and 13.2.2.4; RFC 3262, section 4; RFC 6026, section 7.2).
+-- What a response does to its client request and to the held dialogs, and what is told of it (RFC
+-- 3261, sections 12.2.1.2, 13.2.2 and 13.2.2.4; RFC 3262, section 4; RFC 6026, section 7.2).
 use Rattle.std.specs.Prelude.{ℕ, ◌+◌, Bool, not, ◌||◌, ◌==◌, List, [], ◌∷◌, ◌++◌, length, Option, None, Some, unwrap_or, if◌then◌else◌}
 use Rattle.std.specs.Option.{option_map_or}
 use Rattle.indexmap.specs.IndexMap.{insert_entry}
@@ -25,7 +25,8 @@ use Rattle.sip_clients.specs.Dialogs.{accepted, ended_with, hearing, opened, owe
 use Rattle.sip_clients.specs.Outputs.{ack_said, direct, request_said, response_notice}
 use Rattle.sip_clients.specs.Reply.{reply_case}
 
--- the client request and the dialogs after a response, what is told, and what becomes of the requests
+-- the client request and the dialogs after a response, what is told, and what becomes of the
+-- requests
 abbrev pub Replied : Type 0
 Replied = Client × Dialogs × List CallOut × Rest
 
@@ -49,7 +50,8 @@ finished client dialogs answer =
 abbrev pub early : Client → Dialogs → Answer → Replied
 early client dialogs answer = (client, opened client answer dialogs, notice answer, Stays)
 
--- the dialog of a first INVITE keeps what came in it, and an INVITE in a dialog keeps itself what came for it
+-- the dialog of a first INVITE keeps what came in it, and an INVITE in a dialog keeps itself what
+-- came for it
 abbrev pub heard_first : Asks → ℕ → Answer → Dialogs → Dialogs
 heard_first First rseq answer dialogs = dialog_changed answer.name (hearing rseq) dialogs
 heard_first (Again life) rseq answer dialogs = dialogs
@@ -57,7 +59,8 @@ heard_first (Inside life) rseq answer dialogs = dialogs
 heard_first Plain rseq answer dialogs = dialogs
 
 abbrev pub hears : ℕ → Client → Client
-hears rseq client = record client { heard = latest_after (offered client.heard rseq) client.heard rseq }
+hears rseq client =
+    record client { heard = latest_after (offered client.heard rseq) client.heard rseq }
 
 abbrev pub heard_again : Asks → ℕ → Client → Client
 heard_again First rseq client = client
@@ -66,21 +69,25 @@ heard_again (Inside life) rseq client = hears rseq client
 heard_again Plain rseq client = hears rseq client
 
 abbrev pub opened_and_heard : ℕ → Client → Answer → Dialogs → Dialogs
-opened_and_heard rseq client answer dialogs = heard_first client.asks rseq answer (opened client answer dialogs)
+opened_and_heard rseq client answer dialogs =
+    heard_first client.asks rseq answer (opened client answer dialogs)
 
--- What a response asks for has no body where the INVITE had an offer or the response has none. Otherwise it has to carry the answer
--- to the offer in the response, which the user gives (RFC 3261, section 13.2.1; RFC 3262, section 5).
+-- What a response asks for has no body where the INVITE had an offer or the response has none.
+-- Otherwise it has to carry the answer to the offer in the response, which the user gives (RFC
+-- 3261, section 13.2.1; RFC 3262, section 5).
 abbrev pub offer_to : Client → Message → Option (List ℕ)
 offer_to client response =
     if not (length (client.request).body == 0) || (length response.body == 0) then Some [] else None
 
 unfoldable pub prack_owed : ℕ → Client → Dialogs → Answer → Dialogs × Service
 prack_owed rseq client dialogs answer =
-    owed_at answer.name answer.event (Prack rseq ((client.request).cseq).number) (offer_to client answer.response) (opened_and_heard rseq client answer dialogs)
+    owed_at answer.name answer.event (Prack rseq ((client.request).cseq).number)
+    (offer_to client answer.response) (opened_and_heard rseq client answer dialogs)
 
 abbrev pub told_of_prack : Answer → Service → List CallOut × Rest
 told_of_prack answer service =
-    let said = request_said answer.event answer.call_id answer.name service in (notice answer ++ said.0, said.1)
+    let said = request_said answer.event answer.call_id answer.name service in
+    (notice answer ++ said.0, said.1)
 
 -- a reliable one that is the next of its dialog is told, and its PRACK is owed
 abbrev pub reliable : ℕ → Client → Dialogs → Answer → Replied
@@ -93,7 +100,8 @@ reliable rseq client dialogs answer =
 
 -- the ACK of its 2xx goes out again, the same bytes to the same address
 abbrev pub ack_again : Client → Answer → List CallOut
-ack_again client answer = option_map_or (λ ack. direct ack ∷ []) (ack_of answer.name client.answers) []
+ack_again client answer =
+    option_map_or (λ ack. direct ack ∷ []) (ack_of answer.name client.answers) []
 
 -- the INVITE is held for 64*T1 after its first 2xx
 abbrev pub answered : Answer → Option SentAck → Client → Client
@@ -104,7 +112,8 @@ answered answer ack client = record client {
 
 unfoldable pub ack_owed : Client → Dialogs → Answer → Dialogs × Service
 ack_owed client dialogs answer =
-    owed_at answer.name answer.event (Ack client.id ((client.request).cseq).number) (offer_to client answer.response) (accepted client answer dialogs)
+    owed_at answer.name answer.event (Ack client.id ((client.request).cseq).number)
+    (offer_to client answer.response) (accepted client answer dialogs)
 
 abbrev pub told_of_ack : Answer → Service → List CallOut × Option SentAck
 told_of_ack answer service =
@@ -123,7 +132,8 @@ abbrev pub by_case : ReplyCase → Client → Dialogs → Answer → Replied
 by_case reply.Final client dialogs answer = finished client dialogs answer
 by_case reply.Repeated client dialogs answer = (client, dialogs, ack_again client answer, Stays)
 by_case reply.Accepted client dialogs answer = accepted_by_ack client dialogs answer
-by_case reply.Late client dialogs answer = (answered answer None client, dialogs, notice answer, Stays)
+by_case reply.Late client dialogs answer =
+    (answered answer None client, dialogs, notice answer, Stays)
 by_case (reply.Reliable rseq) client dialogs answer = reliable rseq client dialogs answer
 by_case reply.Passed client dialogs answer = (client, dialogs, [], Stays)
 by_case reply.Early client dialogs answer = early client dialogs answer

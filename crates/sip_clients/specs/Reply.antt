@@ -1,4 +1,5 @@
--- A response to a held client request: which case it is (RFC 3261, sections 12.2.1.2, 13.2.2 and 17.1; RFC 3262, section 4).
+-- A response to a held client request: which case it is (RFC 3261, sections 12.2.1.2, 13.2.2 and
+-- 17.1; RFC 3262, section 4).
 use Rattle.std.specs.Prelude.{ℕ, Bool, true, false, not, ◌&&◌, ◌==◌, Option, None, Some, if◌then◌else◌}
 use Rattle.std.specs.Option.{option_and_then}
 use Rattle.sip_message.specs.declared.message.Message.{Message}

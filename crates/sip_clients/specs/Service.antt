@@ -1,4 +1,5 @@
--- What becomes of a request that is to be sent in a dialog (RFC 3261, sections 12.2.1 and 13.2.2.4; RFC 3262, section 4).
+-- What becomes of a request that is to be sent in a dialog (RFC 3261, sections 12.2.1 and 13.2.2.4;
+-- RFC 3262, section 4).
 use Rattle.std.specs.Prelude.{ℕ, ◌+◌, List, Option, None, Some, codes}
 use Rattle.sip_dialog.specs.declared.fault.DialogFault.{DialogFault}
 use Rattle.sip_dialog.specs.declared.fault.DialogFault.TheVariants as fault
@@ -49,7 +50,8 @@ abbrev pub requested : Event → List ℕ → Option RAck → List ℕ → HeldD
 requested event method rack body held = (
   numbered (request_fault held.dialog method) held,
   service_by (request_fault held.dialog method) record {
-    message = with_rack rack (request_in held.dialog method (held.dialog.local_cseq + 1) body (branch_of event) event.local);
+    message = with_rack rack (request_in held.dialog method (held.dialog.local_cseq + 1) body
+        (branch_of event) event.local);
     to = hop_of held.dialog held.address;
     born = held.born;
   },
@@ -58,7 +60,8 @@ requested event method rack body held = (
 -- the PRACK of a response of this RSeq to the INVITE of this number
 abbrev pub pracked : Event → ℕ → ℕ → List ℕ → HeldDialog → Served
 pracked event rseq number body held =
-    requested event (codes "PRACK") (Some record { rseq = rseq; cseq = number; method = codes "INVITE" }) body held
+    requested event (codes "PRACK")
+    (Some record { rseq = rseq; cseq = number; method = codes "INVITE" }) body held
 
 -- the ACK of the INVITE of this number
 abbrev pub acked : Event → HeldDialog → ℕ → List ℕ → Service

@@ -1,5 +1,5 @@
--- A tick: the INVITEs that are removed, and the end of the dialogs that are early still (RFC 3261, section 13.2.2.4; RFC 6026,
--- section 7.2).
+-- A tick: the INVITEs that are removed, and the end of the dialogs that are early still (RFC 3261,
+-- section 13.2.2.4; RFC 6026, section 7.2).
 use Rattle.std.specs.Prelude.{ℕ, Bool, false, not, ◌&&◌, nat_le, List, [], Option, None, filter, fold, if◌then◌else◌}
 use Rattle.std.specs.List.{flat_map, list_any}
 use Rattle.std.specs.Map.{values_of}
@@ -18,7 +18,8 @@ is_over now client = option_map_or (λ moment. nat_le moment now) client.removal
 
 -- a dialog is early still when an INVITE that made it is removed
 abbrev pub ends_at : ℕ → Clients → HeldDialog → Bool
-ends_at now clients held = list_any (λ client. is_over now client && is_early_of client.id held) (values_of clients)
+ends_at now clients held =
+    list_any (λ client. is_over now client && is_early_of client.id held) (values_of clients)
 
 abbrev pub dialogs_left : ℕ → Dialogs → Clients → Dialogs
 dialogs_left now dialogs clients = filter (λ entry. not (ends_at now clients entry.1)) dialogs
@@ -35,7 +36,10 @@ over_notices now dialogs clients = flat_map (notices_of now dialogs) (values_of 
 
 abbrev pub tick_taken : Side → ℕ → Taken
 tick_taken side now = (
-  record { dialogs = dialogs_left now side.dialogs side.clients; clients = clients_left now side.clients },
+  record {
+    dialogs = dialogs_left now side.dialogs side.clients;
+    clients = clients_left now side.clients;
+  },
   over_notices now side.dialogs side.clients,
 )
 

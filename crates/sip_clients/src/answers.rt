@@ -13,7 +13,8 @@ use sip_text::Text;
 use std::alloc::{AllocError, Global};
 use std::marker::Model;
 
-/// An ACK that was sent: its bytes go out again each time its 2xx comes again (RFC 3261, section 13.2.2.4).
+/// An ACK that was sent: its bytes go out again each time its 2xx comes again (RFC 3261, section
+/// 13.2.2.4).
 pub struct SentAck {
     pub to: Addr,
     pub bytes: Text,
@@ -25,7 +26,8 @@ impl Drop for SentAck {
     }
 }
 
-/// The dialogs of the 2xx responses that came, each with the ACK of its 2xx once one was sent. A contract sees their list.
+/// The dialogs of the 2xx responses that came, each with the ACK of its 2xx once one was sent. A
+/// contract sees their list.
 pub struct Answers {
     acks: IndexMap<DialogName, Option<SentAck>>,
 }

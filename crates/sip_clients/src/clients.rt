@@ -21,8 +21,9 @@ use sip_served::{
 use std::alloc::{AllocError, Global};
 use std::marker::Model;
 
-/// The requests that were sent under one Call-ID and are held, in the order in which they were sent. What they do to the dialogs of
-/// the Call-ID is done to those that are handed in (RFC 3261, sections 8.1, 12.2.1, 13.2 and 17.1; RFC 3262, section 4).
+/// The requests that were sent under one Call-ID and are held, in the order in which they were
+/// sent. What they do to the dialogs of the Call-ID is done to those that are handed in (RFC 3261,
+/// sections 8.1, 12.2.1, 13.2 and 17.1; RFC 3262, section 4).
 ///
 /// Where a method answers an error, it is not known what is held.
 pub struct Clients {
@@ -65,9 +66,12 @@ impl Clients {
         next_due(&self.requests)
     }
 
-    /// The moment `now`, in ms, has come: an INVITE is removed 64*T1 after its first 2xx, and its dialogs that are early still end.
+    /// The moment `now`, in ms, has come: an INVITE is removed 64*T1 after its first 2xx, and its
+    /// dialogs that are early still end.
     pub fn tick(&mut self, dialogs: &mut Dialogs, now: u64) -> Result<Vec<CallOut>, AllocError>
-        ensures { IfOk result (λ outs. (record { dialogs = dialogs.new.entries; clients = self.new }, outs.items) ≡ ticks.tick_taken record { dialogs = dialogs.old.entries; clients = self.old } now) }
+        ensures { IfOk result (λ outs.
+            (record { dialogs = dialogs.new.entries; clients = self.new }, outs.items)
+            ≡ ticks.tick_taken record { dialogs = dialogs.old.entries; clients = self.old } now) }
     {
         let outs = over_notices(self.alloc, dialogs, &self.requests, now)?;
         drop_dialogs(dialogs, &self.requests, now);
@@ -77,7 +81,8 @@ impl Clients {
 
     // ---- responses
 
-    /// A response to the request that the event `id` sent comes up (RFC 3261, sections 12.2.1.2 and 13.2.2).
+    /// A response to the request that the event `id` sent comes up (RFC 3261, sections 12.2.1.2 and
+    /// 13.2.2).
     pub fn response(
         &mut self,
         dialogs: &mut Dialogs,
@@ -87,7 +92,10 @@ impl Clients {
         response: Message,
     ) -> Result<Vec<CallOut>, AllocError>
         requires { event.moment ≤ 2 ^ 62 }
-        ensures { IfOk result (λ outs. (record { dialogs = dialogs.new.entries; clients = self.new }, outs.items) ≡ spec.response_taken event id call_id response record { dialogs = dialogs.old.entries; clients = self.old }) }
+        ensures { IfOk result (λ outs.
+            (record { dialogs = dialogs.new.entries; clients = self.new }, outs.items)
+            ≡ spec.response_taken event id call_id response
+            record { dialogs = dialogs.old.entries; clients = self.old }) }
     {
         let Some(status) = status_of(&response) else {
             return Ok(Vec::new(self.alloc));
@@ -110,7 +118,12 @@ impl Clients {
 
     fn reply(&mut self, dialogs: &mut Dialogs, reply: Reply) -> Result<Vec<CallOut>, AllocError>
         requires { reply.event.moment ≤ 2 ^ 62 }
-        ensures { IfOk result (λ outs. (record { dialogs = dialogs.new.entries; clients = self.new }, outs.items) ≡ spec.reply_settled reply record { dialogs = dialogs.old.entries; clients = self.old }) }
+        ensures { IfOk result (λ outs.
+            (record { dialogs = dialogs.new.entries; clients = self.new }, outs.items)
+            ≡ spec.reply_settled reply record {
+              dialogs = dialogs.old.entries;
+              clients = self.old;
+            }) }
     {
         let (mut outs, rest) = reply_at(self.alloc, &mut self.requests, dialogs, &reply)?;
         outs.append(&mut self.settle(reply.event, reply.id, rest)?)?;
@@ -119,20 +132,24 @@ impl Clients {
 
     // What becomes of the requests.
     fn settle(&mut self, event: Event, id: Id, rest: Rest) -> Result<Vec<CallOut>, AllocError>
-        ensures { IfOk result (λ outs. (self.new, outs.items) ≡ spec.settled event id rest self.old) }
+        ensures { IfOk result (λ outs. (self.new, outs.items)
+            ≡ spec.settled event id rest self.old) }
     {
         settle(self.alloc, &mut self.requests, event, id, rest)
     }
 
-    /// The transaction of the request that the event `id` sent timed out, or its message could not be sent: it is held no more. The
-    /// early dialogs that it made end, and the dialog that it was sent in where it timed out (RFC 3261, section 12.2.1.2).
+    /// The transaction of the request that the event `id` sent timed out, or its message could not
+    /// be sent: it is held no more. The early dialogs that it made end, and the dialog that it was
+    /// sent in where it timed out (RFC 3261, section 12.2.1.2).
     pub fn lose(
         &mut self,
         dialogs: &mut Dialogs,
         id: Id,
         timed_out: bool,
     ) -> Result<Vec<CallOut>, AllocError>
-        ensures { IfOk result (λ outs. (record { dialogs = dialogs.new.entries; clients = self.new }, outs.items) ≡ spec.lost id timed_out record { dialogs = dialogs.old.entries; clients = self.old }) }
+        ensures { IfOk result (λ outs.
+            (record { dialogs = dialogs.new.entries; clients = self.new }, outs.items)
+            ≡ spec.lost id timed_out record { dialogs = dialogs.old.entries; clients = self.old }) }
     {
         lose(self.alloc, &mut self.requests, dialogs, id, timed_out)
     }
@@ -141,7 +158,8 @@ impl Clients {
 
     /// The user starts the call by an INVITE (RFC 3261, section 13.2.1).
     pub fn invite(&mut self, event: Event, invite: &Invite) -> Result<Vec<CallOut>, AllocError>
-        ensures { IfOk result (λ outs. (self.new, outs.items) ≡ spec.invite_taken event invite.now self.old) }
+        ensures { IfOk result (λ outs. (self.new, outs.items)
+            ≡ spec.invite_taken event invite.now self.old) }
     {
         let message = invite_of(self.alloc, event, invite)?;
         let client = client_for(self.alloc, event.id, Asks::First, message, invite.address);
@@ -150,7 +168,8 @@ impl Clients {
 
     /// The user sends a request outside of dialogs (RFC 3261, section 8.1.1).
     pub fn plain(&mut self, event: Event, plain: &Plain) -> Result<Vec<CallOut>, AllocError>
-        ensures { IfOk result (λ outs. (self.new, outs.items) ≡ spec.plain_taken event plain.now self.old) }
+        ensures { IfOk result (λ outs. (self.new, outs.items)
+            ≡ spec.plain_taken event plain.now self.old) }
     {
         if is_bad_outside(&plain.method) {
             return refused(self.alloc, event, &plain.call_id, Refusal::BadMethod);
@@ -167,7 +186,10 @@ impl Clients {
         event: Event,
         command: &DialogRequest,
     ) -> Result<Vec<CallOut>, AllocError>
-        ensures { IfOk result (λ outs. (record { dialogs = dialogs.new.entries; clients = self.new }, outs.items) ≡ spec.request_taken event command.now record { dialogs = dialogs.old.entries; clients = self.old }) }
+        ensures { IfOk result (λ outs.
+            (record { dialogs = dialogs.new.entries; clients = self.new }, outs.items)
+            ≡ spec.request_taken event command.now
+            record { dialogs = dialogs.old.entries; clients = self.old }) }
     {
         let local = tag_bytes(&command.local_tag);
         let remote = tag_bytes(&command.remote_tag);
@@ -181,7 +203,8 @@ impl Clients {
         event: Event,
         told: (Vec<CallOut>, Rest, Vec<CallOut>),
     ) -> Result<Vec<CallOut>, AllocError>
-        ensures { IfOk result (λ outs. (self.new, outs.items) ≡ spec.request_settled event told.0.items told.1 told.2.items self.old) }
+        ensures { IfOk result (λ outs. (self.new, outs.items)
+            ≡ spec.request_settled event told.0.items told.1 told.2.items self.old) }
     {
         let (mut outs, rest, mut ends) = told;
         outs.append(&mut self.settle(event, event.id, rest)?)?;
@@ -189,14 +212,18 @@ impl Clients {
         Ok(outs)
     }
 
-    /// The user gives the ACK of the oldest 2xx of a dialog that is owed one (RFC 3261, section 13.2.2.4).
+    /// The user gives the ACK of the oldest 2xx of a dialog that is owed one (RFC 3261, section
+    /// 13.2.2.4).
     pub fn ack(
         &mut self,
         dialogs: &mut Dialogs,
         event: Event,
         command: &DialogBody,
     ) -> Result<Vec<CallOut>, AllocError>
-        ensures { IfOk result (λ outs. (record { dialogs = dialogs.new.entries; clients = self.new }, outs.items) ≡ spec.ack_taken event command.now record { dialogs = dialogs.old.entries; clients = self.old }) }
+        ensures { IfOk result (λ outs.
+            (record { dialogs = dialogs.new.entries; clients = self.new }, outs.items)
+            ≡ spec.ack_taken event command.now
+            record { dialogs = dialogs.old.entries; clients = self.old }) }
     {
         let local = tag_bytes(&command.local_tag);
         let remote = tag_bytes(&command.remote_tag);
@@ -215,21 +242,28 @@ impl Clients {
         command: &DialogBody,
         debt: Debt,
     ) -> Result<Vec<CallOut>, AllocError>
-        ensures { IfOk result (λ outs. (record { dialogs = dialogs.new.entries; clients = self.new }, outs.items) ≡ spec.ack_paid event command.now name debt record { dialogs = dialogs.old.entries; clients = self.old }) }
+        ensures { IfOk result (λ outs.
+            (record { dialogs = dialogs.new.entries; clients = self.new }, outs.items)
+            ≡ spec.ack_paid event command.now name debt
+            record { dialogs = dialogs.old.entries; clients = self.old }) }
     {
         let (outs, ack) = ack_told(self.alloc, dialogs, event, &name, command, debt)?;
         note_ack(&mut self.requests, debt, name, ack)?;
         Ok(outs)
     }
 
-    /// The user gives the PRACK of the oldest reliable provisional response of a dialog that is owed one (RFC 3262, section 4).
+    /// The user gives the PRACK of the oldest reliable provisional response of a dialog that is
+    /// owed one (RFC 3262, section 4).
     pub fn prack(
         &mut self,
         dialogs: &mut Dialogs,
         event: Event,
         command: &DialogBody,
     ) -> Result<Vec<CallOut>, AllocError>
-        ensures { IfOk result (λ outs. (record { dialogs = dialogs.new.entries; clients = self.new }, outs.items) ≡ spec.prack_taken event command.now record { dialogs = dialogs.old.entries; clients = self.old }) }
+        ensures { IfOk result (λ outs.
+            (record { dialogs = dialogs.new.entries; clients = self.new }, outs.items)
+            ≡ spec.prack_taken event command.now
+            record { dialogs = dialogs.old.entries; clients = self.old }) }
     {
         let local = tag_bytes(&command.local_tag);
         let remote = tag_bytes(&command.remote_tag);
@@ -248,7 +282,10 @@ impl Clients {
         command: &DialogBody,
         debt: Debt,
     ) -> Result<Vec<CallOut>, AllocError>
-        ensures { IfOk result (λ outs. (record { dialogs = dialogs.new.entries; clients = self.new }, outs.items) ≡ spec.prack_paid event command.now name debt record { dialogs = dialogs.old.entries; clients = self.old }) }
+        ensures { IfOk result (λ outs.
+            (record { dialogs = dialogs.new.entries; clients = self.new }, outs.items)
+            ≡ spec.prack_paid event command.now name debt
+            record { dialogs = dialogs.old.entries; clients = self.old }) }
     {
         let (mut outs, rest) = prack_told(self.alloc, dialogs, event, &name, command, debt)?;
         outs.append(&mut self.settle(event, event.id, rest)?)?;

@@ -31,8 +31,8 @@ pub(crate) fn tag_bytes(tag: &Option<Token>) -> &[u8]
 
 // ---- a request
 
-/// What becomes of a request that the user asks for in the dialog of this name: what is told, the request that is sent, and what is
-/// told last, of the end of the dialog.
+/// What becomes of a request that the user asks for in the dialog of this name: what is told, the
+/// request that is sent, and what is told last, of the end of the dialog.
 pub(crate) fn request_told(
     alloc: Global,
     dialogs: &mut Dialogs,
@@ -40,10 +40,14 @@ pub(crate) fn request_told(
     name: &DialogName,
     command: &DialogRequest,
 ) -> Result<(Vec<CallOut>, Rest, Vec<CallOut>), AllocError>
-    ensures dialogs { OnOk result (dialogs.new.entries ≡ (spec.request_told event name.now command.now dialogs.old.entries).0) }
-    ensures outs { IfOk result (λ told. told.0.items ≡ (spec.request_told event name.now command.now dialogs.old.entries).1) }
-    ensures rest { IfOk result (λ told. told.1 ≡ (spec.request_told event name.now command.now dialogs.old.entries).2) }
-    ensures ends { IfOk result (λ told. told.2.items ≡ (spec.request_told event name.now command.now dialogs.old.entries).3) }
+    ensures dialogs { OnOk result (dialogs.new.entries
+        ≡ (spec.request_told event name.now command.now dialogs.old.entries).0) }
+    ensures outs { IfOk result (λ told. told.0.items
+        ≡ (spec.request_told event name.now command.now dialogs.old.entries).1) }
+    ensures rest { IfOk result (λ told. told.1
+        ≡ (spec.request_told event name.now command.now dialogs.old.entries).2) }
+    ensures ends { IfOk result (λ told. told.2.items
+        ≡ (spec.request_told event name.now command.now dialogs.old.entries).3) }
 {
     let service = request_by(alloc, dialogs, name, event, command)?;
     let ends = bye_end(alloc, dialogs, name, &command.method, &service)?;
@@ -59,8 +63,10 @@ fn request_by(
     event: Event,
     command: &DialogRequest,
 ) -> Result<Service, AllocError>
-    ensures service { IfOk result (λ service. service ≡ (spec.requested_by name.now event command.now dialogs.old.entries).1) }
-    ensures dialogs { OnOk result (dialogs.new.entries ≡ (spec.requested_by name.now event command.now dialogs.old.entries).0) }
+    ensures service { IfOk result (λ service. service
+        ≡ (spec.requested_by name.now event command.now dialogs.old.entries).1) }
+    ensures dialogs { OnOk result (dialogs.new.entries
+        ≡ (spec.requested_by name.now event command.now dialogs.old.entries).0) }
 {
     let method = command.method.clone()?;
     let body = command.body.clone()?;
@@ -75,8 +81,10 @@ fn request_at(
     method: Token,
     body: Text,
 ) -> Result<Service, AllocError>
-    ensures service { IfOk result (λ service. service ≡ (spec.requested_at name.now event method body dialogs.old.entries).1) }
-    ensures dialogs { OnOk result (dialogs.new.entries ≡ (spec.requested_at name.now event method body dialogs.old.entries).0) }
+    ensures service { IfOk result (λ service. service
+        ≡ (spec.requested_at name.now event method body dialogs.old.entries).1) }
+    ensures dialogs { OnOk result (dialogs.new.entries
+        ≡ (spec.requested_at name.now event method body dialogs.old.entries).0) }
 {
     let Some(held) = dialogs.get_mut(name) else {
         return Ok(Service::Refused(Refusal::NoSuchDialog));
@@ -92,7 +100,8 @@ fn request_in(
     method: Token,
     body: Text,
 ) -> Result<Service, AllocError>
-    ensures service { IfOk result (λ service. service ≡ (spec.request_in event method body held.old).1) }
+    ensures service { IfOk result (λ service. service
+        ≡ (spec.request_in event method body held.old).1) }
     ensures held { OnOk result (held.new ≡ spec.requesting event method body held.old) }
 {
     if is_bad_in(held, &method) {
@@ -141,7 +150,8 @@ fn bye_end(
     method: &Token,
     service: &Service,
 ) -> Result<Vec<CallOut>, AllocError>
-    ensures { IfOk result (λ outs. (dialogs.new.entries, outs.items) ≡ spec.bye_ended name.now method.now service.now dialogs.old.entries) }
+    ensures { IfOk result (λ outs. (dialogs.new.entries, outs.items)
+        ≡ spec.bye_ended name.now method.now service.now dialogs.old.entries) }
 {
     match service {
         Service::Sent(_) if method.as_slice() == b"BYE".as_slice() => end(alloc, dialogs, name),
@@ -192,9 +202,12 @@ pub(crate) fn ack_told(
     command: &DialogBody,
     debt: Debt,
 ) -> Result<(Vec<CallOut>, Option<SentAck>), AllocError>
-    ensures dialogs { OnOk result (dialogs.new.entries ≡ (spec.ack_told event name.now debt command.now dialogs.old.entries).0) }
-    ensures outs { IfOk result (λ told. told.0.items ≡ (spec.ack_told event name.now debt command.now dialogs.old.entries).1) }
-    ensures ack { IfOk result (λ told. told.1 ≡ (spec.ack_told event name.now debt command.now dialogs.old.entries).2) }
+    ensures dialogs { OnOk result (dialogs.new.entries
+        ≡ (spec.ack_told event name.now debt command.now dialogs.old.entries).0) }
+    ensures outs { IfOk result (λ told. told.0.items
+        ≡ (spec.ack_told event name.now debt command.now dialogs.old.entries).1) }
+    ensures ack { IfOk result (λ told. told.1
+        ≡ (spec.ack_told event name.now debt command.now dialogs.old.entries).2) }
 {
     let body = command.body.clone()?;
     let service = pay_at(alloc, dialogs, name, event, debt, body)?;
@@ -210,9 +223,12 @@ pub(crate) fn prack_told(
     command: &DialogBody,
     debt: Debt,
 ) -> Result<(Vec<CallOut>, Rest), AllocError>
-    ensures dialogs { OnOk result (dialogs.new.entries ≡ (spec.prack_told event name.now debt command.now dialogs.old.entries).0) }
-    ensures outs { IfOk result (λ told. told.0.items ≡ (spec.prack_told event name.now debt command.now dialogs.old.entries).1) }
-    ensures rest { IfOk result (λ told. told.1 ≡ (spec.prack_told event name.now debt command.now dialogs.old.entries).2) }
+    ensures dialogs { OnOk result (dialogs.new.entries
+        ≡ (spec.prack_told event name.now debt command.now dialogs.old.entries).0) }
+    ensures outs { IfOk result (λ told. told.0.items
+        ≡ (spec.prack_told event name.now debt command.now dialogs.old.entries).1) }
+    ensures rest { IfOk result (λ told. told.1
+        ≡ (spec.prack_told event name.now debt command.now dialogs.old.entries).2) }
 {
     let body = command.body.clone()?;
     let service = pay_at(alloc, dialogs, name, event, debt, body)?;

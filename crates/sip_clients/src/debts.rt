@@ -54,7 +54,8 @@ pub(crate) fn pay(
     debt: Debt,
     body: Text,
 ) -> Result<Service, AllocError>
-    ensures service { IfOk result (λ service. service ≡ (served event debt (Some body) held.old).1) }
+    ensures service { IfOk result (λ service. service
+        ≡ (served event debt (Some body) held.old).1) }
     ensures held { OnOk result (held.new ≡ spec.paying event debt body held.old) }
 {
     let service = serve(alloc, held, event, debt, Some(body))?;

@@ -18,14 +18,16 @@ use sip_served::{CallOut, Debt, DialogLife, DialogName, Dialogs, HeldDialog};
 use sip_text::{Series, Text};
 use std::alloc::{AllocError, Global};
 
-/// An early dialog is made by a response to the first INVITE, where none of its tags is held (RFC 3261, section 12.1.2).
+/// An early dialog is made by a response to the first INVITE, where none of its tags is held (RFC
+/// 3261, section 12.1.2).
 pub(crate) fn open(
     alloc: Global,
     dialogs: &mut Dialogs,
     client: &Client,
     reply: &Reply,
 ) -> Result<(), AllocError>
-    ensures { OnOk result (dialogs.new.entries ≡ spec.opened client.now reply.now dialogs.old.entries) }
+    ensures { OnOk result (dialogs.new.entries
+        ≡ spec.opened client.now reply.now dialogs.old.entries) }
 {
     match &client.asks {
         Asks::First => make_unless_held(alloc, dialogs, client, reply),
@@ -39,7 +41,8 @@ fn make_unless_held(
     client: &Client,
     reply: &Reply,
 ) -> Result<(), AllocError>
-    ensures { OnOk result (dialogs.new.entries ≡ spec.made_unless_held client.now reply.now dialogs.old.entries) }
+    ensures { OnOk result (dialogs.new.entries
+        ≡ spec.made_unless_held client.now reply.now dialogs.old.entries) }
 {
     if is_held(dialogs, &reply.name) {
         return Ok(());
@@ -59,7 +62,8 @@ fn make(
     client: &Client,
     reply: &Reply,
 ) -> Result<(), AllocError>
-    ensures { OnOk result (dialogs.new.entries ≡ spec.made client.now reply.now dialogs.old.entries) }
+    ensures { OnOk result (dialogs.new.entries
+        ≡ spec.made client.now reply.now dialogs.old.entries) }
 {
     let made = made_dialog(alloc, client, reply)?;
     let name = reply.name.clone()?;
@@ -80,7 +84,8 @@ fn made_dialog(alloc: Global, client: &Client, reply: &Reply) -> Result<HeldDial
     })
 }
 
-/// The first 2xx of a dialog confirms or makes it, or refreshes the target of that of a re-INVITE (RFC 3261, sections 13.2.2.4 and
+/// The first 2xx of a dialog confirms or makes it, or refreshes the target of that of a re-INVITE
+/// (RFC 3261, sections 13.2.2.4 and
 /// 12.2.1.2).
 pub(crate) fn accept(
     alloc: Global,
@@ -88,7 +93,8 @@ pub(crate) fn accept(
     client: &Client,
     reply: &Reply,
 ) -> Result<(), AllocError>
-    ensures { OnOk result (dialogs.new.entries ≡ spec.accepted client.now reply.now dialogs.old.entries) }
+    ensures { OnOk result (dialogs.new.entries
+        ≡ spec.accepted client.now reply.now dialogs.old.entries) }
 {
     match &client.asks {
         Asks::First => confirm_or_make(alloc, dialogs, client, reply),
@@ -103,7 +109,8 @@ fn confirm_or_make(
     client: &Client,
     reply: &Reply,
 ) -> Result<(), AllocError>
-    ensures { OnOk result (dialogs.new.entries ≡ spec.confirmed_or_made client.now reply.now dialogs.old.entries) }
+    ensures { OnOk result (dialogs.new.entries
+        ≡ spec.confirmed_or_made client.now reply.now dialogs.old.entries) }
 {
     if is_held(dialogs, &reply.name) {
         return confirm(dialogs, &reply.name, &reply.response);
@@ -112,7 +119,8 @@ fn confirm_or_make(
 }
 
 fn refresh(dialogs: &mut Dialogs, name: &DialogName, response: &Message) -> Result<(), AllocError>
-    ensures { OnOk result (dialogs.new.entries ≡ served.dialog_changed name.now (spec.refreshed response.now) dialogs.old.entries) }
+    ensures { OnOk result (dialogs.new.entries
+        ≡ served.dialog_changed name.now (spec.refreshed response.now) dialogs.old.entries) }
 {
     let Some(held) = dialogs.get_mut(name) else {
         return Ok(());
@@ -133,7 +141,8 @@ fn refresh_dialog(held: &mut HeldDialog, response: &Message) -> Result<(), Alloc
 
 /// A reliable provisional response with this RSeq came in the dialog of this name.
 pub(crate) fn hear(dialogs: &mut Dialogs, name: &DialogName, rseq: u32)
-    ensures { dialogs.new.entries ≡ served.dialog_changed name.now (spec.hearing rseq) dialogs.old.entries }
+    ensures { dialogs.new.entries ≡ served.dialog_changed name.now
+        (spec.hearing rseq) dialogs.old.entries }
 {
     let Some(held) = dialogs.get_mut(name) else {
         return;
@@ -156,8 +165,10 @@ pub(crate) fn owe_at(
     debt: Debt,
     offer: Option<Text>,
 ) -> Result<Service, AllocError>
-    ensures service { IfOk result (λ service. service ≡ (spec.owed_at name.now event debt offer dialogs.old.entries).1) }
-    ensures dialogs { OnOk result (dialogs.new.entries ≡ (spec.owed_at name.now event debt offer dialogs.old.entries).0) }
+    ensures service { IfOk result (λ service. service
+        ≡ (spec.owed_at name.now event debt offer dialogs.old.entries).1) }
+    ensures dialogs { OnOk result (dialogs.new.entries
+        ≡ (spec.owed_at name.now event debt offer dialogs.old.entries).0) }
 {
     let Some(held) = dialogs.get_mut(name) else {
         return Ok(Service::Waits);
@@ -174,8 +185,10 @@ pub(crate) fn pay_at(
     debt: Debt,
     body: Text,
 ) -> Result<Service, AllocError>
-    ensures service { IfOk result (λ service. service ≡ (spec.paid_at name.now event debt body dialogs.old.entries).1) }
-    ensures dialogs { OnOk result (dialogs.new.entries ≡ (spec.paid_at name.now event debt body dialogs.old.entries).0) }
+    ensures service { IfOk result (λ service. service
+        ≡ (spec.paid_at name.now event debt body dialogs.old.entries).1) }
+    ensures dialogs { OnOk result (dialogs.new.entries
+        ≡ (spec.paid_at name.now event debt body dialogs.old.entries).0) }
 {
     let Some(held) = dialogs.get_mut(name) else {
         return Ok(Service::Waits);
@@ -183,14 +196,16 @@ pub(crate) fn pay_at(
     pay(alloc, held, event, debt, body)
 }
 
-/// What ends with a client request: the early dialogs that it made, and the dialog that it was sent in where it `ends`.
+/// What ends with a client request: the early dialogs that it made, and the dialog that it was sent
+/// in where it `ends`.
 pub(crate) fn end_with(
     alloc: Global,
     dialogs: &mut Dialogs,
     client: &Client,
     ends: bool,
 ) -> Result<Vec<CallOut>, AllocError>
-    ensures { IfOk result (λ outs. (dialogs.new.entries, outs.items) ≡ spec.ended_with client.now ends dialogs.old.entries) }
+    ensures { IfOk result (λ outs. (dialogs.new.entries, outs.items)
+        ≡ spec.ended_with client.now ends dialogs.old.entries) }
 {
     let mut outs = end_early(alloc, dialogs, client.id)?;
     outs.append(&mut end_own(alloc, dialogs, &client.asks, ends)?)?;
@@ -203,7 +218,8 @@ fn end_own(
     asks: &Asks,
     ends: bool,
 ) -> Result<Vec<CallOut>, AllocError>
-    ensures { IfOk result (λ outs. (dialogs.new.entries, outs.items) ≡ spec.own_ended asks.now ends dialogs.old.entries) }
+    ensures { IfOk result (λ outs. (dialogs.new.entries, outs.items)
+        ≡ spec.own_ended asks.now ends dialogs.old.entries) }
 {
     match asks {
         Asks::Again(life) | Asks::Inside(life) if ends => end_life(alloc, dialogs, life),
@@ -216,7 +232,8 @@ fn end_life(
     dialogs: &mut Dialogs,
     life: &DialogLife,
 ) -> Result<Vec<CallOut>, AllocError>
-    ensures { IfOk result (λ outs. (dialogs.new.entries, outs.items) ≡ spec.life_ended life.now dialogs.old.entries) }
+    ensures { IfOk result (λ outs. (dialogs.new.entries, outs.items)
+        ≡ spec.life_ended life.now dialogs.old.entries) }
 {
     if lives(dialogs, life) {
         end(alloc, dialogs, &life.name)

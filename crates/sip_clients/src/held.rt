@@ -19,7 +19,8 @@ use std::alloc::{AllocError, Global};
 /// The held client requests, in the order in which they were sent.
 pub(crate) type ClientMap = IndexMap<ClientId, Client>;
 
-/// The name of the dialog that a response makes, or that its request was sent in; None where its request isn't held.
+/// The name of the dialog that a response makes, or that its request was sent in; None where its
+/// request isn't held.
 pub(crate) fn name_at(
     alloc: Global,
     clients: &ClientMap,
@@ -49,7 +50,8 @@ fn reply_name(alloc: Global, client: &Client, response: &Message) -> Result<Dial
     }
 }
 
-/// What a response does to the held request that it answers and to the dialogs, and what is told of it.
+/// What a response does to the held request that it answers and to the dialogs, and what is told of
+/// it.
 pub(crate) fn reply_at(
     alloc: Global,
     clients: &mut ClientMap,
@@ -57,10 +59,14 @@ pub(crate) fn reply_at(
     reply: &Reply,
 ) -> Result<(Vec<CallOut>, Rest), AllocError>
     requires { reply.now.event.moment ≤ 2 ^ 62 }
-    ensures clients { OnOk result (clients.new.entries ≡ (spec.replied_at reply.now dialogs.old.entries clients.old.entries).0) }
-    ensures dialogs { OnOk result (dialogs.new.entries ≡ (spec.replied_at reply.now dialogs.old.entries clients.old.entries).1) }
-    ensures outs { IfOk result (λ told. told.0.items ≡ (spec.replied_at reply.now dialogs.old.entries clients.old.entries).2) }
-    ensures rest { IfOk result (λ told. told.1 ≡ (spec.replied_at reply.now dialogs.old.entries clients.old.entries).3) }
+    ensures clients { OnOk result (clients.new.entries
+        ≡ (spec.replied_at reply.now dialogs.old.entries clients.old.entries).0) }
+    ensures dialogs { OnOk result (dialogs.new.entries
+        ≡ (spec.replied_at reply.now dialogs.old.entries clients.old.entries).1) }
+    ensures outs { IfOk result (λ told. told.0.items
+        ≡ (spec.replied_at reply.now dialogs.old.entries clients.old.entries).2) }
+    ensures rest { IfOk result (λ told. told.1
+        ≡ (spec.replied_at reply.now dialogs.old.entries clients.old.entries).3) }
 {
     let key = ClientId {
         round: reply.id.round,
@@ -80,7 +86,8 @@ pub(crate) fn settle(
     id: Id,
     rest: Rest,
 ) -> Result<Vec<CallOut>, AllocError>
-    ensures { IfOk result (λ outs. (clients.new.entries, outs.items) ≡ spec.settled event id rest clients.old.entries) }
+    ensures { IfOk result (λ outs. (clients.new.entries, outs.items)
+        ≡ spec.settled event id rest clients.old.entries) }
 {
     match rest {
         Rest::Stays => Ok(Vec::new(alloc)),
@@ -99,7 +106,8 @@ pub(crate) fn start(
     event: Event,
     client: Client,
 ) -> Result<Vec<CallOut>, AllocError>
-    ensures { IfOk result (λ outs. (clients.new.entries, outs.items) ≡ spec.started event client clients.old.entries) }
+    ensures { IfOk result (λ outs. (clients.new.entries, outs.items)
+        ≡ spec.started event client clients.old.entries) }
 {
     let out = start_command(alloc, event, &client)?;
     hold(clients, event.id, client)?;
@@ -137,7 +145,12 @@ pub(crate) fn lose(
     id: Id,
     timed_out: bool,
 ) -> Result<Vec<CallOut>, AllocError>
-    ensures { IfOk result (λ outs. (record { dialogs = dialogs.new.entries; clients = clients.new.entries }, outs.items) ≡ spec.lost id timed_out record { dialogs = dialogs.old.entries; clients = clients.old.entries }) }
+    ensures { IfOk result (λ outs.
+        (record { dialogs = dialogs.new.entries; clients = clients.new.entries }, outs.items)
+        ≡ spec.lost id timed_out record {
+          dialogs = dialogs.old.entries;
+          clients = clients.old.entries;
+        }) }
 {
     match take(clients, id) {
         Some(client) => end_with(alloc, dialogs, &client, timed_out),
@@ -166,7 +179,8 @@ fn note_ack_at(
     name: DialogName,
     ack: SentAck,
 ) -> Result<(), AllocError>
-    ensures { OnOk result (clients.new.entries ≡ spec.client_changed invite (spec.acked_with name ack) clients.old.entries) }
+    ensures { OnOk result (clients.new.entries
+        ≡ spec.client_changed invite (spec.acked_with name ack) clients.old.entries) }
 {
     let key = ClientId {
         round: invite.round,

@@ -13,5 +13,6 @@ pub fn names_differ()
 
 /// Before the moment at which an INVITE is due to be removed a tick does nothing and says nothing.
 pub fn quiet_until_due()
-    ensures { (side : Side) (now : ℕ) → is_due now (next_due side.clients) ≡ false → tick_taken side now ≡ quiet side }
+    ensures { (side : Side) (now : ℕ) → is_due now (next_due side.clients) ≡ false
+        → tick_taken side now ≡ quiet side }
 {}

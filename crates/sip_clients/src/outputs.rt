@@ -66,7 +66,8 @@ pub(crate) fn refused(
     call_id: &CallId,
     refusal: Refusal,
 ) -> Result<Vec<CallOut>, AllocError>
-    ensures { IfOk result (λ outs. outs.items ≡ spec.refused_notice event call_id.now refusal ∷ []) }
+    ensures { IfOk result (λ outs. outs.items ≡ spec.refused_notice event call_id.now refusal
+        ∷ []) }
 {
     one(alloc, refused_notice(event, call_id, refusal)?)
 }
@@ -79,8 +80,10 @@ pub(crate) fn request_said(
     name: &DialogName,
     service: Service,
 ) -> Result<(Vec<CallOut>, Rest), AllocError>
-    ensures outs { IfOk result (λ said. said.0.items ≡ (spec.request_said event call_id.now name.now service).0) }
-    ensures rest { IfOk result (λ said. said.1 ≡ (spec.request_said event call_id.now name.now service).1) }
+    ensures outs { IfOk result (λ said. said.0.items
+        ≡ (spec.request_said event call_id.now name.now service).0) }
+    ensures rest { IfOk result (λ said. said.1
+        ≡ (spec.request_said event call_id.now name.now service).1) }
 {
     match service {
         Service::Sent(sending) => {
@@ -126,7 +129,8 @@ pub(crate) fn ack_said(
     call_id: &CallId,
     service: Service,
 ) -> Result<(Vec<CallOut>, Option<SentAck>), AllocError>
-    ensures outs { IfOk result (λ said. said.0.items ≡ (spec.ack_said event call_id.now service).0) }
+    ensures outs { IfOk result (λ said. said.0.items
+        ≡ (spec.ack_said event call_id.now service).0) }
     ensures ack { IfOk result (λ said. said.1 ≡ (spec.ack_said event call_id.now service).1) }
 {
     match service {

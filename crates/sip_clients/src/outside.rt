@@ -64,7 +64,8 @@ fn calling(
     support: ProvisionalSupport,
     mut message: Message,
 ) -> Result<Message, AllocError>
-    ensures { IfOk result (λ made. made ≡ spec.supporting support (spec.with_contact local message)) }
+    ensures { IfOk result (λ made. made
+        ≡ spec.supporting support (spec.with_contact local message)) }
 {
     let mut contacts = Series::new(alloc);
     contacts.push(own_contact(alloc, local)?)?;

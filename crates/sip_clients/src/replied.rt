@@ -30,7 +30,8 @@ pub(crate) fn take_reply(
     reply: &Reply,
 ) -> Result<(Vec<CallOut>, Rest), AllocError>
     requires { reply.now.event.moment ≤ 2 ^ 62 }
-    ensures { IfOk result (λ told. (client.new, dialogs.new.entries, told.0.items, told.1) ≡ spec.reply_taken client.old dialogs.old.entries reply.now) }
+    ensures { IfOk result (λ told. (client.new, dialogs.new.entries, told.0.items, told.1)
+        ≡ spec.reply_taken client.old dialogs.old.entries reply.now) }
 {
     match reply_case(client, dialogs, reply) {
         ReplyCase::Final => finish(alloc, client, dialogs, reply),
@@ -58,7 +59,8 @@ fn finish(
     dialogs: &mut Dialogs,
     reply: &Reply,
 ) -> Result<(Vec<CallOut>, Rest), AllocError>
-    ensures { IfOk result (λ told. (client.now, dialogs.new.entries, told.0.items, told.1) ≡ spec.finished client.now dialogs.old.entries reply.now) }
+    ensures { IfOk result (λ told. (client.now, dialogs.new.entries, told.0.items, told.1)
+        ≡ spec.finished client.now dialogs.old.entries reply.now) }
 {
     let mut outs = one(alloc, response_notice(alloc, reply)?)?;
     let ends = ends_dialog(reply.status.code());
@@ -90,7 +92,8 @@ fn early(
     dialogs: &mut Dialogs,
     reply: &Reply,
 ) -> Result<(Vec<CallOut>, Rest), AllocError>
-    ensures { IfOk result (λ told. (client.now, dialogs.new.entries, told.0.items, told.1) ≡ spec.early client.now dialogs.old.entries reply.now) }
+    ensures { IfOk result (λ told. (client.now, dialogs.new.entries, told.0.items, told.1)
+        ≡ spec.early client.now dialogs.old.entries reply.now) }
 {
     open(alloc, dialogs, client, reply)?;
     told(alloc, reply)
@@ -105,7 +108,8 @@ fn reliable(
     reply: &Reply,
     rseq: u32,
 ) -> Result<(Vec<CallOut>, Rest), AllocError>
-    ensures { IfOk result (λ told. (client.new, dialogs.new.entries, told.0.items, told.1) ≡ spec.reliable rseq client.old dialogs.old.entries reply.now) }
+    ensures { IfOk result (λ told. (client.new, dialogs.new.entries, told.0.items, told.1)
+        ≡ spec.reliable rseq client.old dialogs.old.entries reply.now) }
 {
     let service = owe_prack(alloc, client, dialogs, reply, rseq)?;
     hear_again(client, rseq);
@@ -135,8 +139,10 @@ fn owe_prack(
     reply: &Reply,
     rseq: u32,
 ) -> Result<Service, AllocError>
-    ensures service { IfOk result (λ service. service ≡ (spec.prack_owed rseq client.now dialogs.old.entries reply.now).1) }
-    ensures dialogs { OnOk result (dialogs.new.entries ≡ (spec.prack_owed rseq client.now dialogs.old.entries reply.now).0) }
+    ensures service { IfOk result (λ service. service
+        ≡ (spec.prack_owed rseq client.now dialogs.old.entries reply.now).1) }
+    ensures dialogs { OnOk result (dialogs.new.entries
+        ≡ (spec.prack_owed rseq client.now dialogs.old.entries reply.now).0) }
 {
     open_and_hear(alloc, client, dialogs, reply, rseq)?;
     let debt = Debt::Prack {
@@ -154,7 +160,8 @@ fn open_and_hear(
     reply: &Reply,
     rseq: u32,
 ) -> Result<(), AllocError>
-    ensures { OnOk result (dialogs.new.entries ≡ spec.opened_and_heard rseq client.now reply.now dialogs.old.entries) }
+    ensures { OnOk result (dialogs.new.entries
+        ≡ spec.opened_and_heard rseq client.now reply.now dialogs.old.entries) }
 {
     open(alloc, dialogs, client, reply)?;
     hear_first(dialogs, client, reply, rseq);
@@ -163,7 +170,8 @@ fn open_and_hear(
 
 // The dialog of a first INVITE keeps what came in it.
 fn hear_first(dialogs: &mut Dialogs, client: &Client, reply: &Reply, rseq: u32)
-    ensures { dialogs.new.entries ≡ spec.heard_first client.now.asks rseq reply.now dialogs.old.entries }
+    ensures { dialogs.new.entries ≡ spec.heard_first client.now.asks rseq reply.now
+        dialogs.old.entries }
 {
     match &client.asks {
         Asks::First => hear(dialogs, &reply.name, rseq),
@@ -183,8 +191,9 @@ fn hear_again(client: &mut Client, rseq: u32)
     }
 }
 
-// The body of what a response asks for: none where the INVITE had an offer or the response has none. Otherwise it has to be the
-// answer to the offer in the response, which the user gives (RFC 3261, section 13.2.1; RFC 3262, section 5).
+// The body of what a response asks for: none where the INVITE had an offer or the response has
+// none. Otherwise it has to be the answer to the offer in the response, which the user gives (RFC
+// 3261, section 13.2.1; RFC 3262, section 5).
 fn offer_to(alloc: Global, client: &Client, response: &Message) -> Option<Text>
     ensures { result ≡ spec.offer_to client.now response.now }
 {
@@ -204,7 +213,8 @@ fn accepted(
     reply: &Reply,
 ) -> Result<(Vec<CallOut>, Rest), AllocError>
     requires { reply.now.event.moment ≤ 2 ^ 62 }
-    ensures { IfOk result (λ told. (client.new, dialogs.new.entries, told.0.items, told.1) ≡ spec.accepted_by_ack client.old dialogs.old.entries reply.now) }
+    ensures { IfOk result (λ told. (client.new, dialogs.new.entries, told.0.items, told.1)
+        ≡ spec.accepted_by_ack client.old dialogs.old.entries reply.now) }
 {
     let service = owe_ack(alloc, client, dialogs, reply)?;
     let (outs, ack) = told_of_ack(alloc, reply, service)?;
@@ -220,8 +230,10 @@ fn owe_ack(
     dialogs: &mut Dialogs,
     reply: &Reply,
 ) -> Result<Service, AllocError>
-    ensures service { IfOk result (λ service. service ≡ (spec.ack_owed client.now dialogs.old.entries reply.now).1) }
-    ensures dialogs { OnOk result (dialogs.new.entries ≡ (spec.ack_owed client.now dialogs.old.entries reply.now).0) }
+    ensures service { IfOk result (λ service. service
+        ≡ (spec.ack_owed client.now dialogs.old.entries reply.now).1) }
+    ensures dialogs { OnOk result (dialogs.new.entries
+        ≡ (spec.ack_owed client.now dialogs.old.entries reply.now).0) }
 {
     accept(alloc, dialogs, client, reply)?;
     let debt = Debt::Ack {

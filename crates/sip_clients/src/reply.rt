@@ -41,7 +41,8 @@ impl Drop for Reply {
     }
 }
 
-/// What a response to a held client request is (RFC 3261, sections 12.2.1.2, 13.2.2 and 17.1; RFC 3262, section 4).
+/// What a response to a held client request is (RFC 3261, sections 12.2.1.2, 13.2.2 and 17.1; RFC
+/// 3262, section 4).
 #[derive(Clone, Copy)]
 pub(crate) enum ReplyCase {
     /// The final one of its request, or one that rejects an INVITE.

@@ -65,7 +65,8 @@ pub(crate) fn request(
     rack: Option<RAck>,
     body: Text,
 ) -> Result<Service, AllocError>
-    ensures service { IfOk result (λ service. service ≡ (spec.requested event method rack body held.old).1) }
+    ensures service { IfOk result (λ service. service
+        ≡ (spec.requested event method rack body held.old).1) }
     ensures held { OnOk result (held.new ≡ (spec.requested event method rack body held.old).0) }
 {
     let to = held.dialog.hop(held.address);
@@ -120,7 +121,8 @@ fn prack(
     number: u32,
     body: Text,
 ) -> Result<Service, AllocError>
-    ensures service { IfOk result (λ service. service ≡ (spec.pracked event rseq number body held.old).1) }
+    ensures service { IfOk result (λ service. service
+        ≡ (spec.pracked event rseq number body held.old).1) }
     ensures held { OnOk result (held.new ≡ (spec.pracked event rseq number body held.old).0) }
 {
     let rack = RAck {
@@ -134,8 +136,10 @@ fn prack(
 
 // Why a dialog refused, or want of memory.
 fn refused_by(fault: DialogFault) -> Result<Service, AllocError>
-    ensures service { (found : Option DialogFault) (sending : Sending) → fault ≡ or_no_memory found → IfOk result (λ service. service ≡ spec.service_by found sending) }
-    ensures held { (found : Option DialogFault) (held : HeldDialog) → fault ≡ or_no_memory found → OnOk result (held ≡ spec.numbered found held) }
+    ensures service { (found : Option DialogFault) (sending : Sending) → fault ≡ or_no_memory found
+        → IfOk result (λ service. service ≡ spec.service_by found sending) }
+    ensures held { (found : Option DialogFault) (held : HeldDialog) → fault ≡ or_no_memory found
+        → OnOk result (held ≡ spec.numbered found held) }
 {
     match fault {
         DialogFault::NoMemory => Err(AllocError),

@@ -24,7 +24,8 @@ pub(crate) fn over_notices(
     clients: &ClientMap,
     now: u64,
 ) -> Result<Vec<CallOut>, AllocError>
-    ensures { IfOk result (λ outs. outs.items ≡ spec.over_notices now dialogs.now.entries clients.now.entries) }
+    ensures { IfOk result (λ outs. outs.items
+        ≡ spec.over_notices now dialogs.now.entries clients.now.entries) }
 {
     let mut outs = Vec::new(alloc);
     for client in clients.values().as_slice() {
@@ -39,7 +40,8 @@ fn notices_of(
     client: &Client,
     now: u64,
 ) -> Result<Vec<CallOut>, AllocError>
-    ensures { IfOk result (λ outs. outs.items ≡ spec.notices_of now dialogs.now.entries client.now) }
+    ensures { IfOk result (λ outs. outs.items
+        ≡ spec.notices_of now dialogs.now.entries client.now) }
 {
     if is_over(client, now) {
         early_notices(alloc, dialogs, client.id)

@@ -10,7 +10,8 @@ use Rattle.sip_desk.specs.Lines.{taken, seen, all_posted, Gives}
 module _ {E : Type 0} where
   -- the events are a merge of the parts that the lines gave
   abbrev pub Collects : Desk E → Desk E → List E → Type 0
-  Collects old new events = (parts : ℕ → List E) × IsMerge parts events × ((line : ℕ) → Gives old new line (parts line))
+  Collects old new events =
+      (parts : ℕ → List E) × IsMerge parts events × ((line : ℕ) → Gives old new line (parts line))
 
   -- nothing that was seen is left
   abbrev pub IsDry : Desk E → Type 0
@@ -18,9 +19,13 @@ module _ {E : Type 0} where
 
   -- what was gathered has what was collected behind it
   abbrev pub Gathers : Desk E → Desk E → List E → List E → Type 0
-  Gathers old new before after = (events : List E) × (after ≡ before ++ events) × Collects old new events
+  Gathers old new before after =
+      (events : List E) × (after ≡ before ++ events) × Collects old new events
 
-  -- why the line of this number isn't settled by the end: it is another's, or events are left on the line
+  -- why the line of this number isn't settled by the end: it is another's, or events are left on
+  -- the line
   abbrev pub Because : Desk E → ℕ → Ended E → SettleFault → Type 0
   Because desk line ended WrongLine = ended.line ≢ line
-  Because desk line ended NotDrained = (ended.line ≡ line) × (left : List E) × (0 < length left) × (all_posted ended ≡ taken desk line ++ left)
+  Because desk line ended NotDrained =
+      (ended.line ≡ line) × (left : List E) × (0 < length left)
+      × (all_posted ended ≡ taken desk line ++ left)

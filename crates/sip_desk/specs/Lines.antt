@@ -1,4 +1,5 @@
--- Lines from posters to a desk: what was posted on each, what was taken from it, and the steps of the rule of a line.
+-- Lines from posters to a desk: what was posted on each, what was taken from it, and the steps of
+-- the rule of a line.
 use Rattle.std.specs.Prelude.{◌≡◌, ℕ, List, [], ◌∷◌, ◌++◌, length, IsSomeAnd, Some, slice_get}
 use Rattle.std.specs.Option.{option_map_or}
 use mathlib.Core.List.{IsPrefix}
@@ -37,11 +38,13 @@ module _ {E : Type 0} where
 
   -- the poster is that of a line of the desk
   abbrev pub IsPosterOf : Desk E → Poster E → Type 0
-  IsPosterOf desk poster = IsSomeAnd (slice_get desk.lines.items poster.line) (λ line. IsPair poster.ring line)
+  IsPosterOf desk poster =
+      IsSomeAnd (slice_get desk.lines.items poster.line) (λ line. IsPair poster.ring line)
 
   -- the end is that of a line of the desk
   abbrev pub IsEndOf : Desk E → Ended E → Type 0
-  IsEndOf desk ended = IsSomeAnd (slice_get desk.lines.items ended.line) (λ line. IsFinishedOf ended.ring line)
+  IsEndOf desk ended =
+      IsSomeAnd (slice_get desk.lines.items ended.line) (λ line. IsFinishedOf ended.ring line)
 
   -- the poster is still that of its line
   pub record SameLine (old new : Poster E) : Type 0 where
@@ -66,13 +69,16 @@ module _ {E : Type 0} where
 
   -- ---- the steps of a line: made, push, pop, finish
 
-  -- nothing was posted on the lines or taken from them, and the posters are those of the lines, in order
-  pub record IsOpened (desk : Desk E) (posters : List (Poster E)) (lines capacity : ℕ) : Type 0 where
+  -- nothing was posted on the lines or taken from them, and the posters are those of the lines, in
+  -- order
+  pub record IsOpened (desk : Desk E) (posters : List (Poster E))
+      (lines capacity : ℕ) : Type 0 where
     pub count : line_count desk ≡ lines
     pub each : length posters ≡ lines
     pub untaken : (line : ℕ) → taken desk line ≡ []
     pub made : (line : ℕ) (poster : Poster E) → slice_get posters line ≡ Some poster
-        → (poster.line ≡ line) × IsPosterOf desk poster × (posted poster ≡ []) × (capacity_of poster ≡ capacity)
+        → (poster.line ≡ line) × IsPosterOf desk poster × (posted poster ≡ [])
+        × (capacity_of poster ≡ capacity)
 
   -- the event is the next that was posted
   abbrev pub Pushes : Poster E → Poster E → E → Type 0
@@ -80,7 +86,8 @@ module _ {E : Type 0} where
 
   -- the line gives this part: what was seen on it comes first
   abbrev pub Gives : Desk E → Desk E → ℕ → List E → Type 0
-  Gives old new line part = (taken new line ≡ taken old line ++ part) × IsPrefix (seen old line) (part ++ seen new line)
+  Gives old new line part =
+      (taken new line ≡ taken old line ++ part) × IsPrefix (seen old line) (part ++ seen new line)
 
   -- the event is the next that was taken from the line, and no other line gives one
   abbrev pub Pops : Desk E → Desk E → ℕ → E → Type 0
@@ -88,7 +95,8 @@ module _ {E : Type 0} where
 
   -- no line gives an event, but more may be seen
   abbrev pub TakesNothing : Desk E → Desk E → Type 0
-  TakesNothing old new = (line : ℕ) → (taken new line ≡ taken old line) × IsPrefix (seen old line) (seen new line)
+  TakesNothing old new =
+      (line : ℕ) → (taken new line ≡ taken old line) × IsPrefix (seen old line) (seen new line)
 
   -- what was posted is final
   abbrev pub IsFinal : Poster E → Ended E → Type 0

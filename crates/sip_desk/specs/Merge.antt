@@ -1,4 +1,5 @@
--- A merge of parts: events of several lines in one order, in which those of each line stay in theirs.
+-- A merge of parts: events of several lines in one order, in which those of each line stay in
+-- theirs.
 use Rattle.std.specs.Prelude.{◌≡◌, ℕ, ◌==◌, List, map, filter}
 use Rattle.std.specs.List.{flat_map}
 
@@ -13,8 +14,11 @@ module _ {E : Type 0} where
 
   -- the events can be marked with lines so that those of each line are its part, whole and in order
   abbrev pub IsMerge : (ℕ → List E) → List E → Type 0
-  IsMerge parts events = (marked : List (ℕ × E)) × (unmarked marked ≡ events) × ((line : ℕ) → part_of line marked ≡ parts line)
+  IsMerge parts events = (marked : List (ℕ × E)) × (unmarked marked ≡ events)
+      × ((line : ℕ) → part_of line marked ≡ parts line)
 
-  -- the events of the rounds can be marked with lines so that those of each line, round after round, are its part, whole and in order
+  -- the events of the rounds can be marked with lines so that those of each line, round after
+  -- round, are its part, whole and in order
   abbrev pub HoldsParts : (ℕ → List E) → List (List E) → Type 0
-  HoldsParts parts rounds = (marked : List (List (ℕ × E))) × (map unmarked marked ≡ rounds) × ((line : ℕ) → flat_map (part_of line) marked ≡ parts line)
+  HoldsParts parts rounds = (marked : List (List (ℕ × E))) × (map unmarked marked ≡ rounds)
+      × ((line : ℕ) → flat_map (part_of line) marked ≡ parts line)

@@ -101,8 +101,8 @@ impl<E: Drop> Desk<E> {
     ///
     /// # Errors
     ///
-    /// The end comes back and all is as it was, the first that fits: `WrongLine`, where it isn't the
-    /// end of the line of this number, also where there is no such line; `NotDrained`, where an
+    /// The end comes back and all is as it was, the first that fits: `WrongLine`, where it isn't
+    /// the end of the line of this number, also where there is no such line; `NotDrained`, where an
     /// event that was posted on the line wasn't collected.
     pub fn settle(
         &mut self,

@@ -10,9 +10,9 @@ ghost use Rattle.sip_desk.specs.Lines.{taken, seen, all_posted};
 ghost use Rattle.sip_desk.specs.Collected.{Collects, IsDry, Because};
 
 /// Laws: a merge of parts that is cut into rounds holds each part whole and in order; what is
-/// collected twice in turn is collected at once; and where nothing was taken before, the rounds into
-/// which all that was collected is cut hold what was taken from each line, in order and each event
-/// once.
+/// collected twice in turn is collected at once; and where nothing was taken before, the rounds
+/// into which all that was collected is cut hold what was taken from each line, in order and each
+/// event once.
 pub fn merges_in_rounds<E>()
     ensures cut { (parts : ℕ → List E) (rounds : List (List E))
         → IsMerge parts (flat_map (λ round. round) rounds) → HoldsParts parts rounds }

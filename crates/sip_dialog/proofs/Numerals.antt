@@ -26,13 +26,17 @@ record Read (zero_first digits : Bool) (value most n : ℕ) : Type 0 where
   small : nat_le value most ≡ true
   value_is : value ≡ n
 
-read_by : (zero_first digits below : Bool) (value most n : ℕ) → cond zero_first None (at_most most (cond digits (cond below (Ok value) (Err NumberTooLarge)) (Err NotAToken))) ≡ Some n → Read zero_first digits value most n
+read_by : (zero_first digits below : Bool) (value most n : ℕ)
+    → cond zero_first None (at_most most
+    (cond digits (cond below (Ok value) (Err NumberTooLarge)) (Err NotAToken))) ≡ Some n
+    → Read zero_first digits value most n
 read_by true digits below value most n e = absurd cc
 read_by false false below value most n e = absurd cc
 read_by false true false value most n e = absurd cc
 read_by false true true value most n e = within (nat_le value most) refl e
   where
-    within : (b : Bool) → nat_le value most ≡ b → cond b (Some value) None ≡ Some n → Read false true value most n
+    within : (b : Bool) → nat_le value most ≡ b → cond b (Some value) None ≡ Some n
+        → Read false true value most n
     within true le e = record { lead = refl; are_digits = refl; small = le; value_is = cc }
     within false le e = absurd cc
 
@@ -44,19 +48,32 @@ record Numeral (ds : List ℕ) : Type 0 where
 numeral_parts : (ds : List ℕ) → has_leading_zero ds ≡ false → is_digits ds ≡ true → Numeral ds
 numeral_parts [] z e = absurd cc
 numeral_parts (b ∷ []) z e = record { digits = e; some = omega arith; lead = λ h. refl }
-numeral_parts (b ∷ c ∷ bs) z e = record { digits = e; some = omega arith; lead = λ h. absurd (cc (ap (λ (x : ℕ). eqb x 48) h, z)) }
+numeral_parts (b ∷ c ∷ bs) z e =
+    record {
+      digits = e;
+      some = omega arith;
+      lead = λ h. absurd (cc (ap (λ (x : ℕ). eqb x 48) h, z));
+    }
 
-pub number_took : (most : ℕ) → most < 2 ^ 32 → (field : List ℕ) (n : ℕ) → number_at most field ≡ Some n → (n ≤ most) × (field ≡ decimal n)
+pub number_took : (most : ℕ) → most < 2 ^ 32 → (field : List ℕ) (n : ℕ)
+    → number_at most field ≡ Some n → (n ≤ most) × (field ≡ decimal n)
 unfolding number_at number_of
 number_took most lt field n e =
-    let r = read_by (has_leading_zero field) (is_digits field) (nat_lt (digits_value 10 field) (2 ^ 32)) (digits_value 10 field) most n e in
+    let r = read_by (has_leading_zero field) (is_digits field)
+    (nat_lt (digits_value 10 field) (2 ^ 32)) (digits_value 10 field) most n e in
     let small = leb-true (digits_value 10 field) most r.small in
     let numeral = numeral_parts field r.lead r.are_digits in
     let P : ℕ → Type 0 = λ m. (m ≤ most) × (field ≡ decimal m) in
-    subst P r.value_is (small, sym (decimal-digits_value own field numeral.digits numeral.some numeral.lead (omega (arith, small, lt))))
+    subst P r.value_is (
+      small,
+      sym
+          (decimal-digits_value own field numeral.digits numeral.some numeral.lead
+          (omega (arith, small, lt))),
+    )
 
 leads : (n : ℕ) → n < 2 ^ 64 → 1 < length (decimal n) → get_or (decimal n) 0 0 ≢ 48
-leads zero lt two = let one : length (decimal 0) ≡ 1 = ap length (decimal_digit 0 (omega arith)) in absurd (omega (arith, one))
+leads zero lt two = let one : length (decimal 0) ≡ 1 = ap length (decimal_digit 0 (omega arith)) in
+    absurd (omega (arith, one))
 leads (suc n) lt two = λ is. absurd (omega (arith, first_decimal (suc n) (omega arith) lt, is))
 
 no_zero : (ds : List ℕ) → (1 < length ds → get_or ds 0 0 ≢ 48) → has_leading_zero ds ≡ false
@@ -68,13 +85,16 @@ all_digits : (ds : List ℕ) → 0 < length ds → list_all is_ascii_digit ds �
 all_digits [] some all = absurd (omega arith)
 all_digits (b ∷ bs) some all = all
 
-pub number_again : (most : ℕ) → most < 2 ^ 32 → (n : ℕ) → n ≤ most → number_at most (decimal n) ≡ Some n
+pub number_again : (most : ℕ) → most < 2 ^ 32 → (n : ℕ) → n ≤ most
+    → number_at most (decimal n) ≡ Some n
 unfolding number_at number_of
 number_again most lt n le =
     let fits : n < 2 ^ 64 = omega (arith, le, lt) in
     let value = digits_value-decimal own n fits in
     let zero_first = no_zero (decimal n) (leads n fits) in
     let digits = all_digits (decimal n) (decimal_nonempty n fits) (decimal_digits n fits) in
-    let below : nat_lt (digits_value 10 (decimal n)) (2 ^ 32) ≡ true = le-leb _ _ (omega (arith, value, le, lt)) in
-    let small : nat_le (digits_value 10 (decimal n)) most ≡ true = le-leb _ _ (omega (arith, value, le)) in
+    let below : nat_lt (digits_value 10 (decimal n)) (2 ^ 32) ≡ true =
+    le-leb _ _ (omega (arith, value, le, lt)) in
+    let small : nat_le (digits_value 10 (decimal n)) most ≡ true =
+    le-leb _ _ (omega (arith, value, le)) in
     rw (zero_first, digits, below, small, value) refl

@@ -20,15 +20,23 @@ use Rattle.sip_message.proofs.Stamps.{all_digits-decimal}
 abbrev pub PassesDigits : (ℕ → Bool) → Type 0
 PassesDigits test = (b : ℕ) → is_ascii_digit b ≡ true → test b ≡ true
 
-both : (test : ℕ → Bool) (xs ys : List ℕ) → list_all test xs ≡ true → list_all test ys ≡ true → list_all test (xs ++ ys) ≡ true
+both : (test : ℕ → Bool) (xs ys : List ℕ) → list_all test xs ≡ true → list_all test ys ≡ true
+    → list_all test (xs ++ ys) ≡ true
 both test xs ys p q = list_all-append test xs ys ∙ both_true _ _ p q
 
-number : (test : ℕ → Bool) → PassesDigits test → (n : ℕ) → n < 2 ^ 64 → list_all test (decimal n) ≡ true
-number test digits n fits = all_weaker is_ascii_digit test digits (decimal n) (all_digits-decimal n fits)
+number : (test : ℕ → Bool) → PassesDigits test → (n : ℕ) → n < 2 ^ 64
+    → list_all test (decimal n) ≡ true
+number test digits n fits =
+    all_weaker is_ascii_digit test digits (decimal n) (all_digits-decimal n fits)
 
-pub ip_passes : (test : ℕ → Bool) → PassesDigits test → list_all test (codes ".") ≡ true → (ip : List ℕ) → slice_index ip 0 < 256 → slice_index ip 1 < 256 → slice_index ip 2 < 256 → slice_index ip 3 < 256 → list_all test (ip_text ip) ≡ true
+pub ip_passes : (test : ℕ → Bool) → PassesDigits test → list_all test (codes ".") ≡ true
+    → (ip : List ℕ) → slice_index ip 0 < 256 → slice_index ip 1 < 256 → slice_index ip 2 < 256
+    → slice_index ip 3 < 256 → list_all test (ip_text ip) ≡ true
 ip_passes test digits dot ip p q r s =
-    both test _ _ (both test _ _ (both test _ _ (both test _ _ (both test _ _ (both test _ _ (number test digits _ (omega arith)) dot) (number test digits _ (omega arith))) dot) (number test digits _ (omega arith))) dot) (number test digits _ (omega arith))
+    both test _ _ (both test _ _ (both test _ _
+    (both test _ _ (both test _ _ (both test _ _ (number test digits _ (omega arith)) dot)
+    (number test digits _ (omega arith))) dot) (number test digits _ (omega arith))) dot)
+    (number test digits _ (omega arith))
 
 host_digit : PassesDigits is_host_byte
 unfolding is_host_byte
@@ -43,7 +51,8 @@ unfolding is_host_byte
 no_bracket b true is h = absurd (true≢false (sym h ∙ ap is_host_byte (eqb-true b 91 is)))
 no_bracket b false is h = is
 
-host_from_bytes : (text : List ℕ) → 0 < length text → list_all is_host_byte text ≡ true → is_host text ≡ true
+host_from_bytes : (text : List ℕ) → 0 < length text → list_all is_host_byte text ≡ true
+    → is_host text ≡ true
 unfolding is_host
 host_from_bytes [] some all = absurd (omega arith)
 host_from_bytes (b ∷ bs) some all = rw (no_bracket b (eqb b 91) refl (and_left _ _ all)) all
@@ -52,23 +61,31 @@ more : (xs ys : List ℕ) → 0 < length ys → 0 < length (xs ++ ys)
 more xs ys some = let e = length-append xs ys in omega arith
 
 longer : (ip : List ℕ) → slice_index ip 3 < 256 → 0 < length (ip_text ip)
-longer ip s = more _ (decimal (slice_index ip 3)) (decimal_nonempty (slice_index ip 3) (omega arith))
+longer ip s = more _ (decimal (slice_index ip 3))
+    (decimal_nonempty (slice_index ip 3) (omega arith))
 
-pub ip_is_host : (ip : List ℕ) → slice_index ip 0 < 256 → slice_index ip 1 < 256 → slice_index ip 2 < 256 → slice_index ip 3 < 256 → IsTrue (is_host (ip_text ip))
-ip_is_host ip p q r s = host_from_bytes (ip_text ip) (longer ip s) (ip_passes is_host_byte host_digit host_dot ip p q r s)
+pub ip_is_host : (ip : List ℕ) → slice_index ip 0 < 256 → slice_index ip 1 < 256
+    → slice_index ip 2 < 256 → slice_index ip 3 < 256 → IsTrue (is_host (ip_text ip))
+ip_is_host ip p q r s = host_from_bytes (ip_text ip) (longer ip s)
+    (ip_passes is_host_byte host_digit host_dot ip p q r s)
 
 uri_digit : PassesDigits is_uri_byte
 unfolding is_uri_byte
 uri_digit b h = ap not (none_of is_ascii_digit (codes " \t\r\n<>\"") b refl h)
 
-pub own_uri : (ip : List ℕ) (port : ℕ) → slice_index ip 0 < 256 → slice_index ip 1 < 256 → slice_index ip 2 < 256 → slice_index ip 3 < 256 → port < 65536 → IsTrue (is_uri (((codes "sip:" ++ ip_text ip) ++ codes ":") ++ decimal port))
+pub own_uri : (ip : List ℕ) (port : ℕ) → slice_index ip 0 < 256 → slice_index ip 1 < 256
+    → slice_index ip 2 < 256 → slice_index ip 3 < 256 → port < 65536
+    → IsTrue (is_uri (((codes "sip:" ++ ip_text ip) ++ codes ":") ++ decimal port))
 unfolding is_uri is_uri_byte
 own_uri ip port p q r s t =
     let word : List ℕ = codes "sip:" ++ ip_text ip in
     both is_uri_byte (word ++ codes ":") (decimal port)
-    (both is_uri_byte word (codes ":") (both is_uri_byte (codes "sip:") (ip_text ip) refl (ip_passes is_uri_byte uri_digit refl ip p q r s)) refl)
+    (both is_uri_byte word (codes ":")
+    (both is_uri_byte (codes "sip:") (ip_text ip) refl
+    (ip_passes is_uri_byte uri_digit refl ip p q r s)) refl)
     (number is_uri_byte uri_digit port (omega arith))
 
-pub own_are_vias : (local : Addr) (branch : List ℕ) → IsTrue (is_branch branch) → IsTrue (are_vias (via_of local branch ∷ []))
+pub own_are_vias : (local : Addr) (branch : List ℕ) → IsTrue (is_branch branch)
+    → IsTrue (are_vias (via_of local branch ∷ []))
 unfolding are_vias value_named
 own_are_vias local branch rule = and_right _ _ rule

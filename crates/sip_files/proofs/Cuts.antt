@@ -19,78 +19,109 @@ pub record Parts (at : ℕ) (text front rest : List ℕ) : Type 0 where
 abbrev cut_by : ℕ → ℕ → List ℕ → Bool → Option (List ℕ × List ℕ) → Option (List ℕ × List ℕ)
 cut_by at b bs r o = cond r (Some ([], bs)) (option_map (λ p. (b ∷ p.0, p.1)) o)
 
-parts_by : (at b : ℕ) (bs : List ℕ) (r : Bool) (o : Option (List ℕ × List ℕ)) (p : List ℕ × List ℕ) → eqb b at ≡ r → ((q : List ℕ × List ℕ) → o ≡ Some q → Parts at bs q.0 q.1) → cut_by at b bs r o ≡ Some p → Parts at (b ∷ bs) p.0 p.1
+parts_by : (at b : ℕ) (bs : List ℕ) (r : Bool) (o : Option (List ℕ × List ℕ)) (p : List ℕ × List ℕ)
+    → eqb b at ≡ r → ((q : List ℕ × List ℕ) → o ≡ Some q → Parts at bs q.0 q.1)
+    → cut_by at b bs r o ≡ Some p → Parts at (b ∷ bs) p.0 p.1
 parts_by at b bs true o p is before e =
     let P : List ℕ × List ℕ → Type 0 = λ y. Parts at (b ∷ bs) y.0 y.1 in
-    subst P (same_some ([], bs) p e) (record { whole = ap (λ (c : ℕ). c ∷ bs) (eqb-true b at is); none = refl })
+    subst P (same_some ([], bs) p e)
+    (record { whole = ap (λ (c : ℕ). c ∷ bs) (eqb-true b at is); none = refl })
 parts_by at b bs false None p is before e = absurd cc
 parts_by at b bs false (Some q) p is before e =
     let first = before q refl in
     let P : List ℕ × List ℕ → Type 0 = λ y. Parts at (b ∷ bs) y.0 y.1 in
-    let none : has_no at (b ∷ q.0) ≡ true = and_from (not (eqb b at)) (has_no at q.0) (not_from_false (eqb b at) is) first.none in
-    subst P (same_some (b ∷ q.0, q.1) p e) (record { whole = ap (λ (t : List ℕ). b ∷ t) first.whole; none = none })
+    let none : has_no at (b ∷ q.0) ≡ true =
+    and_from (not (eqb b at)) (has_no at q.0) (not_from_false (eqb b at) is) first.none in
+    subst P (same_some (b ∷ q.0, q.1) p e)
+    (record { whole = ap (λ (t : List ℕ). b ∷ t) first.whole; none = none })
 
-pub cut_took : (at : ℕ) (text : List ℕ) (p : List ℕ × List ℕ) → cut_at at text ≡ Some p → Parts at text p.0 p.1
+pub cut_took : (at : ℕ) (text : List ℕ) (p : List ℕ × List ℕ) → cut_at at text ≡ Some p
+    → Parts at text p.0 p.1
 cut_took at [] p e = absurd cc
-cut_took at (b ∷ bs) p e = parts_by at b bs (eqb b at) (cut_at at bs) p refl (λ q h. cut_took at bs q h) e
+cut_took at (b ∷ bs) p e =
+    parts_by at b bs (eqb b at) (cut_at at bs) p refl (λ q h. cut_took at bs q h) e
 
-pub cut_again : (at : ℕ) (front rest : List ℕ) → has_no at front ≡ true → cut_at at (front ++ at ∷ rest) ≡ Some (front, rest)
+pub cut_again : (at : ℕ) (front rest : List ℕ) → has_no at front ≡ true
+    → cut_at at (front ++ at ∷ rest) ≡ Some (front, rest)
 cut_again at [] rest none = ap (λ r. cut_by at at rest r (cut_at at rest)) (eq-eqb at at refl)
 cut_again at (b ∷ bs) rest none =
     let parts = and_parts (not (eqb b at)) (has_no at bs) none in
-    ap (λ r. cut_by at b (bs ++ at ∷ rest) r (cut_at at (bs ++ at ∷ rest))) (not-true (eqb b at) parts.0) ∙ ap (λ o. option_map (λ p. (b ∷ p.0, p.1)) o) (cut_again at bs rest parts.1)
+    ap (λ r. cut_by at b (bs ++ at ∷ rest) r (cut_at at (bs ++ at ∷ rest)))
+    (not-true (eqb b at) parts.0) ∙ ap (λ o. option_map (λ p. (b ∷ p.0, p.1)) o)
+    (cut_again at bs rest parts.1)
 
 -- ---- fields
 
--- A reader of fields: what it reads is spelled so and fits, and what fits is read from its spelling.
-pub record Reads {A : Type 0} (Fits : A → Type 0) (spell : A → List ℕ) (read : List ℕ → Option A) : Type 0 where
+-- A reader of fields: what it reads is spelled so and fits, and what fits is read from its
+-- spelling.
+pub record Reads {A : Type 0} (Fits : A → Type 0) (spell : A → List ℕ)
+    (read : List ℕ → Option A) : Type 0 where
   pub took : (field : List ℕ) (x : A) → read field ≡ Some x → Fits x × (field ≡ spell x)
   pub again : (x : A) → Fits x → read (spell x) ≡ Some x
 
-pub field_took : {A : Type 0} (at : ℕ) (Fits : A → Type 0) (spell : A → List ℕ) (read : List ℕ → Option A) → Reads Fits spell read → (text : List ℕ) (p : A × List ℕ) → field_at at read text ≡ Some p → Fits p.0 × (text ≡ spell p.0 ++ at ∷ p.1)
+pub field_took : {A : Type 0} (at : ℕ) (Fits : A → Type 0) (spell : A → List ℕ)
+    (read : List ℕ → Option A) → Reads Fits spell read → (text : List ℕ) (p : A × List ℕ)
+    → field_at at read text ≡ Some p → Fits p.0 × (text ≡ spell p.0 ++ at ∷ p.1)
 field_took {A = A} at Fits spell read reads text p e =
     let cut = bind_some (cut_at at text) (λ q. read q.0 >>= λ x. Some (x, q.1)) p e in
     let x = bind_some (read cut.0.0) (λ x. Some (x, cut.0.1)) p cut.2 in
     let field = reads.took cut.0.0 x.0 x.1 in
-    let whole = (cut_took at text cut.0 cut.1).whole ∙ ap (λ (f : List ℕ). f ++ at ∷ cut.0.1) field.1 in
+    let whole = (cut_took at text cut.0 cut.1).whole
+    ∙ ap (λ (f : List ℕ). f ++ at ∷ cut.0.1) field.1 in
     let P : A × List ℕ → Type 0 = λ y. Fits y.0 × (text ≡ spell y.0 ++ at ∷ y.1) in
     subst P (same_some (x.0, cut.0.1) p x.2) (field.0, whole)
 
-pub field_again : {A : Type 0} (at : ℕ) (Fits : A → Type 0) (spell : A → List ℕ) (read : List ℕ → Option A) → Reads Fits spell read → (x : A) (rest : List ℕ) → Fits x → has_no at (spell x) ≡ true → field_at at read (spell x ++ at ∷ rest) ≡ Some (x, rest)
+pub field_again : {A : Type 0} (at : ℕ) (Fits : A → Type 0) (spell : A → List ℕ)
+    (read : List ℕ → Option A) → Reads Fits spell read → (x : A) (rest : List ℕ) → Fits x
+    → has_no at (spell x) ≡ true → field_at at read (spell x ++ at ∷ rest) ≡ Some (x, rest)
 field_again at Fits spell read reads x rest fits none =
-    ap (λ o. o >>= λ p. read p.0 >>= λ y. Some (y, p.1)) (cut_again at (spell x) rest none) ∙ ap (λ o. o >>= λ y. Some (y, rest)) (reads.again x fits)
+    ap (λ o. o >>= λ p. read p.0 >>= λ y. Some (y, p.1)) (cut_again at (spell x) rest none)
+    ∙ ap (λ o. o >>= λ y. Some (y, rest)) (reads.again x fits)
 
 -- ---- parts at the front of a text, each with a space behind it
 
--- A reader of what stands before a space: what it reads is spelled so and fits, and what fits is read from its spelling.
-pub record ReadsFront {A : Type 0} (Fits : A → Type 0) (spell : A → List ℕ) (read : List ℕ → Option (A × List ℕ)) : Type 0 where
-  pub took : (text : List ℕ) (p : A × List ℕ) → read text ≡ Some p → Fits p.0 × (text ≡ spell p.0 ++ 32 ∷ p.1)
+-- A reader of what stands before a space: what it reads is spelled so and fits, and what fits is
+-- read from its spelling.
+pub record ReadsFront {A : Type 0} (Fits : A → Type 0) (spell : A → List ℕ)
+    (read : List ℕ → Option (A × List ℕ)) : Type 0 where
+  pub took : (text : List ℕ) (p : A × List ℕ) → read text ≡ Some p
+      → Fits p.0 × (text ≡ spell p.0 ++ 32 ∷ p.1)
   pub again : (x : A) (rest : List ℕ) → Fits x → read (spell x ++ 32 ∷ rest) ≡ Some (x, rest)
 
-pub field_front : {A : Type 0} (Fits : A → Type 0) (spell : A → List ℕ) (read : List ℕ → Option A) → Reads Fits spell read → ((x : A) → Fits x → has_no 32 (spell x) ≡ true) → ReadsFront Fits spell (field_at 32 read)
+pub field_front : {A : Type 0} (Fits : A → Type 0) (spell : A → List ℕ) (read : List ℕ → Option A)
+    → Reads Fits spell read → ((x : A) → Fits x → has_no 32 (spell x) ≡ true)
+    → ReadsFront Fits spell (field_at 32 read)
 field_front Fits spell read reads none = record {
   took = field_took 32 Fits spell read reads;
   again = λ x rest fits. field_again 32 Fits spell read reads x rest fits (none x fits);
 }
 
-module _ {A B : Type 0} {P : A → Type 0} {s : A → List ℕ} {a : List ℕ → Option (A × List ℕ)} (first : ReadsFront P s a) where
-  pub both_front : {Q : B → Type 0} {t : B → List ℕ} {b : List ℕ → Option (B × List ℕ)} → ReadsFront Q t b → ReadsFront (λ (x : A × B). P x.0 × Q x.1) (λ x. s x.0 ++ 32 ∷ t x.1) (both_at a b)
+module _ {A B : Type 0} {P : A → Type 0} {s : A → List ℕ} {a : List ℕ → Option (A × List ℕ)}
+    (first : ReadsFront P s a) where
+  pub both_front : {Q : B → Type 0} {t : B → List ℕ} {b : List ℕ → Option (B × List ℕ)}
+      → ReadsFront Q t b → ReadsFront (λ (x : A × B). P x.0 × Q x.1) (λ x. s x.0 ++ 32 ∷ t x.1)
+      (both_at a b)
   both_front {Q = Q} {t = t} {b = b} second = record {
     took = λ text p e.
         let x = bind_some (a text) (λ x. b x.1 >>= λ y. Some ((x.0, y.0), y.1)) p e in
         let y = bind_some (b x.0.1) (λ y. Some ((x.0.0, y.0), y.1)) p x.2 in
         let f = first.took text x.0 x.1 in
         let g = second.took x.0.1 y.0 y.1 in
-        let whole : text ≡ (s x.0.0 ++ 32 ∷ t y.0.0) ++ 32 ∷ y.0.1 = f.1 ∙ ap (λ (r : List ℕ). s x.0.0 ++ 32 ∷ r) g.1 ∙ sym (append_assoc (s x.0.0) (32 ∷ t y.0.0) (32 ∷ y.0.1)) in
-        let R : (A × B) × List ℕ → Type 0 = λ z. (P (z.0).0 × Q (z.0).1) × (text ≡ (s (z.0).0 ++ 32 ∷ t (z.0).1) ++ 32 ∷ z.1) in
+        let whole : text ≡ (s x.0.0 ++ 32 ∷ t y.0.0) ++ 32 ∷ y.0.1 =
+        f.1 ∙ ap (λ (r : List ℕ). s x.0.0 ++ 32 ∷ r) g.1
+        ∙ sym (append_assoc (s x.0.0) (32 ∷ t y.0.0) (32 ∷ y.0.1)) in
+        let R : (A × B) × List ℕ → Type 0 =
+        λ z. (P (z.0).0 × Q (z.0).1) × (text ≡ (s (z.0).0 ++ 32 ∷ t (z.0).1) ++ 32 ∷ z.1) in
         subst R (same_some ((x.0.0, y.0.0), y.0.1) p y.2) ((f.0, g.0), whole);
     again = λ x rest fits.
         ap (both_at a b) (append_assoc (s x.0) (32 ∷ t x.1) (32 ∷ rest))
-        ∙ ap (λ o. o >>= λ x. b x.1 >>= λ y. Some ((x.0, y.0), y.1)) (first.again x.0 (t x.1 ++ 32 ∷ rest) fits.0)
+        ∙ ap (λ o. o >>= λ x. b x.1 >>= λ y. Some ((x.0, y.0), y.1))
+        (first.again x.0 (t x.1 ++ 32 ∷ rest) fits.0)
         ∙ ap (λ o. o >>= λ y. Some ((x.0, y.0), y.1)) (second.again x.1 rest fits.1);
   }
 
-  pub ended_reads : {Q : B → Type 0} {t : B → List ℕ} {b : List ℕ → Option B} → Reads Q t b → Reads (λ (x : A × B). P x.0 × Q x.1) (λ x. s x.0 ++ 32 ∷ t x.1) (ended_by a b)
+  pub ended_reads : {Q : B → Type 0} {t : B → List ℕ} {b : List ℕ → Option B} → Reads Q t b
+      → Reads (λ (x : A × B). P x.0 × Q x.1) (λ x. s x.0 ++ 32 ∷ t x.1) (ended_by a b)
   ended_reads {Q = Q} {t = t} {b = b} last = record {
     took = λ text p e.
         let x = bind_some (a text) (λ x. b x.1 >>= λ y. Some (x.0, y)) p e in
@@ -98,28 +129,37 @@ module _ {A B : Type 0} {P : A → Type 0} {s : A → List ℕ} {a : List ℕ �
         let f = first.took text x.0 x.1 in
         let g = last.took x.0.1 y.0 y.1 in
         let R : A × B → Type 0 = λ z. (P z.0 × Q z.1) × (text ≡ s z.0 ++ 32 ∷ t z.1) in
-        subst R (same_some (x.0.0, y.0) p y.2) ((f.0, g.0), f.1 ∙ ap (λ (r : List ℕ). s x.0.0 ++ 32 ∷ r) g.1);
+        subst R (same_some (x.0.0, y.0) p y.2)
+        ((f.0, g.0), f.1 ∙ ap (λ (r : List ℕ). s x.0.0 ++ 32 ∷ r) g.1);
     again = λ x fits.
         ap (λ o. o >>= λ x. b x.1 >>= λ y. Some (x.0, y)) (first.again x.0 (t x.1) fits.0)
         ∙ ap (λ o. o >>= λ y. Some (x.0, y)) (last.again x.1 fits.1);
   }
 
 -- the same, as a value of another type
-module _ {A B : Type 0} (make : A → B) (parts : B → A) (whole : (y : B) → make (parts y) ≡ y) (same : (x : A) → parts (make x) ≡ x) where
-  pub made_front : {P : A → Type 0} {s : A → List ℕ} {a : List ℕ → Option (A × List ℕ)} → ReadsFront P s a
-      → ReadsFront (λ y. P (parts y)) (λ y. s (parts y)) (λ text. a text >>= λ p. Some (make p.0, p.1))
+module _ {A B : Type 0} (make : A → B) (parts : B → A) (whole : (y : B) → make (parts y) ≡ y)
+    (same : (x : A) → parts (make x) ≡ x) where
+  pub made_front : {P : A → Type 0} {s : A → List ℕ} {a : List ℕ → Option (A × List ℕ)}
+      → ReadsFront P s a
+      → ReadsFront (λ y. P (parts y)) (λ y. s (parts y))
+      (λ text. a text >>= λ p. Some (make p.0, p.1))
   made_front {P = P} {s = s} {a = a} front = record {
     took = λ text p e.
         let x = bind_some (a text) (λ p. Some (make p.0, p.1)) p e in
         let f = front.took text x.0 x.1 in
         let R : B × List ℕ → Type 0 = λ z. P (parts z.0) × (text ≡ s (parts z.0) ++ 32 ∷ z.1) in
-        subst R (same_some (make x.0.0, x.0.1) p x.2)
-        (subst P (sym (same x.0.0)) f.0, f.1 ∙ ap (λ (y : A). s y ++ 32 ∷ x.0.1) (sym (same x.0.0)));
+        subst R (same_some (make x.0.0, x.0.1) p x.2) (
+          subst P (sym (same x.0.0)) f.0,
+          f.1
+              ∙ ap (λ (y : A). s y ++ 32 ∷ x.0.1) (sym (same x.0.0)),
+        );
     again = λ y rest fits.
-        ap (λ o. o >>= λ p. Some (make p.0, p.1)) (front.again (parts y) rest fits) ∙ ap (λ (z : B). Some (z, rest)) (whole y);
+        ap (λ o. o >>= λ p. Some (make p.0, p.1)) (front.again (parts y) rest fits)
+        ∙ ap (λ (z : B). Some (z, rest)) (whole y);
   }
 
-  pub made_reads : {P : A → Type 0} {Q : B → Type 0} {s : A → List ℕ} {a : List ℕ → Option A} → ((y : B) → P (parts y) → Q y) → ((y : B) → Q y → P (parts y)) → Reads P s a
+  pub made_reads : {P : A → Type 0} {Q : B → Type 0} {s : A → List ℕ} {a : List ℕ → Option A}
+      → ((y : B) → P (parts y) → Q y) → ((y : B) → Q y → P (parts y)) → Reads P s a
       → Reads Q (λ y. s (parts y)) (λ text. option_map make (a text))
   made_reads {P = P} {Q = Q} {s = s} {a = a} to from reads = record {
     took = λ text y e.
@@ -127,9 +167,11 @@ module _ {A B : Type 0} (make : A → B) (parts : B → A) (whole : (y : B) → 
         let f = reads.took text x.0 x.1 in
         let R : B → Type 0 = λ z. Q z × (text ≡ s (parts z)) in
         subst R x.2 (to (make x.0) (subst P (sym (same x.0)) f.0), f.1 ∙ ap s (sym (same x.0)));
-    again = λ y fits. ap (option_map make) (reads.again (parts y) (from y fits)) ∙ ap (λ (z : B). Some z) (whole y);
+    again = λ y fits. ap (option_map make) (reads.again (parts y) (from y fits))
+        ∙ ap (λ (z : B). Some z) (whole y);
   }
     where
-      made_of : (o : Option A) (y : B) → option_map make o ≡ Some y → (x : A) × (o ≡ Some x) × (make x ≡ y)
+      made_of : (o : Option A) (y : B) → option_map make o ≡ Some y
+          → (x : A) × (o ≡ Some x) × (make x ≡ y)
       made_of None y e = absurd cc
       made_of (Some x) y e = (x, refl, same_some (make x) y e)

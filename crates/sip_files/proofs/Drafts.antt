@@ -1,4 +1,5 @@
--- Drafts of event files: the lines of a file are taken one after the other, and the lines that are taken are those of a file.
+-- Drafts of event files: the lines of a file are taken one after the other, and the lines that are
+-- taken are those of a file.
 use Rattle.std.proofs.Common.{◌≡◌, ℕ, List, [], ◌∷◌, ◌++◌, map, Option, Some, None, refl, sym, ap, subst, ◌∙◌, append_assoc}
 use Rattle.std.specs.List.{flat_map}
 use Rattle.std.specs.Option.{option_map}
@@ -22,19 +23,26 @@ use Rattle.sip_files.proofs.Options.{bind_some, same_some}
 abbrev pub one_more : Round → Event → Round
 one_more round event = record round { events = round.events ++ event ∷ [] }
 
-pub with_event-last : (rounds : List Round) (round : Round) (event : Event) → with_event (rounds ++ round ∷ []) event ≡ Some (rounds ++ one_more round event ∷ [])
+pub with_event-last : (rounds : List Round) (round : Round) (event : Event)
+    → with_event (rounds ++ round ∷ []) event ≡ Some (rounds ++ one_more round event ∷ [])
 with_event-last [] round event = refl
 with_event-last (first ∷ []) round event = refl
-with_event-last (first ∷ next ∷ rounds) round event = ap (option_map (λ rs. first ∷ rs)) (with_event-last (next ∷ rounds) round event)
+with_event-last (first ∷ next ∷ rounds) round event =
+    ap (option_map (λ rs. first ∷ rs)) (with_event-last (next ∷ rounds) round event)
 
 -- ---- what is taken one after the other
 
-pub drafted-append : (draft : Draft) (lines more : List EventLine) → drafted draft (lines ++ more) ≡ (drafted draft lines >>= λ next. drafted next more)
+pub drafted-append : (draft : Draft) (lines more : List EventLine)
+    → drafted draft (lines ++ more) ≡ (drafted draft lines >>= λ next. drafted next more)
 unfolding drafted
 drafted-append draft [] more = refl
-drafted-append draft (next ∷ lines) more = further (taken draft next) (λ d. drafted-append d lines more)
+drafted-append draft (next ∷ lines) more =
+    further (taken draft next) (λ d. drafted-append d lines more)
   where
-    further : (o : Option Draft) → ((d : Draft) → drafted d (lines ++ more) ≡ (drafted d lines >>= λ n. drafted n more)) → (o >>= λ d. drafted d (lines ++ more)) ≡ ((o >>= λ d. drafted d lines) >>= λ n. drafted n more)
+    further : (o : Option Draft) → ((d : Draft)
+        → drafted d (lines ++ more) ≡ (drafted d lines >>= λ n. drafted n more))
+        → (o >>= λ d. drafted d (lines ++ more))
+        ≡ ((o >>= λ d. drafted d lines) >>= λ n. drafted n more)
     further None same = refl
     further (Some d) same = same d
 
@@ -46,16 +54,24 @@ drafted-one draft next = whole (taken draft next)
     whole None = refl
     whole (Some d) = refl
 
-pub drafted-push : (draft next : Draft) (lines : List EventLine) (last : EventLine) → drafted draft lines ≡ Some next → drafted draft (lines ++ last ∷ []) ≡ taken next last
-drafted-push draft next lines last e = drafted-append draft lines (last ∷ []) ∙ ap (λ o. o >>= λ d. drafted d (last ∷ [])) e ∙ drafted-one next last
+pub drafted-push : (draft next : Draft) (lines : List EventLine) (last : EventLine)
+    → drafted draft lines ≡ Some next → drafted draft (lines ++ last ∷ []) ≡ taken next last
+drafted-push draft next lines last e =
+    drafted-append draft lines (last ∷ []) ∙ ap (λ o. o >>= λ d. drafted d (last ∷ [])) e
+    ∙ drafted-one next last
 
 -- what goes on was taken
-pub next_taken : (draft next end : Draft) (lines more : List EventLine) (item : EventLine) → drafted draft lines ≡ Some next → drafted draft (lines ++ item ∷ more) ≡ Some end → taken next item ≡ None → ⊥
+pub next_taken : (draft next end : Draft) (lines more : List EventLine) (item : EventLine)
+    → drafted draft lines ≡ Some next → drafted draft (lines ++ item ∷ more) ≡ Some end
+    → taken next item ≡ None → ⊥
 unfolding drafted
 next_taken draft next end lines more item e whole none =
-    let split : (drafted draft lines >>= λ d. drafted d (item ∷ more)) ≡ Some end = sym (drafted-append draft lines (item ∷ more)) ∙ whole in
-    let after : (taken next item >>= λ d. drafted d more) ≡ Some end = sym (ap (λ o. o >>= λ d. drafted d (item ∷ more)) e) ∙ split in
-    let stop : ◌≡◌ {A = Option Draft} None (Some end) = sym (ap (λ o. o >>= λ d. drafted d more) none) ∙ after in
+    let split : (drafted draft lines >>= λ d. drafted d (item ∷ more)) ≡ Some end =
+    sym (drafted-append draft lines (item ∷ more)) ∙ whole in
+    let after : (taken next item >>= λ d. drafted d more) ≡ Some end =
+    sym (ap (λ o. o >>= λ d. drafted d (item ∷ more)) e) ∙ split in
+    let stop : ◌≡◌ {A = Option Draft} None (Some end) =
+    sym (ap (λ o. o >>= λ d. drafted d more) none) ∙ after in
     absurd cc
 
 -- ---- a file's lines are taken
@@ -69,16 +85,29 @@ Begun stage.Rounds = Unit {0}
 abbrev draft_of : Config → Stage → List Round → Draft
 draft_of config at rounds = record { config = config; stage = at; rounds = rounds }
 
-events_taken : (config : Config) (at : Stage) (rounds : List Round) (moment : ℕ) (done events : List Event) (more : List EventLine) → drafted (draft_of config at (rounds ++ (record { moment = moment; events = done }) ∷ [])) (map line.Event events ++ more) ≡ drafted (draft_of config at (rounds ++ (record { moment = moment; events = done ++ events }) ∷ [])) more
+events_taken : (config : Config) (at : Stage) (rounds : List Round) (moment : ℕ)
+    (done events : List Event) (more : List EventLine)
+    → drafted (draft_of config at (rounds ++ (record { moment = moment; events = done }) ∷ []))
+    (map line.Event events ++ more)
+    ≡ drafted (draft_of config at (rounds
+    ++ (record { moment = moment; events = done ++ events }) ∷ [])) more
 unfolding drafted
 events_taken config at rounds moment done [] more =
-    ap (λ (es : List Event). drafted (draft_of config at (rounds ++ (record { moment = moment; events = es }) ∷ [])) more) (sym (append-nil done))
+    ap (λ (es : List Event). drafted
+    (draft_of config at (rounds ++ (record { moment = moment; events = es }) ∷ [])) more)
+    (sym (append-nil done))
 events_taken config at rounds moment done (event ∷ events) more =
-    ap (λ o. option_map (λ rs. draft_of config at rs) o >>= λ d. drafted d (map line.Event events ++ more)) (with_event-last rounds (record { moment = moment; events = done }) event)
+    ap (λ o. option_map (λ rs. draft_of config at rs) o >>= λ d.
+    drafted d (map line.Event events ++ more))
+    (with_event-last rounds (record { moment = moment; events = done }) event)
     ∙ events_taken config at rounds moment (done ++ event ∷ []) events more
-    ∙ ap (λ (es : List Event). drafted (draft_of config at (rounds ++ (record { moment = moment; events = es }) ∷ [])) more) (append_assoc done (event ∷ []) events)
+    ∙ ap (λ (es : List Event). drafted
+    (draft_of config at (rounds ++ (record { moment = moment; events = es }) ∷ [])) more)
+    (append_assoc done (event ∷ []) events)
 
-round_begun : (config : Config) (at : Stage) (rounds : List Round) (moment : ℕ) → Begun at → round_taken at (draft_of config at rounds) moment ≡ Some (begun_round (draft_of config at rounds) moment)
+round_begun : (config : Config) (at : Stage) (rounds : List Round) (moment : ℕ) → Begun at
+    → round_taken at (draft_of config at rounds) moment
+    ≡ Some (begun_round (draft_of config at rounds) moment)
 round_begun config stage.Local rounds moment begun = elim begun [ ]
 round_begun config stage.Seed rounds moment begun = refl
 round_begun config stage.First rounds moment begun = refl
@@ -92,15 +121,22 @@ stage_after_rounds : (rounds : List Round) → stage_after stage.Rounds rounds �
 stage_after_rounds [] = refl
 stage_after_rounds (round ∷ rounds) = refl
 
-rounds_taken : (config : Config) (at : Stage) (done rounds : List Round) → Begun at → drafted (draft_of config at done) (flat_map round_lines rounds) ≡ Some (draft_of config (stage_after at rounds) (done ++ rounds))
+rounds_taken : (config : Config) (at : Stage) (done rounds : List Round) → Begun at
+    → drafted (draft_of config at done) (flat_map round_lines rounds)
+    ≡ Some (draft_of config (stage_after at rounds) (done ++ rounds))
 unfolding drafted
-rounds_taken config at done [] begun = ap (λ (rs : List Round). Some (draft_of config at rs)) (sym (append-nil done))
+rounds_taken config at done [] begun =
+    ap (λ (rs : List Round). Some (draft_of config at rs)) (sym (append-nil done))
 rounds_taken config at done (round ∷ rounds) begun =
-    ap (λ o. o >>= λ d. drafted d (map line.Event round.events ++ flat_map round_lines rounds)) (round_begun config at done round.moment begun)
-    ∙ events_taken config stage.Rounds done round.moment [] round.events (flat_map round_lines rounds)
+    ap (λ o. o >>= λ d. drafted d (map line.Event round.events ++ flat_map round_lines rounds))
+    (round_begun config at done round.moment begun)
+    ∙ events_taken config stage.Rounds done round.moment [] round.events
+    (flat_map round_lines rounds)
     ∙ rounds_taken config stage.Rounds (done ++ round ∷ []) rounds tt
-    ∙ ap (λ s. Some (draft_of config s ((done ++ round ∷ []) ++ rounds))) (stage_after_rounds rounds)
-    ∙ ap (λ (rs : List Round). Some (draft_of config stage.Rounds rs)) (append_assoc done (round ∷ []) rounds)
+    ∙ ap (λ s. Some (draft_of config s ((done ++ round ∷ []) ++ rounds)))
+    (stage_after_rounds rounds)
+    ∙ ap (λ (rs : List Round). Some (draft_of config stage.Rounds rs))
+    (append_assoc done (round ∷ []) rounds)
 
 stage_begun : (at : Stage) (rounds : List Round) → Begun at → Begun (stage_after at rounds)
 stage_begun at [] begun = begun
@@ -114,7 +150,9 @@ pub record Gives (config : Config) (rounds : List Round) (lines : List EventLine
   pub all_rounds : draft.rounds ≡ rounds
   pub begun : Begun draft.stage
 
-gives_by : (config : Config) (at : Stage) (rounds : List Round) (lines : List EventLine) → Begun at → drafted nothing_read lines ≡ drafted (draft_of config at []) (flat_map round_lines rounds) → Gives config rounds lines
+gives_by : (config : Config) (at : Stage) (rounds : List Round) (lines : List EventLine) → Begun at
+    → drafted nothing_read lines ≡ drafted (draft_of config at []) (flat_map round_lines rounds)
+    → Gives config rounds lines
 gives_by config at rounds lines begun e = record {
   draft = draft_of config (stage_after at rounds) rounds;
   taken_all = e ∙ rounds_taken config at [] rounds begun;
@@ -123,7 +161,9 @@ gives_by config at rounds lines begun e = record {
   begun = stage_begun at rounds begun;
 }
 
-pub file_gives : (local : Addr) (seed : Option (List ℕ)) (first : Option ℕ) (rounds : List Round) → Gives (config_of (record { local = local; seed = seed; first = first })) rounds (file_lines (record { local = local; seed = seed; first = first }) rounds)
+pub file_gives : (local : Addr) (seed : Option (List ℕ)) (first : Option ℕ) (rounds : List Round)
+    → Gives (config_of (record { local = local; seed = seed; first = first })) rounds
+    (file_lines (record { local = local; seed = seed; first = first }) rounds)
 unfolding drafted
 file_gives local None None rounds = gives_by _ stage.Seed rounds _ tt refl
 file_gives local None (Some n) rounds = gives_by _ stage.Rounds rounds _ tt refl
@@ -137,10 +177,16 @@ zeros = replicate 32 0
 
 -- what the lines before a draft are, by its stage
 abbrev Reached : Config → Stage → List Round → List EventLine → Type 0
-Reached config stage.Local rounds lines = (config ≡ nothing_read.config) × (rounds ≡ []) × (lines ≡ [])
-Reached config stage.Seed rounds lines = (local : Addr) × (config ≡ record { local = local; seed = zeros; first = 0 }) × (rounds ≡ []) × (lines ≡ line.Local local ∷ [])
-Reached config stage.First rounds lines = (local : Addr) × (seed : List ℕ) × (config ≡ record { local = local; seed = seed; first = 0 }) × (rounds ≡ []) × (lines ≡ line.Local local ∷ line.Seed seed ∷ [])
-Reached config stage.Rounds rounds lines = (head : Head) × (config ≡ config_of head) × (lines ≡ file_lines head rounds)
+Reached config stage.Local rounds lines =
+    (config ≡ nothing_read.config) × (rounds ≡ []) × (lines ≡ [])
+Reached config stage.Seed rounds lines =
+    (local : Addr) × (config ≡ record { local = local; seed = zeros; first = 0 }) × (rounds ≡ [])
+    × (lines ≡ line.Local local ∷ [])
+Reached config stage.First rounds lines =
+    (local : Addr) × (seed : List ℕ) × (config ≡ record { local = local; seed = seed; first = 0 })
+    × (rounds ≡ []) × (lines ≡ line.Local local ∷ line.Seed seed ∷ [])
+Reached config stage.Rounds rounds lines =
+    (head : Head) × (config ≡ config_of head) × (lines ≡ file_lines head rounds)
 
 abbrev ReachedBy : Draft → List EventLine → Type 0
 ReachedBy draft lines = Reached draft.config draft.stage draft.rounds lines
@@ -148,106 +194,203 @@ ReachedBy draft lines = Reached draft.config draft.stage draft.rounds lines
 no_draft : (d : Draft) → ◌≡◌ {A = Option Draft} None (Some d) → ⊥
 no_draft d e = cc
 
-local_step : (config : Config) (at : Stage) (rounds : List Round) (lines : List EventLine) (local : Addr) (next : Draft) → Reached config at rounds lines → local_taken at (draft_of config at rounds) local ≡ Some next → ReachedBy next (lines ++ line.Local local ∷ [])
+local_step : (config : Config) (at : Stage) (rounds : List Round) (lines : List EventLine)
+    (local : Addr) (next : Draft) → Reached config at rounds lines
+    → local_taken at (draft_of config at rounds) local ≡ Some next
+    → ReachedBy next (lines ++ line.Local local ∷ [])
 local_step config stage.Local rounds lines local next r e =
-    subst (λ (d : Draft). ReachedBy d (lines ++ line.Local local ∷ [])) (same_some (draft_of (record config { local = local }) stage.Seed rounds) next e) (local, ap (λ (c : Config). record c { local = local }) r.0, r.1, ap (λ (ls : List EventLine). ls ++ line.Local local ∷ []) r.2)
+    subst (λ (d : Draft). ReachedBy d (lines ++ line.Local local ∷ []))
+    (same_some (draft_of (record config { local = local }) stage.Seed rounds) next e) (
+      local,
+      ap (λ (c : Config). record c { local = local }) r.0,
+      r.1,
+      ap (λ (ls : List EventLine). ls ++ line.Local local ∷ []) r.2,
+    )
 local_step config stage.Seed rounds lines local next r e = absurd (no_draft next e)
 local_step config stage.First rounds lines local next r e = absurd (no_draft next e)
 local_step config stage.Rounds rounds lines local next r e = absurd (no_draft next e)
 
-seed_step : (config : Config) (at : Stage) (rounds : List Round) (lines : List EventLine) (seed : List ℕ) (next : Draft) → Reached config at rounds lines → seed_taken at (draft_of config at rounds) seed ≡ Some next → ReachedBy next (lines ++ line.Seed seed ∷ [])
+seed_step : (config : Config) (at : Stage) (rounds : List Round) (lines : List EventLine)
+    (seed : List ℕ) (next : Draft) → Reached config at rounds lines
+    → seed_taken at (draft_of config at rounds) seed ≡ Some next
+    → ReachedBy next (lines ++ line.Seed seed ∷ [])
 seed_step config stage.Local rounds lines seed next r e = absurd (no_draft next e)
 seed_step config stage.Seed rounds lines seed next r e =
-    subst (λ (d : Draft). ReachedBy d (lines ++ line.Seed seed ∷ [])) (same_some (draft_of (record config { seed = seed }) stage.First rounds) next e) (r.0, seed, ap (λ (c : Config). record c { seed = seed }) r.1, r.2, ap (λ (ls : List EventLine). ls ++ line.Seed seed ∷ []) r.3)
+    subst (λ (d : Draft). ReachedBy d (lines ++ line.Seed seed ∷ []))
+    (same_some (draft_of (record config { seed = seed }) stage.First rounds) next e) (
+      r.0,
+      seed,
+      ap (λ (c : Config). record c { seed = seed }) r.1,
+      r.2,
+      ap (λ (ls : List EventLine). ls ++ line.Seed seed ∷ []) r.3,
+    )
 seed_step config stage.First rounds lines seed next r e = absurd (no_draft next e)
 seed_step config stage.Rounds rounds lines seed next r e = absurd (no_draft next e)
 
 -- the lines of a head alone
-no_rounds : (head : Head) (rounds : List Round) (lines : List EventLine) → rounds ≡ [] → lines ≡ head_lines head → lines ≡ file_lines head rounds
-no_rounds head rounds lines none e = e ∙ sym (append-nil (head_lines head)) ∙ ap (λ (rs : List Round). head_lines head ++ flat_map round_lines rs) (sym none)
+no_rounds : (head : Head) (rounds : List Round) (lines : List EventLine) → rounds ≡ []
+    → lines ≡ head_lines head → lines ≡ file_lines head rounds
+no_rounds head rounds lines none e =
+    e ∙ sym (append-nil (head_lines head))
+    ∙ ap (λ (rs : List Round). head_lines head ++ flat_map round_lines rs) (sym none)
 
-first_step : (config : Config) (at : Stage) (rounds : List Round) (lines : List EventLine) (number : ℕ) (next : Draft) → Reached config at rounds lines → first_taken at (draft_of config at rounds) number ≡ Some next → ReachedBy next (lines ++ line.First number ∷ [])
+first_step : (config : Config) (at : Stage) (rounds : List Round) (lines : List EventLine)
+    (number : ℕ) (next : Draft) → Reached config at rounds lines
+    → first_taken at (draft_of config at rounds) number ≡ Some next
+    → ReachedBy next (lines ++ line.First number ∷ [])
 first_step config stage.Local rounds lines number next r e = absurd (no_draft next e)
 first_step config stage.Seed rounds lines number next r e =
     let head : Head = record { local = r.0; seed = None; first = Some number } in
-    subst (λ (d : Draft). ReachedBy d (lines ++ line.First number ∷ [])) (same_some (draft_of (record config { first = number }) stage.Rounds rounds) next e) (head, ap (λ (c : Config). record c { first = number }) r.1, no_rounds head rounds (lines ++ line.First number ∷ []) r.2 (ap (λ (ls : List EventLine). ls ++ line.First number ∷ []) r.3))
+    subst (λ (d : Draft). ReachedBy d (lines ++ line.First number ∷ []))
+    (same_some (draft_of (record config { first = number }) stage.Rounds rounds) next e) (
+      head,
+      ap (λ (c : Config). record c { first = number }) r.1,
+      no_rounds head rounds (lines ++ line.First number ∷ []) r.2
+          (ap (λ (ls : List EventLine). ls ++ line.First number ∷ []) r.3),
+    )
 first_step config stage.First rounds lines number next r e =
     let head : Head = record { local = r.0; seed = Some r.1; first = Some number } in
-    subst (λ (d : Draft). ReachedBy d (lines ++ line.First number ∷ [])) (same_some (draft_of (record config { first = number }) stage.Rounds rounds) next e) (head, ap (λ (c : Config). record c { first = number }) r.2, no_rounds head rounds (lines ++ line.First number ∷ []) r.3 (ap (λ (ls : List EventLine). ls ++ line.First number ∷ []) r.4))
+    subst (λ (d : Draft). ReachedBy d (lines ++ line.First number ∷ []))
+    (same_some (draft_of (record config { first = number }) stage.Rounds rounds) next e) (
+      head,
+      ap (λ (c : Config). record c { first = number }) r.2,
+      no_rounds head rounds (lines ++ line.First number ∷ []) r.3
+          (ap (λ (ls : List EventLine). ls ++ line.First number ∷ []) r.4),
+    )
 first_step config stage.Rounds rounds lines number next r e = absurd (no_draft next e)
 
 -- a round without events after the lines of a file
-round_added : (head : Head) (rounds : List Round) (lines : List EventLine) (moment : ℕ) → lines ≡ file_lines head rounds → lines ++ line.Round moment ∷ [] ≡ file_lines head (rounds ++ (record { moment = moment; events = [] }) ∷ [])
+round_added : (head : Head) (rounds : List Round) (lines : List EventLine) (moment : ℕ)
+    → lines ≡ file_lines head rounds
+    → lines ++ line.Round moment ∷ []
+    ≡ file_lines head (rounds ++ (record { moment = moment; events = [] }) ∷ [])
 round_added head rounds lines moment e =
     ap (λ (ls : List EventLine). ls ++ line.Round moment ∷ []) e
     ∙ append_assoc (head_lines head) (flat_map round_lines rounds) (line.Round moment ∷ [])
-    ∙ ap (λ (ls : List EventLine). head_lines head ++ ls) (sym (flat_map-append round_lines rounds ((record { moment = moment; events = [] }) ∷ [])))
+    ∙ ap (λ (ls : List EventLine). head_lines head ++ ls)
+    (sym (flat_map-append round_lines rounds ((record { moment = moment; events = [] }) ∷ [])))
 
-round_step : (config : Config) (at : Stage) (rounds : List Round) (lines : List EventLine) (moment : ℕ) (next : Draft) → Reached config at rounds lines → round_taken at (draft_of config at rounds) moment ≡ Some next → ReachedBy next (lines ++ line.Round moment ∷ [])
+round_step : (config : Config) (at : Stage) (rounds : List Round) (lines : List EventLine)
+    (moment : ℕ) (next : Draft) → Reached config at rounds lines
+    → round_taken at (draft_of config at rounds) moment ≡ Some next
+    → ReachedBy next (lines ++ line.Round moment ∷ [])
 round_step config stage.Local rounds lines moment next r e = absurd (no_draft next e)
 round_step config stage.Seed rounds lines moment next r e =
     let head : Head = record { local = r.0; seed = None; first = None } in
-    subst (λ (d : Draft). ReachedBy d (lines ++ line.Round moment ∷ [])) (same_some (begun_round (draft_of config stage.Seed rounds) moment) next e) (head, r.1, round_added head rounds lines moment (no_rounds head rounds lines r.2 r.3))
+    subst (λ (d : Draft). ReachedBy d (lines ++ line.Round moment ∷ []))
+    (same_some (begun_round (draft_of config stage.Seed rounds) moment) next e)
+    (head, r.1, round_added head rounds lines moment (no_rounds head rounds lines r.2 r.3))
 round_step config stage.First rounds lines moment next r e =
     let head : Head = record { local = r.0; seed = Some r.1; first = None } in
-    subst (λ (d : Draft). ReachedBy d (lines ++ line.Round moment ∷ [])) (same_some (begun_round (draft_of config stage.First rounds) moment) next e) (head, r.2, round_added head rounds lines moment (no_rounds head rounds lines r.3 r.4))
+    subst (λ (d : Draft). ReachedBy d (lines ++ line.Round moment ∷ []))
+    (same_some (begun_round (draft_of config stage.First rounds) moment) next e)
+    (head, r.2, round_added head rounds lines moment (no_rounds head rounds lines r.3 r.4))
 round_step config stage.Rounds rounds lines moment next r e =
-    subst (λ (d : Draft). ReachedBy d (lines ++ line.Round moment ∷ [])) (same_some (begun_round (draft_of config stage.Rounds rounds) moment) next e) (r.0, r.1, round_added r.0 rounds lines moment r.2)
+    subst (λ (d : Draft). ReachedBy d (lines ++ line.Round moment ∷ []))
+    (same_some (begun_round (draft_of config stage.Rounds rounds) moment) next e)
+    (r.0, r.1, round_added r.0 rounds lines moment r.2)
 
 -- an event goes into the last round
-map_push : (events : List Event) (event : Event) → map line.Event (events ++ event ∷ []) ≡ map line.Event events ++ line.Event event ∷ []
+map_push : (events : List Event) (event : Event)
+    → map line.Event (events ++ event ∷ []) ≡ map line.Event events ++ line.Event event ∷ []
 map_push [] event = refl
-map_push (first ∷ events) event = ap (λ (ls : List EventLine). line.Event first ∷ ls) (map_push events event)
+map_push (first ∷ events) event =
+    ap (λ (ls : List EventLine). line.Event first ∷ ls) (map_push events event)
 
-further : (round : Round) (rounds changed : List Round) (event : Event) (o : Option (List Round)) → ((rs : List Round) → with_event rounds event ≡ Some rs → flat_map round_lines rs ≡ flat_map round_lines rounds ++ line.Event event ∷ []) → with_event rounds event ≡ o → option_map (λ rs. round ∷ rs) o ≡ Some changed → flat_map round_lines changed ≡ flat_map round_lines (round ∷ rounds) ++ line.Event event ∷ []
+further : (round : Round) (rounds changed : List Round) (event : Event) (o : Option (List Round))
+    → ((rs : List Round) → with_event rounds event ≡ Some rs
+    → flat_map round_lines rs ≡ flat_map round_lines rounds ++ line.Event event ∷ [])
+    → with_event rounds event ≡ o → option_map (λ rs. round ∷ rs) o ≡ Some changed
+    → flat_map round_lines changed ≡ flat_map round_lines (round ∷ rounds) ++ line.Event event ∷ []
 further round rounds changed event None before is made = absurd cc
 further round rounds changed event (Some rs) before is made =
-    let P : List Round → Type 0 = λ x. flat_map round_lines x ≡ flat_map round_lines (round ∷ rounds) ++ line.Event event ∷ [] in
-    subst P (same_some (round ∷ rs) changed made) (ap (λ (ls : List EventLine). round_lines round ++ ls) (before rs is) ∙ sym (append_assoc (round_lines round) (flat_map round_lines rounds) (line.Event event ∷ [])))
+    let P : List Round → Type 0 = λ x. flat_map round_lines x
+    ≡ flat_map round_lines (round ∷ rounds) ++ line.Event event ∷ [] in
+    subst P (same_some (round ∷ rs) changed made)
+    (ap (λ (ls : List EventLine). round_lines round ++ ls) (before rs is)
+    ∙ sym (append_assoc (round_lines round) (flat_map round_lines rounds)
+    (line.Event event ∷ [])))
 
-event_added : (rounds changed : List Round) (event : Event) → with_event rounds event ≡ Some changed → flat_map round_lines changed ≡ flat_map round_lines rounds ++ line.Event event ∷ []
+event_added : (rounds changed : List Round) (event : Event) → with_event rounds event ≡ Some changed
+    → flat_map round_lines changed ≡ flat_map round_lines rounds ++ line.Event event ∷ []
 event_added [] changed event e = absurd cc
 event_added (round ∷ []) changed event e =
-    let P : List Round → Type 0 = λ rs. flat_map round_lines rs ≡ flat_map round_lines (round ∷ []) ++ line.Event event ∷ [] in
+    let P : List Round → Type 0 = λ rs. flat_map round_lines rs ≡ flat_map round_lines (round ∷ [])
+    ++ line.Event event ∷ [] in
     subst P (same_some (one_more round event ∷ []) changed e)
-    (append-nil (round_lines (one_more round event)) ∙ ap (λ (ls : List EventLine). line.Round round.moment ∷ ls) (map_push round.events event) ∙ ap (λ (ls : List EventLine). ls ++ line.Event event ∷ []) (sym (append-nil (round_lines round))))
+    (append-nil (round_lines (one_more round event))
+    ∙ ap (λ (ls : List EventLine). line.Round round.moment ∷ ls) (map_push round.events event)
+    ∙ ap (λ (ls : List EventLine). ls ++ line.Event event ∷ [])
+    (sym (append-nil (round_lines round))))
 event_added (round ∷ next ∷ rounds) changed event e =
-    further round (next ∷ rounds) changed event (with_event (next ∷ rounds) event) (λ rs is. event_added (next ∷ rounds) rs event is) refl e
+    further round (next ∷ rounds) changed event (with_event (next ∷ rounds) event)
+    (λ rs is. event_added (next ∷ rounds) rs event is) refl e
 
-event_none : (rounds changed : List Round) (event : Event) → rounds ≡ [] → with_event rounds event ≡ Some changed → ⊥
+event_none : (rounds changed : List Round) (event : Event) → rounds ≡ []
+    → with_event rounds event ≡ Some changed → ⊥
 event_none rounds changed event none e =
-    let stop : ◌≡◌ {A = Option (List Round)} None (Some changed) = sym (ap (λ (rs : List Round). with_event rs event) none) ∙ e in
+    let stop : ◌≡◌ {A = Option (List Round)} None (Some changed) =
+    sym (ap (λ (rs : List Round). with_event rs event) none) ∙ e in
     absurd cc
 
-event_step : (config : Config) (at : Stage) (rounds : List Round) (lines : List EventLine) (event : Event) (changed : List Round) → Reached config at rounds lines → with_event rounds event ≡ Some changed → Reached config at changed (lines ++ line.Event event ∷ [])
-event_step config stage.Local rounds lines event changed r e = absurd (event_none rounds changed event r.1 e)
-event_step config stage.Seed rounds lines event changed r e = absurd (event_none rounds changed event r.2 e)
-event_step config stage.First rounds lines event changed r e = absurd (event_none rounds changed event r.3 e)
-event_step config stage.Rounds rounds lines event changed r e =
-    (r.0, r.1, ap (λ (ls : List EventLine). ls ++ line.Event event ∷ []) r.2 ∙ append_assoc (head_lines r.0) (flat_map round_lines rounds) (line.Event event ∷ []) ∙ ap (λ (ls : List EventLine). head_lines r.0 ++ ls) (sym (event_added rounds changed event e)))
+event_step : (config : Config) (at : Stage) (rounds : List Round) (lines : List EventLine)
+    (event : Event) (changed : List Round) → Reached config at rounds lines
+    → with_event rounds event ≡ Some changed
+    → Reached config at changed (lines ++ line.Event event ∷ [])
+event_step config stage.Local rounds lines event changed r e =
+    absurd (event_none rounds changed event r.1 e)
+event_step config stage.Seed rounds lines event changed r e =
+    absurd (event_none rounds changed event r.2 e)
+event_step config stage.First rounds lines event changed r e =
+    absurd (event_none rounds changed event r.3 e)
+event_step config stage.Rounds rounds lines event changed r e = (
+  r.0,
+  r.1,
+  ap (λ (ls : List EventLine). ls ++ line.Event event ∷ []) r.2
+      ∙ append_assoc (head_lines r.0) (flat_map round_lines rounds) (line.Event event ∷ [])
+      ∙ ap (λ (ls : List EventLine). head_lines r.0 ++ ls)
+      (sym (event_added rounds changed event e)),
+)
 
-event_by : (config : Config) (at : Stage) (rounds : List Round) (lines : List EventLine) (event : Event) (next : Draft) (o : Option (List Round)) → with_event rounds event ≡ o → Reached config at rounds lines → option_map (λ rs. draft_of config at rs) o ≡ Some next → ReachedBy next (lines ++ line.Event event ∷ [])
+event_by : (config : Config) (at : Stage) (rounds : List Round) (lines : List EventLine)
+    (event : Event) (next : Draft) (o : Option (List Round)) → with_event rounds event ≡ o
+    → Reached config at rounds lines → option_map (λ rs. draft_of config at rs) o ≡ Some next
+    → ReachedBy next (lines ++ line.Event event ∷ [])
 event_by config at rounds lines event next None is r e = absurd (no_draft next e)
 event_by config at rounds lines event next (Some changed) is r e =
-    subst (λ (d : Draft). ReachedBy d (lines ++ line.Event event ∷ [])) (same_some (draft_of config at changed) next e) (event_step config at rounds lines event changed r is)
+    subst (λ (d : Draft). ReachedBy d (lines ++ line.Event event ∷ []))
+    (same_some (draft_of config at changed) next e)
+    (event_step config at rounds lines event changed r is)
 
-step : (draft : Draft) (lines : List EventLine) (item : EventLine) (next : Draft) → ReachedBy draft lines → taken draft item ≡ Some next → ReachedBy next (lines ++ item ∷ [])
-step draft lines (line.Local local) next r e = local_step draft.config draft.stage draft.rounds lines local next r e
-step draft lines (line.Seed seed) next r e = seed_step draft.config draft.stage draft.rounds lines seed next r e
-step draft lines (line.First number) next r e = first_step draft.config draft.stage draft.rounds lines number next r e
-step draft lines (line.Round moment) next r e = round_step draft.config draft.stage draft.rounds lines moment next r e
-step draft lines (line.Event event) next r e = event_by draft.config draft.stage draft.rounds lines event next (with_event draft.rounds event) refl r e
+step : (draft : Draft) (lines : List EventLine) (item : EventLine) (next : Draft)
+    → ReachedBy draft lines → taken draft item ≡ Some next → ReachedBy next (lines ++ item ∷ [])
+step draft lines (line.Local local) next r e =
+    local_step draft.config draft.stage draft.rounds lines local next r e
+step draft lines (line.Seed seed) next r e =
+    seed_step draft.config draft.stage draft.rounds lines seed next r e
+step draft lines (line.First number) next r e =
+    first_step draft.config draft.stage draft.rounds lines number next r e
+step draft lines (line.Round moment) next r e =
+    round_step draft.config draft.stage draft.rounds lines moment next r e
+step draft lines (line.Event event) next r e =
+    event_by draft.config draft.stage draft.rounds lines event next
+    (with_event draft.rounds event) refl r e
 
-all_steps : (draft : Draft) (before lines : List EventLine) (end : Draft) → ReachedBy draft before → drafted draft lines ≡ Some end → ReachedBy end (before ++ lines)
+all_steps : (draft : Draft) (before lines : List EventLine) (end : Draft) → ReachedBy draft before
+    → drafted draft lines ≡ Some end → ReachedBy end (before ++ lines)
 unfolding drafted
 all_steps draft before [] end r e =
-    subst (λ (d : Draft). ReachedBy d (before ++ [])) (same_some draft end e) (subst (λ (ls : List EventLine). ReachedBy draft ls) (sym (append-nil before)) r)
+    subst (λ (d : Draft). ReachedBy d (before ++ [])) (same_some draft end e)
+    (subst (λ (ls : List EventLine). ReachedBy draft ls) (sym (append-nil before)) r)
 all_steps draft before (item ∷ lines) end r e =
     let x = bind_some (taken draft item) (λ next. drafted next lines) end e in
-    let further = all_steps x.0 (before ++ item ∷ []) lines end (step draft before item x.0 r x.1) x.2 in
-    subst (λ (ls : List EventLine). ReachedBy end ls) (append_assoc before (item ∷ []) lines) further
+    let further = all_steps x.0 (before ++ item ∷ []) lines end
+    (step draft before item x.0 r x.1) x.2 in
+    subst (λ (ls : List EventLine). ReachedBy end ls)
+    (append_assoc before (item ∷ []) lines) further
 
-reached : (lines : List EventLine) (end : Draft) → drafted nothing_read lines ≡ Some end → ReachedBy end lines
+reached : (lines : List EventLine) (end : Draft) → drafted nothing_read lines ≡ Some end
+    → ReachedBy end lines
 reached lines end e = all_steps nothing_read [] lines end (refl, refl, refl) e
 
 -- the lines of a draft that is begun are those of a file
@@ -256,7 +399,8 @@ pub record IsFile (config : Config) (rounds : List Round) (lines : List EventLin
   pub configured : config_of head ≡ config
   pub spelled : lines ≡ file_lines head rounds
 
-file_at : (config : Config) (at : Stage) (rounds : List Round) (lines : List EventLine) → Begun at → Reached config at rounds lines → IsFile config rounds lines
+file_at : (config : Config) (at : Stage) (rounds : List Round) (lines : List EventLine) → Begun at
+    → Reached config at rounds lines → IsFile config rounds lines
 file_at config stage.Local rounds lines begun r = elim begun [ ]
 file_at config stage.Seed rounds lines begun r =
     let head : Head = record { local = r.0; seed = None; first = None } in
@@ -264,19 +408,25 @@ file_at config stage.Seed rounds lines begun r =
 file_at config stage.First rounds lines begun r =
     let head : Head = record { local = r.0; seed = Some r.1; first = None } in
     record { head = head; configured = sym r.2; spelled = no_rounds head rounds lines r.3 r.4 }
-file_at config stage.Rounds rounds lines begun r = record { head = r.0; configured = sym r.1; spelled = r.2 }
+file_at config stage.Rounds rounds lines begun r =
+    record { head = r.0; configured = sym r.1; spelled = r.2 }
 
-pub file_of : (lines : List EventLine) (draft : Draft) → drafted nothing_read lines ≡ Some draft → Begun draft.stage → IsFile draft.config draft.rounds lines
-file_of lines draft e begun = file_at draft.config draft.stage draft.rounds lines begun (reached lines draft e)
+pub file_of : (lines : List EventLine) (draft : Draft) → drafted nothing_read lines ≡ Some draft
+    → Begun draft.stage → IsFile draft.config draft.rounds lines
+file_of lines draft e begun =
+    file_at draft.config draft.stage draft.rounds lines begun (reached lines draft e)
 
-nothing_at : (config : Config) (at : Stage) (rounds : List Round) (lines : List EventLine) → at ≡ stage.Local → Reached config at rounds lines → lines ≡ []
+nothing_at : (config : Config) (at : Stage) (rounds : List Round) (lines : List EventLine)
+    → at ≡ stage.Local → Reached config at rounds lines → lines ≡ []
 nothing_at config stage.Local rounds lines e r = r.2
 nothing_at config stage.Seed rounds lines e r = absurd cc
 nothing_at config stage.First rounds lines e r = absurd cc
 nothing_at config stage.Rounds rounds lines e r = absurd cc
 
-pub nothing_of : (lines : List EventLine) (draft : Draft) → drafted nothing_read lines ≡ Some draft → draft.stage ≡ stage.Local → lines ≡ []
-nothing_of lines draft e at = nothing_at draft.config draft.stage draft.rounds lines at (reached lines draft e)
+pub nothing_of : (lines : List EventLine) (draft : Draft) → drafted nothing_read lines ≡ Some draft
+    → draft.stage ≡ stage.Local → lines ≡ []
+nothing_of lines draft e at =
+    nothing_at draft.config draft.stage draft.rounds lines at (reached lines draft e)
 
 pub begun_unless : (at : Stage) → (at ≡ stage.Local → ⊥) → Begun at
 begun_unless stage.Local other = absurd (other refl)

@@ -33,7 +33,8 @@ use Rattle.sip_files.proofs.NumberLaws.{number_reads, id_reads, address_reads, a
 pub word_reads : Reads (λ text. are_bytes text ≡ true) spelled_word word_at
 word_reads = record { took = word_took; again = word_again }
 
-call_id_took : (field text : List ℕ) → call_id_at field ≡ Some text → IsCallId text × (field ≡ spelled_word text)
+call_id_took : (field text : List ℕ) → call_id_at field ≡ Some text
+    → IsCallId text × (field ≡ spelled_word text)
 unfolding call_id_at
 call_id_took field text e =
     let w = bind_some (word_at field) (λ text. cond (is_word text) (Some text) None) text e in
@@ -45,12 +46,14 @@ call_id_took field text e =
 call_id_again : (text : List ℕ) → IsCallId text → call_id_at (spelled_word text) ≡ Some text
 unfolding call_id_at
 call_id_again text fits =
-    ap (λ o. o >>= λ text. cond (is_word text) (Some text) None) (word_again text fits.0) ∙ ap (λ r. cond r (Some text) None) fits.1
+    ap (λ o. o >>= λ text. cond (is_word text) (Some text) None) (word_again text fits.0)
+    ∙ ap (λ r. cond r (Some text) None) fits.1
 
 call_id_reads : Reads IsCallId spelled_word call_id_at
 call_id_reads = record { took = call_id_took; again = call_id_again }
 
-pub reason_took : (field text : List ℕ) → reason_at field ≡ Some text → IsReason text × (field ≡ spelled_rest text)
+pub reason_took : (field text : List ℕ) → reason_at field ≡ Some text
+    → IsReason text × (field ≡ spelled_rest text)
 unfolding reason_at
 reason_took field text e =
     let w = bind_some (rest_at field) (λ text. cond (is_reason text) (Some text) None) text e in
@@ -62,7 +65,8 @@ reason_took field text e =
 pub reason_again : (text : List ℕ) → IsReason text → reason_at (spelled_rest text) ≡ Some text
 unfolding reason_at
 reason_again text fits =
-    ap (λ o. o >>= λ text. cond (is_reason text) (Some text) None) (rest_again text fits.0) ∙ ap (λ r. cond r (Some text) None) fits.1
+    ap (λ o. o >>= λ text. cond (is_reason text) (Some text) None) (rest_again text fits.0)
+    ∙ ap (λ r. cond r (Some text) None) fits.1
 
 pub same_text : (xs ys : List ℕ) → bytes_eq xs ys ≡ true → xs ≡ ys
 same_text xs ys e = (bytes_eq-Decides xs ys).0 e
@@ -70,13 +74,17 @@ same_text xs ys e = (bytes_eq-Decides xs ys).0 e
 abbrev Any : Reliability → Type 0
 Any reliability = Unit {0}
 
-reliability_took : (field : List ℕ) (r : Reliability) → reliability_at field ≡ Some r → Any r × (field ≡ reliability_text r)
+reliability_took : (field : List ℕ) (r : Reliability) → reliability_at field ≡ Some r
+    → Any r × (field ≡ reliability_text r)
 unfolding reliability_at
 reliability_took field r e =
     let P : Reliability → Type 0 = λ y. Any y × (field ≡ reliability_text y) in
-    elim (chosen (bytes_eq field (codes "plain")) (Some reliability.Plain) (cond (bytes_eq field (codes "reliable")) (Some reliability.Reliable) None) (Some r) e) [
-      | inl a ↦ subst P (same_some reliability.Plain r a.1) (tt, same_text field (codes "plain") a.0)
-      | inr a ↦ (let g = passed (bytes_eq field (codes "reliable")) reliability.Reliable r a.1 in subst P g.1 (tt, same_text field (codes "reliable") g.0))
+    elim (chosen (bytes_eq field (codes "plain")) (Some reliability.Plain)
+    (cond (bytes_eq field (codes "reliable")) (Some reliability.Reliable) None) (Some r) e) [
+      | inl a ↦ subst P (same_some reliability.Plain r a.1)
+          (tt, same_text field (codes "plain") a.0)
+      | inr a ↦ (let g = passed (bytes_eq field (codes "reliable")) reliability.Reliable r a.1 in
+          subst P g.1 (tt, same_text field (codes "reliable") g.0))
     ]
 
 reliability_again : (r : Reliability) → Any r → reliability_at (reliability_text r) ≡ Some r
@@ -93,7 +101,8 @@ reliability_no reliability.Reliable = refl
 
 -- ---- a URI, a tag, a method, the support of an INVITE
 
-uri_took : (field text : List ℕ) → uri_at field ≡ Some text → IsUri text × (field ≡ spelled_word text)
+uri_took : (field text : List ℕ) → uri_at field ≡ Some text
+    → IsUri text × (field ≡ spelled_word text)
 unfolding uri_at
 uri_took field text e =
     let w = bind_some (word_at field) (λ text. cond (is_uri text) (Some text) None) text e in
@@ -105,7 +114,8 @@ uri_took field text e =
 uri_again : (text : List ℕ) → IsUri text → uri_at (spelled_word text) ≡ Some text
 unfolding uri_at
 uri_again text fits =
-    ap (λ o. o >>= λ text. cond (is_uri text) (Some text) None) (word_again text fits.0) ∙ ap (λ r. cond r (Some text) None) fits.1
+    ap (λ o. o >>= λ text. cond (is_uri text) (Some text) None) (word_again text fits.0)
+    ∙ ap (λ r. cond r (Some text) None) fits.1
 
 method_took : (field text : List ℕ) → method_at field ≡ Some text → IsMethod text × (field ≡ text)
 unfolding method_at
@@ -115,7 +125,8 @@ method_took field text e =
     subst P g.1 (g.0, refl)
 
 -- a byte that no token has doesn't stand in a method
-pub no_method : (at : ℕ) (text : List ℕ) → is_token_byte at ≡ false → IsMethod text → has_no at text ≡ true
+pub no_method : (at : ℕ) (text : List ℕ) → is_token_byte at ≡ false → IsMethod text
+    → has_no at text ≡ true
 unfolding is_token
 no_method at [] fails fits = refl
 no_method at (b ∷ bs) fails fits = none_passing is_token_byte at (b ∷ bs) fails fits
@@ -128,15 +139,20 @@ method_again text fits = ap (λ r. cond r (Some text) None) fits
 abbrev pub tag_text : Option (List ℕ) → List ℕ
 tag_text tag = unwrap_or tag []
 
-tag_of_took : (text : List ℕ) (tag : Option (List ℕ)) → are_bytes text ≡ true → tag_of text ≡ Some tag → IsTag tag × (text ≡ tag_text tag)
+tag_of_took : (text : List ℕ) (tag : Option (List ℕ)) → are_bytes text ≡ true
+    → tag_of text ≡ Some tag → IsTag tag × (text ≡ tag_text tag)
 tag_of_took text tag bytes e =
     let P : Option (List ℕ) → Type 0 = λ y. IsTag y × (text ≡ tag_text y) in
-    elim (chosen (eqb (length text) 0) (Some None) (cond (is_token text) (Some (Some text)) None) (Some tag) e) [
-      | inl a ↦ subst P (same_some None tag a.1) (tt, nil_from_length text (eqb-true (length text) 0 a.0))
-      | inr a ↦ (let g = passed (is_token text) (Some text) tag a.1 in subst P g.1 ((bytes, g.0), refl))
+    elim (chosen (eqb (length text) 0) (Some None) (cond (is_token text) (Some (Some text)) None)
+    (Some tag) e) [
+      | inl a ↦ subst P (same_some None tag a.1)
+          (tt, nil_from_length text (eqb-true (length text) 0 a.0))
+      | inr a ↦ (let g = passed (is_token text) (Some text) tag a.1 in
+          subst P g.1 ((bytes, g.0), refl))
     ]
 
-tag_took : (field : List ℕ) (tag : Option (List ℕ)) → tag_at field ≡ Some tag → IsTag tag × (field ≡ spelled_word (tag_text tag))
+tag_took : (field : List ℕ) (tag : Option (List ℕ)) → tag_at field ≡ Some tag
+    → IsTag tag × (field ≡ spelled_word (tag_text tag))
 unfolding tag_at
 tag_took field tag e =
     let w = bind_some (word_at field) tag_of tag e in
@@ -152,7 +168,8 @@ some_long (b ∷ bs) token = ne_eqb (length (b ∷ bs)) 0 (λ e. omega (arith, e
 tag_of_again : (tag : Option (List ℕ)) → IsTag tag → tag_of (tag_text tag) ≡ Some tag
 tag_of_again None fits = refl
 tag_of_again (Some text) fits =
-    ap (λ b. cond b (Some None) (cond (is_token text) (Some (Some text)) None)) (some_long text fits.1)
+    ap (λ b. cond b (Some None) (cond (is_token text) (Some (Some text)) None))
+    (some_long text fits.1)
     ∙ ap (λ b. cond b (Some (Some text)) None) fits.1
 
 tag_bytes : (tag : Option (List ℕ)) → IsTag tag → are_bytes (tag_text tag) ≡ true
@@ -161,21 +178,28 @@ tag_bytes (Some text) fits = fits.0
 
 tag_again : (tag : Option (List ℕ)) → IsTag tag → tag_at (spelled_word (tag_text tag)) ≡ Some tag
 unfolding tag_at
-tag_again tag fits = ap (λ o. o >>= tag_of) (word_again (tag_text tag) (tag_bytes tag fits)) ∙ tag_of_again tag fits
+tag_again tag fits =
+    ap (λ o. o >>= tag_of) (word_again (tag_text tag) (tag_bytes tag fits)) ∙ tag_of_again tag fits
 
 abbrev AnySupport : ProvisionalSupport → Type 0
 AnySupport s = Unit {0}
 
-support_took : (field : List ℕ) (r : ProvisionalSupport) → support_at field ≡ Some r → AnySupport r × (field ≡ support_text r)
+support_took : (field : List ℕ) (r : ProvisionalSupport) → support_at field ≡ Some r
+    → AnySupport r × (field ≡ support_text r)
 unfolding support_at
 support_took field r e =
     let P : ProvisionalSupport → Type 0 = λ y. AnySupport y × (field ≡ support_text y) in
-    elim (chosen (bytes_eq field (codes "none")) (Some support.None) (cond (bytes_eq field (codes "supported")) (Some support.Supported) (cond (bytes_eq field (codes "required")) (Some support.Required) None)) (Some r) e) [
+    elim (chosen (bytes_eq field (codes "none")) (Some support.None)
+    (cond (bytes_eq field (codes "supported")) (Some support.Supported)
+    (cond (bytes_eq field (codes "required")) (Some support.Required) None)) (Some r) e) [
       | inl a ↦ subst P (same_some support.None r a.1) (tt, same_text field (codes "none") a.0)
-      | inr a ↦ elim (chosen (bytes_eq field (codes "supported")) (Some support.Supported) (cond (bytes_eq field (codes "required")) (Some support.Required) None) (Some r) a.1) [
-        | inl b ↦ subst P (same_some support.Supported r b.1) (tt, same_text field (codes "supported") b.0)
-        | inr b ↦ (let g = passed (bytes_eq field (codes "required")) support.Required r b.1 in subst P g.1 (tt, same_text field (codes "required") g.0))
-      ]
+      | inr a ↦ elim (chosen (bytes_eq field (codes "supported")) (Some support.Supported)
+          (cond (bytes_eq field (codes "required")) (Some support.Required) None) (Some r) a.1) [
+            | inl b ↦ subst P (same_some support.Supported r b.1)
+                (tt, same_text field (codes "supported") b.0)
+            | inr b ↦ (let g = passed (bytes_eq field (codes "required")) support.Required r b.1 in
+                subst P g.1 (tt, same_text field (codes "required") g.0))
+          ]
     ]
 
 support_again : (r : ProvisionalSupport) → AnySupport r → support_at (support_text r) ≡ Some r
@@ -192,61 +216,76 @@ support_no support.Required = refl
 -- ---- parts at the front
 
 pub call_id_front : ReadsFront IsCallId spelled_word (field_at 32 call_id_at)
-call_id_front = field_front IsCallId spelled_word call_id_at call_id_reads (λ text fits. word_no 32 text (omega arith) refl)
+call_id_front = field_front IsCallId spelled_word call_id_at call_id_reads
+    (λ text fits. word_no 32 text (omega arith) refl)
 
 pub word_front : ReadsFront (λ text. are_bytes text ≡ true) spelled_word (field_at 32 word_at)
-word_front = field_front (λ text. are_bytes text ≡ true) spelled_word word_at word_reads (λ text fits. word_no 32 text (omega arith) refl)
+word_front = field_front (λ text. are_bytes text ≡ true) spelled_word word_at word_reads
+    (λ text fits. word_no 32 text (omega arith) refl)
 
 uri_front : ReadsFront IsUri spelled_word (field_at 32 uri_at)
-uri_front = field_front IsUri spelled_word uri_at (record { took = uri_took; again = uri_again }) (λ text fits. word_no 32 text (omega arith) refl)
+uri_front = field_front IsUri spelled_word uri_at (record { took = uri_took; again = uri_again })
+    (λ text fits. word_no 32 text (omega arith) refl)
 
 tag_front : ReadsFront IsTag (λ tag. spelled_word (tag_text tag)) (field_at 32 tag_at)
-tag_front = field_front IsTag (λ tag. spelled_word (tag_text tag)) tag_at (record { took = tag_took; again = tag_again }) (λ tag fits. word_no 32 (tag_text tag) (omega arith) refl)
+tag_front = field_front IsTag (λ tag. spelled_word (tag_text tag)) tag_at
+    (record { took = tag_took; again = tag_again })
+    (λ tag fits. word_no 32 (tag_text tag) (omega arith) refl)
 
 pub method_reads : Reads IsMethod (λ text. text) method_at
 method_reads = record { took = method_took; again = method_again }
 
 pub method_front : ReadsFront IsMethod (λ text. text) (field_at 32 method_at)
-method_front = field_front IsMethod (λ text. text) method_at method_reads (λ text fits. no_method 32 text (unfold is_token_byte in refl) fits)
+method_front = field_front IsMethod (λ text. text) method_at method_reads
+    (λ text fits. no_method 32 text (unfold is_token_byte in refl) fits)
 
 pub address_front : ReadsFront IsAddress addr_text (field_at 32 address_at)
-address_front = field_front IsAddress addr_text address_at address_reads (λ address fits. address_no 32 address refl refl refl fits)
+address_front = field_front IsAddress addr_text address_at address_reads
+    (λ address fits. address_no 32 address refl refl refl fits)
 
 pub support_front : ReadsFront AnySupport support_text (field_at 32 support_at)
-support_front = field_front AnySupport support_text support_at (record { took = support_took; again = support_again }) (λ support fits. support_no support)
+support_front = field_front AnySupport support_text support_at
+    (record { took = support_took; again = support_again }) (λ support fits. support_no support)
 
 pub id_front : ReadsFront IsId id_text (field_at 32 id_at)
 id_front = field_front IsId id_text id_at id_reads (λ id fits. id_no 32 id refl refl fits)
 
 pub status_front : ReadsFront (λ n. n ≤ 999) decimal (field_at 32 (number_at 999))
-status_front = field_front (λ n. n ≤ 999) decimal (number_at 999) (number_reads 999 (omega arith)) (λ n fits. number_no 32 n refl (omega (arith, fits)))
+status_front = field_front (λ n. n ≤ 999) decimal (number_at 999) (number_reads 999 (omega arith))
+    (λ n fits. number_no 32 n refl (omega (arith, fits)))
 
 pub port_front : ReadsFront (λ n. n ≤ 65535) decimal (field_at 32 (number_at 65535))
-port_front = field_front (λ n. n ≤ 65535) decimal (number_at 65535) (number_reads 65535 (omega arith)) (λ n fits. number_no 32 n refl (omega (arith, fits)))
+port_front = field_front (λ n. n ≤ 65535) decimal (number_at 65535)
+    (number_reads 65535 (omega arith)) (λ n fits. number_no 32 n refl (omega (arith, fits)))
 
 pub reliability_front : ReadsFront Any reliability_text (field_at 32 reliability_at)
-reliability_front = field_front Any reliability_text reliability_at reliability_reads (λ r fits. reliability_no r)
+reliability_front =
+    field_front Any reliability_text reliability_at reliability_reads (λ r fits. reliability_no r)
 
 abbrev FitUris : Uris → Type 0
 FitUris uris = (IsUri uris.request_uri × IsUri uris.from) × IsUri uris.to
 
 abbrev pub uris_text : Uris → List ℕ
-uris_text uris = (spelled_word uris.request_uri ++ 32 ∷ spelled_word uris.from) ++ 32 ∷ spelled_word uris.to
+uris_text uris =
+    (spelled_word uris.request_uri ++ 32 ∷ spelled_word uris.from) ++ 32 ∷ spelled_word uris.to
 
 pub uris_front : ReadsFront FitUris uris_text uris_at
 unfolding uris_at
 uris_front =
-    made_front uris_of (λ uris. ((uris.request_uri, uris.from), uris.to)) (λ uris. refl) (λ read. refl)
+    made_front uris_of (λ uris. ((uris.request_uri, uris.from), uris.to)) (λ uris. refl)
+    (λ read. refl)
     (both_front (both_front uri_front uri_front) uri_front)
 
 abbrev FitDialog : Dialog → Type 0
 FitDialog dialog = (IsCallId dialog.call_id × IsTag dialog.local_tag) × IsTag dialog.remote_tag
 
 abbrev pub dialog_text : Dialog → List ℕ
-dialog_text dialog = (spelled_word dialog.call_id ++ 32 ∷ spelled_word (tag_text dialog.local_tag)) ++ 32 ∷ spelled_word (tag_text dialog.remote_tag)
+dialog_text dialog = (spelled_word dialog.call_id ++ 32 ∷ spelled_word (tag_text dialog.local_tag))
+    ++ 32 ∷ spelled_word (tag_text dialog.remote_tag)
 
 pub dialog_front : ReadsFront FitDialog dialog_text dialog_at
 unfolding dialog_at
 dialog_front =
-    made_front dialog_of (λ dialog. ((dialog.call_id, dialog.local_tag), dialog.remote_tag)) (λ dialog. refl) (λ read. refl)
+    made_front dialog_of (λ dialog. ((dialog.call_id, dialog.local_tag), dialog.remote_tag))
+    (λ dialog. refl) (λ read. refl)
     (both_front (both_front call_id_front tag_front) tag_front)

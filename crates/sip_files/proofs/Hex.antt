@@ -26,7 +26,8 @@ letter_small b l e = grind (arith, nat_tests)
 quotient : (h l : ℕ) → l < 16 → ((h * 16 + l) / 16 ≡ h) × ((h * 16 + l) % 16 ≡ l)
 quotient h l lt = (omega arith, omega arith)
 
-pub pair_takes : (high low b : ℕ) → hex_byte high low ≡ Some b → (high ∷ low ∷ [] ≡ hex_pair b) × (b < 256)
+pub pair_takes : (high low b : ℕ) → hex_byte high low ≡ Some b
+    → (high ∷ low ∷ [] ≡ hex_pair b) × (b < 256)
 unfolding hex_byte
 pair_takes high low b e =
     let h = bind_some (hex_value high) (λ h. hex_value low >>= λ l. Some (h * 16 + l)) b e in
@@ -36,12 +37,16 @@ pair_takes high low b e =
     let ld = digit_takes low l.0 l.1 in
     let q : h.0 ≡ b / 16 = omega (arith, is, ld.1) in
     let r : l.0 ≡ b % 16 = omega (arith, is, ld.1) in
-    let digits : high ∷ low ∷ [] ≡ hex_digit h.0 ∷ hex_digit l.0 ∷ [] = ap (λ (x : ℕ). x ∷ low ∷ []) hd.0 ∙ ap (λ (x : ℕ). hex_digit h.0 ∷ x ∷ []) ld.0 in
-    let same : hex_digit h.0 ∷ hex_digit l.0 ∷ [] ≡ hex_pair b = ap (λ (x : ℕ). hex_digit x ∷ hex_digit l.0 ∷ []) q ∙ ap (λ (x : ℕ). hex_digit (b / 16) ∷ hex_digit x ∷ []) r in
+    let digits : high ∷ low ∷ [] ≡ hex_digit h.0 ∷ hex_digit l.0 ∷ [] =
+    ap (λ (x : ℕ). x ∷ low ∷ []) hd.0 ∙ ap (λ (x : ℕ). hex_digit h.0 ∷ x ∷ []) ld.0 in
+    let same : hex_digit h.0 ∷ hex_digit l.0 ∷ [] ≡ hex_pair b =
+    ap (λ (x : ℕ). hex_digit x ∷ hex_digit l.0 ∷ []) q
+    ∙ ap (λ (x : ℕ). hex_digit (b / 16) ∷ hex_digit x ∷ []) r in
     (digits ∙ same, omega (arith, is, hd.1, ld.1))
 
 pub pair_again : (b : ℕ) → b < 256 → hex_byte (hex_digit (b / 16)) (hex_digit (b % 16)) ≡ Some b
 unfolding hex_byte
 pair_again b lt =
     let whole : b / 16 * 16 + b % 16 ≡ b = omega arith in
-    rw (digit_again (b / 16) (omega arith), digit_again (b % 16) (omega arith)) (ap (λ n. Some n) whole)
+    rw (digit_again (b / 16) (omega arith), digit_again (b % 16) (omega arith))
+    (ap (λ n. Some n) whole)

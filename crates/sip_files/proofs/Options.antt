@@ -3,21 +3,25 @@ use Rattle.std.proofs.Common.{◌≡◌, Bool, true, false, cond, Option, Some, 
 use Rattle.sip_files.specs.Reading.{◌>>=◌}
 
 -- the value of a step that gave one
-pub bind_some : {A B : Type 0} (o : Option A) (f : A → Option B) (y : B) → (o >>= f) ≡ Some y → (x : A) × (o ≡ Some x) × (f x ≡ Some y)
+pub bind_some : {A B : Type 0} (o : Option A) (f : A → Option B) (y : B) → (o >>= f) ≡ Some y
+    → (x : A) × (o ≡ Some x) × (f x ≡ Some y)
 bind_some None f y e = absurd cc
 bind_some (Some x) f y e = (x, refl, e)
 
 -- which way a test went
-pub chosen : {A : Type 0} (b : Bool) (x y z : A) → cond b x y ≡ z → ((b ≡ true) × (x ≡ z)) ⊎ ((b ≡ false) × (y ≡ z))
+pub chosen : {A : Type 0} (b : Bool) (x y z : A) → cond b x y ≡ z
+    → ((b ≡ true) × (x ≡ z)) ⊎ ((b ≡ false) × (y ≡ z))
 chosen true x y z e = inl (refl, e)
 chosen false x y z e = inr (refl, e)
 
 -- a test that did not end it
-pub passed : {A : Type 0} (b : Bool) (x y : A) → cond b (Some x) None ≡ Some y → (b ≡ true) × (x ≡ y)
+pub passed : {A : Type 0} (b : Bool) (x y : A) → cond b (Some x) None ≡ Some y
+    → (b ≡ true) × (x ≡ y)
 passed true x y e = (refl, cc)
 passed false x y e = absurd cc
 
-pub not_stopped : {A : Type 0} (b : Bool) (x y : A) → cond b None (Some x) ≡ Some y → (b ≡ false) × (x ≡ y)
+pub not_stopped : {A : Type 0} (b : Bool) (x y : A) → cond b None (Some x) ≡ Some y
+    → (b ≡ false) × (x ≡ y)
 not_stopped true x y e = absurd cc
 not_stopped false x y e = (refl, cc)
 

@@ -3,8 +3,12 @@ use Rattle.std.proofs.Common.{◌≡◌, ℕ, ◌+◌, ◌<◌, List, [], ◌∷
 use Rattle.std.specs.List.{flat_map}
 use Rattle.std.proofs.lemmas.List.{flat_map_more, take_more}
 
-pub one_more : {X : Type 0} (f : X → List ℕ) (before now next : List ℕ) (xs more : List X) (x : X) → more ≡ xs ++ x ∷ [] → now ≡ before ++ flat_map f xs → next ≡ now ++ f x → next ≡ before ++ flat_map f more
-one_more f before now next xs more x m e g = rw m (g ∙ ap (λ t. t ++ f x) e ∙ flat_map_more f before xs x)
+pub one_more : {X : Type 0} (f : X → List ℕ) (before now next : List ℕ) (xs more : List X) (x : X)
+    → more ≡ xs ++ x ∷ [] → now ≡ before ++ flat_map f xs → next ≡ now ++ f x
+    → next ≡ before ++ flat_map f more
+one_more f before now next xs more x m e g =
+    rw m (g ∙ ap (λ t. t ++ f x) e ∙ flat_map_more f before xs x)
 
-pub taken : {X : Type 0} (xs : List X) (i : ℕ) (x : X) → i < length xs → x ≡ get_or xs i x → take (i + 1) xs ≡ take i xs ++ x ∷ []
+pub taken : {X : Type 0} (xs : List X) (i : ℕ) (x : X) → i < length xs → x ≡ get_or xs i x
+    → take (i + 1) xs ≡ take i xs ++ x ∷ []
 taken xs i x lt is = take_more xs i x lt ∙ ap (λ y. take i xs ++ y ∷ []) (sym is)

@@ -1,4 +1,5 @@
--- Which bytes stand in a field: no space and no line's end in a word or a number, and no line's end in a rest.
+-- Which bytes stand in a field: no space and no line's end in a word or a number, and no line's end
+-- in a rest.
 use Rattle.std.proofs.Common.{◌≡◌, ℕ, ◌/◌, ◌%◌, ◌≤◌, Bool, true, false, cond, not, eqb, List, [], ◌∷◌, ◌++◌, Option, Some, None, refl, sym, ap, ◌∙◌, arith, codes, length}
 use Rattle.std.specs.List.{list_all, flat_map}
 use Rattle.std.specs.Char.{is_ascii_digit}
@@ -11,21 +12,26 @@ use Rattle.sip_files.proofs.Cuts.{has_no}
 use Rattle.sip_files.proofs.Escapes.{spelled_itself, spelled_letter, spelled_hex}
 use Rattle.sip_files.proofs.WordLaws.{word_is}
 
-pub has_no-append : (at : ℕ) (xs ys : List ℕ) → has_no at xs ≡ true → has_no at ys ≡ true → has_no at (xs ++ ys) ≡ true
+pub has_no-append : (at : ℕ) (xs ys : List ℕ) → has_no at xs ≡ true → has_no at ys ≡ true
+    → has_no at (xs ++ ys) ≡ true
 has_no-append at xs ys p q = list_all-append (λ b. not (eqb b at)) xs ys ∙ and_from _ _ p q
 
-other : (test : ℕ → Bool) (at b : ℕ) (r : Bool) → eqb b at ≡ r → test at ≡ false → test b ≡ true → not (eqb b at) ≡ true
+other : (test : ℕ → Bool) (at b : ℕ) (r : Bool) → eqb b at ≡ r → test at ≡ false → test b ≡ true
+    → not (eqb b at) ≡ true
 other test at b true e fails is = absurd (true≢false (sym is ∙ ap test (eqb-true b at e) ∙ fails))
 other test at b false e fails is = ap not e
 
 -- a byte that fails the test isn't among those that pass
-pub none_passing : (test : ℕ → Bool) (at : ℕ) (text : List ℕ) → test at ≡ false → list_all test text ≡ true → has_no at text ≡ true
+pub none_passing : (test : ℕ → Bool) (at : ℕ) (text : List ℕ) → test at ≡ false
+    → list_all test text ≡ true → has_no at text ≡ true
 none_passing test at [] fails all = refl
 none_passing test at (b ∷ bs) fails all =
     let parts = and_parts (test b) (list_all test bs) all in
-    and_from _ _ (other test at b (eqb b at) refl fails parts.0) (none_passing test at bs fails parts.1)
+    and_from _ _ (other test at b (eqb b at) refl fails parts.0)
+    (none_passing test at bs fails parts.1)
 
-pub digits_have_no : (at : ℕ) (digits : List ℕ) → is_ascii_digit at ≡ false → list_all is_ascii_digit digits ≡ true → has_no at digits ≡ true
+pub digits_have_no : (at : ℕ) (digits : List ℕ) → is_ascii_digit at ≡ false
+    → list_all is_ascii_digit digits ≡ true → has_no at digits ≡ true
 digits_have_no at digits fails all = none_passing is_ascii_digit at digits fails all
 
 -- ---- words and rests
@@ -45,33 +51,56 @@ mark_differs : (at c : ℕ) → at ≤ 32 → 33 ≤ c → not (eqb c at) ≡ tr
 mark_differs at c low high = grind (arith, nat_tests)
 
 pub pair_no : (at b : ℕ) → at ≤ 32 → has_no at (hex_pair b) ≡ true
-pair_no at b low = and_from _ _ (digit_differs at (b / 16) low) (and_from _ _ (digit_differs at (b % 16) low) refl)
+pair_no at b low =
+    and_from _ _ (digit_differs at (b / 16) low) (and_from _ _ (digit_differs at (b % 16) low) refl)
 
 pub pairs_no : (at : ℕ) (bytes : List ℕ) → at ≤ 32 → has_no at (flat_map hex_pair bytes) ≡ true
 pairs_no at [] low = refl
-pairs_no at (b ∷ bs) low = has_no-append at (hex_pair b) (flat_map hex_pair bs) (pair_no at b low) (pairs_no at bs low)
+pairs_no at (b ∷ bs) low =
+    has_no-append at (hex_pair b) (flat_map hex_pair bs) (pair_no at b low) (pairs_no at bs low)
 
-byte_no : (t : ℕ → Bool) (at b : ℕ) (r : Bool) (o : Option ℕ) → Hidden t at → t b ≡ r → letter_of b ≡ o → has_no at (spelled_byte t b) ≡ true
+byte_no : (t : ℕ → Bool) (at b : ℕ) (r : Bool) (o : Option ℕ) → Hidden t at → t b ≡ r
+    → letter_of b ≡ o → has_no at (spelled_byte t b) ≡ true
 byte_no t at b true o hidden h g =
-    ap (has_no at) (spelled_itself t b h) ∙ and_from _ _ (other t at b (eqb b at) refl hidden.itself h) refl
+    ap (has_no at) (spelled_itself t b h)
+    ∙ and_from _ _ (other t at b (eqb b at) refl hidden.itself h) refl
 byte_no t at b false None hidden h g =
-    ap (has_no at) (spelled_hex t b h g) ∙ and_from _ _ (mark_differs at 92 hidden.low (omega arith)) (and_from _ _ (mark_differs at 120 hidden.low (omega arith)) (pair_no at b hidden.low))
+    ap (has_no at) (spelled_hex t b h g)
+    ∙ and_from _ _ (mark_differs at 92 hidden.low (omega arith))
+    (and_from _ _ (mark_differs at 120 hidden.low (omega arith)) (pair_no at b hidden.low))
 byte_no t at b false (Some l) hidden h g =
-    ap (has_no at) (spelled_letter t b l h g) ∙ and_from _ _ (mark_differs at 92 hidden.low (omega arith)) (and_from _ _ (letter_differs at b l hidden.low g) refl)
+    ap (has_no at) (spelled_letter t b l h g)
+    ∙ and_from _ _ (mark_differs at 92 hidden.low (omega arith))
+    (and_from _ _ (letter_differs at b l hidden.low g) refl)
 
-bytes_no : (t : ℕ → Bool) (at : ℕ) (text : List ℕ) → Hidden t at → has_no at (spelled_bytes t text) ≡ true
+bytes_no : (t : ℕ → Bool) (at : ℕ) (text : List ℕ) → Hidden t at
+    → has_no at (spelled_bytes t text) ≡ true
 bytes_no t at [] hidden = refl
-bytes_no t at (b ∷ bs) hidden = has_no-append at (spelled_byte t b) (spelled_bytes t bs) (byte_no t at b (t b) (letter_of b) hidden refl refl) (bytes_no t at bs hidden)
+bytes_no t at (b ∷ bs) hidden =
+    has_no-append at (spelled_byte t b) (spelled_bytes t bs)
+    (byte_no t at b (t b) (letter_of b) hidden refl refl) (bytes_no t at bs hidden)
 
-word_no_by : (at : ℕ) (text : List ℕ) (empty is_hyphen : Bool) → at ≤ 32 → is_plain at ≡ false → has_no at (cond empty (codes "-") (cond is_hyphen (codes "\\x2d") (spelled_bytes is_plain text))) ≡ true
-word_no_by at text true is_hyphen low hidden = and_from _ _ (mark_differs at 45 low (omega arith)) refl
-word_no_by at text false true low hidden = and_from _ _ (mark_differs at 92 low (omega arith)) (and_from _ _ (mark_differs at 120 low (omega arith)) (and_from _ _ (mark_differs at 50 low (omega arith)) (and_from _ _ (mark_differs at 100 low (omega arith)) refl)))
-word_no_by at text false false low hidden = bytes_no is_plain at text (record { itself = hidden; low = low })
+word_no_by : (at : ℕ) (text : List ℕ) (empty is_hyphen : Bool) → at ≤ 32 → is_plain at ≡ false
+    → has_no at (cond empty (codes "-")
+    (cond is_hyphen (codes "\\x2d") (spelled_bytes is_plain text))) ≡ true
+word_no_by at text true is_hyphen low hidden =
+    and_from _ _ (mark_differs at 45 low (omega arith)) refl
+word_no_by at text false true low hidden =
+    and_from _ _ (mark_differs at 92 low (omega arith))
+    (and_from _ _ (mark_differs at 120 low (omega arith))
+    (and_from _ _ (mark_differs at 50 low (omega arith))
+    (and_from _ _ (mark_differs at 100 low (omega arith)) refl)))
+word_no_by at text false false low hidden =
+    bytes_no is_plain at text (record { itself = hidden; low = low })
 
-pub word_no : (at : ℕ) (text : List ℕ) → at ≤ 32 → is_plain at ≡ false → has_no at (spelled_word text) ≡ true
+pub word_no : (at : ℕ) (text : List ℕ) → at ≤ 32 → is_plain at ≡ false
+    → has_no at (spelled_word text) ≡ true
 word_no at text low hidden =
-    ap (has_no at) (word_is text (eqb (length text) 0) (bytes_eq text (codes "-")) refl refl) ∙ word_no_by at text (eqb (length text) 0) (bytes_eq text (codes "-")) low hidden
+    ap (has_no at) (word_is text (eqb (length text) 0) (bytes_eq text (codes "-")) refl refl)
+    ∙ word_no_by at text (eqb (length text) 0) (bytes_eq text (codes "-")) low hidden
 
-pub rest_no : (at : ℕ) (text : List ℕ) → at ≤ 32 → is_plain_or_space at ≡ false → has_no at (spelled_rest text) ≡ true
+pub rest_no : (at : ℕ) (text : List ℕ) → at ≤ 32 → is_plain_or_space at ≡ false
+    → has_no at (spelled_rest text) ≡ true
 unfolding spelled_rest
-rest_no at text low hidden = bytes_no is_plain_or_space at text (record { itself = hidden; low = low })
+rest_no at text low hidden =
+    bytes_no is_plain_or_space at text (record { itself = hidden; low = low })

@@ -27,32 +27,44 @@ pub record WrittenSoFar (before now : Option (List ℕ)) (bytes left : List ℕ)
   pub appended : Appends before now front
 
 -- a write takes the front of what is left
-pub written_more : (before now next : Option (List ℕ)) (bytes left : List ℕ) (count : ℕ) → WrittenSoFar before now bytes left → Appends now next (take count left)
+pub written_more : (before now next : Option (List ℕ)) (bytes left : List ℕ) (count : ℕ)
+    → WrittenSoFar before now bytes left → Appends now next (take count left)
     → WrittenSoFar before next bytes (take (length left - count) (drop count left))
 written_more before now next bytes left count so_far taken = record {
   front = so_far.front ++ take count left;
   split =
-      so_far.split ∙ ap (λ l. so_far.front ++ l) (sym (take-append-drop count left)) ∙ sym (append_assoc so_far.front (take count left) (drop count left))
+      so_far.split ∙ ap (λ l. so_far.front ++ l) (sym (take-append-drop count left))
+      ∙ sym (append_assoc so_far.front (take count left) (drop count left))
       ∙ ap (λ l. (so_far.front ++ take count left) ++ l) (sym (take_rest left count));
   appended = Appends-trans _ _ _ _ _ so_far.appended taken;
 }
 
 module _ {R V A B : Type 0} (moment : R → A) (items : V → B) where
   -- what was made is the front of the moments beside the answers
-  pub record BesideSoFar (rounds left_rounds : List R) (answers left_answers : List V) (made : List (A × V)) : Type 0 where
-    pub whole : map (λ m. (m.0, items m.1)) made ++ zip (map moment left_rounds) (map items left_answers) ≡ zip (map moment rounds) (map items answers)
+  pub record BesideSoFar (rounds left_rounds : List R) (answers left_answers : List V)
+      (made : List (A × V)) : Type 0 where
+    pub whole : map (λ m. (m.0, items m.1)) made
+        ++ zip (map moment left_rounds) (map items left_answers)
+        ≡ zip (map moment rounds) (map items answers)
 
-  pub beside_nothing : (rounds : List R) (answers left : List V) → left ≡ answers → BesideSoFar rounds rounds answers left []
-  beside_nothing rounds answers left same = record { whole = ap (λ l. zip (map moment rounds) (map items l)) same }
+  pub beside_nothing : (rounds : List R) (answers left : List V) → left ≡ answers
+      → BesideSoFar rounds rounds answers left []
+  beside_nothing rounds answers left same =
+      record { whole = ap (λ l. zip (map moment rounds) (map items l)) same }
 
-  pub beside_more : (rounds : List R) (answers left : List V) (made newer : List (A × V)) (round : R) (rest : List R) (answer : V) (m : A)
-      → BesideSoFar rounds (round ∷ rest) answers (answer ∷ left) made → m ≡ moment round → newer ≡ made ++ (m, answer) ∷ [] → BesideSoFar rounds rest answers left newer
+  pub beside_more : (rounds : List R) (answers left : List V) (made newer : List (A × V))
+      (round : R) (rest : List R) (answer : V) (m : A)
+      → BesideSoFar rounds (round ∷ rest) answers (answer ∷ left) made → m ≡ moment round
+      → newer ≡ made ++ (m, answer) ∷ [] → BesideSoFar rounds rest answers left newer
   beside_more rounds answers left made newer round rest answer m so_far same pushed = record {
     whole =
         ap (λ l. map (λ m. (m.0, items m.1)) l ++ zip (map moment rest) (map items left)) pushed
-        ∙ ap (λ l. l ++ zip (map moment rest) (map items left)) (map-append (λ m. (m.0, items m.1)) made ((m, answer) ∷ []))
-        ∙ append_assoc (map (λ m. (m.0, items m.1)) made) ((m, items answer) ∷ []) (zip (map moment rest) (map items left))
-        ∙ ap (λ n. map (λ m. (m.0, items m.1)) made ++ (n, items answer) ∷ zip (map moment rest) (map items left)) same
+        ∙ ap (λ l. l ++ zip (map moment rest) (map items left))
+        (map-append (λ m. (m.0, items m.1)) made ((m, answer) ∷ []))
+        ∙ append_assoc (map (λ m. (m.0, items m.1)) made) ((m, items answer) ∷ [])
+        (zip (map moment rest) (map items left))
+        ∙ ap (λ n. map (λ m. (m.0, items m.1)) made
+        ++ (n, items answer) ∷ zip (map moment rest) (map items left)) same
         ∙ so_far.whole;
   }
 
@@ -60,28 +72,38 @@ module _ {R V A B : Type 0} (moment : R → A) (items : V → B) where
   nothing_beside [] none e = refl
   nothing_beside (m ∷ ms) none e = ap (zip (m ∷ ms)) e
 
-  pub all_beside : (rounds left_rounds : List R) (answers left : List V) (made : List (A × V)) → BesideSoFar rounds left_rounds answers left made → left ≡ []
+  pub all_beside : (rounds left_rounds : List R) (answers left : List V) (made : List (A × V))
+      → BesideSoFar rounds left_rounds answers left made → left ≡ []
       → map (λ m. (m.0, items m.1)) made ≡ zip (map moment rounds) (map items answers)
   all_beside rounds left_rounds answers left made so_far none =
-      sym (append-nil _) ∙ ap (λ l. map (λ m. (m.0, items m.1)) made ++ l) (sym (nothing_beside (map moment left_rounds) (map items left) (ap (map items) none))) ∙ so_far.whole
+      sym (append-nil _) ∙ ap (λ l. map (λ m. (m.0, items m.1)) made ++ l)
+      (sym (nothing_beside (map moment left_rounds) (map items left) (ap (map items) none)))
+      ∙ so_far.whole
 
-  pub no_more_rounds : (rounds left_rounds : List R) (answers left : List V) (made : List (A × V)) → BesideSoFar rounds left_rounds answers left made → left_rounds ≡ []
+  pub no_more_rounds : (rounds left_rounds : List R) (answers left : List V) (made : List (A × V))
+      → BesideSoFar rounds left_rounds answers left made → left_rounds ≡ []
       → map (λ m. (m.0, items m.1)) made ≡ zip (map moment rounds) (map items answers)
   no_more_rounds rounds left_rounds answers left made so_far none =
-      sym (append-nil _) ∙ ap (λ l. map (λ m. (m.0, items m.1)) made ++ zip (map moment l) (map items left)) (sym none) ∙ so_far.whole
+      sym (append-nil _) ∙ ap (λ l. map (λ m. (m.0, items m.1)) made
+      ++ zip (map moment l) (map items left)) (sym none) ∙ so_far.whole
 
 -- what was read, run, put beside its moments and written is what the input spells
-pub replays_read : (input : List ℕ) (config : Config) (rounds slice : List Round) (answered : List (Vec Output)) (made : List (ℕ × Vec Output)) (file : List ℕ) → slice ≡ rounds
-    → SpellsEvents config rounds input → length input ≤ 2 ^ 26 → refused config slice ≡ None → map (λ outputs. outputs.items) answered ≡ answers config slice
-    → told made ≡ zip (map (λ round. round.moment) slice) (map (λ outputs. outputs.items) answered) → file ≡ outputs_text (told made) → Replays input file
+pub replays_read : (input : List ℕ) (config : Config) (rounds slice : List Round)
+    (answered : List (Vec Output)) (made : List (ℕ × Vec Output)) (file : List ℕ) → slice ≡ rounds
+    → SpellsEvents config rounds input → length input ≤ 2 ^ 26 → refused config slice ≡ None
+    → map (λ outputs. outputs.items) answered ≡ answers config slice
+    → told made ≡ zip (map (λ round. round.moment) slice) (map (λ outputs. outputs.items) answered)
+    → file ≡ outputs_text (told made) → Replays input file
 unfolding answer_file
-replays_read input config rounds slice answered made file same spelled size unrefused answers_made beside written = record {
-  config = config;
-  rounds = rounds;
-  spelled = spelled;
-  size = size;
-  unrefused = ap (refused config) (sym same) ∙ unrefused;
-  answered =
-      written ∙ ap outputs_text (beside ∙ ap (zip (map (λ round. round.moment) slice)) answers_made)
-      ∙ ap (λ rs. outputs_text (zip (map (λ round. round.moment) rs) (answers config rs))) same;
-}
+replays_read input config rounds slice answered made file same spelled size unrefused answers_made
+    beside written = record {
+      config = config;
+      rounds = rounds;
+      spelled = spelled;
+      size = size;
+      unrefused = ap (refused config) (sym same) ∙ unrefused;
+      answered =
+          written ∙ ap outputs_text (beside
+          ∙ ap (zip (map (λ round. round.moment) slice)) answers_made)
+          ∙ ap (λ rs. outputs_text (zip (map (λ round. round.moment) rs) (answers config rs))) same;
+    }

@@ -13,7 +13,11 @@ use Rattle.sip_files.specs.Reading.{◌>>=◌}
 
 abbrev pub nothing_read : Draft
 nothing_read = record {
-  config = record { local = record { ip = replicate 4 0; port = 0 }; seed = replicate 32 0; first = 0 };
+  config = record {
+    local = record { ip = replicate 4 0; port = 0 };
+    seed = replicate 32 0;
+    first = 0;
+  };
   stage = stage.Local;
   rounds = [];
 }
@@ -25,25 +29,33 @@ is_begun stage.First = true
 is_begun stage.Rounds = true
 
 abbrev pub local_taken : Stage → Draft → Addr → Option Draft
-local_taken stage.Local draft local = Some (record draft { config = record draft.config { local = local }; stage = stage.Seed })
+local_taken stage.Local draft local =
+    Some (record draft { config = record draft.config { local = local }; stage = stage.Seed })
 local_taken stage.Seed draft local = None
 local_taken stage.First draft local = None
 local_taken stage.Rounds draft local = None
 
 abbrev pub seed_taken : Stage → Draft → List ℕ → Option Draft
 seed_taken stage.Local draft seed = None
-seed_taken stage.Seed draft seed = Some (record draft { config = record draft.config { seed = seed }; stage = stage.First })
+seed_taken stage.Seed draft seed =
+    Some (record draft { config = record draft.config { seed = seed }; stage = stage.First })
 seed_taken stage.First draft seed = None
 seed_taken stage.Rounds draft seed = None
 
 abbrev pub first_taken : Stage → Draft → ℕ → Option Draft
 first_taken stage.Local draft number = None
-first_taken stage.Seed draft number = Some (record draft { config = record draft.config { first = number }; stage = stage.Rounds })
-first_taken stage.First draft number = Some (record draft { config = record draft.config { first = number }; stage = stage.Rounds })
+first_taken stage.Seed draft number =
+    Some (record draft { config = record draft.config { first = number }; stage = stage.Rounds })
+first_taken stage.First draft number =
+    Some (record draft { config = record draft.config { first = number }; stage = stage.Rounds })
 first_taken stage.Rounds draft number = None
 
 abbrev pub begun_round : Draft → ℕ → Draft
-begun_round draft moment = record draft { stage = stage.Rounds; rounds = draft.rounds ++ (record { moment = moment; events = [] }) ∷ [] }
+begun_round draft moment = record draft {
+  stage = stage.Rounds;
+  rounds = draft.rounds
+      ++ (record { moment = moment; events = [] }) ∷ [];
+}
 
 abbrev pub round_taken : Stage → Draft → ℕ → Option Draft
 round_taken stage.Local draft moment = None
@@ -55,10 +67,12 @@ round_taken stage.Rounds draft moment = Some (begun_round draft moment)
 abbrev pub with_event : List Round → Event → Option (List Round)
 with_event [] event = None
 with_event (round ∷ []) event = Some ((record round { events = round.events ++ event ∷ [] }) ∷ [])
-with_event (round ∷ next ∷ rounds) event = option_map (λ rounds. round ∷ rounds) (with_event (next ∷ rounds) event)
+with_event (round ∷ next ∷ rounds) event =
+    option_map (λ rounds. round ∷ rounds) (with_event (next ∷ rounds) event)
 
 abbrev pub event_taken : Draft → Event → Option Draft
-event_taken draft event = option_map (λ rounds. record draft { rounds = rounds }) (with_event draft.rounds event)
+event_taken draft event =
+    option_map (λ rounds. record draft { rounds = rounds }) (with_event draft.rounds event)
 
 abbrev pub taken : Draft → EventLine → Option Draft
 taken draft (line.Local local) = local_taken draft.stage draft local

@@ -20,7 +20,11 @@ pub record Head : Type 0 where
 
 -- a seed that is left out is all zeros, and a first number that is left out is 0
 abbrev pub config_of : Head → Config
-config_of head = record { local = head.local; seed = unwrap_or head.seed (replicate 32 0); first = unwrap_or head.first 0 }
+config_of head = record {
+  local = head.local;
+  seed = unwrap_or head.seed (replicate 32 0);
+  first = unwrap_or head.first 0;
+}
 
 abbrev pub seed_lines : Option (List ℕ) → List EventLine
 seed_lines None = []
@@ -52,8 +56,8 @@ version_line = codes "sip-events 1"
 abbrev pub file_text : List (List ℕ) → List ℕ
 file_text lines = with_ends (version_line ∷ lines)
 
--- The text is that of the configuration and the rounds, for some choice of the optional lines and of the case of letters in the
--- branches and hosts of failed lines.
+-- The text is that of the configuration and the rounds, for some choice of the optional lines and
+-- of the case of letters in the branches and hosts of failed lines.
 pub record SpellsEvents (config : Config) (rounds : List Round) (text : List ℕ) : Type 0 where
   pub head : Head
   pub lines : List (List ℕ)
@@ -65,13 +69,14 @@ pub record SpellsEvents (config : Config) (rounds : List Round) (text : List ℕ
 
 -- the text is how some event file begins
 abbrev pub IsBegun : List ℕ → Type 0
-IsBegun text = (rest : List ℕ) × (config : Config) × (rounds : List Round) × SpellsEvents config rounds (text ++ rest)
+IsBegun text = (rest : List ℕ) × (config : Config) × (rounds : List Round)
+    × SpellsEvents config rounds (text ++ rest)
 
 abbrev pub IsOneLine : List ℕ → Type 0
 IsOneLine text = IsTrue (list_all (λ b. not (b == 10)) text)
 
--- The lines before that of this number are how some event file begins. With the line of this number they are not; or there is no
--- such line, since the text ends there or the line has no end.
+-- The lines before that of this number are how some event file begins. With the line of this number
+-- they are not; or there is no such line, since the text ends there or the line has no end.
 pub record IsBadLine (number : ℕ) (text : List ℕ) : Type 0 where
   pub before : List (List ℕ)
   pub left : List ℕ
@@ -79,7 +84,8 @@ pub record IsBadLine (number : ℕ) (text : List ℕ) : Type 0 where
   pub one_each : AllByRecursion IsOneLine before
   pub counted : number ≡ length before + 1
   pub begun : IsBegun (with_ends before)
-  pub stuck : (next after : List ℕ) → left ≡ next ++ 10 ∷ after → IsOneLine next → ¬ (IsBegun (with_ends (before ++ next ∷ [])))
+  pub stuck : (next after : List ℕ) → left ≡ next ++ 10 ∷ after → IsOneLine next
+      → ¬ (IsBegun (with_ends (before ++ next ∷ [])))
 
 -- the first line is that of the version
 abbrev pub HasVersion : List ℕ → Type 0
@@ -94,4 +100,5 @@ TellsFault NoMemory text = Unit {0}
 
 -- the answer is this one, unless memory ran out
 abbrev pub Answers : Config → List Round → Result (Config × List Round) EventsFault → Type 0
-Answers config rounds result = MatchResult result (λ read. (read.0 ≡ config) × (read.1 ≡ rounds)) (λ fault. fault ≡ NoMemory)
+Answers config rounds result =
+    MatchResult result (λ read. (read.0 ≡ config) × (read.1 ≡ rounds)) (λ fault. fault ≡ NoMemory)

@@ -120,21 +120,30 @@ support_text support.Required = codes "required"
 
 abbrev pub command_text : UserCommand → List ℕ
 command_text (command.Invite c) =
-    codes "invite" ++ word_field c.call_id ++ address_field c.address ++ word_field c.request_uri ++ word_field c.from ++ word_field c.to
+    codes "invite" ++ word_field c.call_id ++ address_field c.address ++ word_field c.request_uri
+    ++ word_field c.from ++ word_field c.to
     ++ plain_field (support_text c.support) ++ word_field c.body
 command_text (command.Plain c) =
-    codes "plain" ++ word_field c.call_id ++ address_field c.address ++ plain_field c.method ++ word_field c.request_uri ++ word_field c.from
+    codes "plain" ++ word_field c.call_id ++ address_field c.address ++ plain_field c.method
+    ++ word_field c.request_uri ++ word_field c.from
     ++ word_field c.to ++ word_field c.body
 command_text (command.Request c) =
-    codes "request" ++ word_field c.call_id ++ tag_field c.local_tag ++ tag_field c.remote_tag ++ plain_field c.method ++ word_field c.body
+    codes "request" ++ word_field c.call_id ++ tag_field c.local_tag ++ tag_field c.remote_tag
+    ++ plain_field c.method ++ word_field c.body
 command_text (command.Respond c) =
-    codes "respond" ++ word_field c.call_id ++ id_field c.id ++ number_field c.status ++ plain_field (reliability_text c.reliability)
+    codes "respond" ++ word_field c.call_id ++ id_field c.id ++ number_field c.status
+    ++ plain_field (reliability_text c.reliability)
     ++ word_field c.body ++ rest_field c.reason
-command_text (command.Ack c) = codes "ack" ++ word_field c.call_id ++ tag_field c.local_tag ++ tag_field c.remote_tag ++ word_field c.body
-command_text (command.Prack c) = codes "prack" ++ word_field c.call_id ++ tag_field c.local_tag ++ tag_field c.remote_tag ++ word_field c.body
+command_text (command.Ack c) =
+    codes "ack" ++ word_field c.call_id ++ tag_field c.local_tag ++ tag_field c.remote_tag
+    ++ word_field c.body
+command_text (command.Prack c) =
+    codes "prack" ++ word_field c.call_id ++ tag_field c.local_tag ++ tag_field c.remote_tag
+    ++ word_field c.body
 command_text (command.Cancel c) = codes "cancel" ++ word_field c.call_id ++ id_field c.id
 
--- The line of a failed send spells the branch and the host of its key in any case of letters; the key has them in lower case.
+-- The line of a failed send spells the branch and the host of its key in any case of letters; the
+-- key has them in lower case.
 
 pub record SpellsClient (text : List ℕ) (key : Key) : Type 0 where
   pub branch : List ℕ
@@ -154,23 +163,30 @@ pub record SpellsServer (text : List ℕ) (key : Key) : Type 0 where
   pub bound : port ≤ 65535
   pub token : IsMethod method
   pub named : key ≡ server_key branch host port method
-  pub spelled : text ≡ codes "failed server" ++ word_field branch ++ word_field host ++ number_field port ++ plain_field method
+  pub spelled : text ≡ codes "failed server" ++ word_field branch ++ word_field host
+      ++ number_field port ++ plain_field method
 
 abbrev pub SpellsEvent : List ℕ → Event → Type 0
 SpellsEvent text (Datagram from bytes) =
-    (IsAddress from × IsTrue (are_bytes bytes)) × (text ≡ codes "datagram" ++ address_field from ++ rest_field bytes)
+    (IsAddress from × IsTrue (are_bytes bytes))
+    × (text ≡ codes "datagram" ++ address_field from ++ rest_field bytes)
 SpellsEvent text (Failed key) = SpellsClient text key ⊎ SpellsServer text key
 SpellsEvent text (Command command) = IsCommandLine command × (text ≡ command_text command)
 
 -- the text is a line that says this
 abbrev pub SpellsLine : List ℕ → EventLine → Type 0
-SpellsLine text (line.Local address) = IsAddress address × (text ≡ codes "local" ++ address_field address)
-SpellsLine text (line.Seed seed) = IsSeed seed × (text ≡ codes "seed" ++ plain_field (flat_map hex_pair seed))
-SpellsLine text (line.First number) = (number ≤ 2 ^ 62) × (text ≡ codes "first" ++ number_field number)
-SpellsLine text (line.Round moment) = (moment ≤ 2 ^ 64 - 1) × (text ≡ codes "round" ++ number_field moment)
+SpellsLine text (line.Local address) =
+    IsAddress address × (text ≡ codes "local" ++ address_field address)
+SpellsLine text (line.Seed seed) =
+    IsSeed seed × (text ≡ codes "seed" ++ plain_field (flat_map hex_pair seed))
+SpellsLine text (line.First number) =
+    (number ≤ 2 ^ 62) × (text ≡ codes "first" ++ number_field number)
+SpellsLine text (line.Round moment) =
+    (moment ≤ 2 ^ 64 - 1) × (text ≡ codes "round" ++ number_field moment)
 SpellsLine text (line.Event event) = SpellsEvent text event
 
 -- texts that are the same, or for a failed send the same up to the case of letters
 abbrev pub AreAlike : EventLine → List ℕ → List ℕ → Type 0
-AreAlike (line.Event (Failed key)) text other = str_to_ascii_lowercase text ≡ str_to_ascii_lowercase other
+AreAlike (line.Event (Failed key)) text other =
+    str_to_ascii_lowercase text ≡ str_to_ascii_lowercase other
 AreAlike item text other = text ≡ other

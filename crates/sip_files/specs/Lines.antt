@@ -26,7 +26,8 @@ pub record Drafts (draft : Draft) (text : List ℕ) : Type 0 where
   pub spelled : text ≡ with_ends lines
   pub gives : drafted nothing_read said ≡ Some draft
 
--- what the lines before this one say gives a draft, and what a line that stands next says may not follow it
+-- what the lines before this one say gives a draft, and what a line that stands next says may not
+-- follow it
 pub record Stuck (number : ℕ) (text : List ℕ) : Type 0 where
   pub draft : Draft
   pub before : List (List ℕ)
@@ -37,7 +38,8 @@ pub record Stuck (number : ℕ) (text : List ℕ) : Type 0 where
   pub gives : drafted nothing_read said ≡ Some draft
   pub counted : number ≡ length before + 2
   pub more : left ≡ [] → ⊥
-  pub no_next : (line after : List ℕ) (next : EventLine) → SpellsLine line next → left ≡ line ++ 10 ∷ after → taken draft next ≡ None
+  pub no_next : (line after : List ℕ) (next : EventLine) → SpellsLine line next
+      → left ≡ line ++ 10 ∷ after → taken draft next ≡ None
 
 abbrev pub TellsLine : EventsFault → List ℕ → Type 0
 TellsLine TooLong text = ⊥

@@ -29,11 +29,14 @@ head_text call_id form id = form_text call_id form ++ id_field id
 -- the tags and the body are words
 abbrev pub notice_text : Notice → List ℕ
 notice_text (notice.Request call_id id method local_tag remote_tag body) =
-    head_text call_id (codes "request") id ++ plain_field method ++ word_field local_tag ++ word_field remote_tag ++ word_field body
+    head_text call_id (codes "request") id ++ plain_field method ++ word_field local_tag
+    ++ word_field remote_tag ++ word_field body
 notice_text (notice.Response call_id id status local_tag remote_tag body) =
-    head_text call_id (codes "response") id ++ number_field status ++ word_field local_tag ++ word_field remote_tag ++ word_field body
+    head_text call_id (codes "response") id ++ number_field status ++ word_field local_tag
+    ++ word_field remote_tag ++ word_field body
 notice_text (notice.Ack call_id id body) = head_text call_id (codes "ack") id ++ word_field body
-notice_text (notice.Prack call_id id rseq body) = head_text call_id (codes "prack") id ++ number_field rseq ++ word_field body
+notice_text (notice.Prack call_id id rseq body) =
+    head_text call_id (codes "prack") id ++ number_field rseq ++ word_field body
 notice_text (notice.Timeout call_id id) = head_text call_id (codes "timeout") id
 notice_text (notice.Failed call_id id) = head_text call_id (codes "failed") id
 notice_text (notice.NoAck call_id id) = head_text call_id (codes "noack") id
@@ -54,7 +57,8 @@ output_line output = output_text output ++ codes "\n"
 
 -- the round's moment, and its outputs in order
 unfoldable pub round_text : ℕ → List Output → List ℕ
-round_text moment outputs = codes "round" ++ number_field moment ++ codes "\n" ++ flat_map output_line outputs
+round_text moment outputs =
+    codes "round" ++ number_field moment ++ codes "\n" ++ flat_map output_line outputs
 
 abbrev pub rounds_text : List (ℕ × List Output) → List ℕ
 rounds_text rounds = flat_map (λ round. round_text round.0 round.1) rounds

@@ -56,7 +56,8 @@ unfoldable pub method_at : List ℕ → Option (List ℕ)
 method_at field = if is_token field then Some field else None
 
 abbrev pub tag_of : List ℕ → Option (Option (List ℕ))
-tag_of text = if length text == 0 then Some None else (if is_token text then Some (Some text) else None)
+tag_of text = if length text == 0 then Some None
+    else (if is_token text then Some (Some text) else None)
 
 unfoldable pub tag_at : List ℕ → Option (Option (List ℕ))
 tag_at field = word_at field >>= tag_of
@@ -78,14 +79,16 @@ uris_of read = record { request_uri = (read.0).0; from = (read.0).1; to = read.1
 
 unfoldable pub uris_at : List ℕ → Option (Uris × List ℕ)
 uris_at fields =
-    both_at (both_at (field_at 32 uri_at) (field_at 32 uri_at)) (field_at 32 uri_at) fields >>= λ read. Some (uris_of read.0, read.1)
+    both_at (both_at (field_at 32 uri_at) (field_at 32 uri_at))
+    (field_at 32 uri_at) fields >>= λ read. Some (uris_of read.0, read.1)
 
 abbrev pub dialog_of : (List ℕ × Option (List ℕ)) × Option (List ℕ) → Dialog
 dialog_of read = record { call_id = (read.0).0; local_tag = (read.0).1; remote_tag = read.1 }
 
 unfoldable pub dialog_at : List ℕ → Option (Dialog × List ℕ)
 dialog_at fields =
-    both_at (both_at (field_at 32 call_id_at) (field_at 32 tag_at)) (field_at 32 tag_at) fields >>= λ read. Some (dialog_of read.0, read.1)
+    both_at (both_at (field_at 32 call_id_at) (field_at 32 tag_at))
+    (field_at 32 tag_at) fields >>= λ read. Some (dialog_of read.0, read.1)
 
 -- ---- the commands of the user
 
@@ -102,7 +105,8 @@ invite_of read = record {
 
 unfoldable pub invite_at : List ℕ → Option Invite
 invite_at fields =
-    option_map invite_of (ended_by (both_at (both_at address_of_call_at uris_at) (field_at 32 support_at)) word_at fields)
+    option_map invite_of (ended_by
+    (both_at (both_at address_of_call_at uris_at) (field_at 32 support_at)) word_at fields)
 
 abbrev pub plain_of : (((List ℕ × Addr) × List ℕ) × Uris) × List ℕ → Plain
 plain_of read = record {
@@ -117,7 +121,8 @@ plain_of read = record {
 
 unfoldable pub plain_at : List ℕ → Option Plain
 plain_at fields =
-    option_map plain_of (ended_by (both_at (both_at address_of_call_at (field_at 32 method_at)) uris_at) word_at fields)
+    option_map plain_of (ended_by (both_at
+    (both_at address_of_call_at (field_at 32 method_at)) uris_at) word_at fields)
 
 abbrev pub request_of : (Dialog × List ℕ) × List ℕ → DialogRequest
 request_of read = record {
@@ -129,7 +134,8 @@ request_of read = record {
 }
 
 unfoldable pub request_at : List ℕ → Option DialogRequest
-request_at fields = option_map request_of (ended_by (both_at dialog_at (field_at 32 method_at)) word_at fields)
+request_at fields =
+    option_map request_of (ended_by (both_at dialog_at (field_at 32 method_at)) word_at fields)
 
 abbrev pub body_of : Dialog × List ℕ → DialogBody
 body_of read = record {
@@ -155,7 +161,9 @@ respond_of read = record {
 unfoldable pub respond_at : List ℕ → Option Respond
 respond_at fields =
     option_map respond_of
-    (ended_by (both_at (both_at (both_at (both_at (field_at 32 call_id_at) (field_at 32 id_at)) (field_at 32 (number_at 999))) (field_at 32 reliability_at)) (field_at 32 word_at)) reason_at fields)
+    (ended_by (both_at (both_at (both_at (both_at (field_at 32 call_id_at) (field_at 32 id_at))
+    (field_at 32 (number_at 999))) (field_at 32 reliability_at)) (field_at 32 word_at))
+    reason_at fields)
 
 abbrev pub command_at : List ℕ → List ℕ → Option UserCommand
 command_at keyword fields =
@@ -181,7 +189,8 @@ server_of read = server_key ((read.0).0).0 ((read.0).0).1 (read.0).1 read.1
 unfoldable pub server_at : List ℕ → Option Key
 server_at fields =
     option_map server_of
-    (ended_by (both_at (both_at (field_at 32 word_at) (field_at 32 word_at)) (field_at 32 (number_at 65535))) method_at fields)
+    (ended_by (both_at (both_at (field_at 32 word_at) (field_at 32 word_at))
+    (field_at 32 (number_at 65535))) method_at fields)
 
 abbrev pub key_at : List ℕ → List ℕ → Option Key
 key_at side fields =
@@ -205,7 +214,8 @@ keyword_line keyword fields =
     if bytes_eq keyword (codes "local") then option_map line.Local (address_at fields)
     else (if bytes_eq keyword (codes "seed") then option_map line.Seed (seed_at fields)
     else (if bytes_eq keyword (codes "first") then option_map line.First (number_at (2 ^ 62) fields)
-    else (if bytes_eq keyword (codes "round") then option_map line.Round (number_at (2 ^ 64 - 1) fields)
+    else (if bytes_eq keyword (codes "round")
+    then option_map line.Round (number_at (2 ^ 64 - 1) fields)
     else option_map line.Event (event_at keyword fields))))
 
 unfoldable pub line_at : List ℕ → Option EventLine

@@ -1,4 +1,5 @@
--- Reading the fields of a line from left to right, a function for each. What is read is said by the spellings.
+-- Reading the fields of a line from left to right, a function for each. What is read is said by the
+-- spellings.
 use Rattle.std.specs.Prelude.{ℕ, zero, suc, Bool, false, not, ◌&&◌, ◌||◌, ◌==◌, ◌+◌, ◌-◌, ◌*◌, nat_le, List, [], ◌∷◌, length, Option, Some, None, is_some, codes, option_and_then, if◌then◌else◌}
 use Rattle.std.specs.List.{list_all}
 use Rattle.std.specs.Option.{option_map}
@@ -49,12 +50,14 @@ hex_at is_itself (high ∷ low ∷ rest) =
 
 -- a letter, where its byte doesn't stand for itself
 unfoldable pub letter_at : (ℕ → Bool) → ℕ → List ℕ → Option (ℕ × List ℕ)
-letter_at is_itself letter rest = byte_of_letter letter >>= λ b. if is_itself b then None else Some (b, rest)
+letter_at is_itself letter rest =
+    byte_of_letter letter >>= λ b. if is_itself b then None else Some (b, rest)
 
 -- what follows a backslash
 unfoldable pub escape_at : (ℕ → Bool) → List ℕ → Option (ℕ × List ℕ)
 escape_at is_itself [] = None
-escape_at is_itself (letter ∷ rest) = if letter == 120 then hex_at is_itself rest else letter_at is_itself letter rest
+escape_at is_itself (letter ∷ rest) =
+    if letter == 120 then hex_at is_itself rest else letter_at is_itself letter rest
 
 -- the first byte that is spelled, and what follows it
 unfoldable pub byte_at : (ℕ → Bool) → List ℕ → Option (ℕ × List ℕ)
@@ -68,7 +71,8 @@ abbrev pub bytes_from : (ℕ → Bool) → ℕ → List ℕ → Option (List ℕ
 bytes_from is_itself zero [] = Some []
 bytes_from is_itself zero (b ∷ bs) = None
 bytes_from is_itself (suc n) [] = Some []
-bytes_from is_itself (suc n) (b ∷ bs) = byte_at is_itself (b ∷ bs) >>= λ p. bytes_from is_itself n p.1 >>= λ more. Some (p.0 ∷ more)
+bytes_from is_itself (suc n) (b ∷ bs) =
+    byte_at is_itself (b ∷ bs) >>= λ p. bytes_from is_itself n p.1 >>= λ more. Some (p.0 ∷ more)
 
 unfoldable pub bytes_at : (ℕ → Bool) → List ℕ → Option (List ℕ)
 bytes_at is_itself text = bytes_from is_itself (length text) text
@@ -93,18 +97,21 @@ is_numeral (b ∷ c ∷ bs) = not (b == 48) && list_all is_ascii_digit (b ∷ c 
 
 unfoldable pub number_at : ℕ → List ℕ → Option ℕ
 number_at most field =
-    if is_numeral field && nat_le (digits_value 10 field) most then Some (digits_value 10 field) else None
+    if is_numeral field && nat_le (digits_value 10 field) most then Some (digits_value 10 field)
+    else None
 
 -- a field before the first such byte, and what follows that
 abbrev pub field_at : {A : Type 0} → ℕ → (List ℕ → Option A) → List ℕ → Option (A × List ℕ)
 field_at at read text = cut_at at text >>= λ p. read p.0 >>= λ x. Some (x, p.1)
 
 -- two parts at the front, one after the other
-abbrev pub both_at : {A B : Type 0} → (List ℕ → Option (A × List ℕ)) → (List ℕ → Option (B × List ℕ)) → List ℕ → Option ((A × B) × List ℕ)
+abbrev pub both_at : {A B : Type 0} → (List ℕ → Option (A × List ℕ))
+    → (List ℕ → Option (B × List ℕ)) → List ℕ → Option ((A × B) × List ℕ)
 both_at first second text = first text >>= λ a. second a.1 >>= λ b. Some ((a.0, b.0), b.1)
 
 -- a part at the front, and all that follows it
-abbrev pub ended_by : {A B : Type 0} → (List ℕ → Option (A × List ℕ)) → (List ℕ → Option B) → List ℕ → Option (A × B)
+abbrev pub ended_by : {A B : Type 0} → (List ℕ → Option (A × List ℕ)) → (List ℕ → Option B) → List ℕ
+    → Option (A × B)
 ended_by front last text = front text >>= λ a. last a.1 >>= λ b. Some (a.0, b)
 
 unfoldable pub id_at : List ℕ → Option Id

@@ -14,7 +14,8 @@ use Rattle.sip_round.specs.Answers.{answers, refused}
 
 -- the output file of the rounds: the moment of each beside its answer
 unfoldable pub answer_file : Config → List round.Round → List ℕ
-answer_file config rounds = outputs_text (zip (map (λ round. round.moment) rounds) (answers config rounds))
+answer_file config rounds =
+    outputs_text (zip (map (λ round. round.moment) rounds) (answers config rounds))
 
 -- the input is an event file, no round of it is refused, and this is the output file of its rounds
 pub record Replays (input output : List ℕ) : Type 0 where
@@ -25,7 +26,8 @@ pub record Replays (input output : List ℕ) : Type 0 where
   pub unrefused : refused config rounds ≡ None
   pub answered : output ≡ answer_file config rounds
 
--- the input is an event file, and the first round of it that is refused is the one of this index, for this fault
+-- the input is an event file, and the first round of it that is refused is the one of this index,
+-- for this fault
 pub record RefusesRound (index : ℕ) (fault : RoundFault) (input : List ℕ) : Type 0 where
   pub config : Config
   pub rounds : List round.Round
@@ -37,7 +39,8 @@ pub record RefusesRound (index : ℕ) (fault : RoundFault) (input : List ℕ) : 
 abbrev pub TellsReplay : ReplayFault → List ℕ → Type 0
 TellsReplay Input input = Unit {0}
 TellsReplay (Events fault) input = TellsFault fault input
-TellsReplay (Round index fault) input = ((broken : Bool) × (fault ≡ round_fault.NoMemory broken)) ⊎ RefusesRound index fault input
+TellsReplay (Round index fault) input =
+    ((broken : Bool) × (fault ≡ round_fault.NoMemory broken)) ⊎ RefusesRound index fault input
 TellsReplay Output input = Unit {0}
 TellsReplay NoMemory input = Unit {0}
 
@@ -47,4 +50,5 @@ WritesAll old new input = (output : List ℕ) × Replays input output × Appends
 
 -- the writer took the front of the output file of the input
 abbrev pub WritesFront : Option (List ℕ) → Option (List ℕ) → List ℕ → Type 0
-WritesFront old new input = (front rest : List ℕ) × Replays input (front ++ rest) × Appends old new front
+WritesFront old new input =
+    (front rest : List ℕ) × Replays input (front ++ rest) × Appends old new front

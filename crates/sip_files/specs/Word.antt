@@ -1,5 +1,6 @@
--- How a field spells a text of any bytes: as a word, or as a rest, which is always the last field of its line. A byte stands for
--- itself or is escaped, and each text has one spelling of either form.
+-- How a field spells a text of any bytes: as a word, or as a rest, which is always the last field
+-- of its line. A byte stands for itself or is escaped, and each text has one spelling of either
+-- form.
 use Rattle.std.specs.Prelude.{ℕ, Bool, not, ◌&&◌, ◌||◌, ◌==◌, ◌+◌, ◌/◌, ◌%◌, nat_le, nat_lt, List, [], ◌∷◌, length, Option, Some, None, codes, if◌then◌else◌}
 use Rattle.std.specs.List.{flat_map, list_all}
 use Rattle.std.specs.Str.{bytes_eq}

@@ -142,7 +142,8 @@ fn read_body(alloc: Global, fields: &[u8]) -> Result<Option<DialogBody>, AllocEr
     }))
 }
 
-// The Call-ID as a word, the request's id, the status, `plain` or `reliable`, the body as a word, and the reason as a rest.
+// The Call-ID as a word, the request's id, the status, `plain` or `reliable`, the body as a word,
+// and the reason as a rest.
 #[tactic(auto, unfolding(crate::specs::ReadLine::respond_at))]
 fn read_respond(alloc: Global, fields: &[u8]) -> Result<Option<Respond>, AllocError>
     ensures { IfOk result (λ respond. respond ≡ reading.respond_at fields.now) }

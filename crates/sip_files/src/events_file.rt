@@ -1,7 +1,8 @@
 //! Event files, version 1: the configuration and the rounds of a run.
 //!
-//! Lines end in LF. After `sip-events 1` comes `local ADDR`, then optionally `seed` and optionally `first N`, in this order, and
-//! then the rounds: `round MOMENT`, each followed by the lines of its events.
+//! Lines end in LF. After `sip-events 1` comes `local ADDR`, then optionally `seed` and optionally
+//! `first N`, in this order, and then the rounds: `round MOMENT`, each followed by the lines of its
+//! events.
 
 ghost use Rattle.std.specs.Prelude.{◌≡◌, ℕ, List, ◌≤◌, ◌^◌, IfErr, IfOk, MatchResult, length};
 ghost use Rattle.sip_round.specs.declared.config.Config as config;
@@ -29,7 +30,9 @@ const VERSION: &[u8] = b"sip-events 1";
 pub fn read_events(alloc: Global, text: &[u8]) -> Result<(Config, Series<Round>), EventsFault>
     ensures found { IfOk result (λ read. spelling.SpellsEvents read.0 read.1 text.now) }
     ensures size { IfOk result (λ read. length text.now ≤ 2 ^ 26) }
-    ensures only { (config : config.Config) (rounds : List round.Round) → spelling.SpellsEvents config rounds text.now → length text.now ≤ 2 ^ 26 → spelling.Answers config rounds result }
+    ensures only { (config : config.Config) (rounds : List round.Round)
+        → spelling.SpellsEvents config rounds text.now → length text.now ≤ 2 ^ 26
+        → spelling.Answers config rounds result }
     ensures fault { IfErr result (λ fault. spelling.TellsFault fault text.now) }
 {
     if text.len() > MAX_EVENTS {
@@ -44,7 +47,8 @@ pub fn read_events(alloc: Global, text: &[u8]) -> Result<(Config, Series<Round>)
 
 // What follows the line of the version.
 fn after_version(text: &[u8]) -> Result<&[u8], EventsFault>
-    ensures { MatchResult result (λ after. lines.FollowsVersion text.now after.now) (λ fault. lines.TellsVersion fault text.now) }
+    ensures { MatchResult result (λ after. lines.FollowsVersion text.now after.now)
+        (λ fault. lines.TellsVersion fault text.now) }
 {
     let Some((line, after)) = cut(b'\n', text) else {
         return Err(if text == VERSION {
@@ -63,7 +67,8 @@ fn after_version(text: &[u8]) -> Result<&[u8], EventsFault>
 // What the lines after the first one say.
 fn read_lines(alloc: Global, text: &[u8]) -> Result<Draft, EventsFault>
     requires { length text.now ≤ 2 ^ 26 }
-    ensures { MatchResult result (λ draft. lines.Drafts draft text.now) (λ fault. lines.TellsLine fault text.now) }
+    ensures { MatchResult result (λ draft. lines.Drafts draft text.now)
+        (λ fault. lines.TellsLine fault text.now) }
 {
     let mut draft = Draft::new(alloc);
     let mut left = text;

@@ -58,12 +58,14 @@ impl fmt::Display for ReplayFault {
 
 impl Error for ReplayFault {}
 
-/// Reads an event file, runs its rounds in so many shards, among which names are cut so, on up to so many workers, and writes the
-/// output file: all is read before the first round runs, and all rounds have run before the first byte is written.
+/// Reads an event file, runs its rounds in so many shards, among which names are cut so, on up to
+/// so many workers, and writes the output file: all is read before the first round runs, and all
+/// rounds have run before the first byte is written.
 ///
 /// # Errors
 ///
-/// With every fault but `Output` nothing was written; with `Output` the front of the output file may have been.
+/// With every fault but `Output` nothing was written; with `Output` the front of the output file
+/// may have been.
 pub fn replay<T: Threads + Sync, R: Read, W: Write, C: Cut + Drop, G: Gate>(
     rt: &T,
     alloc: Global,
@@ -78,19 +80,25 @@ pub fn replay<T: Threads + Sync, R: Read, W: Write, C: Cut + Drop, G: Gate>(
     requires most_shards { shards ≤ 256 }
     requires some_worker { 0 < workers }
     requires most_workers { workers ≤ 64 }
-    ensures replays { OnOk result (IfSome (R.remaining reader.old) (WritesAll (W.contents writer.old) (W.contents writer.new))) }
+    ensures replays { OnOk result (IfSome (R.remaining reader.old)
+        (WritesAll (W.contents writer.old) (W.contents writer.new))) }
     ensures fault { IfErr result (λ fault. IfSome (R.remaining reader.old) (TellsReplay fault)) }
-    ensures unwritten { IfErr result (λ fault. fault ≢ replay_fault.Output → writer.new ≡ writer.old) }
-    ensures front { result ≡ Err replay_fault.Output → IfSome (R.remaining reader.old) (WritesFront (W.contents writer.old) (W.contents writer.new)) }
+    ensures unwritten { IfErr result
+        (λ fault. fault ≢ replay_fault.Output → writer.new ≡ writer.old) }
+    ensures front { result ≡ Err replay_fault.Output
+        → IfSome (R.remaining reader.old)
+        (WritesFront (W.contents writer.old) (W.contents writer.new)) }
 {
     let text = read_all(alloc, reader)?;
     let file = replayed(rt, alloc, text.as_slice(), shards, workers, cut, gate)?;
     write_whole(writer, file.as_slice())
 }
 
-// All bytes of the reader, up to the limit of an event file. Each read gives at least one byte, the end or an error.
+// All bytes of the reader, up to the limit of an event file. Each read gives at least one byte, the
+// end or an error.
 fn read_all<R: Read>(alloc: Global, reader: &mut R) -> Result<Vec<u8>, ReplayFault>
-    ensures all { IfOk result (λ text. IfSome (R.remaining reader.old) (λ input. text.items ≡ input)) }
+    ensures all { IfOk result (λ text.
+        IfSome (R.remaining reader.old) (λ input. text.items ≡ input)) }
     ensures fault { IfErr result (λ fault. IfSome (R.remaining reader.old) (TellsReplay fault)) }
     ensures unwritten { IfErr result (λ fault. fault ≢ replay_fault.Output) }
 {
@@ -147,7 +155,9 @@ fn with_moments(
     rounds: &[Round],
     answers: Vec<Vec<Output>>,
 ) -> Result<Vec<(u64, Vec<Output>)>, AllocError>
-    ensures { IfOk result (λ made. told made.items ≡ zip (map (λ round. round.moment) rounds.now) (map (λ outputs. outputs.items) answers.items)) }
+    ensures { IfOk result (λ made. told made.items
+        ≡ zip (map (λ round. round.moment) rounds.now)
+        (map (λ outputs. outputs.items) answers.items)) }
 {
     let mut made = Vec::with_capacity(alloc, rounds.len())?;
     let mut left = rounds;
@@ -164,7 +174,8 @@ fn with_moments(
 // Each write takes at least one byte, or the writer has failed.
 fn write_whole<W: Write>(writer: &mut W, bytes: &[u8]) -> Result<(), ReplayFault>
     ensures all { OnOk result (Appends (W.contents writer.old) (W.contents writer.new) bytes.now) }
-    ensures front { OnErr result ((front rest : List ℕ) × (bytes.now ≡ front ++ rest) × Appends (W.contents writer.old) (W.contents writer.new) front) }
+    ensures front { OnErr result ((front rest : List ℕ) × (bytes.now ≡ front ++ rest)
+        × Appends (W.contents writer.old) (W.contents writer.new) front) }
     ensures fault { OnErr result (result ≡ Err replay_fault.Output) }
 {
     let mut left = bytes;

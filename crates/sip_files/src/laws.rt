@@ -1,4 +1,5 @@
-//! Laws of the files' spellings. Each is proved by its contract alone, and calling one does nothing.
+//! Laws of the files' spellings. Each is proved by its contract alone, and calling one does
+//! nothing.
 
 ghost use Rattle.std.specs.Prelude.{◌≡◌, ℕ, List, IsTrue};
 ghost use Rattle.sip_files.specs.declared.event_line.EventLine.{EventLine};
@@ -10,25 +11,31 @@ ghost use Rattle.sip_files.specs.Events.{AreAlike, SpellsLine};
 
 /// The words of two different texts differ.
 pub fn one_text_of_a_word()
-    ensures { (text other : List ℕ) → IsTrue (are_bytes text) → IsTrue (are_bytes other) → spelled_word text ≡ spelled_word other → text ≡ other }
+    ensures { (text other : List ℕ) → IsTrue (are_bytes text) → IsTrue (are_bytes other)
+        → spelled_word text ≡ spelled_word other → text ≡ other }
 {}
 
 /// The rests of two different texts differ.
 pub fn one_text_of_a_rest()
-    ensures { (text other : List ℕ) → IsTrue (are_bytes text) → IsTrue (are_bytes other) → spelled_rest text ≡ spelled_rest other → text ≡ other }
+    ensures { (text other : List ℕ) → IsTrue (are_bytes text) → IsTrue (are_bytes other)
+        → spelled_rest text ≡ spelled_rest other → text ≡ other }
 {}
 
 /// A line of an event file says one thing.
 pub fn one_meaning_of_a_line()
-    ensures { (text : List ℕ) (line other : EventLine) → SpellsLine text line → SpellsLine text other → line ≡ other }
+    ensures { (text : List ℕ) (line other : EventLine) → SpellsLine text line
+        → SpellsLine text other → line ≡ other }
 {}
 
 /// A line of an event file has one text; that of a failed send has one up to the case of letters.
 pub fn one_text_of_a_line()
-    ensures { (line : EventLine) (text other : List ℕ) → SpellsLine text line → SpellsLine other line → AreAlike line text other }
+    ensures { (line : EventLine) (text other : List ℕ) → SpellsLine text line
+        → SpellsLine other line → AreAlike line text other }
 {}
 
 /// A text is an event file of one configuration and one list of rounds.
 pub fn one_meaning_of_an_event_file()
-    ensures { (text : List ℕ) (config other : Config) (rounds others : List Round) → SpellsEvents config rounds text → SpellsEvents other others text → (config ≡ other) × (rounds ≡ others) }
+    ensures { (text : List ℕ) (config other : Config) (rounds others : List Round)
+        → SpellsEvents config rounds text → SpellsEvents other others text
+        → (config ≡ other) × (rounds ≡ others) }
 {}

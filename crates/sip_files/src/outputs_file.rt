@@ -27,7 +27,8 @@ pub fn write_outputs(alloc: Global, rounds: &[(u64, Vec<Output>)]) -> Result<Vec
 }
 
 fn push_rounds(file: &mut Vec<u8>, rounds: &[(u64, Vec<Output>)]) -> Result<(), AllocError>
-    ensures { OnOk result (file.new.items ≡ file.old.items ++ written.rounds_text (written.told rounds.now)) }
+    ensures { OnOk result (file.new.items ≡ file.old.items
+        ++ written.rounds_text (written.told rounds.now)) }
 {
     for (moment, outputs) in rounds {
         push_round(file, *moment, outputs.as_slice())?;
@@ -37,7 +38,8 @@ fn push_rounds(file: &mut Vec<u8>, rounds: &[(u64, Vec<Output>)]) -> Result<(), 
 
 #[tactic(auto, unfolding(crate::specs::Outputs::round_text))]
 fn push_round(file: &mut Vec<u8>, moment: u64, outputs: &[Output]) -> Result<(), AllocError>
-    ensures { OnOk result (file.new.items ≡ file.old.items ++ written.round_text moment outputs.now) }
+    ensures { OnOk result (file.new.items ≡ file.old.items
+        ++ written.round_text moment outputs.now) }
 {
     file.extend_from_slice(b"round")?;
     push_number(file, moment)?;
@@ -46,7 +48,8 @@ fn push_round(file: &mut Vec<u8>, moment: u64, outputs: &[Output]) -> Result<(),
 }
 
 fn push_lines(file: &mut Vec<u8>, outputs: &[Output]) -> Result<(), AllocError>
-    ensures { OnOk result (file.new.items ≡ file.old.items ++ flat_map written.output_line outputs.now) }
+    ensures { OnOk result (file.new.items ≡ file.old.items
+        ++ flat_map written.output_line outputs.now) }
 {
     for output in outputs {
         push_line(file, output)?;
@@ -74,7 +77,8 @@ fn push_output(file: &mut Vec<u8>, output: &Output) -> Result<(), AllocError>
 }
 
 fn push_drop(file: &mut Vec<u8>, place: u32, reason: DropReason) -> Result<(), AllocError>
-    ensures { OnOk result (file.new.items ≡ file.old.items ++ (codes "drop" ++ field.number_field place ++ written.reason_text reason)) }
+    ensures { OnOk result (file.new.items ≡ file.old.items
+        ++ (codes "drop" ++ field.number_field place ++ written.reason_text reason)) }
 {
     file.extend_from_slice(b"drop")?;
     push_number(file, u64::from(place))?;
@@ -94,7 +98,8 @@ fn push_reason(file: &mut Vec<u8>, reason: DropReason) -> Result<(), AllocError>
 // The fault's name, and after two of them the header's.
 #[tactic(auto, unfolding(crate::specs::Field::plain_field))]
 fn push_fault(file: &mut Vec<u8>, fault: ReadFault) -> Result<(), AllocError>
-    ensures { OnOk result (file.new.items ≡ file.old.items ++ field.plain_field (fault_text fault)) }
+    ensures { OnOk result (file.new.items ≡ file.old.items
+        ++ field.plain_field (fault_text fault)) }
 {
     push_plain(file, fault.as_str().as_bytes())?;
     match fault {
@@ -106,7 +111,8 @@ fn push_fault(file: &mut Vec<u8>, fault: ReadFault) -> Result<(), AllocError>
 }
 
 fn push_send(file: &mut Vec<u8>, to: Addr, bytes: &[u8]) -> Result<(), AllocError>
-    ensures { OnOk result (file.new.items ≡ file.old.items ++ (codes "send" ++ field.address_field to ++ field.rest_field bytes.now)) }
+    ensures { OnOk result (file.new.items ≡ file.old.items
+        ++ (codes "send" ++ field.address_field to ++ field.rest_field bytes.now)) }
 {
     file.extend_from_slice(b"send")?;
     push_address(file, to)?;
@@ -187,7 +193,8 @@ fn push_refused(
     place: u64,
     refusal: Refusal,
 ) -> Result<(), AllocError>
-    ensures { OnOk result (file.new.items ≡ file.old.items ++ written.notice_text (notice.Refused call_id.now place refusal)) }
+    ensures { OnOk result (file.new.items ≡ file.old.items
+        ++ written.notice_text (notice.Refused call_id.now place refusal)) }
 {
     push_form(file, call_id, b"refused")?;
     push_number(file, place)?;
@@ -197,7 +204,8 @@ fn push_refused(
 // The call as a word, and the name of the notice's form.
 #[tactic(auto, unfolding(crate::specs::Outputs::form_text))]
 fn push_form(file: &mut Vec<u8>, call_id: &CallId, form: &[u8]) -> Result<(), AllocError>
-    ensures { OnOk result (file.new.items ≡ file.old.items ++ written.form_text call_id.now form.now) }
+    ensures { OnOk result (file.new.items ≡ file.old.items
+        ++ written.form_text call_id.now form.now) }
 {
     file.extend_from_slice(b"notice")?;
     push_text(file, call_id.as_slice())?;
@@ -207,7 +215,8 @@ fn push_form(file: &mut Vec<u8>, call_id: &CallId, form: &[u8]) -> Result<(), Al
 // The same and an id.
 #[tactic(auto, unfolding(crate::specs::Outputs::head_text))]
 fn push_head(file: &mut Vec<u8>, call_id: &CallId, form: &[u8], id: Id) -> Result<(), AllocError>
-    ensures { OnOk result (file.new.items ≡ file.old.items ++ written.head_text call_id.now form.now id) }
+    ensures { OnOk result (file.new.items ≡ file.old.items
+        ++ written.head_text call_id.now form.now id) }
 {
     push_form(file, call_id, form)?;
     push_id(file, id)

@@ -1,9 +1,10 @@
 //! Words and rests: how a file spells a text of any bytes.
 //!
-//! In both a byte from `!` to `~` other than `\` stands for itself, and every other byte is escaped: `\s` a space, `\r`, `\n`,
-//! `\t`, `\\`, and `\xhh` in lower case for all others. In a rest, which is always the last field of its line, a space stands for
-//! itself. The empty text is the word `-` and the empty rest, and the text of one hyphen is the word `\x2d`. Each text
-//! has one spelling of either form, and the readers take no other.
+//! In both a byte from `!` to `~` other than `\` stands for itself, and every other byte is
+//! escaped: `\s` a space, `\r`, `\n`, `\t`, `\\`, and `\xhh` in lower case for all others. In a
+//! rest, which is always the last field of its line, a space stands for itself. The empty text is
+//! the word `-` and the empty rest, and the text of one hyphen is the word `\x2d`. Each text has
+//! one spelling of either form, and the readers take no other.
 
 ghost use Rattle.std.specs.Prelude.{◌≡◌, ◌<◌, ◌++◌, length, IfOk, IfSome, OnOk};
 ghost use Rattle.sip_files.specs.Word as word;
@@ -43,7 +44,8 @@ pub(crate) fn push_rest(line: &mut Vec<u8>, text: &[u8]) -> Result<(), AllocErro
 }
 
 fn push_escaped(line: &mut Vec<u8>, text: &[u8], form: Form) -> Result<(), AllocError>
-    ensures { OnOk result (line.new.items ≡ line.old.items ++ word.spelled_bytes (itself_in form) text.now) }
+    ensures { OnOk result (line.new.items ≡ line.old.items
+        ++ word.spelled_bytes (itself_in form) text.now) }
 {
     for byte in text {
         push_byte(line, *byte, form)?;
@@ -53,7 +55,8 @@ fn push_escaped(line: &mut Vec<u8>, text: &[u8], form: Form) -> Result<(), Alloc
 
 #[tactic(auto, unfolding(crate::specs::Word::spelled_byte))]
 fn push_byte(line: &mut Vec<u8>, byte: u8, form: Form) -> Result<(), AllocError>
-    ensures { OnOk result (line.new.items ≡ line.old.items ++ word.spelled_byte (itself_in form) byte) }
+    ensures { OnOk result (line.new.items ≡ line.old.items
+        ++ word.spelled_byte (itself_in form) byte) }
 {
     if is_itself(byte, form) {
         line.push(byte)?;
@@ -63,7 +66,8 @@ fn push_byte(line: &mut Vec<u8>, byte: u8, form: Form) -> Result<(), AllocError>
 }
 
 fn push_escape(line: &mut Vec<u8>, byte: u8) -> Result<(), AllocError>
-    ensures { OnOk result (line.new.items ≡ line.old.items ++ word.escape_with byte (word.letter_of byte)) }
+    ensures { OnOk result (line.new.items ≡ line.old.items
+        ++ word.escape_with byte (word.letter_of byte)) }
 {
     match letter_of(byte) {
         Some(letter) => line.extend_from_slice(&[b'\\', letter]),

@@ -11,27 +11,34 @@ use Rattle.sip_headers.specs.declared.slot.Slot.{Slot}
 use Rattle.sip_headers.specs.declared.slot.Slot.TheVariants.{Absent, Once, Twice, Bad}
 use Rattle.sip_headers.proofs.Presences.{fits}
 
-not_found_by : {A : Type 0} (b : Bool) (x : A) (more : Option A) → cond b (Some x) more ≡ None → (b ≡ false) × (more ≡ None)
+not_found_by : {A : Type 0} (b : Bool) (x : A) (more : Option A) → cond b (Some x) more ≡ None
+    → (b ≡ false) × (more ≡ None)
 not_found_by true x more e = absurd cc
 not_found_by false x more e = (refl, e)
 
-pub not_found : {A : Type 0} (p : A → Bool) (xs : List A) → find p xs ≡ None → AllByRecursion (λ x. p x ≡ false) xs
+pub not_found : {A : Type 0} (p : A → Bool) (xs : List A) → find p xs ≡ None
+    → AllByRecursion (λ x. p x ≡ false) xs
 not_found p [] e = tt
-not_found p (x ∷ xs) e = let parts = not_found_by (p x) x (find p xs) e in (parts.0, not_found p xs parts.1)
+not_found p (x ∷ xs) e =
+    let parts = not_found_by (p x) x (find p xs) e in (parts.0, not_found p xs parts.1)
 
-once_slot : {X : Type 0} (s : Slot X) → is_unfit (slot_presence s) ≡ false → is_nowhere (slot_presence s) ≡ false → is_repeated (slot_presence s) ≡ false → is_some (once s) ≡ true
+once_slot : {X : Type 0} (s : Slot X) → is_unfit (slot_presence s) ≡ false
+    → is_nowhere (slot_presence s) ≡ false → is_repeated (slot_presence s) ≡ false
+    → is_some (once s) ≡ true
 once_slot Absent fit there single = absurd cc
 once_slot (Once x) fit there single = refl
 once_slot Twice fit there single = absurd cc
 once_slot Bad fit there single = absurd cc
 
-open_slot : {X : Type 0} (s : Slot X) → is_unfit (slot_presence s) ≡ false → is_repeated (slot_presence s) ≡ false → is_some (at_most_once s) ≡ true
+open_slot : {X : Type 0} (s : Slot X) → is_unfit (slot_presence s) ≡ false
+    → is_repeated (slot_presence s) ≡ false → is_some (at_most_once s) ≡ true
 open_slot Absent fit single = refl
 open_slot (Once x) fit single = refl
 open_slot Twice fit single = absurd cc
 open_slot Bad fit single = absurd cc
 
-fit_list : {X : Type 0} (list : Option (List X)) → is_unfit (list_presence list) ≡ false → is_some list ≡ true
+fit_list : {X : Type 0} (list : Option (List X)) → is_unfit (list_presence list) ≡ false
+    → is_some list ≡ true
 fit_list None fit = absurd cc
 fit_list (Some xs) fit = refl
 
@@ -39,11 +46,13 @@ not_none : {X : Type 0} (o : Option X) → is_none o ≡ false → is_some o ≡
 not_none None e = absurd cc
 not_none (Some x) e = refl
 
-pub complete_of : (d : Draft) → has_bad_header d ≡ false → missing d ≡ None → repeated d ≡ None → IsComplete d
+pub complete_of : (d : Draft) → has_bad_header d ≡ false → missing d ≡ None → repeated d ≡ None
+    → IsComplete d
 complete_of d bad none single =
     let flags = or_parts _ _ (or_parts _ _ bad).0 in
     let fit = fits d bad in
-    let there = not_found (λ header. is_needed (entry header).kind && is_nowhere (presence_of d header)) headers none in
+    let there = not_found (λ header. is_needed (entry header).kind
+    && is_nowhere (presence_of d header)) headers none in
     let one = not_found (λ header. is_repeated (presence_of d header)) headers single in
     record {
       no_bad = flags.0;
@@ -66,4 +75,5 @@ complete_of d bad none single =
 
 pub via_there : (d : Draft) → missing d ≡ None → is_nowhere (list_presence d.vias) ≡ false
 via_there d none =
-    (not_found (λ header. is_needed (entry header).kind && is_nowhere (presence_of d header)) headers none).0
+    (not_found (λ header. is_needed (entry header).kind && is_nowhere (presence_of d header))
+    headers none).0

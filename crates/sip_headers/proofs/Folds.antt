@@ -28,11 +28,14 @@ abbrev split_at : List ℕ → Option (List ℕ × List ℕ) → List (List ℕ)
 split_at text None = text ∷ []
 split_at text (Some p) = p.0 ∷ slice_split at_lf p.1
 
-onto_first-split_at : (b : ℕ) (bs : List ℕ) (o : Option (List ℕ × List ℕ)) → onto_first b (split_at bs o) ≡ split_at (b ∷ bs) (option_map (longer b) o)
+onto_first-split_at : (b : ℕ) (bs : List ℕ) (o : Option (List ℕ × List ℕ))
+    → onto_first b (split_at bs o) ≡ split_at (b ∷ bs) (option_map (longer b) o)
 onto_first-split_at b bs None = refl
 onto_first-split_at b bs (Some p) = refl
 
-split_at_by : (b : ℕ) (bs : List ℕ) (r : Bool) → slice_split at_lf bs ≡ split_at bs (cut_at 10 bs) → cond r ([] ∷ slice_split at_lf bs) (onto_first b (slice_split at_lf bs)) ≡ split_at (b ∷ bs) (cond r (Some ([], bs)) (option_map (longer b) (cut_at 10 bs)))
+split_at_by : (b : ℕ) (bs : List ℕ) (r : Bool) → slice_split at_lf bs ≡ split_at bs (cut_at 10 bs)
+    → cond r ([] ∷ slice_split at_lf bs) (onto_first b (slice_split at_lf bs))
+    ≡ split_at (b ∷ bs) (cond r (Some ([], bs)) (option_map (longer b) (cut_at 10 bs)))
 split_at_by b bs true rest = refl
 split_at_by b bs false rest = ap (onto_first b) rest ∙ onto_first-split_at b bs (cut_at 10 bs)
 
@@ -44,7 +47,10 @@ not_mapped : {A B : Type 0} (f : A → B) (o : Option A) → option_map f o ≡ 
 not_mapped f None e = refl
 not_mapped f (Some x) e = absurd cc
 
-section_behind : (part : List ℕ) (parts : List (List ℕ)) → ((q : List ℕ) × (qs : List (List ℕ)) × (parts ≡ q ∷ qs)) → section_from (part ∷ parts) ≡ with_line_of (strip_carriage_return part) (join_with_byte 10 parts) (section_from parts)
+section_behind : (part : List ℕ) (parts : List (List ℕ))
+    → ((q : List ℕ) × (qs : List (List ℕ)) × (parts ≡ q ∷ qs))
+    → section_from (part ∷ parts) ≡ with_line_of (strip_carriage_return part)
+    (join_with_byte 10 parts) (section_from parts)
 section_behind part parts some = rw some.2 refl
 
 abbrev HasFirst : List (List ℕ) → Type 0
@@ -54,7 +60,8 @@ onto_some : (b : ℕ) (parts : List (List ℕ)) → HasFirst parts → HasFirst 
 onto_some b [] some = absurd cc
 onto_some b (part ∷ parts) some = (b ∷ part, parts, refl)
 
-split_first_by : (b : ℕ) (bs : List ℕ) (r : Bool) → HasFirst (slice_split at_lf bs) → HasFirst (cond r ([] ∷ slice_split at_lf bs) (onto_first b (slice_split at_lf bs)))
+split_first_by : (b : ℕ) (bs : List ℕ) (r : Bool) → HasFirst (slice_split at_lf bs)
+    → HasFirst (cond r ([] ∷ slice_split at_lf bs) (onto_first b (slice_split at_lf bs)))
 split_first_by b bs true rest = ([], slice_split at_lf bs, refl)
 split_first_by b bs false rest = onto_some b (slice_split at_lf bs) rest
 
@@ -62,48 +69,63 @@ split_first : (text : List ℕ) → HasFirst (slice_split at_lf text)
 split_first [] = ([], [], refl)
 split_first (b ∷ bs) = split_first_by b bs (eqb b 10) (split_first bs)
 
-pub one_line : (text line after : List ℕ) → line_at text ≡ Some (line, after) → section_at text ≡ with_line_of line after (section_at after)
+pub one_line : (text line after : List ℕ) → line_at text ≡ Some (line, after)
+    → section_at text ≡ with_line_of line after (section_at after)
 unfolding line_at
 one_line text line after e =
-    let m = mapped (λ (p : List ℕ × List ℕ). (strip_carriage_return p.0, p.1)) (cut_at 10 text) (line, after) e in
+    let m = mapped (λ (p : List ℕ × List ℕ). (strip_carriage_return p.0, p.1)) (cut_at 10 text)
+    (line, after) e in
     let after_is : m.0.1 ≡ after = ap (λ (p : List ℕ × List ℕ). p.1) m.2 in
     let line_is : strip_carriage_return m.0.0 ≡ line = ap (λ (p : List ℕ × List ℕ). p.0) m.2 in
-    let parts : slice_split at_lf text ≡ m.0.0 ∷ slice_split at_lf m.0.1 = slice_split-cut_at text ∙ ap (split_at text) m.1 in
+    let parts : slice_split at_lf text ≡ m.0.0 ∷ slice_split at_lf m.0.1 =
+    slice_split-cut_at text ∙ ap (split_at text) m.1 in
     ap section_from parts
     ∙ section_behind m.0.0 (slice_split at_lf m.0.1) (split_first m.0.1)
-    ∙ ap (λ (rest : List ℕ). with_line_of (strip_carriage_return m.0.0) rest (section_at m.0.1)) (join_with_byte-slice_split 10 m.0.1)
+    ∙ ap (λ (rest : List ℕ). with_line_of (strip_carriage_return m.0.0) rest (section_at m.0.1))
+    (join_with_byte-slice_split 10 m.0.1)
     ∙ ap (λ (l : List ℕ). with_line_of l m.0.1 (section_at m.0.1)) line_is
     ∙ ap (λ (rest : List ℕ). with_line_of line rest (section_at rest)) after_is
 
 pub no_line : (text : List ℕ) → line_at text ≡ None → section_at text ≡ None
 unfolding line_at
 no_line text e =
-    let none = not_mapped (λ (p : List ℕ × List ℕ). (strip_carriage_return p.0, p.1)) (cut_at 10 text) e in
+    let none = not_mapped (λ (p : List ℕ × List ℕ). (strip_carriage_return p.0, p.1))
+    (cut_at 10 text) e in
     ap section_from (slice_split-cut_at text ∙ ap (split_at text) none)
 
 -- ---- folds
 
-onto_blank : (line more rest : List ℕ) (section : Option Section) → begins_blank more ≡ true → onto_section line (with_line_of more rest section) ≡ onto_section (joined line more) section
+onto_blank : (line more rest : List ℕ) (section : Option Section) → begins_blank more ≡ true
+    → onto_section line (with_line_of more rest section) ≡ onto_section (joined line more) section
 onto_blank line [] rest section e = absurd cc
 onto_blank line (b ∷ bs) rest None e = refl
 onto_blank line (b ∷ bs) rest (Some s) e = rw e refl
 
 -- the line goes on
-pub goes_on : (line text more after : List ℕ) (total : Option Section) → line_at text ≡ Some (more, after) → begins_blank more ≡ true → onto_section line (section_at text) ≡ total → onto_section (joined line more) (section_at after) ≡ total
+pub goes_on : (line text more after : List ℕ) (total : Option Section)
+    → line_at text ≡ Some (more, after) → begins_blank more ≡ true
+    → onto_section line (section_at text) ≡ total
+    → onto_section (joined line more) (section_at after) ≡ total
 goes_on line text more after total e blank so_far =
-    sym (ap (onto_section line) (one_line text more after e) ∙ onto_blank line more after (section_at after) blank) ∙ so_far
+    sym (ap (onto_section line) (one_line text more after e)
+    ∙ onto_blank line more after (section_at after) blank) ∙ so_far
 
-onto_other : (line more rest : List ℕ) (section : Option Section) → begins_blank more ≡ false → onto_section line (with_line_of more rest section) ≡ behind_line line (whole_section (with_line_of more rest section))
+onto_other : (line more rest : List ℕ) (section : Option Section) → begins_blank more ≡ false
+    → onto_section line (with_line_of more rest section)
+    ≡ behind_line line (whole_section (with_line_of more rest section))
 onto_other line [] rest section e = refl
 onto_other line (b ∷ bs) rest None e = refl
 onto_other line (b ∷ bs) rest (Some s) e = rw e refl
 
 -- another line begins, or none
-pub ends_here : (line text more after : List ℕ) → line_at text ≡ Some (more, after) → begins_blank more ≡ false → onto_section line (section_at text) ≡ behind_line line (whole_section (section_at text))
+pub ends_here : (line text more after : List ℕ) → line_at text ≡ Some (more, after)
+    → begins_blank more ≡ false → onto_section line (section_at text)
+    ≡ behind_line line (whole_section (section_at text))
 ends_here line text more after e other =
     rw (one_line text more after e) (onto_other line more after (section_at after) other)
 
-pub ends_unended : (line text : List ℕ) → line_at text ≡ None → onto_section line (section_at text) ≡ behind_line line (whole_section (section_at text))
+pub ends_unended : (line text : List ℕ) → line_at text ≡ None
+    → onto_section line (section_at text) ≡ behind_line line (whole_section (section_at text))
 ends_unended line text e = rw (no_line text e) refl
 
 -- ---- the header lines
@@ -111,31 +133,46 @@ ends_unended line text e = rw (no_line text e) refl
 abbrev pub drafted_on : Draft → Option Section → Option (Draft × List ℕ)
 drafted_on draft section = option_map (λ s. (fold with_line draft s.0, s.1)) section
 
-pub section_ends : (draft : Draft) (text line after : List ℕ) (total : Option (Draft × List ℕ)) → line_at text ≡ Some (line, after) → line ≡ [] → drafted_on draft (whole_section (section_at text)) ≡ total → Some (draft, after) ≡ total
+pub section_ends : (draft : Draft) (text line after : List ℕ) (total : Option (Draft × List ℕ))
+    → line_at text ≡ Some (line, after) → line ≡ []
+    → drafted_on draft (whole_section (section_at text)) ≡ total → Some (draft, after) ≡ total
 section_ends draft text line after total e empty so_far =
-    sym (ap (λ s. drafted_on draft (whole_section s)) (one_line text line after e) ∙ ap (λ (l : List ℕ). drafted_on draft (whole_section (with_line_of l after (section_at after)))) empty) ∙ so_far
+    sym (ap (λ s. drafted_on draft (whole_section s)) (one_line text line after e)
+    ∙ ap (λ (l : List ℕ). drafted_on draft
+    (whole_section (with_line_of l after (section_at after)))) empty) ∙ so_far
 
-whole_behind : (line rest : List ℕ) (section : Option Section) → (line ≡ [] → ⊥) → whole_section (with_line_of line rest section) ≡ onto_section line section
+whole_behind : (line rest : List ℕ) (section : Option Section) → (line ≡ [] → ⊥)
+    → whole_section (with_line_of line rest section) ≡ onto_section line section
 whole_behind [] rest section full = absurd (full refl)
 whole_behind (b ∷ bs) rest None full = refl
 whole_behind (b ∷ bs) rest (Some s) full = refl
 
-drafted_behind : (draft : Draft) (line : List ℕ) (section : Option Section) → drafted_on draft (behind_line line section) ≡ drafted_on (with_line draft line) section
+drafted_behind : (draft : Draft) (line : List ℕ) (section : Option Section)
+    → drafted_on draft (behind_line line section) ≡ drafted_on (with_line draft line) section
 drafted_behind draft line None = refl
 drafted_behind draft line (Some s) = refl
 
-pub section_goes_on : (draft : Draft) (text line after whole rest : List ℕ) (total : Option (Draft × List ℕ)) → line_at text ≡ Some (line, after) → (line ≡ [] → ⊥) → onto_section line (section_at after) ≡ behind_line whole (whole_section (section_at rest)) → drafted_on draft (whole_section (section_at text)) ≡ total → drafted_on (with_line draft whole) (whole_section (section_at rest)) ≡ total
+pub section_goes_on : (draft : Draft) (text line after whole rest : List ℕ)
+    (total : Option (Draft × List ℕ)) → line_at text ≡ Some (line, after) → (line ≡ [] → ⊥)
+    → onto_section line (section_at after) ≡ behind_line whole (whole_section (section_at rest))
+    → drafted_on draft (whole_section (section_at text)) ≡ total
+    → drafted_on (with_line draft whole) (whole_section (section_at rest)) ≡ total
 section_goes_on draft text line after whole rest total e full whole_is so_far =
     sym (drafted_behind draft whole (whole_section (section_at rest)))
-    ∙ sym (ap (drafted_on draft) (ap whole_section (one_line text line after e) ∙ whole_behind line after (section_at after) full ∙ whole_is))
+    ∙ sym (ap (drafted_on draft) (ap whole_section (one_line text line after e)
+    ∙ whole_behind line after (section_at after) full ∙ whole_is))
     ∙ so_far
 
-pub section_stops : (draft : Draft) (text : List ℕ) (total : Option (Draft × List ℕ)) → line_at text ≡ None → drafted_on draft (whole_section (section_at text)) ≡ total → None ≡ total
-section_stops draft text total e so_far = sym (ap (λ s. drafted_on draft (whole_section s)) (no_line text e)) ∙ so_far
+pub section_stops : (draft : Draft) (text : List ℕ) (total : Option (Draft × List ℕ))
+    → line_at text ≡ None → drafted_on draft (whole_section (section_at text)) ≡ total
+    → None ≡ total
+section_stops draft text total e so_far =
+    sym (ap (λ s. drafted_on draft (whole_section s)) (no_line text e)) ∙ so_far
 
 -- ---- what is taken off the end of a line
 
-cut_off_by : (b : ℕ) (bs : List ℕ) (r : Bool) → (rest : List ℕ) × (bs ≡ trimmed_end bs ++ rest) → (rest : List ℕ) × (b ∷ bs ≡ cond r [] (b ∷ trimmed_end bs) ++ rest)
+cut_off_by : (b : ℕ) (bs : List ℕ) (r : Bool) → (rest : List ℕ) × (bs ≡ trimmed_end bs ++ rest)
+    → (rest : List ℕ) × (b ∷ bs ≡ cond r [] (b ∷ trimmed_end bs) ++ rest)
 cut_off_by b bs true more = (b ∷ bs, refl)
 cut_off_by b bs false more = (more.0, ap (λ (xs : List ℕ). b ∷ xs) more.1)
 

@@ -27,44 +27,61 @@ use Rattle.sip_headers.proofs.Presences.{fits, missing_is, repeated_is}
 
 -- ---- the first of several faults
 
-pub first_more : (C : ReadFault → Type 0) (faults others : List ReadFault) (e : ReadFault) → IsFirst C faults e → IsFirst C (faults ++ others) e
+pub first_more : (C : ReadFault → Type 0) (faults others : List ReadFault) (e : ReadFault)
+    → IsFirst C faults e → IsFirst C (faults ++ others) e
 first_more C [] others e is = absurd is
 first_more C (f ∷ faults) others e (inl here) = inl here
 first_more C (f ∷ faults) others e (inr more) = inr (more.0, first_more C faults others e more.1)
 
-pub first_behind : (C : ReadFault → Type 0) (faults others : List ReadFault) (e : ReadFault) → NoneHolds C faults → IsFirst C others e → IsFirst C (faults ++ others) e
+pub first_behind : (C : ReadFault → Type 0) (faults others : List ReadFault) (e : ReadFault)
+    → NoneHolds C faults → IsFirst C others e → IsFirst C (faults ++ others) e
 first_behind C [] others e none is = is
-first_behind C (f ∷ faults) others e none is = inr (none.0, first_behind C faults others e none.1 is)
+first_behind C (f ∷ faults) others e none is =
+    inr (none.0, first_behind C faults others e none.1 is)
 
-pub none_both : (C : ReadFault → Type 0) (faults others : List ReadFault) → NoneHolds C faults → NoneHolds C others → NoneHolds C (faults ++ others)
+pub none_both : (C : ReadFault → Type 0) (faults others : List ReadFault) → NoneHolds C faults
+    → NoneHolds C others → NoneHolds C (faults ++ others)
 none_both C [] others none more = more
 none_both C (f ∷ faults) others none more = (none.0, none_both C faults others none.1 more)
 
 -- ---- a header that is looked for
 
-record Tells (C : ReadFault → Type 0) (F : HeaderName → ReadFault) (p : HeaderName → Bool) : Type 0 where
+record Tells (C : ReadFault → Type 0) (F : HeaderName → ReadFault)
+    (p : HeaderName → Bool) : Type 0 where
   pub holds : (h : HeaderName) → p h ≡ true → C (F h)
   pub fails : (h : HeaderName) → p h ≡ false → C (F h) → ⊥
 
-found_by : (C : ReadFault → Type 0) (F : HeaderName → ReadFault) (x h : HeaderName) (fs : List HeaderName) (more : Option HeaderName) (b c : Bool) → (c ≡ true → C (F x)) → (c ≡ false → C (F x) → ⊥) → (more ≡ Some h → IsFirst C (map F fs) (F h)) → cond (b && c) (Some x) more ≡ Some h → IsFirst C (map F (cond b (x ∷ fs) fs)) (F h)
+found_by : (C : ReadFault → Type 0) (F : HeaderName → ReadFault) (x h : HeaderName)
+    (fs : List HeaderName) (more : Option HeaderName) (b c : Bool) → (c ≡ true → C (F x))
+    → (c ≡ false → C (F x) → ⊥) → (more ≡ Some h → IsFirst C (map F fs) (F h))
+    → cond (b && c) (Some x) more ≡ Some h → IsFirst C (map F (cond b (x ∷ fs) fs)) (F h)
 found_by C F x h fs more true true is isnt rest e = inl (ap F (sym (same_Some x h e)), is refl)
 found_by C F x h fs more true false is isnt rest e = inr (isnt refl, rest e)
 found_by C F x h fs more false c is isnt rest e = rest e
 
-found_first : (C : ReadFault → Type 0) (F : HeaderName → ReadFault) (q p : HeaderName → Bool) → Tells C F p → (xs : List HeaderName) (h : HeaderName) → find (λ x. q x && p x) xs ≡ Some h → IsFirst C (map F (filter q xs)) (F h)
+found_first : (C : ReadFault → Type 0) (F : HeaderName → ReadFault) (q p : HeaderName → Bool)
+    → Tells C F p → (xs : List HeaderName) (h : HeaderName) → find (λ x. q x && p x) xs ≡ Some h
+    → IsFirst C (map F (filter q xs)) (F h)
 found_first C F q p tells [] h e = absurd (none-some h e)
 found_first C F q p tells (x ∷ xs) h e =
-    found_by C F x h (filter q xs) (find (λ y. q y && p y) xs) (q x) (p x) (tells.holds x) (tells.fails x) (found_first C F q p tells xs h) e
+    found_by C F x h (filter q xs) (find (λ y. q y && p y) xs) (q x) (p x) (tells.holds x)
+    (tells.fails x) (found_first C F q p tells xs h) e
 
-nothing_by : (C : ReadFault → Type 0) (F : HeaderName → ReadFault) (x : HeaderName) (fs : List HeaderName) (more : Option HeaderName) (b c : Bool) → (c ≡ false → C (F x) → ⊥) → (more ≡ None → NoneHolds C (map F fs)) → cond (b && c) (Some x) more ≡ None → NoneHolds C (map F (cond b (x ∷ fs) fs))
+nothing_by : (C : ReadFault → Type 0) (F : HeaderName → ReadFault) (x : HeaderName)
+    (fs : List HeaderName) (more : Option HeaderName) (b c : Bool) → (c ≡ false → C (F x) → ⊥)
+    → (more ≡ None → NoneHolds C (map F fs)) → cond (b && c) (Some x) more ≡ None
+    → NoneHolds C (map F (cond b (x ∷ fs) fs))
 nothing_by C F x fs more true true isnt rest e = absurd (none-some x (sym e))
 nothing_by C F x fs more true false isnt rest e = (isnt refl, rest e)
 nothing_by C F x fs more false c isnt rest e = rest e
 
-found_nothing : (C : ReadFault → Type 0) (F : HeaderName → ReadFault) (q p : HeaderName → Bool) → Tells C F p → (xs : List HeaderName) → find (λ x. q x && p x) xs ≡ None → NoneHolds C (map F (filter q xs))
+found_nothing : (C : ReadFault → Type 0) (F : HeaderName → ReadFault) (q p : HeaderName → Bool)
+    → Tells C F p → (xs : List HeaderName) → find (λ x. q x && p x) xs ≡ None
+    → NoneHolds C (map F (filter q xs))
 found_nothing C F q p tells [] e = tt
 found_nothing C F q p tells (x ∷ xs) e =
-    nothing_by C F x (filter q xs) (find (λ y. q y && p y) xs) (q x) (p x) (tells.fails x) (found_nothing C F q p tells xs) e
+    nothing_by C F x (filter q xs) (find (λ y. q y && p y) xs) (q x) (p x) (tells.fails x)
+    (found_nothing C F q p tells xs) e
 
 -- ---- missing and repeated
 
@@ -76,10 +93,15 @@ some_values : (vs : List (List ℕ)) → has_no_values vs ≡ false → vs ≡ [
 some_values [] e none = absurd cc
 some_values (v ∷ vs) e none = absurd cc
 
-missing_tells : (lines : List (List ℕ)) → Tells (HeaderCondition lines) fault.Missing (λ h. has_no_values (values h lines))
-missing_tells lines = record { holds = λ h e. no_values (values h lines) e; fails = λ h e none. some_values (values h lines) e none }
+missing_tells : (lines : List (List ℕ))
+    → Tells (HeaderCondition lines) fault.Missing (λ h. has_no_values (values h lines))
+missing_tells lines = record {
+  holds = λ h e. no_values (values h lines) e;
+  fails = λ h e none. some_values (values h lines) e none;
+}
 
-repeated_tells : (lines : List (List ℕ)) → Tells (HeaderCondition lines) fault.Repeated (λ h. ltb 1 (length (values h lines)))
+repeated_tells : (lines : List (List ℕ))
+    → Tells (HeaderCondition lines) fault.Repeated (λ h. ltb 1 (length (values h lines)))
 repeated_tells lines = record {
   holds = λ h e. ltb-true 1 (length (values h lines)) e;
   fails = λ h e two. let few = ltb-false 1 (length (values h lines)) e in omega (arith, few, two);
@@ -87,80 +109,104 @@ repeated_tells lines = record {
 
 -- ---- a value that isn't in its form
 
-slot_unfit : {X : Type 0} (P : X → List ℕ → Type 0) (s : Slot X) (vs : List (List ℕ)) → IsSlot P s vs → is_unfit (slot_presence s) ≡ true → HasBad P vs
+slot_unfit : {X : Type 0} (P : X → List ℕ → Type 0) (s : Slot X) (vs : List (List ℕ))
+    → IsSlot P s vs → is_unfit (slot_presence s) ≡ true → HasBad P vs
 slot_unfit P Absent vs is e = absurd cc
 slot_unfit P (Once x) vs is e = absurd cc
 slot_unfit P Twice vs is e = absurd cc
 slot_unfit P Bad vs is e = is
 
-list_unfit : {X : Type 0} (P : List X → List ℕ → Type 0) (o : Option (List X)) (vs : List (List ℕ)) → IsList P o vs → is_unfit (list_presence o) ≡ true → HasBad P vs
+list_unfit : {X : Type 0} (P : List X → List ℕ → Type 0) (o : Option (List X)) (vs : List (List ℕ))
+    → IsList P o vs → is_unfit (list_presence o) ≡ true → HasBad P vs
 list_unfit P None vs is e = is
 list_unfit P (Some []) vs is e = absurd cc
 list_unfit P (Some (x ∷ xs)) vs is e = absurd cc
 
-zip_at : {X : Type 0} (P : X → List ℕ → Type 0) (xs : List X) (vs : List (List ℕ)) → AllZip P xs vs → (i : ℕ) (d : List ℕ) → i < length vs → (x : X) × P x (get_or vs i d)
+zip_at : {X : Type 0} (P : X → List ℕ → Type 0) (xs : List X) (vs : List (List ℕ)) → AllZip P xs vs
+    → (i : ℕ) (d : List ℕ) → i < length vs → (x : X) × P x (get_or vs i d)
 zip_at P [] [] all i d lt = absurd (omega arith)
 zip_at P [] (v ∷ vs) all i d lt = absurd all
 zip_at P (x ∷ xs) [] all i d lt = absurd all
 zip_at P (x ∷ xs) (v ∷ vs) all zero d lt = (x, all.0)
 zip_at P (x ∷ xs) (v ∷ vs) all (suc i) d lt = zip_at P xs vs all.1 i d (omega arith)
 
-zip_no_bad : {X : Type 0} (P : X → List ℕ → Type 0) (xs : List X) (vs : List (List ℕ)) → AllZip P xs vs → HasBad P vs → ⊥
+zip_no_bad : {X : Type 0} (P : X → List ℕ → Type 0) (xs : List X) (vs : List (List ℕ))
+    → AllZip P xs vs → HasBad P vs → ⊥
 zip_no_bad P xs vs all bad =
     let at = zip_at P xs vs all bad.1.0 _ bad.1.1.0 in
     bad.2 at.0 (subst (λ (v : List ℕ). P at.0 v) (sym bad.1.1.1) at.1)
 
-slot_fits : {X : Type 0} (P : X → List ℕ → Type 0) (s : Slot X) (vs : List (List ℕ)) → IsSlot P s vs → is_unfit (slot_presence s) ≡ false → HasBad P vs → ⊥
-slot_fits P Absent vs is e bad = zip_no_bad P [] [] tt (subst (λ (ws : List (List ℕ)). HasBad P ws) is bad)
+slot_fits : {X : Type 0} (P : X → List ℕ → Type 0) (s : Slot X) (vs : List (List ℕ)) → IsSlot P s vs
+    → is_unfit (slot_presence s) ≡ false → HasBad P vs → ⊥
+slot_fits P Absent vs is e bad =
+    zip_no_bad P [] [] tt (subst (λ (ws : List (List ℕ)). HasBad P ws) is bad)
 slot_fits P (Once x) vs is e bad = zip_no_bad P (x ∷ []) vs is bad
 slot_fits P Twice vs is e bad = zip_no_bad P is.0 vs is.1 bad
 slot_fits P Bad vs is e bad = absurd cc
 
-list_fits : {X : Type 0} (P : List X → List ℕ → Type 0) (o : Option (List X)) (vs : List (List ℕ)) → IsList P o vs → is_unfit (list_presence o) ≡ false → HasBad P vs → ⊥
+list_fits : {X : Type 0} (P : List X → List ℕ → Type 0) (o : Option (List X)) (vs : List (List ℕ))
+    → IsList P o vs → is_unfit (list_presence o) ≡ false → HasBad P vs → ⊥
 list_fits P None vs is e bad = absurd cc
 list_fits P (Some xs) vs is e bad = zip_no_bad P is.0 vs is.1 bad
 
-unfit_value : (d : Draft) (lines : List (List ℕ)) → IsDraftOf d lines → (h : HeaderName) → is_unfit (presence_of d h) ≡ true → HasBadValue h (values h lines)
+unfit_value : (d : Draft) (lines : List (List ℕ)) → IsDraftOf d lines → (h : HeaderName)
+    → is_unfit (presence_of d h) ≡ true → HasBadValue h (values h lines)
 unfit_value d lines is name.Via e = list_unfit _ d.vias (values name.Via lines) is.vias e
-unfit_value d lines is name.MaxForwards e = slot_unfit _ d.max_forwards (values name.MaxForwards lines) is.max_forwards e
+unfit_value d lines is name.MaxForwards e =
+    slot_unfit _ d.max_forwards (values name.MaxForwards lines) is.max_forwards e
 unfit_value d lines is name.From e = slot_unfit _ d.from (values name.From lines) is.from e
 unfit_value d lines is name.To e = slot_unfit _ d.to (values name.To lines) is.to e
-unfit_value d lines is name.CallId e = slot_unfit _ d.call_id (values name.CallId lines) is.call_id e
+unfit_value d lines is name.CallId e =
+    slot_unfit _ d.call_id (values name.CallId lines) is.call_id e
 unfit_value d lines is name.CSeq e = slot_unfit _ d.cseq (values name.CSeq lines) is.cseq e
-unfit_value d lines is name.Contact e = list_unfit _ d.contacts (values name.Contact lines) is.contacts e
-unfit_value d lines is name.RecordRoute e = list_unfit _ d.record_routes (values name.RecordRoute lines) is.record_routes e
+unfit_value d lines is name.Contact e =
+    list_unfit _ d.contacts (values name.Contact lines) is.contacts e
+unfit_value d lines is name.RecordRoute e =
+    list_unfit _ d.record_routes (values name.RecordRoute lines) is.record_routes e
 unfit_value d lines is name.Route e = list_unfit _ d.routes (values name.Route lines) is.routes e
-unfit_value d lines is name.Require e = list_unfit _ d.require (values name.Require lines) is.require e
-unfit_value d lines is name.Supported e = list_unfit _ d.supported (values name.Supported lines) is.supported e
+unfit_value d lines is name.Require e =
+    list_unfit _ d.require (values name.Require lines) is.require e
+unfit_value d lines is name.Supported e =
+    list_unfit _ d.supported (values name.Supported lines) is.supported e
 unfit_value d lines is name.RSeq e = slot_unfit _ d.rseq (values name.RSeq lines) is.rseq e
 unfit_value d lines is name.RAck e = slot_unfit _ d.rack (values name.RAck lines) is.rack e
-unfit_value d lines is name.ContentLength e = slot_unfit _ d.content_length (values name.ContentLength lines) is.content_length e
+unfit_value d lines is name.ContentLength e =
+    slot_unfit _ d.content_length (values name.ContentLength lines) is.content_length e
 
 abbrev Fits : Draft → Type 0
 Fits d = AllByRecursion (λ header. is_unfit (presence_of d header) ≡ false) headers
 
-fit_value : (d : Draft) (lines : List (List ℕ)) → IsDraftOf d lines → Fits d → (h : HeaderName) → HasBadValue h (values h lines) → ⊥
+fit_value : (d : Draft) (lines : List (List ℕ)) → IsDraftOf d lines → Fits d → (h : HeaderName)
+    → HasBadValue h (values h lines) → ⊥
 fit_value d lines is fit name.Via bad = list_fits _ d.vias (values name.Via lines) is.vias fit.0 bad
-fit_value d lines is fit name.From bad = slot_fits _ d.from (values name.From lines) is.from fit.1.0 bad
+fit_value d lines is fit name.From bad =
+    slot_fits _ d.from (values name.From lines) is.from fit.1.0 bad
 fit_value d lines is fit name.To bad = slot_fits _ d.to (values name.To lines) is.to fit.1.1.0 bad
-fit_value d lines is fit name.CallId bad = slot_fits _ d.call_id (values name.CallId lines) is.call_id fit.1.1.1.0 bad
-fit_value d lines is fit name.CSeq bad = slot_fits _ d.cseq (values name.CSeq lines) is.cseq fit.1.1.1.1.0 bad
+fit_value d lines is fit name.CallId bad =
+    slot_fits _ d.call_id (values name.CallId lines) is.call_id fit.1.1.1.0 bad
+fit_value d lines is fit name.CSeq bad =
+    slot_fits _ d.cseq (values name.CSeq lines) is.cseq fit.1.1.1.1.0 bad
 fit_value d lines is fit name.MaxForwards bad =
     slot_fits _ d.max_forwards (values name.MaxForwards lines) is.max_forwards fit.1.1.1.1.1.0 bad
 fit_value d lines is fit name.ContentLength bad =
-    slot_fits _ d.content_length (values name.ContentLength lines) is.content_length fit.1.1.1.1.1.1.0 bad
-fit_value d lines is fit name.RSeq bad = slot_fits _ d.rseq (values name.RSeq lines) is.rseq fit.1.1.1.1.1.1.1.0 bad
-fit_value d lines is fit name.RAck bad = slot_fits _ d.rack (values name.RAck lines) is.rack fit.1.1.1.1.1.1.1.1.0 bad
+    slot_fits _ d.content_length (values name.ContentLength lines) is.content_length
+    fit.1.1.1.1.1.1.0 bad
+fit_value d lines is fit name.RSeq bad =
+    slot_fits _ d.rseq (values name.RSeq lines) is.rseq fit.1.1.1.1.1.1.1.0 bad
+fit_value d lines is fit name.RAck bad =
+    slot_fits _ d.rack (values name.RAck lines) is.rack fit.1.1.1.1.1.1.1.1.0 bad
 fit_value d lines is fit name.Contact bad =
     list_fits _ d.contacts (values name.Contact lines) is.contacts fit.1.1.1.1.1.1.1.1.1.0 bad
 fit_value d lines is fit name.RecordRoute bad =
-    list_fits _ d.record_routes (values name.RecordRoute lines) is.record_routes fit.1.1.1.1.1.1.1.1.1.1.0 bad
+    list_fits _ d.record_routes (values name.RecordRoute lines) is.record_routes
+    fit.1.1.1.1.1.1.1.1.1.1.0 bad
 fit_value d lines is fit name.Route bad =
     list_fits _ d.routes (values name.Route lines) is.routes fit.1.1.1.1.1.1.1.1.1.1.1.0 bad
 fit_value d lines is fit name.Require bad =
     list_fits _ d.require (values name.Require lines) is.require fit.1.1.1.1.1.1.1.1.1.1.1.1.0 bad
 fit_value d lines is fit name.Supported bad =
-    list_fits _ d.supported (values name.Supported lines) is.supported fit.1.1.1.1.1.1.1.1.1.1.1.1.1.0 bad
+    list_fits _ d.supported (values name.Supported lines) is.supported
+    fit.1.1.1.1.1.1.1.1.1.1.1.1.1.0 bad
 
 -- ---- BadHeader
 
@@ -168,7 +214,8 @@ or_cases : (a b : Bool) → (a || b) ≡ true → (a ≡ true) ⊎ (b ≡ true)
 or_cases true b e = inl refl
 or_cases false b e = inr e
 
-any_by : {A : Type 0} (x : A) (b : Bool) (rest : Bool) (p : A → Bool) → p x ≡ b → (rest ≡ true → (y : A) × (p y ≡ true)) → (b || rest) ≡ true → (y : A) × (p y ≡ true)
+any_by : {A : Type 0} (x : A) (b : Bool) (rest : Bool) (p : A → Bool) → p x ≡ b
+    → (rest ≡ true → (y : A) × (p y ≡ true)) → (b || rest) ≡ true → (y : A) × (p y ≡ true)
 any_by x true rest p is more e = (x, is)
 any_by x false rest p is more e = more e
 
@@ -176,7 +223,8 @@ any_one : {A : Type 0} (p : A → Bool) (xs : List A) → list_any p xs ≡ true
 any_one p [] e = absurd cc
 any_one p (x ∷ xs) e = any_by x (p x) (list_any p xs) p refl (any_one p xs) e
 
-zip_some : (kept : List Header) (others : List (List ℕ × List ℕ)) → AllZip IsOther kept others → AllByRecursion (λ other. (h : Header) × IsOther h other) others
+zip_some : (kept : List Header) (others : List (List ℕ × List ℕ)) → AllZip IsOther kept others
+    → AllByRecursion (λ other. (h : Header) × IsOther h other) others
 zip_some [] [] all = tt
 zip_some [] (o ∷ os) all = absurd all
 zip_some (k ∷ kept) [] all = absurd all
@@ -199,7 +247,8 @@ bad_true lines e =
           inr (inl (one.0, unfit_value d lines (is_draft lines) one.0 one.1))
     ]
 
-bad_false : (lines : List (List ℕ)) → has_bad_header (draft_of lines) ≡ false → HasBadHeader lines → ⊥
+bad_false : (lines : List (List ℕ)) → has_bad_header (draft_of lines) ≡ false → HasBadHeader lines
+    → ⊥
 bad_false lines e (inl some) =
     let flags = or_parts _ _ (or_parts _ _ e).0 in
     some (lines_are lines (sym (is_draft lines).bad_is ∙ flags.0))
@@ -218,35 +267,74 @@ missing_faults = map fault.Missing (headers_where is_needed)
 abbrev repeated_faults : List ReadFault
 repeated_faults = map fault.Repeated (headers_where is_single)
 
-decided_from : (lines : List (List ℕ)) (b : Bool) (m r : Option HeaderName) → has_bad_header (draft_of lines) ≡ b → missing (draft_of lines) ≡ m → repeated (draft_of lines) ≡ r → Decides (HeaderCondition lines) header_faults (unless_fault (cond b (Some fault.BadHeader) (first_fault m r)) (headers_in (draft_of lines)))
+decided_from : (lines : List (List ℕ)) (b : Bool) (m r : Option HeaderName)
+    → has_bad_header (draft_of lines) ≡ b → missing (draft_of lines) ≡ m
+    → repeated (draft_of lines) ≡ r
+    → Decides (HeaderCondition lines) header_faults
+    (unless_fault (cond b (Some fault.BadHeader) (first_fault m r)) (headers_in (draft_of lines)))
 decided_from lines true m r bad none single = inl (refl, bad_true lines bad)
 decided_from lines false (Some h) r bad none single =
-    inr (bad_false lines bad, first_more (HeaderCondition lines) missing_faults repeated_faults (fault.Missing h) (found_first (HeaderCondition lines) fault.Missing (λ x. is_needed (entry x).kind) (λ x. has_no_values (values x lines)) (missing_tells lines) headers h (sym (missing_is lines bad) ∙ none)))
+    inr (
+      bad_false lines bad,
+      first_more (HeaderCondition lines) missing_faults repeated_faults
+          (fault.Missing h) (found_first (HeaderCondition lines) fault.Missing
+          (λ x. is_needed (entry x).kind) (λ x. has_no_values (values x lines))
+          (missing_tells lines) headers h (sym (missing_is lines bad) ∙ none)),
+    )
 decided_from lines false None (Some h) bad none single =
-    let no_missing = found_nothing (HeaderCondition lines) fault.Missing (λ x. is_needed (entry x).kind) (λ x. has_no_values (values x lines)) (missing_tells lines) headers (sym (missing_is lines bad) ∙ none) in
-    inr (bad_false lines bad, first_behind (HeaderCondition lines) missing_faults repeated_faults (fault.Repeated h) no_missing (found_first (HeaderCondition lines) fault.Repeated (λ x. is_single (entry x).kind) (λ x. ltb 1 (length (values x lines))) (repeated_tells lines) headers h (sym (repeated_is lines bad) ∙ single)))
+    let no_missing = found_nothing (HeaderCondition lines) fault.Missing
+    (λ x. is_needed (entry x).kind) (λ x. has_no_values (values x lines))
+    (missing_tells lines) headers (sym (missing_is lines bad) ∙ none) in
+    inr (
+      bad_false lines bad,
+      first_behind (HeaderCondition lines) missing_faults repeated_faults
+          (fault.Repeated h) no_missing (found_first (HeaderCondition lines) fault.Repeated
+          (λ x. is_single (entry x).kind) (λ x. ltb 1 (length (values x lines)))
+          (repeated_tells lines) headers h (sym (repeated_is lines bad) ∙ single)),
+    )
 decided_from lines false None None bad none single =
-    let no_missing = found_nothing (HeaderCondition lines) fault.Missing (λ x. is_needed (entry x).kind) (λ x. has_no_values (values x lines)) (missing_tells lines) headers (sym (missing_is lines bad) ∙ none) in
-    let no_repeated = found_nothing (HeaderCondition lines) fault.Repeated (λ x. is_single (entry x).kind) (λ x. ltb 1 (length (values x lines))) (repeated_tells lines) headers (sym (repeated_is lines bad) ∙ single) in
+    let no_missing = found_nothing (HeaderCondition lines) fault.Missing
+    (λ x. is_needed (entry x).kind) (λ x. has_no_values (values x lines))
+    (missing_tells lines) headers (sym (missing_is lines bad) ∙ none) in
+    let no_repeated = found_nothing (HeaderCondition lines) fault.Repeated
+    (λ x. is_single (entry x).kind) (λ x. ltb 1 (length (values x lines)))
+    (repeated_tells lines) headers (sym (repeated_is lines bad) ∙ single) in
     let all = complete_headers lines bad none single in
-    let found : unless_fault None (headers_in (draft_of lines)) ≡ Ok all.0 = sym (ap (λ o. unless_fault o (headers_in (draft_of lines))) (fault_from (draft_of lines) false None None bad none single)) ∙ headers_again all.0 lines all.1 in
-    subst (λ (r : Result Headers ReadFault). Decides (HeaderCondition lines) header_faults r) (sym found) (bad_false lines bad, none_both (HeaderCondition lines) missing_faults repeated_faults no_missing no_repeated)
+    let found : unless_fault None (headers_in (draft_of lines)) ≡ Ok all.0 =
+    sym (ap (λ o. unless_fault o (headers_in (draft_of lines)))
+    (fault_from (draft_of lines) false None None bad none single))
+    ∙ headers_again all.0 lines all.1 in
+    subst (λ (r : Result Headers ReadFault). Decides (HeaderCondition lines) header_faults r)
+    (sym found) (
+      bad_false lines bad,
+      none_both (HeaderCondition lines) missing_faults repeated_faults no_missing no_repeated,
+    )
 
-pub decided : (lines : List (List ℕ)) → Decides (HeaderCondition lines) header_faults (headers_of (draft_of lines))
+pub decided : (lines : List (List ℕ))
+    → Decides (HeaderCondition lines) header_faults (headers_of (draft_of lines))
 decided lines =
     let d = draft_of lines in
-    subst (λ o. Decides (HeaderCondition lines) header_faults (unless_fault o (headers_in d))) (sym (fault_from d (has_bad_header d) (missing d) (repeated d) refl refl refl))
+    subst (λ o. Decides (HeaderCondition lines) header_faults (unless_fault o (headers_in d)))
+    (sym (fault_from d (has_bad_header d) (missing d) (repeated d) refl refl refl))
     (decided_from lines (has_bad_header d) (missing d) (repeated d) refl refl refl)
 
-found_from : (lines : List (List ℕ)) (h : Headers) (b : Bool) (m r : Option HeaderName) → has_bad_header (draft_of lines) ≡ b → missing (draft_of lines) ≡ m → repeated (draft_of lines) ≡ r → headers_of (draft_of lines) ≡ Ok h → AreHeaders h lines
+found_from : (lines : List (List ℕ)) (h : Headers) (b : Bool) (m r : Option HeaderName)
+    → has_bad_header (draft_of lines) ≡ b → missing (draft_of lines) ≡ m
+    → repeated (draft_of lines) ≡ r → headers_of (draft_of lines) ≡ Ok h → AreHeaders h lines
 found_from lines h true m r bad none single e =
-    let f : ◌≡◌ {A = Result Headers ReadFault} (Err fault.BadHeader) (Ok h) = sym (ap (λ o. unless_fault o (headers_in (draft_of lines))) (fault_from (draft_of lines) true m r bad none single)) ∙ e in
+    let f : ◌≡◌ {A = Result Headers ReadFault} (Err fault.BadHeader) (Ok h) =
+    sym (ap (λ o. unless_fault o (headers_in (draft_of lines)))
+    (fault_from (draft_of lines) true m r bad none single)) ∙ e in
     absurd cc
 found_from lines h false (Some n) r bad none single e =
-    let f : ◌≡◌ {A = Result Headers ReadFault} (Err (fault.Missing n)) (Ok h) = sym (ap (λ o. unless_fault o (headers_in (draft_of lines))) (fault_from (draft_of lines) false (Some n) r bad none single)) ∙ e in
+    let f : ◌≡◌ {A = Result Headers ReadFault} (Err (fault.Missing n)) (Ok h) =
+    sym (ap (λ o. unless_fault o (headers_in (draft_of lines)))
+    (fault_from (draft_of lines) false (Some n) r bad none single)) ∙ e in
     absurd cc
 found_from lines h false None (Some n) bad none single e =
-    let f : ◌≡◌ {A = Result Headers ReadFault} (Err (fault.Repeated n)) (Ok h) = sym (ap (λ o. unless_fault o (headers_in (draft_of lines))) (fault_from (draft_of lines) false None (Some n) bad none single)) ∙ e in
+    let f : ◌≡◌ {A = Result Headers ReadFault} (Err (fault.Repeated n)) (Ok h) =
+    sym (ap (λ o. unless_fault o (headers_in (draft_of lines)))
+    (fault_from (draft_of lines) false None (Some n) bad none single)) ∙ e in
     absurd cc
 found_from lines h false None None bad none single e =
     let all = complete_headers lines bad none single in
@@ -256,7 +344,8 @@ found_from lines h false None None bad none single e =
     same_Ok : (x y : Headers) → ◌≡◌ {A = Result Headers ReadFault} (Ok x) (Ok y) → x ≡ y
     same_Ok x y p = cc
 
-pub headers_take : (lines : List (List ℕ)) (h : Headers) → headers_of (draft_of lines) ≡ Ok h → AreHeaders h lines
+pub headers_take : (lines : List (List ℕ)) (h : Headers) → headers_of (draft_of lines) ≡ Ok h
+    → AreHeaders h lines
 headers_take lines h e =
     let d = draft_of lines in
     found_from lines h (has_bad_header d) (missing d) (repeated d) refl refl refl e

@@ -26,12 +26,17 @@ and_true : (b : Bool) → (b && true) ≡ b
 and_true true = refl
 and_true false = refl
 
-then_some : {X Y : Type 0} (test : Numeral → Bool) (o : Option X) (words : List Numeral) (f : X → Option Y) (rest : List Numeral) → is_some o ≡ list_all test words → ((x : X) → is_some (f x) ≡ list_all test rest) → is_some (o >>= f) ≡ list_all test (words ++ rest)
-then_some test None words f rest e more = ap (λ b. b && list_all test rest) e ∙ sym (list_all-append test words rest)
+then_some : {X Y : Type 0} (test : Numeral → Bool) (o : Option X) (words : List Numeral)
+    (f : X → Option Y) (rest : List Numeral) → is_some o ≡ list_all test words
+    → ((x : X) → is_some (f x) ≡ list_all test rest)
+    → is_some (o >>= f) ≡ list_all test (words ++ rest)
+then_some test None words f rest e more =
+    ap (λ b. b && list_all test rest) e ∙ sym (list_all-append test words rest)
 then_some test (Some x) words f rest e more =
     more x ∙ ap (λ b. b && list_all test rest) e ∙ sym (list_all-append test words rest)
 
-mapped_some : {X Y : Type 0} (o : Option X) (g : X → Y) → is_some (o >>= λ x. Some (g x)) ≡ is_some o
+mapped_some : {X Y : Type 0} (o : Option X) (g : X → Y)
+    → is_some (o >>= λ x. Some (g x)) ≡ is_some o
 mapped_some None g = refl
 mapped_some (Some x) g = refl
 
@@ -39,7 +44,8 @@ known_some : (word : Numeral) → is_some (known word) ≡ list_all is_number (w
 known_some (Number n) = refl
 known_some NotANumber = refl
 
-known_if_some : (word : Option Numeral) → is_some (known_if word) ≡ list_all is_number (option_to_list word)
+known_if_some : (word : Option Numeral)
+    → is_some (known_if word) ≡ list_all is_number (option_to_list word)
 known_if_some None = refl
 known_if_some (Some (Number n)) = refl
 known_if_some (Some NotANumber) = refl
@@ -49,18 +55,34 @@ known_both_some (Number a) (Number b) = refl
 known_both_some (Number a) NotANumber = refl
 known_both_some NotANumber b = refl
 
-known_rack_some : (rack : Option RAckDraft) → is_some (known_rack rack) ≡ list_all is_number (flat_map rack_words (option_to_list rack))
+known_rack_some : (rack : Option RAckDraft)
+    → is_some (known_rack rack) ≡ list_all is_number (flat_map rack_words (option_to_list rack))
 known_rack_some None = refl
 known_rack_some (Some rack) = known_both_some rack.rseq rack.cseq
 
 numbers_some : (h : Headers) → is_some (numbers_in h) ≡ list_all is_number (number_words h)
 unfolding numbers_in
 numbers_some h =
-    then_some is_number (known h.cseq.number) (h.cseq.number ∷ []) _ (option_to_list h.max_forwards ++ (option_to_list h.rseq ++ (flat_map rack_words (option_to_list h.rack) ++ option_to_list h.content_length))) (known_some h.cseq.number)
-    (λ cseq. then_some is_number (known_if h.max_forwards) (option_to_list h.max_forwards) _ (option_to_list h.rseq ++ (flat_map rack_words (option_to_list h.rack) ++ option_to_list h.content_length)) (known_if_some h.max_forwards)
-    (λ max_forwards. then_some is_number (known_if h.rseq) (option_to_list h.rseq) _ (flat_map rack_words (option_to_list h.rack) ++ option_to_list h.content_length) (known_if_some h.rseq)
-    (λ rseq. then_some is_number (known_rack h.rack) (flat_map rack_words (option_to_list h.rack)) _ (option_to_list h.content_length) (known_rack_some h.rack)
-    (λ rack. mapped_some (known_if h.content_length) (λ content_length. record { max_forwards = max_forwards; cseq = cseq; rseq = rseq; rack = rack; content_length = content_length }) ∙ known_if_some h.content_length))))
+    then_some is_number (known h.cseq.number) (h.cseq.number ∷ []) _
+    (option_to_list h.max_forwards
+    ++ (option_to_list h.rseq ++ (flat_map rack_words (option_to_list h.rack)
+    ++ option_to_list h.content_length))) (known_some h.cseq.number)
+    (λ cseq. then_some is_number (known_if h.max_forwards) (option_to_list h.max_forwards) _
+    (option_to_list h.rseq ++ (flat_map rack_words (option_to_list h.rack)
+    ++ option_to_list h.content_length)) (known_if_some h.max_forwards)
+    (λ max_forwards. then_some is_number (known_if h.rseq) (option_to_list h.rseq) _
+    (flat_map rack_words (option_to_list h.rack) ++ option_to_list h.content_length)
+    (known_if_some h.rseq)
+    (λ rseq. then_some is_number (known_rack h.rack) (flat_map rack_words (option_to_list h.rack)) _
+    (option_to_list h.content_length) (known_rack_some h.rack)
+    (λ rack. mapped_some (known_if h.content_length)
+    (λ content_length. record {
+      max_forwards = max_forwards;
+      cseq = cseq;
+      rseq = rseq;
+      rack = rack;
+      content_length = content_length;
+    }) ∙ known_if_some h.content_length))))
 
 port_bound : (n : ℕ) → is_some (cond (ltb 65535 n) None (Some (Some n))) ≡ (ltb n (2 ^ 16) && true)
 port_bound n =
@@ -69,17 +91,25 @@ port_bound n =
       | inr few ↦ rw (le-ltb 65535 n few, lt-ltb n (2 ^ 16) (omega (arith, few))) refl
     ]
 
-known_port_some : (word : Option Numeral) → is_some (known_port word) ≡ list_all is_port (option_to_list word)
+known_port_some : (word : Option Numeral)
+    → is_some (known_port word) ≡ list_all is_port (option_to_list word)
 known_port_some None = refl
 known_port_some (Some (Number n)) = port_bound n
 known_port_some (Some NotANumber) = refl
 
 via_some : (via : ViaDraft) → is_some (via_with via) ≡ list_all is_port (option_to_list via.port)
 via_some via =
-    mapped_some (known_port via.port) (λ port. record { transport = via.transport; host = via.host; port = port; parameters = via.parameters })
+    mapped_some (known_port via.port)
+    (λ port. record {
+      transport = via.transport;
+      host = via.host;
+      port = port;
+      parameters = via.parameters;
+    })
     ∙ known_port_some via.port
 
-vias_some : (vias : List ViaDraft) → is_some (each via_with vias) ≡ list_all is_port (port_words vias)
+vias_some : (vias : List ViaDraft)
+    → is_some (each via_with vias) ≡ list_all is_port (port_words vias)
 vias_some [] = refl
 vias_some (via ∷ vias) =
     then_some is_port (via_with via) (option_to_list via.port) _ (port_words vias) (via_some via)
@@ -102,12 +132,14 @@ pub record HasNumbers (h : Headers) : Type 0 where
 
 pub numbers_there : (h : Headers) → are_numbers h ≡ true → HasNumbers h
 numbers_there h e =
-    let both = and_parts (list_all is_port (port_words h.vias)) (list_all is_number (number_words h)) e in
+    let both = and_parts (list_all is_port (port_words h.vias))
+    (list_all is_number (number_words h)) e in
     let numbers = some_value (numbers_in h) (numbers_some h ∙ both.1) in
     let vias = some_value (each via_with h.vias) (vias_some h.vias ∙ both.0) in
     record { numbers = numbers.0; vias = vias.0; numbers_are = numbers.1; vias_are = vias.1 }
 
-pub are_all_numbers : (h : Headers) (numbers : Numbers) (vias : List Via) → numbers_in h ≡ Some numbers → each via_with h.vias ≡ Some vias → are_numbers h ≡ true
+pub are_all_numbers : (h : Headers) (numbers : Numbers) (vias : List Via)
+    → numbers_in h ≡ Some numbers → each via_with h.vias ≡ Some vias → are_numbers h ≡ true
 are_all_numbers h numbers vias e f =
     and_from _ _ (sym (vias_some h.vias) ∙ ap is_some f) (sym (numbers_some h) ∙ ap is_some e)
 
@@ -117,44 +149,68 @@ known_is : (word : Numeral) (n : ℕ) → known word ≡ Some n → Number n ≡
 known_is (Number m) n e = ap (λ x. Number x) (sym (same_Some m n e))
 known_is NotANumber n e = absurd cc
 
-known_if_is : (word : Option Numeral) (n : Option ℕ) → known_if word ≡ Some n → option_map Number n ≡ word
+known_if_is : (word : Option Numeral) (n : Option ℕ) → known_if word ≡ Some n
+    → option_map Number n ≡ word
 known_if_is None n e = ap (option_map Number) (sym (same_Some None n e))
 known_if_is (Some (Number m)) n e = ap (option_map Number) (sym (same_Some (Some m) n e))
 known_if_is (Some NotANumber) n e = absurd cc
 
-known_rack_is : (rack : Option RAckDraft) (numbers : Option (ℕ × ℕ)) → known_rack rack ≡ Some numbers → option_map rack_draft (rack_with rack numbers) ≡ rack
+known_rack_is : (rack : Option RAckDraft) (numbers : Option (ℕ × ℕ))
+    → known_rack rack ≡ Some numbers → option_map rack_draft (rack_with rack numbers) ≡ rack
 known_rack_is None numbers e = refl
 known_rack_is (Some rack) numbers e =
     let a = and_then_some _ (known rack.rseq) numbers e in
     let b = and_then_some _ (known rack.cseq) numbers a.2 in
-    ap (λ ns. option_map rack_draft (rack_with (Some rack) ns)) (sym (same_Some (Some (a.0, b.0)) numbers b.2))
-    ∙ (λ i. Some (record { rseq = known_is rack.rseq a.0 a.1 i; cseq = known_is rack.cseq b.0 b.1 i; method = rack.method }))
+    ap (λ ns. option_map rack_draft (rack_with (Some rack) ns))
+    (sym (same_Some (Some (a.0, b.0)) numbers b.2))
+    ∙ (λ i. Some (record {
+      rseq = known_is rack.rseq a.0 a.1 i;
+      cseq = known_is rack.cseq b.0 b.1 i;
+      method = rack.method;
+    }))
 
-known_port_by : (n : ℕ) (port : Option ℕ) (r : Bool) → cond r None (Some (Some n)) ≡ Some port → option_map Number port ≡ Some (Number n)
+known_port_by : (n : ℕ) (port : Option ℕ) (r : Bool) → cond r None (Some (Some n)) ≡ Some port
+    → option_map Number port ≡ Some (Number n)
 known_port_by n port true e = absurd (none-some port e)
 known_port_by n port false e = ap (option_map Number) (sym (same_Some (Some n) port e))
 
-known_port_is : (word : Option Numeral) (port : Option ℕ) → known_port word ≡ Some port → option_map Number port ≡ word
+known_port_is : (word : Option Numeral) (port : Option ℕ) → known_port word ≡ Some port
+    → option_map Number port ≡ word
 known_port_is None port e = ap (option_map Number) (sym (same_Some None port e))
 known_port_is (Some (Number n)) port e = known_port_by n port (ltb 65535 n) e
 known_port_is (Some NotANumber) port e = absurd cc
 
 via_is : (draft : ViaDraft) (via : Via) → via_with draft ≡ Some via → via_draft via ≡ draft
 via_is draft via e =
-    let a = and_then_some (λ port. Some (record { transport = draft.transport; host = draft.host; port = port; parameters = draft.parameters })) (known_port draft.port) via e in
+    let a = and_then_some (λ port.
+    Some (record {
+      transport = draft.transport;
+      host = draft.host;
+      port = port;
+      parameters = draft.parameters;
+    })) (known_port draft.port) via e in
     ap via_draft (sym (same_Some _ via a.2))
-    ∙ (λ i. record { transport = draft.transport; host = draft.host; port = known_port_is draft.port a.0 a.1 i; parameters = draft.parameters })
+    ∙ (λ i. record {
+      transport = draft.transport;
+      host = draft.host;
+      port = known_port_is draft.port a.0 a.1 i;
+      parameters = draft.parameters;
+    })
 
-vias_are : (drafts : List ViaDraft) (vias : List Via) → each via_with drafts ≡ Some vias → map via_draft vias ≡ drafts
+vias_are : (drafts : List ViaDraft) (vias : List Via) → each via_with drafts ≡ Some vias
+    → map via_draft vias ≡ drafts
 vias_are [] vias e = ap (map via_draft) (sym (same_Some [] vias e))
 vias_are (draft ∷ drafts) vias e =
-    let a = and_then_some (λ x. each via_with drafts >>= λ xs. Some (x ∷ xs)) (via_with draft) vias e in
+    let a = and_then_some (λ x. each via_with drafts >>= λ xs. Some (x ∷ xs))
+    (via_with draft) vias e in
     let b = and_then_some (λ xs. Some (a.0 ∷ xs)) (each via_with drafts) vias a.2 in
     ap (map via_draft) (sym (same_Some (a.0 ∷ b.0) vias b.2))
     ∙ (λ i. via_is draft a.0 a.1 i ∷ vias_are drafts b.0 b.1 i)
 
 -- the headers are those of the message with these numbers
-pub numbered : (h : Headers) (start : StartLine) (vias : List Via) (numbers : Numbers) (body : List ℕ) → numbers_in h ≡ Some numbers → each via_with h.vias ≡ Some vias → h ≡ headers_with (message_with start vias numbers h body) numbers.content_length
+pub numbered : (h : Headers) (start : StartLine) (vias : List Via) (numbers : Numbers)
+    (body : List ℕ) → numbers_in h ≡ Some numbers → each via_with h.vias ≡ Some vias
+    → h ≡ headers_with (message_with start vias numbers h body) numbers.content_length
 unfolding numbers_in
 numbered h start vias numbers body e f =
     let a = and_then_some _ (known h.cseq.number) numbers e in
@@ -162,8 +218,11 @@ numbered h start vias numbers body e f =
     let c = and_then_some _ (known_if h.rseq) numbers b.2 in
     let d = and_then_some _ (known_rack h.rack) numbers c.2 in
     let g = and_then_some _ (known_if h.content_length) numbers d.2 in
-    let same : ◌≡◌ {A = Numbers} (record { max_forwards = b.0; cseq = a.0; rseq = c.0; rack = d.0; content_length = g.0 }) numbers = same_Some _ numbers g.2 in
-    sym ((λ i. headers_with (message_with start vias (sym same i) h body) (sym same i).content_length) ∙ (λ i. record {
+    let same : ◌≡◌ {A = Numbers} (record
+    { max_forwards = b.0; cseq = a.0; rseq = c.0; rack = d.0; content_length = g.0 }) numbers =
+    same_Some _ numbers g.2 in
+    sym ((λ i. headers_with (message_with start vias (sym same i) h body)
+    (sym same i).content_length) ∙ (λ i. record {
       vias = vias_are h.vias vias f i;
       max_forwards = known_if_is h.max_forwards b.0 b.1 i;
       from = h.from;
@@ -199,45 +258,60 @@ if_again : (n : Option ℕ) → known_if (option_map Number n) ≡ Some n
 if_again None = refl
 if_again (Some n) = refl
 
-rack_again : (rack : Option RAck) → known_rack (option_map rack_draft rack) ≡ Some (option_map rack_numbers rack)
+rack_again : (rack : Option RAck)
+    → known_rack (option_map rack_draft rack) ≡ Some (option_map rack_numbers rack)
 rack_again None = refl
 rack_again (Some rack) = refl
 
-pub numbers_again : (m : Message) (length : Option ℕ) → numbers_in (headers_with m length) ≡ Some (numbers_with m length)
+pub numbers_again : (m : Message) (length : Option ℕ)
+    → numbers_in (headers_with m length) ≡ Some (numbers_with m length)
 unfolding numbers_in
 numbers_again m length =
     rw (if_again m.max_forwards, if_again m.rseq, rack_again m.rack, if_again length) refl
 
-port_again : (port : Option ℕ) → list_all is_port (option_to_list (option_map Number port)) ≡ true → known_port (option_map Number port) ≡ Some port
+port_again : (port : Option ℕ) → list_all is_port (option_to_list (option_map Number port)) ≡ true
+    → known_port (option_map Number port) ≡ Some port
 port_again None e = refl
 port_again (Some n) e =
     let small = ltb-true n (2 ^ 16) (and_parts (ltb n (2 ^ 16)) true e).0 in
     ap (λ b. cond b None (Some (Some n))) (le-ltb 65535 n (omega (arith, small)))
 
-via_again : (via : Via) → list_all is_port (option_to_list (option_map Number via.port)) ≡ true → via_with (via_draft via) ≡ Some via
+via_again : (via : Via) → list_all is_port (option_to_list (option_map Number via.port)) ≡ true
+    → via_with (via_draft via) ≡ Some via
 via_again via e =
-    ap (λ o. o >>= λ port. Some (record { transport = via.transport; host = via.host; port = port; parameters = via.parameters })) (port_again via.port e)
+    ap (λ o. o >>= λ port. Some (record
+    { transport = via.transport; host = via.host; port = port; parameters = via.parameters }))
+    (port_again via.port e)
 
-vias_again : (vias : List Via) → list_all is_port (port_words (map via_draft vias)) ≡ true → each via_with (map via_draft vias) ≡ Some vias
+vias_again : (vias : List Via) → list_all is_port (port_words (map via_draft vias)) ≡ true
+    → each via_with (map via_draft vias) ≡ Some vias
 vias_again [] e = refl
 vias_again (via ∷ vias) e =
-    let both = and_parts (list_all is_port (option_to_list (option_map Number via.port))) (list_all is_port (port_words (map via_draft vias))) (sym (list_all-append is_port (option_to_list (option_map Number via.port)) (port_words (map via_draft vias))) ∙ e) in
+    let both = and_parts (list_all is_port (option_to_list (option_map Number via.port)))
+    (list_all is_port (port_words (map via_draft vias)))
+    (sym (list_all-append is_port (option_to_list (option_map Number via.port))
+    (port_words (map via_draft vias))) ∙ e) in
     rw (via_again via both.0, vias_again vias both.1) refl
 
-pub ports_again : (m : Message) (length : Option ℕ) → are_numbers (headers_with m length) ≡ true → each via_with (map via_draft m.vias) ≡ Some m.vias
+pub ports_again : (m : Message) (length : Option ℕ) → are_numbers (headers_with m length) ≡ true
+    → each via_with (map via_draft m.vias) ≡ Some m.vias
 ports_again m length e =
-    vias_again m.vias (and_parts (list_all is_port (port_words (map via_draft m.vias))) (list_all is_number (number_words (headers_with m length))) e).0
+    vias_again m.vias (and_parts (list_all is_port (port_words (map via_draft m.vias)))
+    (list_all is_number (number_words (headers_with m length))) e).0
 
-rack_same : (rack : Option RAck) → rack_with (option_map rack_draft rack) (option_map rack_numbers rack) ≡ rack
+rack_same : (rack : Option RAck)
+    → rack_with (option_map rack_draft rack) (option_map rack_numbers rack) ≡ rack
 rack_same None = refl
 rack_same (Some rack) = refl
 
-pub message_again : (m : Message) (length : Option ℕ) → message_with m.start m.vias (numbers_with m length) (headers_with m length) m.body ≡ m
+pub message_again : (m : Message) (length : Option ℕ)
+    → message_with m.start m.vias (numbers_with m length) (headers_with m length) m.body ≡ m
 message_again m length = λ i. record m { rack = rack_same m.rack i }
 
 -- ---- of each by itself
 
-pub content_length_is : (h : Headers) (numbers : Numbers) → numbers_in h ≡ Some numbers → known_if h.content_length ≡ Some numbers.content_length
+pub content_length_is : (h : Headers) (numbers : Numbers) → numbers_in h ≡ Some numbers
+    → known_if h.content_length ≡ Some numbers.content_length
 unfolding numbers_in
 content_length_is h numbers e =
     let a = and_then_some _ (known h.cseq.number) numbers e in
@@ -251,8 +325,11 @@ abbrev pub HasParameters : ViaDraft → List Via → Type 0
 HasParameters draft [] = ⊥
 HasParameters draft (via ∷ vias) = draft.parameters ≡ via.parameters
 
-pub via_parameters : (draft : ViaDraft) (drafts : List ViaDraft) (vias : List Via) → each via_with (draft ∷ drafts) ≡ Some vias → HasParameters draft vias
+pub via_parameters : (draft : ViaDraft) (drafts : List ViaDraft) (vias : List Via)
+    → each via_with (draft ∷ drafts) ≡ Some vias → HasParameters draft vias
 via_parameters draft drafts vias e =
-    let a = and_then_some (λ x. each via_with drafts >>= λ xs. Some (x ∷ xs)) (via_with draft) vias e in
+    let a = and_then_some (λ x. each via_with drafts >>= λ xs. Some (x ∷ xs))
+    (via_with draft) vias e in
     let b = and_then_some (λ xs. Some (a.0 ∷ xs)) (each via_with drafts) vias a.2 in
-    subst (λ vs. HasParameters draft vs) (same_Some (a.0 ∷ b.0) vias b.2) (ap (λ (v : ViaDraft). v.parameters) (sym (via_is draft a.0 a.1)))
+    subst (λ vs. HasParameters draft vs) (same_Some (a.0 ∷ b.0) vias b.2)
+    (ap (λ (v : ViaDraft). v.parameters) (sym (via_is draft a.0 a.1)))

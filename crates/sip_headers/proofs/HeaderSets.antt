@@ -33,17 +33,21 @@ use Rattle.sip_headers.proofs.Presences.{list_never_repeated}
 
 -- ---- columns of values
 
-one_slot : {X : Type 0} {f : List ℕ → Option X} {P : X → List ℕ → Type 0} → Reads (List ℕ) X f P → (x : X) (vs : List (List ℕ)) → One P x vs → slot_from f Absent vs ≡ Once x
+one_slot : {X : Type 0} {f : List ℕ → Option X} {P : X → List ℕ → Type 0} → Reads (List ℕ) X f P
+    → (x : X) (vs : List (List ℕ)) → One P x vs → slot_from f Absent vs ≡ Once x
 one_slot reads x [] is = absurd is
 one_slot reads x (v ∷ []) is = ap (met Absent) (reads.again v x is.0)
 one_slot reads x (v ∷ (w ∷ vs)) is = absurd is.1
 
-open_slot : {X : Type 0} {f : List ℕ → Option X} {P : X → List ℕ → Type 0} → Reads (List ℕ) X f P → (o : Option X) (vs : List (List ℕ)) → AtMostOne P o vs → slot_from f Absent vs ≡ slot_of o
+open_slot : {X : Type 0} {f : List ℕ → Option X} {P : X → List ℕ → Type 0} → Reads (List ℕ) X f P
+    → (o : Option X) (vs : List (List ℕ)) → AtMostOne P o vs → slot_from f Absent vs ≡ slot_of o
 open_slot reads None [] is = refl
 open_slot reads None (v ∷ vs) is = absurd is
 open_slot reads (Some x) vs is = one_slot reads x vs is
 
-zip_list : {X : Type 0} {f : List ℕ → Option (List X)} {P : List X → List ℕ → Type 0} → Reads (List ℕ) (List X) f P → (front : List X) (lists : List (List X)) (vs : List (List ℕ)) → AllZip P lists vs → list_from f (Some front) vs ≡ Some (front ++ flat_map (λ l. l) lists)
+zip_list : {X : Type 0} {f : List ℕ → Option (List X)} {P : List X → List ℕ → Type 0}
+    → Reads (List ℕ) (List X) f P → (front : List X) (lists : List (List X)) (vs : List (List ℕ))
+    → AllZip P lists vs → list_from f (Some front) vs ≡ Some (front ++ flat_map (λ l. l) lists)
 zip_list reads front [] [] all = ap (λ xs. Some xs) (sym (append-nil front))
 zip_list reads front [] (v ∷ vs) all = absurd all
 zip_list reads front (l ∷ lists) [] all = absurd all
@@ -52,10 +56,13 @@ zip_list {f = f} reads front (l ∷ lists) (v ∷ vs) all =
     ∙ zip_list reads (front ++ l) lists vs all.1
     ∙ ap (λ xs. Some xs) (append_assoc front l (flat_map (λ m. m) lists))
 
-many_list : {X : Type 0} {f : List ℕ → Option (List X)} {P : List X → List ℕ → Type 0} → Reads (List ℕ) (List X) f P → (xs : List X) (vs : List (List ℕ)) → Many P xs vs → list_from f (Some []) vs ≡ Some xs
+many_list : {X : Type 0} {f : List ℕ → Option (List X)} {P : List X → List ℕ → Type 0}
+    → Reads (List ℕ) (List X) f P → (xs : List X) (vs : List (List ℕ)) → Many P xs vs
+    → list_from f (Some []) vs ≡ Some xs
 many_list reads xs vs is = zip_list reads [] is.0 vs is.1 ∙ ap (λ ys. Some ys) (sym is.2)
 
-at_most_one_is : {X : Type 0} (P : X → List ℕ → Type 0) (o : Option X) (vs : List (List ℕ)) → IsSlot P (slot_of o) vs → AtMostOne P o vs
+at_most_one_is : {X : Type 0} (P : X → List ℕ → Type 0) (o : Option X) (vs : List (List ℕ))
+    → IsSlot P (slot_of o) vs → AtMostOne P o vs
 at_most_one_is P None vs is = subst (λ (ws : List (List ℕ)). AllZip P [] ws) (sym is) tt
 at_most_one_is P (Some x) vs is = is
 
@@ -63,31 +70,40 @@ at_most_one_is P (Some x) vs is = is
 
 pub line_reads : Reads (List ℕ) (List ℕ × List ℕ) line_from IsHeaderLine
 line_reads =
-    cut_reads (Byte 58) (both_reads (of_reads trimmed_end (passing_reads is_token)) (told_reads trimmed (passing_reads has_no_line_byte))) never_reads
+    cut_reads (Byte 58) (both_reads (of_reads trimmed_end (passing_reads is_token))
+    (told_reads trimmed (passing_reads has_no_line_byte))) never_reads
 
-class_good : (name value : List ℕ) (o : Option HeaderName) (rest : Bool) → is_bad_class (class_by_name name value o) rest ≡ rest
+class_good : (name value : List ℕ) (o : Option HeaderName) (rest : Bool)
+    → is_bad_class (class_by_name name value o) rest ≡ rest
 class_good name value None rest = refl
 class_good name value (Some header) rest = refl
 
-good_lines : (lines : List (List ℕ)) → AllByRecursion IsSomeHeaderLine lines → has_bad_line lines ≡ false
+good_lines : (lines : List (List ℕ)) → AllByRecursion IsSomeHeaderLine lines
+    → has_bad_line lines ≡ false
 good_lines [] all = refl
 good_lines (line ∷ lines) all =
-    ap (λ o. is_bad_class (class_by_parts o) (has_bad_line lines)) (line_reads.again line all.0.0 all.0.1)
+    ap (λ o. is_bad_class (class_by_parts o) (has_bad_line lines))
+    (line_reads.again line all.0.0 all.0.1)
     ∙ class_good all.0.0.0 all.0.0.1 (header_named all.0.0.0) (has_bad_line lines)
     ∙ good_lines lines all.1
 
-line_is_by : (line : List ℕ) (rest : Bool) (o : Option (List ℕ × List ℕ)) → line_from line ≡ o → is_bad_class (class_by_parts o) rest ≡ false → IsSomeHeaderLine line × (rest ≡ false)
+line_is_by : (line : List ℕ) (rest : Bool) (o : Option (List ℕ × List ℕ)) → line_from line ≡ o
+    → is_bad_class (class_by_parts o) rest ≡ false → IsSomeHeaderLine line × (rest ≡ false)
 line_is_by line rest None is e = absurd cc
-line_is_by line rest (Some parts) is e =
-    ((parts, line_reads.takes line parts is), sym (class_good parts.0 parts.1 (header_named parts.0) rest) ∙ e)
+line_is_by line rest (Some parts) is e = (
+  (parts, line_reads.takes line parts is),
+  sym (class_good parts.0 parts.1 (header_named parts.0) rest) ∙ e,
+)
 
-pub lines_are : (lines : List (List ℕ)) → has_bad_line lines ≡ false → AllByRecursion IsSomeHeaderLine lines
+pub lines_are : (lines : List (List ℕ)) → has_bad_line lines ≡ false
+    → AllByRecursion IsSomeHeaderLine lines
 lines_are [] e = tt
 lines_are (line ∷ lines) e =
     let parts = line_is_by line (has_bad_line lines) (line_from line) refl e in
     (parts.0, lines_are lines parts.1)
 
-pub no_good_lines : (lines : List (List ℕ)) → has_bad_line lines ≡ true → AllByRecursion IsSomeHeaderLine lines → ⊥
+pub no_good_lines : (lines : List (List ℕ)) → has_bad_line lines ≡ true
+    → AllByRecursion IsSomeHeaderLine lines → ⊥
 no_good_lines lines e all = let f : true ≡ false = sym e ∙ good_lines lines all in cc
 
 -- ---- headers that stay as they stand
@@ -95,16 +111,23 @@ no_good_lines lines e all = let f : true ≡ false = sym e ∙ good_lines lines 
 abbrev pub with_other : Option (List Header) → List ℕ × List ℕ → Option (List Header)
 with_other list other = listed list (other_from other.0 other.1)
 
-other_again : (kept : Header) (other : List ℕ × List ℕ) → IsOther kept other → other_from other.0 other.1 ≡ Some (kept ∷ [])
+other_again : (kept : Header) (other : List ℕ × List ℕ) → IsOther kept other
+    → other_from other.0 other.1 ≡ Some (kept ∷ [])
 other_again kept other is =
-    let named : is_other_name (long_name other.0) ≡ true = ap is_other_name (sym is.name_is) ∙ is.good_name in
-    let valued : is_header_value other.1 ≡ true = ap is_header_value (sym is.value_is) ∙ is.good_value in
-    let kept_is : ◌≡◌ {A = Header} (record { name = long_name other.0; value = other.1 }) kept = λ i. record { name = sym is.name_is i; value = sym is.value_is i } in
-    ap (λ b. cond b (cond (is_header_value other.1) (Some ((record { name = long_name other.0; value = other.1 }) ∷ [])) None) None) named
-    ∙ ap (λ b. cond b (Some ((record { name = long_name other.0; value = other.1 }) ∷ [])) None) valued
+    let named : is_other_name (long_name other.0) ≡ true =
+    ap is_other_name (sym is.name_is) ∙ is.good_name in
+    let valued : is_header_value other.1 ≡ true =
+    ap is_header_value (sym is.value_is) ∙ is.good_value in
+    let kept_is : ◌≡◌ {A = Header} (record { name = long_name other.0; value = other.1 }) kept =
+    λ i. record { name = sym is.name_is i; value = sym is.value_is i } in
+    ap (λ b. cond b (cond (is_header_value other.1)
+    (Some ((record { name = long_name other.0; value = other.1 }) ∷ [])) None) None) named
+    ∙ ap (λ b. cond b (Some ((record { name = long_name other.0; value = other.1 }) ∷ [])) None)
+    valued
     ∙ ap (λ (k : Header). Some (k ∷ [])) kept_is
 
-others_list : (front kept : List Header) (others : List (List ℕ × List ℕ)) → AllZip IsOther kept others → fold with_other (Some front) others ≡ Some (front ++ kept)
+others_list : (front kept : List Header) (others : List (List ℕ × List ℕ))
+    → AllZip IsOther kept others → fold with_other (Some front) others ≡ Some (front ++ kept)
 others_list front [] [] all = ap (λ xs. Some xs) (sym (append-nil front))
 others_list front [] (o ∷ os) all = absurd all
 others_list front (k ∷ kept) [] all = absurd all
@@ -122,65 +145,92 @@ record Kept (front all : List Header) (others : List (List ℕ × List ℕ)) : T
   pub parts : all ≡ front ++ kept
   pub each : AllZip IsOther kept others
 
-other_by : (name value : List ℕ) (a b : Bool) → is_other_name (long_name name) ≡ a → is_header_value value ≡ b → (o : Option (List Header)) → cond a (cond b (Some ((record { name = long_name name; value = value }) ∷ [])) None) None ≡ o → (o ≡ None) ⊎ ((kept : Header) × (o ≡ Some (kept ∷ [])) × IsOther kept (name, value))
+other_by : (name value : List ℕ) (a b : Bool) → is_other_name (long_name name) ≡ a
+    → is_header_value value ≡ b → (o : Option (List Header))
+    → cond a (cond b (Some ((record { name = long_name name; value = value }) ∷ [])) None) None ≡ o
+    → (o ≡ None) ⊎ ((kept : Header) × (o ≡ Some (kept ∷ [])) × IsOther kept (name, value))
 other_by name value true true f g o e =
-    inr (record { name = long_name name; value = value }, sym e, record { name_is = refl; value_is = refl; good_name = f; good_value = g })
+    inr (
+      record { name = long_name name; value = value },
+      sym e,
+      record { name_is = refl; value_is = refl; good_name = f; good_value = g },
+    )
 other_by name value true false f g o e = inl (sym e)
 other_by name value false b f g o e = inl (sym e)
 
-others_take : (front all : List Header) (others : List (List ℕ × List ℕ)) → fold with_other (Some front) others ≡ Some all → Kept front all others
+others_take : (front all : List Header) (others : List (List ℕ × List ℕ))
+    → fold with_other (Some front) others ≡ Some all → Kept front all others
 others_take front all [] e =
     record { kept = []; parts = sym (same_Some front all e) ∙ sym (append-nil front); each = tt }
 others_take front all (o ∷ os) e =
-    elim (other_by o.0 o.1 (is_other_name (long_name o.0)) (is_header_value o.1) refl refl (other_from o.0 o.1) refl) [
+    elim (other_by o.0 o.1 (is_other_name (long_name o.0)) (is_header_value o.1) refl refl
+    (other_from o.0 o.1) refl) [
       | inl none ↦
-          let gone : Some all ≡ None = sym e ∙ ap (λ x. fold with_other (listed (Some front) x) os) none ∙ none_stays os in
+          let gone : Some all ≡ None =
+          sym e ∙ ap (λ x. fold with_other (listed (Some front) x) os) none ∙ none_stays os in
           absurd (none-some all (sym gone))
       | inr one ↦
-          let more = others_take (front ++ one.0 ∷ []) all os (sym (ap (λ x. fold with_other (listed (Some front) x) os) one.1) ∙ e) in
-          record { kept = one.0 ∷ more.kept; parts = more.parts ∙ append_assoc front (one.0 ∷ []) more.kept; each = (one.2, more.each) }
+          let more = others_take (front ++ one.0 ∷ []) all os
+          (sym (ap (λ x. fold with_other (listed (Some front) x) os) one.1) ∙ e) in
+          record {
+            kept = one.0 ∷ more.kept;
+            parts = more.parts ∙ append_assoc front (one.0 ∷ []) more.kept;
+            each =
+                (one.2, more.each);
+          }
     ]
 
-pub others_column : (lines : List (List ℕ)) → (draft_of lines).others ≡ fold with_other (Some []) (others_of lines)
+pub others_column : (lines : List (List ℕ))
+    → (draft_of lines).others ≡ fold with_other (Some []) (others_of lines)
 others_column lines = ap (λ (d : Draft). d.others) (fold-with_line no_draft lines)
 
-pub others_are : (kept : List Header) (lines : List (List ℕ)) → (draft_of lines).others ≡ Some kept → AllZip IsOther kept (others_of lines)
+pub others_are : (kept : List Header) (lines : List (List ℕ)) → (draft_of lines).others ≡ Some kept
+    → AllZip IsOther kept (others_of lines)
 others_are kept lines e =
     let k = others_take [] kept (others_of lines) (sym (others_column lines) ∙ e) in
     subst (λ (hs : List Header). AllZip IsOther hs (others_of lines)) (sym k.parts) k.each
 
-kept_of : (others : List (List ℕ × List ℕ)) → AllByRecursion (λ other. (header : Header) × IsOther header other) others → (kept : List Header) × AllZip IsOther kept others
+kept_of : (others : List (List ℕ × List ℕ))
+    → AllByRecursion (λ other. (header : Header) × IsOther header other) others
+    → (kept : List Header) × AllZip IsOther kept others
 kept_of [] all = ([], tt)
 kept_of (o ∷ os) all = let more = kept_of os all.1 in (all.0.0 ∷ more.0, (all.0.1, more.1))
 
 -- where each of the other headers can stay, none is lost
-pub others_list_from : (lines : List (List ℕ)) → AllByRecursion (λ other. (header : Header) × IsOther header other) (others_of lines) → is_none (draft_of lines).others ≡ true → ⊥
+pub others_list_from : (lines : List (List ℕ))
+    → AllByRecursion (λ other. (header : Header) × IsOther header other) (others_of lines)
+    → is_none (draft_of lines).others ≡ true → ⊥
 others_list_from lines all none =
     let kept = kept_of (others_of lines) all in
-    let some : is_none (draft_of lines).others ≡ false = ap is_none (others_column lines ∙ others_list [] kept.0 (others_of lines) kept.1) in
+    let some : is_none (draft_of lines).others ≡ false =
+    ap is_none (others_column lines ∙ others_list [] kept.0 (others_of lines) kept.1) in
     let f : true ≡ false = sym none ∙ some in
     cc
 
 -- ---- the draft of lines with these headers
 
-pub drafted : (h : Headers) (lines : List (List ℕ)) → AreHeaders h lines → draft_of lines ≡ draft_with h
+pub drafted : (h : Headers) (lines : List (List ℕ)) → AreHeaders h lines
+    → draft_of lines ≡ draft_with h
 drafted h lines is =
     fold-with_line no_draft lines ∙ (λ i. record {
       is_bad = good_lines lines is.all_lines i;
       vias = many_list vias_reads h.vias (values name.Via lines) is.vias i;
-      max_forwards = open_slot (numeral_reads (2 ^ 32)) h.max_forwards (values name.MaxForwards lines) is.max_forwards i;
+      max_forwards = open_slot (numeral_reads (2 ^ 32)) h.max_forwards
+          (values name.MaxForwards lines) is.max_forwards i;
       from = one_slot party_reads h.from (values name.From lines) is.from i;
       to = one_slot party_reads h.to (values name.To lines) is.to i;
       call_id = one_slot call_id_reads h.call_id (values name.CallId lines) is.call_id i;
       cseq = one_slot cseq_reads h.cseq (values name.CSeq lines) is.cseq i;
       contacts = many_list name_addrs_reads h.contacts (values name.Contact lines) is.contacts i;
-      record_routes = many_list name_addrs_reads h.record_routes (values name.RecordRoute lines) is.record_routes i;
+      record_routes = many_list name_addrs_reads h.record_routes
+          (values name.RecordRoute lines) is.record_routes i;
       routes = many_list name_addrs_reads h.routes (values name.Route lines) is.routes i;
       require = many_list tokens_reads h.require (values name.Require lines) is.require i;
       supported = many_list tokens_reads h.supported (values name.Supported lines) is.supported i;
       rseq = open_slot (numeral_reads (2 ^ 32)) h.rseq (values name.RSeq lines) is.rseq i;
       rack = open_slot rack_reads h.rack (values name.RAck lines) is.rack i;
-      content_length = open_slot (numeral_reads (2 ^ 32)) h.content_length (values name.ContentLength lines) is.content_length i;
+      content_length = open_slot (numeral_reads (2 ^ 32)) h.content_length
+          (values name.ContentLength lines) is.content_length i;
       others = others_list [] h.others (others_of lines) is.others i;
     })
 
@@ -194,11 +244,13 @@ pub headers_in_with : (h : Headers) → headers_in (draft_with h) ≡ Some h
 unfolding headers_in
 headers_in_with h = rw (held h.max_forwards, held h.rseq, held h.rack, held h.content_length) refl
 
-none_any : {A : Type 0} (p : A → Bool) (xs : List A) → AllByRecursion (λ x. p x ≡ false) xs → list_any p xs ≡ false
+none_any : {A : Type 0} (p : A → Bool) (xs : List A) → AllByRecursion (λ x. p x ≡ false) xs
+    → list_any p xs ≡ false
 none_any p [] all = refl
 none_any p (x ∷ xs) all = ap (λ b. b || list_any p xs) all.0 ∙ none_any p xs all.1
 
-none_found : {A : Type 0} (p : A → Bool) (xs : List A) → AllByRecursion (λ x. p x ≡ false) xs → find p xs ≡ None
+none_found : {A : Type 0} (p : A → Bool) (xs : List A) → AllByRecursion (λ x. p x ≡ false) xs
+    → find p xs ≡ None
 none_found p [] all = refl
 none_found p (x ∷ xs) all = ap (λ b. cond b (Some x) (find p xs)) all.0 ∙ none_found p xs all.1
 
@@ -214,7 +266,8 @@ single_slot : {X : Type 0} (o : Option X) → is_repeated (slot_presence (slot_o
 single_slot None = refl
 single_slot (Some x) = refl
 
-list_there : {X : Type 0} (xs : List X) → (xs ≡ [] → ⊥) → is_nowhere (list_presence (Some xs)) ≡ false
+list_there : {X : Type 0} (xs : List X) → (xs ≡ [] → ⊥)
+    → is_nowhere (list_presence (Some xs)) ≡ false
 list_there [] some = absurd (some refl)
 list_there (x ∷ xs) some = refl
 
@@ -222,24 +275,110 @@ no_bad_header : (h : Headers) → has_bad_header (draft_with h) ≡ false
 no_bad_header h =
     none_any (λ header. is_unfit (presence_of (draft_with h) header)) headers (
       fit_list h.vias,
-      (refl, (refl, (refl, (refl, (fit_slot h.max_forwards, (fit_slot h.content_length, (fit_slot h.rseq, (fit_slot h.rack, (fit_list h.contacts, (fit_list h.record_routes, (fit_list h.routes, (fit_list h.require, (fit_list h.supported, tt))))))))))))),
+      (
+        refl,
+        (
+          refl,
+          (
+            refl,
+            (
+              refl,
+              (
+                fit_slot h.max_forwards,
+                (
+                  fit_slot h.content_length,
+                  (
+                    fit_slot h.rseq,
+                    (
+                      fit_slot h.rack,
+                      (
+                        fit_list h.contacts,
+                        (
+                          fit_list h.record_routes,
+                          (
+                            fit_list h.routes,
+                            (fit_list h.require, (fit_list h.supported, tt)),
+                          ),
+                        ),
+                      ),
+                    ),
+                  ),
+                ),
+              ),
+            ),
+          ),
+        ),
+      ),
     )
 
 none_missing : (h : Headers) → (h.vias ≡ [] → ⊥) → missing (draft_with h) ≡ None
 none_missing h some =
-    none_found (λ header. is_needed (entry header).kind && is_nowhere (presence_of (draft_with h) header)) headers (
+    none_found (λ header. is_needed (entry header).kind
+    && is_nowhere (presence_of (draft_with h) header)) headers (
       list_there h.vias some,
-      (refl, (refl, (refl, (refl, (refl, (refl, (refl, (refl, (refl, (refl, (refl, (refl, (refl, tt))))))))))))),
+      (
+        refl,
+        (
+          refl,
+          (
+            refl,
+            (
+              refl,
+              (
+                refl,
+                (refl, (refl, (refl, (refl, (refl, (refl, (refl, (refl, tt)))))))),
+              ),
+            ),
+          ),
+        ),
+      ),
     )
 
 none_repeated : (h : Headers) → repeated (draft_with h) ≡ None
 none_repeated h =
     none_found (λ header. is_repeated (presence_of (draft_with h) header)) headers (
       list_never_repeated (Some h.vias),
-      (refl, (refl, (refl, (refl, (single_slot h.max_forwards, (single_slot h.content_length, (single_slot h.rseq, (single_slot h.rack, (list_never_repeated (Some h.contacts), (list_never_repeated (Some h.record_routes), (list_never_repeated (Some h.routes), (list_never_repeated (Some h.require), (list_never_repeated (Some h.supported), tt))))))))))))),
+      (
+        refl,
+        (
+          refl,
+          (
+            refl,
+            (
+              refl,
+              (
+                single_slot h.max_forwards,
+                (
+                  single_slot h.content_length,
+                  (
+                    single_slot h.rseq,
+                    (
+                      single_slot h.rack,
+                      (
+                        list_never_repeated (Some h.contacts),
+                        (
+                          list_never_repeated (Some h.record_routes),
+                          (
+                            list_never_repeated (Some h.routes),
+                            (
+                              list_never_repeated (Some h.require),
+                              (list_never_repeated (Some h.supported), tt),
+                            ),
+                          ),
+                        ),
+                      ),
+                    ),
+                  ),
+                ),
+              ),
+            ),
+          ),
+        ),
+      ),
     )
 
-pub fault_from : (d : Draft) (b : Bool) (m r : Option HeaderName) → has_bad_header d ≡ b → missing d ≡ m → repeated d ≡ r → fault_in d ≡ cond b (Some fault.BadHeader) (first_fault m r)
+pub fault_from : (d : Draft) (b : Bool) (m r : Option HeaderName) → has_bad_header d ≡ b
+    → missing d ≡ m → repeated d ≡ r → fault_in d ≡ cond b (Some fault.BadHeader) (first_fault m r)
 unfolding fault_in
 fault_from d b m r e f g =
     ap (λ x. cond x (Some fault.BadHeader) (first_fault (missing d) (repeated d))) e
@@ -248,10 +387,13 @@ fault_from d b m r e f g =
 
 pub no_fault : (h : Headers) → (h.vias ≡ [] → ⊥) → headers_of (draft_with h) ≡ Ok h
 no_fault h some =
-    ap (λ o. unless_fault o (headers_in (draft_with h))) (fault_from (draft_with h) false None None (no_bad_header h) (none_missing h some) (none_repeated h))
+    ap (λ o. unless_fault o (headers_in (draft_with h)))
+    (fault_from (draft_with h) false None None (no_bad_header h) (none_missing h some)
+    (none_repeated h))
     ∙ ap or_bad (headers_in_with h)
 
-pub headers_again : (h : Headers) (lines : List (List ℕ)) → AreHeaders h lines → headers_of (draft_of lines) ≡ Ok h
+pub headers_again : (h : Headers) (lines : List (List ℕ)) → AreHeaders h lines
+    → headers_of (draft_of lines) ≡ Ok h
 headers_again h lines is = ap headers_of (drafted h lines is) ∙ no_fault h is.some_via
 
 -- ---- a draft without a fault has headers
@@ -326,14 +468,16 @@ all_of d is =
       },
     )
 
-pub headers_are : (h : Headers) (lines : List (List ℕ)) → draft_of lines ≡ draft_with h → (h.vias ≡ [] → ⊥) → AreHeaders h lines
+pub headers_are : (h : Headers) (lines : List (List ℕ)) → draft_of lines ≡ draft_with h
+    → (h.vias ≡ [] → ⊥) → AreHeaders h lines
 headers_are h lines same some =
     let is = subst (λ (d : Draft). IsDraftOf d lines) same (is_draft lines) in
     record {
       all_lines = lines_are lines (sym is.bad_is);
       some_via = some;
       vias = is.vias;
-      max_forwards = at_most_one_is _ h.max_forwards (values name.MaxForwards lines) is.max_forwards;
+      max_forwards = at_most_one_is _ h.max_forwards
+          (values name.MaxForwards lines) is.max_forwards;
       from = is.from;
       to = is.to;
       call_id = is.call_id;
@@ -345,16 +489,21 @@ headers_are h lines same some =
       supported = is.supported;
       rseq = at_most_one_is _ h.rseq (values name.RSeq lines) is.rseq;
       rack = at_most_one_is _ h.rack (values name.RAck lines) is.rack;
-      content_length = at_most_one_is _ h.content_length (values name.ContentLength lines) is.content_length;
+      content_length =
+          at_most_one_is _ h.content_length (values name.ContentLength lines) is.content_length;
       others = others_are h.others lines (ap (λ (d : Draft). d.others) same);
     }
 
-pub complete_headers : (lines : List (List ℕ)) → has_bad_header (draft_of lines) ≡ false → missing (draft_of lines) ≡ None → repeated (draft_of lines) ≡ None → (h : Headers) × AreHeaders h lines
+pub complete_headers : (lines : List (List ℕ)) → has_bad_header (draft_of lines) ≡ false
+    → missing (draft_of lines) ≡ None → repeated (draft_of lines) ≡ None
+    → (h : Headers) × AreHeaders h lines
 complete_headers lines bad none single =
     let all = all_of (draft_of lines) (complete_of (draft_of lines) bad none single) in
     let there = via_there (draft_of lines) none in
     let some : all.0.vias ≡ [] → ⊥ = λ (e : all.0.vias ≡ []).
-    let nowhere : is_nowhere (list_presence (draft_of lines).vias) ≡ true = ap (λ (d : Draft). is_nowhere (list_presence d.vias)) all.1 ∙ ap (λ vs. is_nowhere (list_presence (Some vs))) e in
+    let nowhere : is_nowhere (list_presence (draft_of lines).vias) ≡ true =
+    ap (λ (d : Draft). is_nowhere (list_presence d.vias)) all.1
+    ∙ ap (λ vs. is_nowhere (list_presence (Some vs))) e in
     let f : true ≡ false = sym nowhere ∙ there in
     cc in
     (all.0, headers_are all.0 lines all.1 some)

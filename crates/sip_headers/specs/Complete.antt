@@ -1,4 +1,5 @@
--- A draft in which no header is missing, repeated or in another form, and the headers that it holds.
+-- A draft in which no header is missing, repeated or in another form, and the headers that it
+-- holds.
 use Rattle.std.specs.Prelude.{◌≡◌, true, false, Option, Some, None, Result, Ok, Err, is_some, option_and_then, if◌then◌else◌}
 use Rattle.sip_parts.specs.declared.header_name.HeaderName.{HeaderName}
 use Rattle.sip_message.specs.declared.fault.ReadFault.{ReadFault}

@@ -38,19 +38,22 @@ no_draft = record {
 -- one more value of a header
 abbrev pub with_value : Draft → HeaderName → List ℕ → Draft
 with_value d name.Via value = record d { vias = listed d.vias (vias_from value) }
-with_value d name.MaxForwards value = record d { max_forwards = met d.max_forwards (numeral_from (2 ^ 32) value) }
+with_value d name.MaxForwards value =
+    record d { max_forwards = met d.max_forwards (numeral_from (2 ^ 32) value) }
 with_value d name.From value = record d { from = met d.from (party_from value) }
 with_value d name.To value = record d { to = met d.to (party_from value) }
 with_value d name.CallId value = record d { call_id = met d.call_id (call_id_from value) }
 with_value d name.CSeq value = record d { cseq = met d.cseq (cseq_from value) }
 with_value d name.Contact value = record d { contacts = listed d.contacts (name_addrs_from value) }
-with_value d name.RecordRoute value = record d { record_routes = listed d.record_routes (name_addrs_from value) }
+with_value d name.RecordRoute value =
+    record d { record_routes = listed d.record_routes (name_addrs_from value) }
 with_value d name.Route value = record d { routes = listed d.routes (name_addrs_from value) }
 with_value d name.Require value = record d { require = listed d.require (tokens_from value) }
 with_value d name.Supported value = record d { supported = listed d.supported (tokens_from value) }
 with_value d name.RSeq value = record d { rseq = met d.rseq (numeral_from (2 ^ 32) value) }
 with_value d name.RAck value = record d { rack = met d.rack (rack_from value) }
-with_value d name.ContentLength value = record d { content_length = met d.content_length (numeral_from (2 ^ 32) value) }
+with_value d name.ContentLength value =
+    record d { content_length = met d.content_length (numeral_from (2 ^ 32) value) }
 
 -- three compact names stand for the long ones of headers that stay as they stand
 unfoldable pub long_name : List ℕ → List ℕ
@@ -64,7 +67,8 @@ long_name name =
 abbrev pub other_from : List ℕ → List ℕ → Option (List Header)
 other_from name value =
     if is_other_name (long_name name)
-    then (if is_header_value value then Some ((record { name = long_name name; value = value }) ∷ []) else None)
+    then (if is_header_value value
+    then Some ((record { name = long_name name; value = value }) ∷ []) else None)
     else None
 
 abbrev pub with_other : Draft → List ℕ → List ℕ → Draft

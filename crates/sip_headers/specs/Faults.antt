@@ -1,4 +1,5 @@
--- Why lines have no headers: the faults in their order, and what each says of the lines (RFC 3261, sections 7.3 and 8.1.1).
+-- Why lines have no headers: the faults in their order, and what each says of the lines (RFC 3261,
+-- sections 7.3 and 8.1.1).
 use Rattle.std.specs.Prelude.{◌≡◌, ◌<◌, ◌⊎◌, ◌^◌, ℕ, List, [], ◌∷◌, ◌++◌, map, length, Result, Ok, Err}
 use Rattle.std.specs.List.{AllByRecursion}
 use Rattle.sip_parts.specs.HeaderEntry.{headers_where, is_needed, is_single}
@@ -20,14 +21,16 @@ use Rattle.sip_headers.specs.Slot.{HasBad}
 -- the first of these faults whose condition holds
 abbrev pub IsFirst : (ReadFault → Type 0) → List ReadFault → ReadFault → Type 0
 IsFirst C [] fault = ⊥
-IsFirst C (other ∷ others) fault = ((fault ≡ other) × C other) ⊎ ((C other → ⊥) × IsFirst C others fault)
+IsFirst C (other ∷ others) fault =
+    ((fault ≡ other) × C other) ⊎ ((C other → ⊥) × IsFirst C others fault)
 
 -- none of the conditions holds
 abbrev pub NoneHolds : (ReadFault → Type 0) → List ReadFault → Type 0
 NoneHolds C faults = AllByRecursion (λ fault. C fault → ⊥) faults
 
 -- a value where no condition holds, otherwise the first fault
-abbrev pub Decides : {X : Type 0} → (ReadFault → Type 0) → List ReadFault → Result X ReadFault → Type 0
+abbrev pub Decides : {X : Type 0} → (ReadFault → Type 0) → List ReadFault → Result X ReadFault
+    → Type 0
 Decides C faults (Ok x) = NoneHolds C faults
 Decides C faults (Err fault) = IsFirst C faults fault
 
@@ -58,7 +61,8 @@ HasBadOther others = AllByRecursion (λ other. (header : Header) × IsOther head
 abbrev pub HasBadHeader : List (List ℕ) → Type 0
 HasBadHeader lines =
     (AllByRecursion IsSomeHeaderLine lines → ⊥)
-    ⊎ (((header : HeaderName) × HasBadValue header (values header lines)) ⊎ HasBadOther (others_of lines))
+    ⊎ (((header : HeaderName) × HasBadValue header (values header lines))
+    ⊎ HasBadOther (others_of lines))
 
 -- what a fault says of the lines
 abbrev pub HeaderCondition : List (List ℕ) → ReadFault → Type 0
@@ -67,7 +71,9 @@ HeaderCondition lines (fault.Missing header) = values header lines ≡ []
 HeaderCondition lines (fault.Repeated header) = 1 < length (values header lines)
 HeaderCondition lines other = ⊥
 
--- the faults in their order: the five headers that each message has, and the eight that stand at most once
+-- the faults in their order: the five headers that each message has, and the eight that stand at
+-- most once
 abbrev pub header_faults : List ReadFault
 header_faults =
-    fault.BadHeader ∷ (map fault.Missing (headers_where is_needed) ++ map fault.Repeated (headers_where is_single))
+    fault.BadHeader ∷ (map fault.Missing (headers_where is_needed)
+    ++ map fault.Repeated (headers_where is_single))

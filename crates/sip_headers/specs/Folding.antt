@@ -20,17 +20,20 @@ abbrev pub section_from : List (List ℕ) → Option Section
 section_from [] = None
 section_from (last ∷ []) = None
 section_from (part ∷ (next ∷ parts)) =
-    with_line_of (strip_carriage_return part) (join_with_byte 10 (next ∷ parts)) (section_from (next ∷ parts))
+    with_line_of (strip_carriage_return part) (join_with_byte 10 (next ∷ parts))
+    (section_from (next ∷ parts))
 
 -- the lines up to the first empty one; nothing where there is no empty line
 abbrev pub section_at : List ℕ → Option Section
 section_at text = section_from (slice_split (λ b. b == 10) text)
 
--- a line, and those that follow: one that begins with a space or tab goes on with the line before it
+-- a line, and those that follow: one that begins with a space or tab goes on with the line before
+-- it
 abbrev pub folded_onto : List ℕ → List (List ℕ) → List (List ℕ)
 folded_onto line [] = line ∷ []
 folded_onto line (next ∷ lines) =
-    if begins_blank next then folded_onto (joined line next) lines else line ∷ folded_onto next lines
+    if begins_blank next then folded_onto (joined line next) lines
+    else line ∷ folded_onto next lines
 
 abbrev pub whole_lines : List (List ℕ) → List (List ℕ)
 whole_lines [] = []

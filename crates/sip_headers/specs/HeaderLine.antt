@@ -26,7 +26,8 @@ IsHeaderLine parts line = OnCut (Byte 58) (Both NameText ValueText) Never parts 
 
 abbrev pub line_from : List ℕ → Option (List ℕ × List ℕ)
 line_from line =
-    on_cut (Byte 58) (both (reading_of (passing is_token) trimmed_end) (told trimmed (passing has_no_line_byte))) never line
+    on_cut (Byte 58) (both (reading_of (passing is_token) trimmed_end)
+    (told trimmed (passing has_no_line_byte))) never line
 
 -- ---- what it is
 

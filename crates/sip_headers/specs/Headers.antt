@@ -1,5 +1,6 @@
--- The headers of a message: what its header lines say together, where each value is in its header's form and none is missing
--- or stands too often (RFC 3261, sections 7.3 and 20). Words stand in the places of numbers.
+-- The headers of a message: what its header lines say together, where each value is in its header's
+-- form and none is missing or stands too often (RFC 3261, sections 7.3 and 20). Words stand in the
+-- places of numbers.
 use Rattle.std.specs.Prelude.{◌≡◌, ◌^◌, ℕ, IsTrue, List, [], ◌∷◌, Option, Some}
 use Rattle.std.specs.List.{AllZip, AllByRecursion}
 use Rattle.std.specs.Option.{option_to_list}
@@ -62,5 +63,6 @@ pub record AreHeaders (h : Headers) (lines : List (List ℕ)) : Type 0 where
   pub supported : Many AreTokens h.supported (values name.Supported lines)
   pub rseq : AtMostOne (IsNumeral (2 ^ 32)) h.rseq (values name.RSeq lines)
   pub rack : AtMostOne IsRAckText h.rack (values name.RAck lines)
-  pub content_length : AtMostOne (IsNumeral (2 ^ 32)) h.content_length (values name.ContentLength lines)
+  pub content_length : AtMostOne (IsNumeral (2 ^ 32)) h.content_length
+      (values name.ContentLength lines)
   pub others : AllZip IsOther h.others (others_of lines)

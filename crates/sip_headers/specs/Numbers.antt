@@ -17,7 +17,12 @@ use Rattle.sip_headers.specs.declared.headers.Numbers.{Numbers}
 -- ---- the headers of a message, with its numbers in their places
 
 abbrev pub via_draft : Via → ViaDraft
-via_draft via = record { transport = via.transport; host = via.host; port = option_map Number via.port; parameters = via.parameters }
+via_draft via = record {
+  transport = via.transport;
+  host = via.host;
+  port = option_map Number via.port;
+  parameters = via.parameters;
+}
 
 abbrev pub rack_draft : RAck → RAckDraft
 rack_draft rack = record { rseq = Number rack.rseq; cseq = Number rack.cseq; method = rack.method }
@@ -55,7 +60,8 @@ port_words vias = flat_map (λ via. option_to_list via.port) vias
 abbrev pub number_words : Headers → List Numeral
 number_words h =
     h.cseq.number ∷ (option_to_list h.max_forwards
-    ++ (option_to_list h.rseq ++ (flat_map rack_words (option_to_list h.rack) ++ option_to_list h.content_length)))
+    ++ (option_to_list h.rseq ++ (flat_map rack_words (option_to_list h.rack)
+    ++ option_to_list h.content_length)))
 
 abbrev pub is_number : Numeral → Bool
 is_number (Number n) = true
@@ -93,7 +99,13 @@ numbers_in h = do
   rseq ← known_if h.rseq
   rack ← known_rack h.rack
   content_length ← known_if h.content_length
-  Some (record { max_forwards = max_forwards; cseq = cseq; rseq = rseq; rack = rack; content_length = content_length })
+  Some (record {
+    max_forwards = max_forwards;
+    cseq = cseq;
+    rseq = rseq;
+    rack = rack;
+    content_length = content_length;
+  })
 
 abbrev pub known_port : Option Numeral → Option (Option ℕ)
 known_port None = Some None
@@ -101,12 +113,19 @@ known_port (Some word) = known word >>= λ n. if nat_lt 65535 n then None else S
 
 -- a Via value with its port
 abbrev pub via_with : ViaDraft → Option Via
-via_with via = known_port via.port >>= λ port. Some (record { transport = via.transport; host = via.host; port = port; parameters = via.parameters })
+via_with via = known_port via.port >>= λ port.
+    Some (record {
+      transport = via.transport;
+      host = via.host;
+      port = port;
+      parameters = via.parameters;
+    })
 
 -- ---- the message
 
 abbrev pub rack_with : Option RAckDraft → Option (ℕ × ℕ) → Option RAck
-rack_with (Some rack) (Some numbers) = Some (record { rseq = numbers.0; cseq = numbers.1; method = rack.method })
+rack_with (Some rack) (Some numbers) =
+    Some (record { rseq = numbers.0; cseq = numbers.1; method = rack.method })
 rack_with None numbers = None
 rack_with (Some rack) None = None
 

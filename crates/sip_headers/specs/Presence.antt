@@ -1,4 +1,5 @@
--- Headers that are missing, or stand in a message more often than they may (RFC 3261, sections 7.3.1 and 8.1.1).
+-- Headers that are missing, or stand in a message more often than they may (RFC 3261, sections
+-- 7.3.1 and 8.1.1).
 use Rattle.std.specs.Prelude.{Bool, true, false, ◌&&◌, ◌||◌, List, [], ◌∷◌, Option, Some, None, find, is_none}
 use Rattle.std.specs.List.{list_any}
 use Rattle.sip_parts.specs.HeaderEntry.{entry, headers, is_needed}
@@ -51,11 +52,13 @@ is_unfit presence = false
 
 -- a line is no header line, or a value isn't in its header's form
 abbrev pub has_bad_header : Draft → Bool
-has_bad_header d = d.is_bad || is_none d.others || list_any (λ header. is_unfit (presence_of d header)) headers
+has_bad_header d =
+    d.is_bad || is_none d.others || list_any (λ header. is_unfit (presence_of d header)) headers
 
 -- the first header of the table that each message has and that isn't there
 abbrev pub missing : Draft → Option HeaderName
-missing d = find (λ header. is_needed (entry header).kind && is_nowhere (presence_of d header)) headers
+missing d = find (λ header. is_needed (entry header).kind && is_nowhere (presence_of d header))
+    headers
 
 -- the first header of the table that is there twice and may not be
 abbrev pub repeated : Draft → Option HeaderName

@@ -1,4 +1,5 @@
--- What the header lines of a message say together (RFC 3261, section 7.3): the values of each header, in order.
+-- What the header lines of a message say together (RFC 3261, section 7.3): the values of each
+-- header, in order.
 use Rattle.std.specs.Prelude.{◌≡◌, ◌^◌, ℕ, Bool, true, false, List, [], ◌∷◌, Option, find, length, nat_lt, ◌&&◌, if◌then◌else◌}
 use Rattle.sip_parts.specs.HeaderEntry.{entry, headers, is_needed, is_single}
 use Rattle.sip_parts.specs.declared.header_name.HeaderName.{HeaderName}
@@ -31,7 +32,8 @@ is_same one another = false
 -- the line's value before those that follow, where the line is of this header
 abbrev pub before_values : HeaderName → Class → List (List ℕ) → List (List ℕ)
 before_values header bad values = values
-before_values header (known named value) values = if is_same header named then value ∷ values else values
+before_values header (known named value) values =
+    if is_same header named then value ∷ values else values
 before_values header (other name value) values = values
 
 -- the values of a header, in the order of its lines
@@ -63,11 +65,13 @@ has_bad_line (line ∷ lines) = is_bad_class (class_from line) (has_bad_line lin
 
 -- the first header of the table that each message has and that has no value
 abbrev pub missing_in : List (List ℕ) → Option HeaderName
-missing_in lines = find (λ header. is_needed (entry header).kind && has_no_values (values header lines)) headers
+missing_in lines =
+    find (λ header. is_needed (entry header).kind && has_no_values (values header lines)) headers
 
 -- the first header of the table that has two values and may have one
 abbrev pub repeated_in : List (List ℕ) → Option HeaderName
-repeated_in lines = find (λ header. is_single (entry header).kind && nat_lt 1 (length (values header lines))) headers
+repeated_in lines = find (λ header. is_single (entry header).kind
+    && nat_lt 1 (length (values header lines))) headers
 
 -- The draft says of each header what its values are.
 pub record IsDraftOf (d : Draft) (lines : List (List ℕ)) : Type 0 where
@@ -85,4 +89,5 @@ pub record IsDraftOf (d : Draft) (lines : List (List ℕ)) : Type 0 where
   pub supported : IsList AreTokens d.supported (values name.Supported lines)
   pub rseq : IsSlot (IsNumeral (2 ^ 32)) d.rseq (values name.RSeq lines)
   pub rack : IsSlot IsRAckText d.rack (values name.RAck lines)
-  pub content_length : IsSlot (IsNumeral (2 ^ 32)) d.content_length (values name.ContentLength lines)
+  pub content_length : IsSlot (IsNumeral (2 ^ 32)) d.content_length
+      (values name.ContentLength lines)

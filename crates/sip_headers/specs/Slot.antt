@@ -21,7 +21,8 @@ listed (Some xs) (Some ys) = Some (xs ++ ys)
 abbrev pub slot_from : {X : Type 0} → (List ℕ → Option X) → Slot X → List (List ℕ) → Slot X
 slot_from f slot values = fold (λ s value. met s (f value)) slot values
 
-abbrev pub list_from : {X : Type 0} → (List ℕ → Option (List X)) → Option (List X) → List (List ℕ) → Option (List X)
+abbrev pub list_from : {X : Type 0} → (List ℕ → Option (List X)) → Option (List X) → List (List ℕ)
+    → Option (List X)
 list_from f list values = fold (λ s value. listed s (f value)) list values
 
 -- ---- what a slot says of the values of a header
@@ -37,6 +38,8 @@ IsSlot {X = X} P Twice values = (xs : List X) × AllZip P xs values × (2 ≤ le
 IsSlot P Bad values = HasBad P values
 
 -- several lines are one list, in order
-abbrev pub IsList : {X : Type 0} → (List X → List ℕ → Type 0) → Option (List X) → List (List ℕ) → Type 0
+abbrev pub IsList : {X : Type 0} → (List X → List ℕ → Type 0) → Option (List X) → List (List ℕ)
+    → Type 0
 IsList P None values = HasBad P values
-IsList {X = X} P (Some xs) values = (lists : List (List X)) × AllZip P lists values × (xs ≡ flat_map (λ list. list) lists)
+IsList {X = X} P (Some xs) values =
+    (lists : List (List X)) × AllZip P lists values × (xs ≡ flat_map (λ list. list) lists)

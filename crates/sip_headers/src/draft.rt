@@ -149,8 +149,8 @@ impl Draft {
     ///
     /// # Errors
     ///
-    /// BadHeader where a line is no header line, or a value isn't in its header's form; Missing for the first header that
-    /// isn't there; Repeated for the first that is there twice.
+    /// BadHeader where a line is no header line, or a value isn't in its header's form; Missing for
+    /// the first header that isn't there; Repeated for the first that is there twice.
     pub fn into_headers(self) -> Result<Headers, ReadFault>
         ensures { result ≡ complete.headers_of self }
     {

@@ -26,10 +26,13 @@ pub fn what_is_repeated()
         presence.repeated (draft_of lines) ≡ repeated_in lines }
 {}
 
-/// The headers of a draft to which the lines were added are those of the lines; and where there are none, the fault is the
-/// first whose condition holds.
+/// The headers of a draft to which the lines were added are those of the lines; and where there are
+/// none, the fault is the first whose condition holds.
 pub fn what_headers_are()
-    ensures found { (lines : List (List ℕ)) (h : Headers) → headers_of (draft_of lines) ≡ Ok h → AreHeaders h lines }
-    ensures only { (lines : List (List ℕ)) (h : Headers) → AreHeaders h lines → headers_of (draft_of lines) ≡ Ok h }
-    ensures fault { (lines : List (List ℕ)) → Decides (HeaderCondition lines) header_faults (headers_of (draft_of lines)) }
+    ensures found { (lines : List (List ℕ)) (h : Headers) → headers_of (draft_of lines) ≡ Ok h
+        → AreHeaders h lines }
+    ensures only { (lines : List (List ℕ)) (h : Headers) → AreHeaders h lines
+        → headers_of (draft_of lines) ≡ Ok h }
+    ensures fault { (lines : List (List ℕ))
+        → Decides (HeaderCondition lines) header_faults (headers_of (draft_of lines)) }
 {}

@@ -36,22 +36,30 @@ digit_value_byte b h = ap not (none_of is_ascii_digit (codes " \t\r\n;,<>\"") b 
 
 number_word : (n : ℕ) → n < 256 → list_all is_value_byte (decimal n) ≡ true
 number_word n lt =
-    all_weaker is_ascii_digit is_value_byte digit_value_byte (decimal n) (all_digits-decimal n (omega arith))
+    all_weaker is_ascii_digit is_value_byte digit_value_byte (decimal n)
+    (all_digits-decimal n (omega arith))
 
-both_words : (xs ys : List ℕ) → list_all is_value_byte xs ≡ true → list_all is_value_byte ys ≡ true → list_all is_value_byte (xs ++ ys) ≡ true
+both_words : (xs ys : List ℕ) → list_all is_value_byte xs ≡ true → list_all is_value_byte ys ≡ true
+    → list_all is_value_byte (xs ++ ys) ≡ true
 both_words xs ys p q = list_all-append is_value_byte xs ys ∙ both_true _ _ p q
 
 dot_word : list_all is_value_byte (codes ".") ≡ true
 unfolding is_value_byte
 dot_word = refl
 
-pub run_from_all : (test : ℕ → Bool) (text : List ℕ) → 0 < length text → list_all test text ≡ true → is_run test text ≡ true
+pub run_from_all : (test : ℕ → Bool) (text : List ℕ) → 0 < length text → list_all test text ≡ true
+    → is_run test text ≡ true
 run_from_all test [] some all = absurd (omega arith)
 run_from_all test (b ∷ bs) some all = all
 
-words_of : (a b c d : List ℕ) → list_all is_value_byte a ≡ true → list_all is_value_byte b ≡ true → list_all is_value_byte c ≡ true → list_all is_value_byte d ≡ true → list_all is_value_byte (((((a ++ codes ".") ++ b) ++ codes ".") ++ c) ++ codes "." ++ d) ≡ true
+words_of : (a b c d : List ℕ) → list_all is_value_byte a ≡ true → list_all is_value_byte b ≡ true
+    → list_all is_value_byte c ≡ true → list_all is_value_byte d ≡ true
+    → list_all is_value_byte (((((a ++ codes ".") ++ b) ++ codes ".") ++ c) ++ codes "." ++ d)
+    ≡ true
 words_of a b c d p q r s =
-    both_words _ d (both_words _ (codes ".") (both_words _ c (both_words _ (codes ".") (both_words _ b (both_words a (codes ".") p dot_word) q) dot_word) r) dot_word) s
+    both_words _ d (both_words _ (codes ".")
+    (both_words _ c (both_words _ (codes ".")
+    (both_words _ b (both_words a (codes ".") p dot_word) q) dot_word) r) dot_word) s
 
 more : (xs ys : List ℕ) → 0 < length xs → 0 < length (xs ++ ys)
 more [] ys some = absurd (omega arith)
@@ -59,17 +67,27 @@ more (b ∷ bs) ys some = omega arith
 
 longer : (ip : List ℕ) → 0 < length (decimal (slice_index ip 0)) → 0 < length (ip_text ip)
 longer ip some =
-    more _ _ (more _ _ (more _ _ (more _ _ (more _ _ (more (decimal (slice_index ip 0)) (codes ".") some)))))
+    more _ _ (more _ _ (more _ _ (more _ _
+    (more _ _ (more (decimal (slice_index ip 0)) (codes ".") some)))))
 
-pub ip_is_value : (ip : List ℕ) → slice_index ip 0 < 256 → slice_index ip 1 < 256 → slice_index ip 2 < 256 → slice_index ip 3 < 256 → IsTrue (is_parameter_value (ip_text ip))
+pub ip_is_value : (ip : List ℕ) → slice_index ip 0 < 256 → slice_index ip 1 < 256
+    → slice_index ip 2 < 256 → slice_index ip 3 < 256 → IsTrue (is_parameter_value (ip_text ip))
 unfolding is_parameter_value is_value_word
 ip_is_value ip p q r s =
     let some = decimal_nonempty (slice_index ip 0) (omega arith) in
-    or_right (is_quoted (ip_text ip)) _ (run_from_all is_value_byte (ip_text ip) (longer ip some) (words_of (decimal (slice_index ip 0)) (decimal (slice_index ip 1)) (decimal (slice_index ip 2)) (decimal (slice_index ip 3)) (number_word _ p) (number_word _ q) (number_word _ r) (number_word _ s)))
+    or_right (is_quoted (ip_text ip)) _
+    (run_from_all is_value_byte (ip_text ip) (longer ip some)
+    (words_of (decimal (slice_index ip 0)) (decimal (slice_index ip 1))
+    (decimal (slice_index ip 2)) (decimal (slice_index ip 3)) (number_word _ p)
+    (number_word _ q) (number_word _ r) (number_word _ s)))
 
 -- no name is both
-not_both : (name a b : List ℕ) → (str_to_ascii_lowercase a ≡ str_to_ascii_lowercase b → ⊥) → str_eq_ignore_ascii_case name a ≡ true → str_eq_ignore_ascii_case name b ≡ false
-not_both name a b differ is = not_true _ (λ other. differ (sym ((bytes_eq-Decides (str_to_ascii_lowercase name) (str_to_ascii_lowercase a)).0 is) ∙ (bytes_eq-Decides (str_to_ascii_lowercase name) (str_to_ascii_lowercase b)).0 other))
+not_both : (name a b : List ℕ) → (str_to_ascii_lowercase a ≡ str_to_ascii_lowercase b → ⊥)
+    → str_eq_ignore_ascii_case name a ≡ true → str_eq_ignore_ascii_case name b ≡ false
+not_both name a b differ is = not_true _
+    (λ other. differ (sym ((bytes_eq-Decides (str_to_ascii_lowercase name)
+    (str_to_ascii_lowercase a)).0 is)
+    ∙ (bytes_eq-Decides (str_to_ascii_lowercase name) (str_to_ascii_lowercase b)).0 other))
   where
     not_true : (r : Bool) → (r ≡ true → ⊥) → r ≡ false
     not_true true h = absurd (h refl)
@@ -88,57 +106,86 @@ received_name = record { differ = λ e. absurd cc }
 pub port_name : IsOtherName (codes "rport")
 port_name = record { differ = λ e. absurd cc }
 
-found_here : (name : List ℕ) → IsOtherName name → (p : Parameter) (text : List ℕ) (ps : List Parameter) → str_eq_ignore_ascii_case p.name name ≡ true → value_named branch ((record { name = p.name; value = Some text }) ∷ ps) ≡ value_named branch (p ∷ ps)
+found_here : (name : List ℕ) → IsOtherName name
+    → (p : Parameter) (text : List ℕ) (ps : List Parameter)
+    → str_eq_ignore_ascii_case p.name name ≡ true
+    → value_named branch ((record { name = p.name; value = Some text }) ∷ ps)
+    ≡ value_named branch (p ∷ ps)
 unfolding value_named
 found_here name other p text ps is =
     let no_branch = not_both p.name name branch other.differ is in
     rw (no_branch) refl
 
-further : (p : Parameter) (others ps : List Parameter) → value_named branch others ≡ value_named branch ps → value_named branch (p ∷ others) ≡ value_named branch (p ∷ ps)
+further : (p : Parameter) (others ps : List Parameter)
+    → value_named branch others ≡ value_named branch ps
+    → value_named branch (p ∷ others) ≡ value_named branch (p ∷ ps)
 unfolding value_named
 further p others ps same = by (str_eq_ignore_ascii_case p.name branch)
   where
-    by : (r : Bool) → value_or_nothing (cond r (Some p) (parameter_named branch others)) ≡ value_or_nothing (cond r (Some p) (parameter_named branch ps))
+    by : (r : Bool) → value_or_nothing (cond r (Some p) (parameter_named branch others))
+        ≡ value_or_nothing (cond r (Some p) (parameter_named branch ps))
     by true = refl
     by false = same
 
-chosen : (name : List ℕ) → IsOtherName name → (p : Parameter) (text : List ℕ) (ps : List Parameter) (r : Bool) → str_eq_ignore_ascii_case p.name name ≡ r → value_named branch (with_value name text ps) ≡ value_named branch ps → value_named branch (cond r ((record { name = p.name; value = Some text }) ∷ ps) (p ∷ with_value name text ps)) ≡ value_named branch (p ∷ ps)
+chosen : (name : List ℕ) → IsOtherName name
+    → (p : Parameter) (text : List ℕ) (ps : List Parameter) (r : Bool)
+    → str_eq_ignore_ascii_case p.name name ≡ r
+    → value_named branch (with_value name text ps) ≡ value_named branch ps
+    → value_named branch (cond r ((record { name = p.name; value = Some text }) ∷ ps)
+    (p ∷ with_value name text ps)) ≡ value_named branch (p ∷ ps)
 chosen name other p text ps true is same = found_here name other p text ps is
 chosen name other p text ps false is same = further p (with_value name text ps) ps same
 
-nothing_by : (name text : List ℕ) (r : Bool) → str_eq_ignore_ascii_case name branch ≡ r → (r ≡ true → ⊥) → value_or_nothing (cond r (Some (record { name = name; value = Some text })) None) ≡ []
+nothing_by : (name text : List ℕ) (r : Bool) → str_eq_ignore_ascii_case name branch ≡ r
+    → (r ≡ true → ⊥) → value_or_nothing
+    (cond r (Some (record { name = name; value = Some text })) None) ≡ []
 nothing_by name text true is differ = absurd (differ refl)
 nothing_by name text false is differ = refl
 
-nothing_there : (name : List ℕ) → IsOtherName name → (text : List ℕ) → value_named branch (with_value name text []) ≡ value_named branch []
+nothing_there : (name : List ℕ) → IsOtherName name → (text : List ℕ)
+    → value_named branch (with_value name text []) ≡ value_named branch []
 unfolding value_named
 nothing_there name other text =
-    nothing_by name text (str_eq_ignore_ascii_case name branch) refl (λ e. other.differ ((bytes_eq-Decides (str_to_ascii_lowercase name) (str_to_ascii_lowercase branch)).0 e))
+    nothing_by name text (str_eq_ignore_ascii_case name branch) refl
+    (λ e. other.differ ((bytes_eq-Decides (str_to_ascii_lowercase name)
+    (str_to_ascii_lowercase branch)).0 e))
 
-pub branch_stays : (name : List ℕ) → IsOtherName name → (text : List ℕ) (parameters : List Parameter) → value_named branch (with_value name text parameters) ≡ value_named branch parameters
+pub branch_stays : (name : List ℕ) → IsOtherName name
+    → (text : List ℕ) (parameters : List Parameter)
+    → value_named branch (with_value name text parameters) ≡ value_named branch parameters
 branch_stays name other text [] = nothing_there name other text
 branch_stays name other text (p ∷ ps) =
-    chosen name other p text ps (str_eq_ignore_ascii_case p.name name) refl (branch_stays name other text ps)
+    chosen name other p text ps (str_eq_ignore_ascii_case p.name name) refl
+    (branch_stays name other text ps)
 
-branch_by : (source : Addr) (via : Via) (r s : Bool) → value_named branch (cond r (with_received source (with_port source via.parameters)) (cond s via.parameters (with_received source via.parameters))) ≡ value_named branch via.parameters
+branch_by : (source : Addr) (via : Via) (r s : Bool)
+    → value_named branch (cond r (with_received source (with_port source via.parameters))
+    (cond s via.parameters (with_received source via.parameters)))
+    ≡ value_named branch via.parameters
 branch_by source via true s =
-    branch_stays (codes "received") received_name (ip_text source.ip) (with_port source via.parameters)
+    branch_stays (codes "received") received_name (ip_text source.ip)
+    (with_port source via.parameters)
     ∙ branch_stays (codes "rport") port_name (decimal source.port) via.parameters
 branch_by source via false true = refl
-branch_by source via false false = branch_stays (codes "received") received_name (ip_text source.ip) via.parameters
+branch_by source via false false =
+    branch_stays (codes "received") received_name (ip_text source.ip) via.parameters
 
 branch_kept : (source : Addr) (via : Via) → branch_of (stamped_via source via) ≡ branch_of via
 unfolding stamped_parameters
-branch_kept source via = branch_by source via (asks_port via) (bytes_eq via.host (ip_text source.ip))
+branch_kept source via =
+    branch_by source via (asks_port via) (bytes_eq via.host (ip_text source.ip))
 
 -- other parameters with the same branch
-pub kept_top : (vias : List Via) (parameters : List Parameter) → value_named branch parameters ≡ first_branch vias → IsTrue (are_vias vias) → IsTrue (are_vias (with_top_parameters vias parameters))
+pub kept_top : (vias : List Via) (parameters : List Parameter)
+    → value_named branch parameters ≡ first_branch vias → IsTrue (are_vias vias)
+    → IsTrue (are_vias (with_top_parameters vias parameters))
 unfolding are_vias
 kept_top [] parameters same h = h
 kept_top (via ∷ vias) parameters same h = ap has_cookie same ∙ h
 
 -- a stamp leaves the branch
-pub stamp_leaves : (source : Addr) (vias : List Via) (via : Via) → slice_get vias 0 ≡ Some via → value_named branch (stamped_parameters source via) ≡ first_branch vias
+pub stamp_leaves : (source : Addr) (vias : List Via) (via : Via) → slice_get vias 0 ≡ Some via
+    → value_named branch (stamped_parameters source via) ≡ first_branch vias
 stamp_leaves source [] via e = absurd cc
 stamp_leaves source (first ∷ vias) via e =
     branch_kept source via ∙ ap branch_of (sym (same_Some first via e))
@@ -147,4 +194,7 @@ stamp_leaves source (first ∷ vias) via e =
 pub port_is_value : (n : ℕ) → n < 2 ^ 16 → IsTrue (is_parameter_value (decimal n))
 unfolding is_parameter_value is_value_word
 port_is_value n lt =
-    or_right (is_quoted (decimal n)) _ (run_from_all is_value_byte (decimal n) (decimal_nonempty n (omega arith)) (all_weaker is_ascii_digit is_value_byte digit_value_byte (decimal n) (all_digits-decimal n (omega arith))))
+    or_right (is_quoted (decimal n)) _
+    (run_from_all is_value_byte (decimal n) (decimal_nonempty n (omega arith))
+    (all_weaker is_ascii_digit is_value_byte digit_value_byte (decimal n)
+    (all_digits-decimal n (omega arith))))

@@ -15,7 +15,9 @@ client_key branch method = Client (str_to_ascii_lowercase branch) method
 
 -- the key of a server transaction: the branch and the host in lower case, the port, and the method
 abbrev pub server_key : List ℕ → List ℕ → ℕ → List ℕ → Key
-server_key branch host port method = Server (str_to_ascii_lowercase branch) (record { host = str_to_ascii_lowercase host; port = port }) method
+server_key branch host port method =
+    Server (str_to_ascii_lowercase branch)
+    (record { host = str_to_ascii_lowercase host; port = port }) method
 
 -- client keys come first
 abbrev pub side_of : Key → ℕ
@@ -41,8 +43,12 @@ method_in (Server branch sent_by method) = method
 -- by side, branch, host, port and method
 abbrev pub key_cmp : Key → Key → Ordering
 key_cmp =
-    then_cmp (then_cmp (then_cmp (then_cmp (on side_of nat_cmp) (on branch_in (slice_cmp nat_cmp))) (on host_in (slice_cmp nat_cmp))) (on port_in nat_cmp)) (on method_in (slice_cmp nat_cmp))
+    then_cmp (then_cmp (then_cmp (then_cmp (on side_of nat_cmp) (on branch_in (slice_cmp nat_cmp)))
+    (on host_in (slice_cmp nat_cmp))) (on port_in nat_cmp)) (on method_in (slice_cmp nat_cmp))
 
 pub keys_total : IsTotalOrder key_cmp
 keys_total =
-    then_total (then_total (then_total (then_total (on_total side_of nat_cmp_total) (on_total branch_in nat_list_cmp_total)) (on_total host_in nat_list_cmp_total)) (on_total port_in nat_cmp_total)) (on_total method_in nat_list_cmp_total)
+    then_total (then_total (then_total
+    (then_total (on_total side_of nat_cmp_total) (on_total branch_in nat_list_cmp_total))
+    (on_total host_in nat_list_cmp_total)) (on_total port_in nat_cmp_total))
+    (on_total method_in nat_list_cmp_total)

@@ -24,10 +24,14 @@ content_type = record { name = codes "Content-Type"; value = codes "application/
 -- the message with this body and its type; an empty body changes nothing
 unfoldable pub with_body_of : Message → List ℕ → Message
 with_body_of message [] = message
-with_body_of message (b ∷ bs) = record message { others = message.others ++ content_type ∷ []; body = b ∷ bs }
+with_body_of message (b ∷ bs) =
+    record message { others = message.others ++ content_type ∷ []; body = b ∷ bs }
 
 -- a message of its parts
-unfoldable pub assembled : (StartLine × List Via × Party × Party) → (List NameAddr × List NameAddr × List NameAddr) → (List (List ℕ) × List (List ℕ) × Option RAck × List Header) → (List ℕ × CSeq × List ℕ) → (Option ℕ × Option ℕ) → Message
+unfoldable pub assembled : (StartLine × List Via × Party × Party)
+    → (List NameAddr × List NameAddr × List NameAddr)
+    → (List (List ℕ) × List (List ℕ) × Option RAck × List Header) → (List ℕ × CSeq × List ℕ)
+    → (Option ℕ × Option ℕ) → Message
 assembled who routing extensions content numbers = record {
   start = who.0;
   vias = who.1;

@@ -13,9 +13,11 @@ unfoldable pub transaction_method : List ℕ → List ℕ
 transaction_method method = if bytes_eq method (codes "ACK") then codes "INVITE" else method
 
 abbrev pub key_at : StartLine → List ℕ → List ℕ → ℕ → List ℕ → Key
-key_at (Request uri) branch host port method = server_key branch host port (transaction_method method)
+key_at (Request uri) branch host port method =
+    server_key branch host port (transaction_method method)
 key_at (Response status reason) branch host port method = client_key branch method
 
--- A response: its top branch and the method of its CSeq. A request: its top branch and sent-by, and its method.
+-- A response: its top branch and the method of its CSeq. A request: its top branch and sent-by, and
+-- its method.
 unfoldable pub key_of_message : Message → Key
 key_of_message m = key_at m.start (top_branch m) (top_host m) (top_port m) m.cseq.method

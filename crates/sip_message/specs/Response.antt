@@ -18,7 +18,8 @@ is_tagged party = is_some (parameter_named (codes "tag") party.parameters)
 
 -- the party with this tag as its last parameter, where it had none
 unfoldable pub tagged : Party → List ℕ → Party
-tagged party tag = if is_tagged party then party else record party { parameters = party.parameters ++ tag_parameter tag ∷ [] }
+tagged party tag = if is_tagged party then party
+    else record party { parameters = party.parameters ++ tag_parameter tag ∷ [] }
 
 -- the To of a response; a 100 gets no tag
 abbrev pub answering_to : Party → ℕ → List ℕ → Party
@@ -48,4 +49,5 @@ bare start vias from to call_id cseq = record {
 -- Via, From, To, Call-ID and CSeq of the request, with a tag in To, and nothing else
 abbrev pub response_of : Message → ℕ → List ℕ → List ℕ → Message
 response_of request status reason tag =
-    bare (Response status reason) request.vias request.from (answering_to request.to status tag) request.call_id request.cseq
+    bare (Response status reason) request.vias request.from
+    (answering_to request.to status tag) request.call_id request.cseq

@@ -1,4 +1,5 @@
--- The source of a request (RFC 3261, section 18.2.1; RFC 3581, sections 3 and 4), and the address that the answer goes to.
+-- The source of a request (RFC 3261, section 18.2.1; RFC 3581, sections 3 and 4), and the address
+-- that the answer goes to.
 use Rattle.std.specs.Prelude.{ℕ, Bool, false, List, [], ◌∷◌, Option, Some, None, codes, decimal, is_none, if◌then◌else◌}
 use Rattle.std.specs.Option.{option_map_or}
 use Rattle.std.specs.Str.{bytes_eq, str_eq_ignore_ascii_case}
@@ -23,7 +24,8 @@ abbrev pub is_open : Option Parameter → Bool
 is_open None = false
 is_open (Some p) = is_none p.value
 
--- who sent it asks for the port that it came from: the first `rport` has no value (RFC 3581, section 3)
+-- who sent it asks for the port that it came from: the first `rport` has no value (RFC 3581,
+-- section 3)
 abbrev pub asks_port : Via → Bool
 asks_port via = is_open (parameter_named (codes "rport") via.parameters)
 
@@ -33,12 +35,13 @@ with_received source parameters = with_value (codes "received") (ip_text source.
 abbrev pub with_port : Addr → List Parameter → List Parameter
 with_port source parameters = with_value (codes "rport") (decimal source.port) parameters
 
--- The parameters of a Via with the source that its message came from (RFC 3581, section 4): its port where it was asked for, and
--- its IP address then or where the Via names another host.
+-- The parameters of a Via with the source that its message came from (RFC 3581, section 4): its
+-- port where it was asked for, and its IP address then or where the Via names another host.
 unfoldable pub stamped_parameters : Addr → Via → List Parameter
 stamped_parameters source via =
     if asks_port via then with_received source (with_port source via.parameters)
-    else (if bytes_eq via.host (ip_text source.ip) then via.parameters else with_received source via.parameters)
+    else (if bytes_eq via.host (ip_text source.ip) then via.parameters
+    else with_received source via.parameters)
 
 abbrev pub stamped_via : Addr → Via → Via
 stamped_via source via = record via { parameters = stamped_parameters source via }
@@ -53,8 +56,10 @@ unfoldable pub stamped : Message → Addr → Message
 stamped message source = record message { vias = stamped_vias source message.vias }
 
 abbrev pub answered_at : Addr → Via → Addr
-answered_at source via = if asks_port via then source else record { ip = source.ip; port = port_of via }
+answered_at source via =
+    if asks_port via then source else record { ip = source.ip; port = port_of via }
 
--- Where the answer goes: to the source where its port was asked for, otherwise to the source IP and the port of the sent-by.
+-- Where the answer goes: to the source where its port was asked for, otherwise to the source IP and
+-- the port of the sent-by.
 unfoldable pub answer_address : Message → Addr → Addr
 answer_address message source = option_map_or (answered_at source) (top_via message) source

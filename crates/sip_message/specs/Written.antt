@@ -33,7 +33,8 @@ port_text (Some port) = codes ":" ++ decimal port
 
 -- `SIP/2.0/` transport, a space, host, port and parameters
 unfoldable pub via_text : Via → List ℕ
-via_text via = codes "SIP/2.0/" ++ via.transport ++ codes " " ++ via.host ++ port_text via.port ++ parameters_text via.parameters
+via_text via = codes "SIP/2.0/" ++ via.transport ++ codes " " ++ via.host ++ port_text via.port
+    ++ parameters_text via.parameters
 
 abbrev pub display_part : List ℕ → List ℕ
 display_part [] = []
@@ -41,7 +42,8 @@ display_part (b ∷ bs) = (b ∷ bs) ++ codes " "
 
 -- the display text and a space where it isn't empty, then `<URI>`, then the parameters
 unfoldable pub address_text : List ℕ → List ℕ → List Parameter → List ℕ
-address_text display uri parameters = display_part display ++ codes "<" ++ uri ++ codes ">" ++ parameters_text parameters
+address_text display uri parameters =
+    display_part display ++ codes "<" ++ uri ++ codes ">" ++ parameters_text parameters
 
 abbrev pub via_line : Via → List ℕ
 via_line via = header_line (codes "Via") (via_text via)
@@ -50,7 +52,8 @@ abbrev pub party_line : List ℕ → Party → List ℕ
 party_line name party = header_line name (address_text party.display party.uri party.parameters)
 
 abbrev pub address_line : List ℕ → NameAddr → List ℕ
-address_line name address = header_line name (address_text address.display address.uri address.parameters)
+address_line name address =
+    header_line name (address_text address.display address.uri address.parameters)
 
 -- a number's line, where there is a number
 abbrev pub number_line : List ℕ → Option ℕ → List ℕ
@@ -82,11 +85,13 @@ other_line header = header_line header.name header.value
 -- `Method SP Request-URI SP SIP/2.0` or `SIP/2.0 SP code SP reason`
 unfoldable pub start_text : StartLine → List ℕ → List ℕ
 start_text (Request uri) method = method ++ codes " " ++ uri ++ codes " SIP/2.0\r\n"
-start_text (Response status reason) method = codes "SIP/2.0 " ++ decimal status ++ codes " " ++ reason ++ codes "\r\n"
+start_text (Response status reason) method =
+    codes "SIP/2.0 " ++ decimal status ++ codes " " ++ reason ++ codes "\r\n"
 
 -- the start line, the Via lines, and Max-Forwards
 unfoldable pub head_text : Message → List ℕ
-head_text m = start_text m.start m.cseq.method ++ flat_map via_line m.vias ++ number_line (codes "Max-Forwards") m.max_forwards
+head_text m = start_text m.start m.cseq.method ++ flat_map via_line m.vias
+    ++ number_line (codes "Max-Forwards") m.max_forwards
 
 -- From, To, Call-ID and CSeq
 unfoldable pub identity_text : Message → List ℕ
@@ -110,7 +115,8 @@ extensions_text m =
 -- the other headers, Content-Length, an empty line and the body
 unfoldable pub content_text : Message → List ℕ
 content_text m =
-    flat_map other_line m.others ++ header_line (codes "Content-Length") (decimal (length m.body)) ++ codes "\r\n" ++ m.body
+    flat_map other_line m.others ++ header_line (codes "Content-Length") (decimal (length m.body))
+    ++ codes "\r\n" ++ m.body
 
 unfoldable pub written : Message → List ℕ
 written m = head_text m ++ identity_text m ++ routes_text m ++ extensions_text m ++ content_text m

@@ -15,7 +15,8 @@ pub trait Cut {
         ensures { result ≡ shard_of self.now name.now shards };
 
     /// There is such a shard.
-    ghost within: { (self : Self) (name : List ℕ) (shards : ℕ) → 0 < shards → shard_of self name shards < shards };
+    ghost within: { (self : Self) (name : List ℕ) (shards : ℕ) → 0 < shards
+        → shard_of self name shards < shards };
 }
 
 /// Cuts by the sum of the bytes, modulo the number of shards.

@@ -6,8 +6,8 @@ use sip_parts::HeaderName;
 use std::alloc::{AllocError, AllocFailed};
 use std::fmt;
 
-/// What is wrong with a text. The fault is the first of these whose condition holds; NoMemory may stand in place of the
-/// fault that would have followed.
+/// What is wrong with a text. The fault is the first of these whose condition holds; NoMemory may
+/// stand in place of the fault that would have followed.
 #[derive(Clone, Copy, Debug, PartialEq, Eq)]
 pub enum ReadFault {
     /// It has more than 65,535 bytes.

@@ -19,7 +19,8 @@ pub enum Key {
         branch: LowerText,
         method: Token,
     },
-    /// A server's: the top branch and sent-by of the request, and its method; that of an ACK is INVITE.
+    /// A server's: the top branch and sent-by of the request, and its method; that of an ACK is
+    /// INVITE.
     Server {
         branch: LowerText,
         sent_by: SentBy,

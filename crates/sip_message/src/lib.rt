@@ -1,4 +1,5 @@
-//! SIP messages: their types, their writing, responses, the stamp of their source, and the keys of their transactions.
+//! SIP messages: their types, their writing, responses, the stamp of their source, and the keys of
+//! their transactions.
 #![tactic(auto)]
 
 mod ack;

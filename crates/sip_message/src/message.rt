@@ -52,8 +52,8 @@ impl Message {
         &self.cseq.method
     }
 
-    /// The message with this body, and after its other headers `Content-Type: application/sdp`. An empty body leaves
-    /// the message as it is.
+    /// The message with this body, and after its other headers `Content-Type: application/sdp`. An
+    /// empty body leaves the message as it is.
     #[tactic(auto, unfolding(crate::specs::Message::with_body_of))]
     pub fn with_body(mut self, alloc: Global, body: Text) -> Result<Message, AllocError>
         ensures { IfOk result (λ made. made ≡ with_body_of self body) }
@@ -166,7 +166,12 @@ fn assembled(
 
 impl Message {
     fn addressing(&self) -> Result<Addressing, AllocError>
-        ensures { IfOk result (λ c. c ≡ (self.now.start, self.now.vias, self.now.from, self.now.to)) }
+        ensures { IfOk result (λ c. c ≡ (
+          self.now.start,
+          self.now.vias,
+          self.now.from,
+          self.now.to,
+        )) }
     {
         Ok((
             self.start.clone()?,
@@ -177,7 +182,11 @@ impl Message {
     }
 
     fn routing(&self) -> Result<(Series<NameAddr>, Series<NameAddr>, Series<NameAddr>), AllocError>
-        ensures { IfOk result (λ c. c ≡ (self.now.contacts, self.now.record_routes, self.now.routes)) }
+        ensures { IfOk result (λ c. c ≡ (
+          self.now.contacts,
+          self.now.record_routes,
+          self.now.routes,
+        )) }
     {
         Ok((
             self.contacts.clone()?,
@@ -197,7 +206,12 @@ impl Message {
     }
 
     fn extensions(&self) -> Result<Extensions, AllocError>
-        ensures { IfOk result (λ c. c ≡ (self.now.require, self.now.supported, self.now.rack, self.now.others)) }
+        ensures { IfOk result (λ c. c ≡ (
+          self.now.require,
+          self.now.supported,
+          self.now.rack,
+          self.now.others,
+        )) }
     {
         Ok((
             self.require.clone()?,

@@ -15,8 +15,8 @@ use sip_parts::{
 use sip_text::{Series, Text};
 use std::alloc::{AllocError, Global};
 
-/// The response to the request: its Via, From, To, Call-ID and CSeq, no other header and no body. To gets the tag as its
-/// last parameter where it has none and the status isn't 100.
+/// The response to the request: its Via, From, To, Call-ID and CSeq, no other header and no body.
+/// To gets the tag as its last parameter where it has none and the status isn't 100.
 #[tactic(auto, unfolding(crate::specs::Response::response_of))]
 pub fn response_to(
     alloc: Global,

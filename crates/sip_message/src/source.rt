@@ -12,14 +12,16 @@ use sip_parts::{Parameter, ParameterValue, Token, parameter_named};
 use sip_text::{Series, Text, decimal, token_eq};
 use std::alloc::{AllocError, Global};
 
-/// Notes the source in the top Via, and gives the address that the answer goes to. Where the first `rport` has no value, it gets the
-/// source port, `received` the source IP, and the answer goes to the source; otherwise `received` is set where the Via names another
-/// host than the source IP, and the answer goes to the source IP and the port of the sent-by. The other values stay as they are, and
-/// nothing is copied where nothing changes. Without memory the message stays as it is.
+/// Notes the source in the top Via, and gives the address that the answer goes to. Where the first
+/// `rport` has no value, it gets the source port, `received` the source IP, and the answer goes to
+/// the source; otherwise `received` is set where the Via names another host than the source IP, and
+/// the answer goes to the source IP and the port of the sent-by. The other values stay as they are,
+/// and nothing is copied where nothing changes. Without memory the message stays as it is.
 #[tactic(auto, unfolding(crate::specs::Source::stamped, crate::specs::Source::answer_address))]
 pub fn stamp_source(alloc: Global, message: &mut Message, source: Addr) -> Result<Addr, AllocError>
     ensures stamped { OnOk result (message.new ≡ source_of.stamped message.old source) }
-    ensures address { IfOk result (λ address. address ≡ source_of.answer_address message.old source) }
+    ensures address { IfOk result (λ address. address
+        ≡ source_of.answer_address message.old source) }
     ensures err { OnErr result (message.new ≡ message.old) }
 {
     let top = message.vias.top();
@@ -58,7 +60,8 @@ fn stamped_parameters(
     via: &Via,
     source: Addr,
 ) -> Result<Option<Series<Parameter>>, AllocError>
-    ensures { IfOk result (λ made. unwrap_or made via.now.parameters ≡ source_of.stamped_parameters source via.now) }
+    ensures { IfOk result (λ made. unwrap_or made via.now.parameters
+        ≡ source_of.stamped_parameters source via.now) }
 {
     if asks_port(via) {
         let with_port = with_port(alloc, via.parameters.as_slice(), source)?;
@@ -95,7 +98,8 @@ fn with_port(
     with_value(alloc, parameters, b"rport", &port)
 }
 
-/// The parameters, of which the first of this name gets the value; where there is none a new one stands last.
+/// The parameters, of which the first of this name gets the value; where there is none a new one
+/// stands last.
 fn with_value(
     alloc: Global,
     parameters: &[Parameter],

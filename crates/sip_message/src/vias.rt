@@ -12,8 +12,8 @@ use std::alloc::{AllocError, Global};
 use std::marker::Model;
 use std::mem;
 
-/// Via values, the top one first. There is at least one, and the branch of the top one begins with `z9hG4bK`, in any
-/// case of the letters. A contract sees them as their list.
+/// Via values, the top one first. There is at least one, and the branch of the top one begins with
+/// `z9hG4bK`, in any case of the letters. A contract sees them as their list.
 pub struct Vias {
     vias: Series<Via>,
 }

@@ -15,7 +15,8 @@ use sip_parts::{Parameter, Token};
 use sip_text::decimal;
 use std::alloc::{AllocError, Global};
 
-/// The one text of the message: its start line, its headers in a fixed order, an empty line and its body.
+/// The one text of the message: its start line, its headers in a fixed order, an empty line and its
+/// body.
 #[tactic(auto, unfolding(crate::specs::Written::written))]
 pub fn write(alloc: Global, message: &Message) -> Result<Vec<u8>, AllocError>
     ensures { IfOk result (λ text. text.items ≡ written.written message.now) }
@@ -40,7 +41,8 @@ fn push_head(out: &mut Vec<u8>, message: &Message) -> Result<(), AllocError>
 
 #[tactic(auto, unfolding(crate::specs::Written::start_text))]
 fn push_start(out: &mut Vec<u8>, start: &StartLine, method: &Token) -> Result<(), AllocError>
-    ensures { OnOk result (out.new.items ≡ out.old.items ++ written.start_text start.now method.now) }
+    ensures { OnOk result (out.new.items ≡ out.old.items
+        ++ written.start_text start.now method.now) }
 {
     match start {
         StartLine::Request { uri } => {
@@ -67,7 +69,8 @@ fn push_number(out: &mut Vec<u8>, number: u64) -> Result<(), AllocError>
 
 #[tactic(auto, unfolding(crate::specs::Written::header_line))]
 fn push_header(out: &mut Vec<u8>, name: &[u8], value: &[u8]) -> Result<(), AllocError>
-    ensures { OnOk result (out.new.items ≡ out.old.items ++ written.header_line name.now value.now) }
+    ensures { OnOk result (out.new.items ≡ out.old.items
+        ++ written.header_line name.now value.now) }
 {
     out.extend_from_slice(name)?;
     out.extend_from_slice(b": ")?;
@@ -127,7 +130,8 @@ fn push_port(out: &mut Vec<u8>, port: Option<u16>) -> Result<(), AllocError>
 }
 
 fn push_parameters(out: &mut Vec<u8>, parameters: &[Parameter]) -> Result<(), AllocError>
-    ensures { OnOk result (out.new.items ≡ out.old.items ++ written.parameters_text parameters.now) }
+    ensures { OnOk result (out.new.items ≡ out.old.items
+        ++ written.parameters_text parameters.now) }
 {
     for parameter in parameters {
         push_parameter(out, parameter)?;
@@ -183,7 +187,8 @@ fn push_address(
     uri: &[u8],
     parameters: &[Parameter],
 ) -> Result<(), AllocError>
-    ensures { OnOk result (out.new.items ≡ out.old.items ++ written.address_text display.now uri.now parameters.now) }
+    ensures { OnOk result (out.new.items ≡ out.old.items
+        ++ written.address_text display.now uri.now parameters.now) }
 {
     push_display(out, display)?;
     out.push(b'<')?;
@@ -206,7 +211,8 @@ fn push_display(out: &mut Vec<u8>, display: &[u8]) -> Result<(), AllocError>
 
 #[tactic(auto, unfolding(crate::specs::Written::header_line, crate::specs::Written::cseq_text))]
 fn push_cseq_line(out: &mut Vec<u8>, cseq: &CSeq) -> Result<(), AllocError>
-    ensures { OnOk result (out.new.items ≡ out.old.items ++ written.header_line (codes "CSeq") (written.cseq_text cseq.now)) }
+    ensures { OnOk result (out.new.items ≡ out.old.items
+        ++ written.header_line (codes "CSeq") (written.cseq_text cseq.now)) }
 {
     out.extend_from_slice(b"CSeq: ")?;
     push_number(out, u64::from(cseq.number))?;
@@ -225,7 +231,8 @@ fn push_routes(out: &mut Vec<u8>, message: &Message) -> Result<(), AllocError>
 }
 
 fn push_addresses(out: &mut Vec<u8>, name: &[u8], addresses: &[NameAddr]) -> Result<(), AllocError>
-    ensures { OnOk result (out.new.items ≡ out.old.items ++ flat_map (written.address_line name.now) addresses.now) }
+    ensures { OnOk result (out.new.items ≡ out.old.items
+        ++ flat_map (written.address_line name.now) addresses.now) }
 {
     for address in addresses {
         push_address_line(out, name, address)?;
@@ -235,7 +242,8 @@ fn push_addresses(out: &mut Vec<u8>, name: &[u8], addresses: &[NameAddr]) -> Res
 
 #[tactic(auto, unfolding(crate::specs::Written::header_line))]
 fn push_address_line(out: &mut Vec<u8>, name: &[u8], address: &NameAddr) -> Result<(), AllocError>
-    ensures { OnOk result (out.new.items ≡ out.old.items ++ written.address_line name.now address.now) }
+    ensures { OnOk result (out.new.items ≡ out.old.items
+        ++ written.address_line name.now address.now) }
 {
     out.extend_from_slice(name)?;
     out.extend_from_slice(b": ")?;
@@ -261,7 +269,8 @@ fn push_extensions(out: &mut Vec<u8>, message: &Message) -> Result<(), AllocErro
 
 #[tactic(auto, unfolding(crate::specs::Written::header_line))]
 fn push_tokens_line(out: &mut Vec<u8>, name: &[u8], tokens: &[Token]) -> Result<(), AllocError>
-    ensures { OnOk result (out.new.items ≡ out.old.items ++ written.tokens_line name.now tokens.now) }
+    ensures { OnOk result (out.new.items ≡ out.old.items
+        ++ written.tokens_line name.now tokens.now) }
 {
     match tokens {
         [] => Ok(()),
@@ -296,7 +305,8 @@ fn push_rack_line(out: &mut Vec<u8>, rack: &Option<RAck>) -> Result<(), AllocErr
 
 #[tactic(auto, unfolding(crate::specs::Written::header_line, crate::specs::Written::rack_text))]
 fn push_rack(out: &mut Vec<u8>, rack: &RAck) -> Result<(), AllocError>
-    ensures { OnOk result (out.new.items ≡ out.old.items ++ written.header_line (codes "RAck") (written.rack_text rack.now)) }
+    ensures { OnOk result (out.new.items ≡ out.old.items
+        ++ written.header_line (codes "RAck") (written.rack_text rack.now)) }
 {
     out.extend_from_slice(b"RAck: ")?;
     push_number(out, u64::from(rack.rseq))?;
@@ -318,7 +328,8 @@ fn push_content(out: &mut Vec<u8>, message: &Message) -> Result<(), AllocError>
 }
 
 fn push_others(out: &mut Vec<u8>, others: &[Header]) -> Result<(), AllocError>
-    ensures { OnOk result (out.new.items ≡ out.old.items ++ flat_map written.other_line others.now) }
+    ensures { OnOk result (out.new.items ≡ out.old.items
+        ++ flat_map written.other_line others.now) }
 {
     for header in others {
         push_header(out, header.name.as_slice(), header.value.as_slice())?;

@@ -22,34 +22,51 @@ none_from : {S : Type 0} (o : Option S) → is_some o ≡ false → o ≡ None
 none_from None e = refl
 none_from (Some s) e = cc
 
-module _ {K S : Type 0} {cmp : K → K → Ordering} (total : IsTotalOrder cmp) (es : List (K × S)) (ordered : IsStrictlySortedBy cmp (keys_of es)) where
+module _ {K S : Type 0} {cmp : K → K → Ordering} (total : IsTotalOrder cmp) (es : List (K × S))
+    (ordered : IsStrictlySortedBy cmp (keys_of es)) where
   abbrev find : K → Option S
   find key = lookup (is_at (cmp key)) es
 
   -- of keys in order that cover the held ones, those with a state are the held keys
-  held_keys : (keys : List K) → Covers cmp keys find → AllZip (λ k h. cmp k h ≡ Equal) (filter (λ k. is_some (find k)) keys) (keys_of es)
+  held_keys : (keys : List K) → Covers cmp keys find
+      → AllZip (λ k h. cmp k h ≡ Equal) (filter (λ k. is_some (find k)) keys) (keys_of es)
   held_keys keys covers =
-      filter_tied total _ keys (keys_of es) covers.ordered ordered (all_here (λ k. is_some-lookup total k es) keys)
-      (all_keys (λ h. list_any (is_at (cmp h)) keys ≡ true) es (all_both (λ e found again. covers.each e.0 (is_some_from _ e.1 found)) es (found_entries total es ordered) (found_entries total es ordered)))
+      filter_tied total _ keys (keys_of es) covers.ordered ordered
+      (all_here (λ k. is_some-lookup total k es) keys)
+      (all_keys (λ h. list_any (is_at (cmp h)) keys ≡ true) es
+      (all_both (λ e found again. covers.each e.0 (is_some_from _ e.1 found)) es
+      (found_entries total es ordered) (found_entries total es ordered)))
 
   -- so they are as many
-  pub count_held : (keys : List K) → Covers cmp keys find → length es ≡ count_by (λ key. is_some (find key)) keys
+  pub count_held : (keys : List K) → Covers cmp keys find
+      → length es ≡ count_by (λ key. is_some (find key)) keys
   count_held keys covers =
-      sym (length-keys_of es) ∙ sym (length_all_zip _ _ _ (held_keys keys covers)) ∙ length-filter (λ key. is_some (find key)) keys
+      sym (length-keys_of es) ∙ sym (length_all_zip _ _ _ (held_keys keys covers))
+      ∙ length-filter (λ key. is_some (find key)) keys
 
-  -- outputs of the held entries in order are those of the keys in order, where a key without a state says nothing
-  pub flat_map-covered : CmpEqualImpliesEq cmp → {O : Type 0} (says : K → Option S → List O) → ((k : K) → says k None ≡ []) → (keys : List K) → Covers cmp keys find
+  -- outputs of the held entries in order are those of the keys in order, where a key without a
+  -- state says nothing
+  pub flat_map-covered : CmpEqualImpliesEq cmp → {O : Type 0} (says : K → Option S → List O)
+      → ((k : K) → says k None ≡ []) → (keys : List K) → Covers cmp keys find
       → flat_map (λ e. says e.0 (Some e.1)) es ≡ flat_map (λ k. says k (find k)) keys
   flat_map-covered exact {O} says silent keys covers =
       let spoken : K → List O = λ k. says k (find k) in
       let by_entry : flat_map spoken (keys_of es) ≡ flat_map (λ e. says e.0 (Some e.1)) es =
-      flat_map-keys spoken (λ (e : K × S). says e.0 (Some e.1)) es (all_both (λ e found again. ap (says e.0) found) es (found_entries total es ordered) (found_entries total es ordered)) in
-      let same : keys_of es ≡ filter (λ k. is_some (find k)) keys = same_from_all_zip _ _ _ (held_keys keys covers) (λ k h tied. sym (exact k h tied)) in
+      flat_map-keys spoken (λ (e : K × S). says e.0 (Some e.1)) es
+      (all_both (λ e found again. ap (says e.0) found) es (found_entries total es ordered)
+      (found_entries total es ordered)) in
+      let same : keys_of es ≡ filter (λ k. is_some (find k)) keys =
+      same_from_all_zip _ _ _ (held_keys keys covers) (λ k h tied. sym (exact k h tied)) in
       sym by_entry ∙ ap (flat_map spoken) same
-      ∙ flat_map-filter spoken (λ k. is_some (find k)) (λ k none. ap (says k) (none_from _ none) ∙ silent k) keys
+      ∙ flat_map-filter spoken (λ k. is_some (find k))
+      (λ k none. ap (says k) (none_from _ none) ∙ silent k) keys
 
 -- how many a table holds, where `held` is its value
-pub count_live : {K S : Type 0} {cmp : K → K → Ordering} → IsTotalOrder cmp → (held table : Held K S) → held ≡ table → IsStrictlySortedBy cmp (keys_of (entries_of held))
-    → (keys : List K) → Covers cmp keys (state_at cmp table) → length (entries_of held) ≡ count_by (λ key. is_some (state_at cmp table key)) keys
+pub count_live : {K S : Type 0} {cmp : K → K → Ordering} → IsTotalOrder cmp
+    → (held table : Held K S) → held ≡ table → IsStrictlySortedBy cmp (keys_of (entries_of held))
+    → (keys : List K) → Covers cmp keys (state_at cmp table)
+    → length (entries_of held) ≡ count_by (λ key. is_some (state_at cmp table key)) keys
 count_live {K} {S} {cmp} total held table same ordered keys covers =
-    ap (λ t. length (entries_of t)) same ∙ count_held total (entries_of table) (subst (λ t. IsStrictlySortedBy cmp (keys_of (entries_of t))) same ordered) keys covers
+    ap (λ t. length (entries_of t)) same
+    ∙ count_held total (entries_of table)
+    (subst (λ t. IsStrictlySortedBy cmp (keys_of (entries_of t))) same ordered) keys covers

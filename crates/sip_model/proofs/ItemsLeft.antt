@@ -12,37 +12,61 @@ use Rattle.sip_model.specs.Phase.{by_place, stepped, states_then, told_items}
 use Rattle.sip_model.proofs.Ordered.{by_bool}
 
 -- items over `all` of which `rest` are left: the states now, and what was told
-pub record ItemsLeft {K S I O : Type 0} (cmp : K → K → Ordering) (machine : Machine K S I O) (due : S → Option ℕ) (Admits : I → Type 0) (old : K → Option S) (all rest : List (Item K I))
+pub record ItemsLeft {K S I O : Type 0} (cmp : K → K → Ordering) (machine : Machine K S I O)
+    (due : S → Option ℕ) (Admits : I → Type 0) (old : K → Option S) (all rest : List (Item K I))
     (states : K → Option S) (dues : List (K × ℕ)) (told : List (ℕ × List O)) : Type 0 where
   pub admitted : All (λ item. Admits item.input) rest
-  pub stepped_so_far : (q : K) → states_then cmp machine states rest q ≡ states_then cmp machine old all q
+  pub stepped_so_far : (q : K) → states_then cmp machine states rest q
+      ≡ states_then cmp machine old all q
   pub armed : AreDues cmp due states dues
-  pub said : told ++ map by_place (told_items cmp machine states rest) ≡ map by_place (told_items cmp machine old all)
+  pub said : told ++ map by_place (told_items cmp machine states rest)
+      ≡ map by_place (told_items cmp machine old all)
 
-module _ {K S I O : Type 0} {cmp : K → K → Ordering} (machine : Machine K S I O) (due : S → Option ℕ) (Admits : I → Type 0) where
-  pub items_left_at_first : (old : K → Option S) (all : List (Item K I)) (dues : List (K × ℕ)) → All (λ item. Admits item.input) all → AreDues cmp due old dues
+module _ {K S I O : Type 0} {cmp : K → K → Ordering} (machine : Machine K S I O)
+    (due : S → Option ℕ) (Admits : I → Type 0) where
+  pub items_left_at_first : (old : K → Option S) (all : List (Item K I)) (dues : List (K × ℕ))
+      → All (λ item. Admits item.input) all → AreDues cmp due old dues
       → ItemsLeft cmp machine due Admits old all all old dues []
-  items_left_at_first old all dues admitted armed = record { admitted = admitted; stepped_so_far = λ q. refl; armed = armed; said = refl }
+  items_left_at_first old all dues admitted armed =
+      record { admitted = admitted; stepped_so_far = λ q. refl; armed = armed; said = refl }
 
-  pub items_left_more : (old : K → Option S) (all rest : List (Item K I)) (item : Item K I) (states newer : K → Option S) (dues later : List (K × ℕ)) (told : List (ℕ × List O)) (outputs : List O)
+  pub items_left_more : (old : K → Option S) (all rest : List (Item K I)) (item : Item K I)
+      (states newer : K → Option S) (dues later : List (K × ℕ)) (told : List (ℕ × List O))
+      (outputs : List O)
       → ItemsLeft cmp machine due Admits old all (item ∷ rest) states dues told
-      → ((q : K) → newer q ≡ cond (is_at (cmp item.key) q) (next machine item.key (states item.key) item.input) (states q))
-      → ((q : K) → moment cmp later q ≡ cond (is_at (cmp item.key) q) (due_of due (next machine item.key (states item.key) item.input)) (moment cmp dues q))
+      → ((q : K) → newer q ≡ cond (is_at (cmp item.key) q)
+      (next machine item.key (states item.key) item.input) (states q))
+      → ((q : K) → moment cmp later q
+      ≡ cond (is_at (cmp item.key) q)
+      (due_of due (next machine item.key (states item.key) item.input)) (moment cmp dues q))
       → outputs ≡ adds machine item.key (states item.key) item.input
-      → ItemsLeft cmp machine due Admits old all rest newer later (told ++ (item.place, outputs) ∷ [])
+      → ItemsLeft cmp machine due Admits old all rest newer later
+      (told ++ (item.place, outputs) ∷ [])
   items_left_more old all rest item states newer dues later told outputs left steps arms says =
       let same : newer ≡ stepped cmp machine states item = λ i q. steps q i in
       record {
         admitted = All-tail (λ i. Admits i.input) item rest left.admitted;
-        stepped_so_far = λ q. ap (λ s. states_then cmp machine s rest q) same ∙ left.stepped_so_far q;
+        stepped_so_far =
+            λ q. ap (λ s. states_then cmp machine s rest q) same ∙ left.stepped_so_far q;
         armed = λ q. by_bool (is_at (cmp item.key) q)
-            (λ hit. arms q ∙ ap (λ b. cond b (due_of due (next machine item.key (states item.key) item.input)) (moment cmp dues q)) hit
-            ∙ ap (due_of due) (sym (steps q ∙ ap (λ b. cond b (next machine item.key (states item.key) item.input) (states q)) hit)))
-            (λ miss. arms q ∙ ap (λ b. cond b (due_of due (next machine item.key (states item.key) item.input)) (moment cmp dues q)) miss ∙ left.armed q
-            ∙ ap (due_of due) (sym (steps q ∙ ap (λ b. cond b (next machine item.key (states item.key) item.input) (states q)) miss)));
+            (λ hit. arms q ∙ ap (λ b. cond b
+            (due_of due (next machine item.key (states item.key) item.input))
+            (moment cmp dues q)) hit
+            ∙ ap (due_of due) (sym (steps q
+            ∙ ap (λ b. cond b (next machine item.key (states item.key) item.input) (states q))
+            hit)))
+            (λ miss. arms q ∙ ap (λ b. cond b
+            (due_of due (next machine item.key (states item.key) item.input))
+            (moment cmp dues q)) miss ∙ left.armed q
+            ∙ ap (due_of due) (sym (steps q
+            ∙ ap (λ b. cond b (next machine item.key (states item.key) item.input) (states q))
+            miss)));
         said =
-            append_assoc told ((item.place, outputs) ∷ []) (map by_place (told_items cmp machine newer rest))
-            ∙ ap (λ os. told ++ ((item.place, os) ∷ map by_place (told_items cmp machine newer rest))) says
-            ∙ ap (λ s. told ++ ((item.place, adds machine item.key (states item.key) item.input) ∷ map by_place (told_items cmp machine s rest))) same
+            append_assoc told ((item.place, outputs) ∷ [])
+            (map by_place (told_items cmp machine newer rest))
+            ∙ ap (λ os. told ++ ((item.place, os)
+            ∷ map by_place (told_items cmp machine newer rest))) says
+            ∙ ap (λ s. told ++ ((item.place, adds machine item.key (states item.key) item.input)
+            ∷ map by_place (told_items cmp machine s rest))) same
             ∙ left.said;
       }

@@ -23,30 +23,39 @@ less_from Equal h = absurd h
 less_from Greater h = absurd h
 
 module _ {K X : Type 0} (cmp : K → K → Ordering) where
-  below_each : (x : K) (es : List (K × X)) → T (below_all cmp x es) → AllByRecursion (λ y. cmp x y ≡ Less) (map (λ e. e.0) es)
+  below_each : (x : K) (es : List (K × X)) → T (below_all cmp x es)
+      → AllByRecursion (λ y. cmp x y ≡ Less) (map (λ e. e.0) es)
   below_each x [] h = tt
-  below_each x (e ∷ es) h = let parts = both_parts _ _ h in (less_from _ parts.0, below_each x es parts.1)
+  below_each x (e ∷ es) h =
+      let parts = both_parts _ _ h in (less_from _ parts.0, below_each x es parts.1)
 
   in_order : (es : List (K × X)) → T (is_sorted cmp es) → IsStrictlySortedBy cmp (map (λ e. e.0) es)
   unfolding IsStrictlySortedBy
   in_order [] h = tt
-  in_order (e ∷ es) h = let parts = both_parts _ _ h in (below_each e.0 es parts.0, in_order es parts.1)
+  in_order (e ∷ es) h =
+      let parts = both_parts _ _ h in (below_each e.0 es parts.0, in_order es parts.1)
 
 module _ {K : Type 0} {cmp : K → K → Ordering} where
   pub keys_in_order : (named : FinSet cmp) → IsStrictlySortedBy cmp (finite.keys named)
   keys_in_order named = in_order cmp (finite.entries named) (finite.entries_sorted named)
 
   -- a key is named where it was, and where it is the one that was put in
-  pub named_before : IsTotalOrder cmp → (named : FinSet cmp) (key q : K) → list_any (is_at (cmp q)) (finite.keys named) ≡ true → list_any (is_at (cmp q)) (finite.keys (finite.insert named key tt)) ≡ true
+  pub named_before : IsTotalOrder cmp → (named : FinSet cmp) (key q : K)
+      → list_any (is_at (cmp q)) (finite.keys named) ≡ true
+      → list_any (is_at (cmp q)) (finite.keys (finite.insert named key tt)) ≡ true
   named_before total named key q found =
-      sym (finite.contains_key-keys (finite.insert named key tt) q) ∙ ap is_some (finite.get-insert total named key tt q)
+      sym (finite.contains_key-keys (finite.insert named key tt) q)
+      ∙ ap is_some (finite.get-insert total named key tt q)
       ∙ either (eq_by_cmp cmp q key) (finite.get named q) (finite.contains_key-keys named q ∙ found)
     where
-      either : (b : Bool) (o : Option (Unit {0})) → is_some o ≡ true → is_some (cond b (Some tt) o) ≡ true
+      either : (b : Bool) (o : Option (Unit {0})) → is_some o ≡ true
+          → is_some (cond b (Some tt) o) ≡ true
       either true o h = refl
       either false o h = h
 
-  pub named_now : IsTotalOrder cmp → (named : FinSet cmp) (key q : K) → is_at (cmp key) q ≡ true → list_any (is_at (cmp q)) (finite.keys (finite.insert named key tt)) ≡ true
+  pub named_now : IsTotalOrder cmp → (named : FinSet cmp) (key q : K) → is_at (cmp key) q ≡ true
+      → list_any (is_at (cmp q)) (finite.keys (finite.insert named key tt)) ≡ true
   named_now total named key q hit =
-      sym (finite.contains_key-keys (finite.insert named key tt) q) ∙ ap is_some (finite.get-insert total named key tt q)
+      sym (finite.contains_key-keys (finite.insert named key tt) q)
+      ∙ ap is_some (finite.get-insert total named key tt q)
       ∙ ap (λ b. is_some (cond b (Some tt) (finite.get named q))) (is_at_back total key q true hit)

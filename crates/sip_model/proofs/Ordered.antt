@@ -19,7 +19,8 @@ unfolding IsStrictlySortedBy
 ordered_nil cmp = tt
 
 -- the three answers of a comparison
-pub by_ordering : {G : Type 0} (o : Ordering) → (o ≡ Less → G) → (o ≡ Equal → G) → (o ≡ Greater → G) → G
+pub by_ordering : {G : Type 0} (o : Ordering) → (o ≡ Less → G) → (o ≡ Equal → G) → (o ≡ Greater → G)
+    → G
 by_ordering Less less equal greater = less refl
 by_ordering Equal less equal greater = equal refl
 by_ordering Greater less equal greater = greater refl
@@ -34,7 +35,8 @@ equal_from_is_eq Equal e = refl
 equal_from_is_eq Greater e = absurd (false≢true e)
 
 -- what holds of each element in two ways
-pub all_both : {X : Type 0} {P Q R : X → Type 0} → ((x : X) → P x → Q x → R x) → (xs : List X) → AllByRecursion P xs → AllByRecursion Q xs → AllByRecursion R xs
+pub all_both : {X : Type 0} {P Q R : X → Type 0} → ((x : X) → P x → Q x → R x) → (xs : List X)
+    → AllByRecursion P xs → AllByRecursion Q xs → AllByRecursion R xs
 all_both f [] p q = p
 all_both f (x ∷ xs) p q = (f x p.0 q.0, all_both f xs p.1 q.1)
 
@@ -43,25 +45,31 @@ all_here f [] = tt
 all_here f (x ∷ xs) = (f x, all_here f xs)
 
 -- a fact on the keys, as one on the entries
-pub all_entries : {K S : Type 0} (P : K → Type 0) (es : List (K × S)) → AllByRecursion P (keys_of es) → AllByRecursion (λ (e : K × S). P e.0) es
+pub all_entries : {K S : Type 0} (P : K → Type 0) (es : List (K × S))
+    → AllByRecursion P (keys_of es) → AllByRecursion (λ (e : K × S). P e.0) es
 all_entries P [] p = p
 all_entries P (e ∷ es) p = (p.0, all_entries P es p.1)
 
-pub all_keys : {K S : Type 0} (P : K → Type 0) (es : List (K × S)) → AllByRecursion (λ (e : K × S). P e.0) es → AllByRecursion P (keys_of es)
+pub all_keys : {K S : Type 0} (P : K → Type 0) (es : List (K × S))
+    → AllByRecursion (λ (e : K × S). P e.0) es → AllByRecursion P (keys_of es)
 all_keys P [] p = p
 all_keys P (e ∷ es) p = (p.0, all_keys P es p.1)
 
 -- what says nothing may be left out
-pub flat_map-filter : {X O : Type 0} (f : X → List O) (p : X → Bool) → ((x : X) → p x ≡ false → f x ≡ []) → (xs : List X) → flat_map f (filter p xs) ≡ flat_map f xs
+pub flat_map-filter : {X O : Type 0} (f : X → List O) (p : X → Bool)
+    → ((x : X) → p x ≡ false → f x ≡ []) → (xs : List X) → flat_map f (filter p xs) ≡ flat_map f xs
 flat_map-filter f p silent [] = refl
 flat_map-filter f p silent (x ∷ xs) =
     by_bool (p x)
     (λ e. rw e (ap (λ rest. f x ++ rest) (flat_map-filter f p silent xs)))
     (λ e. rw e (rw (silent x e) (flat_map-filter f p silent xs)))
 
-pub flat_map-keys : {K S O : Type 0} (f : K → List O) (g : K × S → List O) (es : List (K × S)) → AllByRecursion (λ (e : K × S). f e.0 ≡ g e) es → flat_map f (keys_of es) ≡ flat_map g es
+pub flat_map-keys : {K S O : Type 0} (f : K → List O) (g : K × S → List O) (es : List (K × S))
+    → AllByRecursion (λ (e : K × S). f e.0 ≡ g e) es → flat_map f (keys_of es) ≡ flat_map g es
 flat_map-keys f g [] h = refl
-flat_map-keys f g (e ∷ es) h = ap (λ first. first ++ flat_map f (keys_of es)) h.0 ∙ ap (λ rest. g e ++ rest) (flat_map-keys f g es h.1)
+flat_map-keys f g (e ∷ es) h =
+    ap (λ first. first ++ flat_map f (keys_of es)) h.0
+    ∙ ap (λ rest. g e ++ rest) (flat_map-keys f g es h.1)
 
 module _ {K : Type 0} {cmp : K → K → Ordering} (total : IsTotalOrder cmp) where
   -- a key isn't equal to a lower one
@@ -81,25 +89,32 @@ module _ {K : Type 0} {cmp : K → K → Ordering} (total : IsTotalOrder cmp) wh
   is_at_itself x = ap is_eq (tied_itself total x)
 
   -- a key below all of a list isn't among them
-  pub none_below : (k : K) (ks : List K) → AllByRecursion (λ y. cmp k y ≡ Less) ks → list_any (is_at (cmp k)) ks ≡ false
+  pub none_below : (k : K) (ks : List K) → AllByRecursion (λ y. cmp k y ≡ Less) ks
+      → list_any (is_at (cmp k)) ks ≡ false
   none_below k [] below = refl
   none_below k (y ∷ ys) below = rw below.0 (none_below k ys below.1)
 
-  pub lookup_below : {S : Type 0} (k : K) (es : List (K × S)) → AllByRecursion (λ y. cmp k y ≡ Less) (keys_of es) → lookup (is_at (cmp k)) es ≡ None
+  pub lookup_below : {S : Type 0} (k : K) (es : List (K × S))
+      → AllByRecursion (λ y. cmp k y ≡ Less) (keys_of es) → lookup (is_at (cmp k)) es ≡ None
   lookup_below k [] below = refl
   lookup_below k (e ∷ es) below = rw below.0 (lookup_below k es below.1)
 
   -- a key that is found isn't the one below all the others
-  below_all : (x : K) (k : K) (ks : List K) → cmp x k ≡ Less → AllByRecursion (λ y. cmp k y ≡ Less) ks → AllByRecursion (λ y. cmp x y ≡ Less) (k ∷ ks)
+  below_all : (x : K) (k : K) (ks : List K) → cmp x k ≡ Less
+      → AllByRecursion (λ y. cmp k y ≡ Less) ks → AllByRecursion (λ y. cmp x y ≡ Less) (k ∷ ks)
   below_all x k ks less below = (less, all_both (λ y p q. total.trans x k y less p) ks below below)
 
   -- what a test keeps of keys in order is the keys in order that pass it
-  pub filter_tied : (p : K → Bool) (keys held : List K) → IsStrictlySortedBy cmp keys → IsStrictlySortedBy cmp held
-      → AllByRecursion (λ k. p k ≡ list_any (is_at (cmp k)) held) keys → AllByRecursion (λ h. list_any (is_at (cmp h)) keys ≡ true) held → AllZip (λ k h. cmp k h ≡ Equal) (filter p keys) held
+  pub filter_tied : (p : K → Bool) (keys held : List K) → IsStrictlySortedBy cmp keys
+      → IsStrictlySortedBy cmp held
+      → AllByRecursion (λ k. p k ≡ list_any (is_at (cmp k)) held) keys
+      → AllByRecursion (λ h. list_any (is_at (cmp h)) keys ≡ true) held
+      → AllZip (λ k h. cmp k h ≡ Equal) (filter p keys) held
   filter_tied p [] [] keys_ordered held_ordered passes among = tt
   filter_tied p [] (h ∷ hs) keys_ordered held_ordered passes among = absurd (false≢true among.0)
   filter_tied p (k ∷ ks) [] keys_ordered held_ordered passes among =
-      rw (passes.0) (filter_tied p ks [] (sorted_tail cmp k ks keys_ordered) held_ordered passes.1 among)
+      rw (passes.0) (filter_tied p ks []
+      (sorted_tail cmp k ks keys_ordered) held_ordered passes.1 among)
   filter_tied p (k ∷ ks) (h ∷ hs) keys_ordered held_ordered passes among =
       let above_k : AllByRecursion (λ y. cmp k y ≡ Less) ks = sorted_head cmp k ks keys_ordered in
       let above_h : AllByRecursion (λ y. cmp h y ≡ Less) hs = sorted_head cmp h hs held_ordered in
@@ -107,38 +122,52 @@ module _ {K : Type 0} {cmp : K → K → Ordering} (total : IsTotalOrder cmp) wh
       let hs_ordered : IsStrictlySortedBy cmp hs = sorted_tail cmp h hs held_ordered in
       by_ordering (cmp k h)
       (λ less.
-      let apart : list_any (is_at (cmp k)) (h ∷ hs) ≡ false = none_below k (h ∷ hs) (below_all k h hs less above_h) in
+      let apart : list_any (is_at (cmp k)) (h ∷ hs) ≡ false =
+      none_below k (h ∷ hs) (below_all k h hs less above_h) in
       let drops : p k ≡ false = passes.0 ∙ apart in
       let later : AllByRecursion (λ x. list_any (is_at (cmp x)) ks ≡ true) (h ∷ hs) =
-      all_both (λ x lower found. sym (ap (λ b. b || list_any (is_at (cmp x)) ks) (not_at_lower k x lower)) ∙ found) (h ∷ hs) (below_all k h hs less above_h) among in
+      all_both (λ x lower found. sym
+      (ap (λ b. b || list_any (is_at (cmp x)) ks) (not_at_lower k x lower)) ∙ found) (h ∷ hs)
+      (below_all k h hs less above_h) among in
       rw drops (filter_tied p ks (h ∷ hs) ks_ordered held_ordered passes.1 later))
       (λ equal.
       let keeps : p k ≡ true = passes.0 ∙ ap (λ o. is_eq o || list_any (is_at (cmp k)) hs) equal in
-      let above : AllByRecursion (λ y. cmp h y ≡ Less) ks = all_both (λ y lower again. sym (total.congr k h y equal) ∙ lower) ks above_k above_k in
-      let below : AllByRecursion (λ y. cmp k y ≡ Less) hs = all_both (λ y lower again. total.congr k h y equal ∙ lower) hs above_h above_h in
+      let above : AllByRecursion (λ y. cmp h y ≡ Less) ks =
+      all_both (λ y lower again. sym (total.congr k h y equal) ∙ lower) ks above_k above_k in
+      let below : AllByRecursion (λ y. cmp k y ≡ Less) hs =
+      all_both (λ y lower again. total.congr k h y equal ∙ lower) hs above_h above_h in
       let tests : AllByRecursion (λ q. p q ≡ list_any (is_at (cmp q)) hs) ks =
-      all_both (λ q lower pass. pass ∙ ap (λ b. b || list_any (is_at (cmp q)) hs) (not_at_lower h q lower)) ks above passes.1 in
+      all_both (λ q lower pass. pass
+      ∙ ap (λ b. b || list_any (is_at (cmp q)) hs) (not_at_lower h q lower)) ks above
+      passes.1 in
       let found : AllByRecursion (λ x. list_any (is_at (cmp x)) ks ≡ true) hs =
-      all_both (λ x lower is. sym (ap (λ b. b || list_any (is_at (cmp x)) ks) (not_at_lower k x lower)) ∙ is) hs below among.1 in
+      all_both (λ x lower is. sym (ap (λ b. b || list_any (is_at (cmp x)) ks)
+      (not_at_lower k x lower)) ∙ is) hs below among.1 in
       rw keeps (equal, filter_tied p ks hs ks_ordered hs_ordered tests found))
       (λ greater.
       let less : cmp h k ≡ Less = total.antisymm h k ∙ ap ordering_reverse greater in
       absurd (false≢true (sym (none_below h (k ∷ ks) (below_all h k ks less above_k)) ∙ among.0)))
 
   -- each entry is what a look-up finds
-  pub found_entries : {S : Type 0} (es : List (K × S)) → IsStrictlySortedBy cmp (keys_of es) → AllByRecursion (λ (e : K × S). lookup (is_at (cmp e.0)) es ≡ Some e.1) es
+  pub found_entries : {S : Type 0} (es : List (K × S)) → IsStrictlySortedBy cmp (keys_of es)
+      → AllByRecursion (λ (e : K × S). lookup (is_at (cmp e.0)) es ≡ Some e.1) es
   found_entries [] ordered = tt
   found_entries {S} (e ∷ es) ordered =
-      let tail : AllByRecursion (λ (f : K × S). lookup (is_at (cmp f.0)) es ≡ Some f.1) es = found_entries es (sorted_tail cmp e.0 (keys_of es) ordered) in
-      let above : AllByRecursion (λ (f : K × S). cmp e.0 f.0 ≡ Less) es = all_entries (λ k. cmp e.0 k ≡ Less) es (sorted_head cmp e.0 (keys_of es) ordered) in (
+      let tail : AllByRecursion (λ (f : K × S). lookup (is_at (cmp f.0)) es ≡ Some f.1) es =
+      found_entries es (sorted_tail cmp e.0 (keys_of es) ordered) in
+      let above : AllByRecursion (λ (f : K × S). cmp e.0 f.0 ≡ Less) es =
+      all_entries (λ k. cmp e.0 k ≡ Less) es (sorted_head cmp e.0 (keys_of es) ordered) in (
         ap (λ b. cond b (Some e.1) (lookup (is_at (cmp e.0)) es)) (is_at_itself e.0),
-        all_both (λ f lower found. ap (λ b. cond b (Some e.1) (lookup (is_at (cmp f.0)) es)) (not_at_lower e.0 f.0 lower) ∙ found) es above tail,
+        all_both (λ f lower found. ap (λ b. cond b (Some e.1) (lookup (is_at (cmp f.0)) es))
+            (not_at_lower e.0 f.0 lower) ∙ found) es above tail,
       )
 
   -- a key is found where it is among the keys
-  pub is_some-lookup : {S : Type 0} (q : K) (es : List (K × S)) → is_some (lookup (is_at (cmp q)) es) ≡ list_any (is_at (cmp q)) (keys_of es)
+  pub is_some-lookup : {S : Type 0} (q : K) (es : List (K × S))
+      → is_some (lookup (is_at (cmp q)) es) ≡ list_any (is_at (cmp q)) (keys_of es)
   is_some-lookup q [] = refl
-  is_some-lookup q (e ∷ es) = by_bool (is_at (cmp q) e.0) (λ hit. rw hit refl) (λ miss. rw miss (is_some-lookup q es))
+  is_some-lookup q (e ∷ es) =
+      by_bool (is_at (cmp q) e.0) (λ hit. rw hit refl) (λ miss. rw miss (is_some-lookup q es))
 
 -- ---- two lists of keys in order
 
@@ -147,41 +176,57 @@ right_of true b e = absurd (false≢true e)
 right_of false b e = e
 
 module _ {K : Type 0} {cmp : K → K → Ordering} (total : IsTotalOrder cmp) where
-  none_pass : (p : K → Bool) (ys : List K) → ((q : K) → p q ≡ true → false ≡ list_any (is_at (cmp q)) ys) → filter p ys ≡ []
+  none_pass : (p : K → Bool) (ys : List K)
+      → ((q : K) → p q ≡ true → false ≡ list_any (is_at (cmp q)) ys) → filter p ys ≡ []
   none_pass p [] h = refl
   none_pass p (y ∷ ys) h =
-      let off : p y ≡ false = by_bool (p y) (λ passes. absurd (false≢true (h y passes ∙ ap (λ b. b || list_any (is_at (cmp y)) ys) (is_at_itself total y)))) (λ no. no) in
-      rw off (none_pass p ys (λ q passes. right_of (is_at (cmp q) y) (list_any (is_at (cmp q)) ys) (h q passes)))
+      let off : p y ≡ false = by_bool (p y)
+      (λ passes. absurd (false≢true (h y passes
+      ∙ ap (λ b. b || list_any (is_at (cmp y)) ys) (is_at_itself total y)))) (λ no. no) in
+      rw off (none_pass p ys (λ q passes.
+      right_of (is_at (cmp q) y) (list_any (is_at (cmp q)) ys) (h q passes)))
 
-module _ {K : Type 0} {cmp : K → K → Ordering} (total : IsTotalOrder cmp) (exact : CmpEqualImpliesEq cmp) where
+module _ {K : Type 0} {cmp : K → K → Ordering} (total : IsTotalOrder cmp)
+    (exact : CmpEqualImpliesEq cmp) where
   abbrev among : K → List K → Bool
   among q ks = list_any (is_at (cmp q)) ks
 
   -- a key that doesn't pass may be left out
-  without_first : (p : K → Bool) (k : K) (ks ys : List K) → p k ≡ false → ((q : K) → p q ≡ true → among q (k ∷ ks) ≡ among q ys) → (q : K) → p q ≡ true → among q ks ≡ among q ys
+  without_first : (p : K → Bool) (k : K) (ks ys : List K) → p k ≡ false
+      → ((q : K) → p q ≡ true → among q (k ∷ ks) ≡ among q ys) → (q : K) → p q ≡ true
+      → among q ks ≡ among q ys
   without_first p k ks ys off same q passes =
       by_bool (is_at (cmp q) k)
       (λ hit. absurd (false≢true (sym off ∙ ap p (sym (exact_at total exact q k hit)) ∙ passes)))
       (λ miss. sym (ap (λ b. b || among q ks) miss) ∙ same q passes)
 
   -- so may one that both have first
-  without_both : (p : K → Bool) (k : K) (ks hs : List K) → among k ks ≡ false → among k hs ≡ false → ((q : K) → p q ≡ true → among q (k ∷ ks) ≡ among q (k ∷ hs)) → (q : K) → p q ≡ true → among q ks ≡ among q hs
+  without_both : (p : K → Bool) (k : K) (ks hs : List K) → among k ks ≡ false → among k hs ≡ false
+      → ((q : K) → p q ≡ true → among q (k ∷ ks) ≡ among q (k ∷ hs)) → (q : K) → p q ≡ true
+      → among q ks ≡ among q hs
   without_both p k ks hs gone lost same q passes =
       by_bool (is_at (cmp q) k)
-      (λ hit. let is : q ≡ k = exact_at total exact q k hit in ap (λ x. among x ks) is ∙ gone ∙ sym (ap (λ x. among x hs) is ∙ lost))
-      (λ miss. sym (ap (λ b. b || among q ks) miss) ∙ same q passes ∙ ap (λ b. b || among q hs) miss)
+      (λ hit. let is : q ≡ k = exact_at total exact q k hit in
+      ap (λ x. among x ks) is ∙ gone ∙ sym (ap (λ x. among x hs) is ∙ lost))
+      (λ miss. sym (ap (λ b. b || among q ks) miss) ∙ same q passes
+      ∙ ap (λ b. b || among q hs) miss)
 
-  off_below : (p : K → Bool) (k : K) (ks ys : List K) → AllByRecursion (λ y. cmp k y ≡ Less) ys → ((q : K) → p q ≡ true → among q (k ∷ ks) ≡ among q ys) → p k ≡ false
+  off_below : (p : K → Bool) (k : K) (ks ys : List K) → AllByRecursion (λ y. cmp k y ≡ Less) ys
+      → ((q : K) → p q ≡ true → among q (k ∷ ks) ≡ among q ys) → p k ≡ false
   off_below p k ks ys below same =
       by_bool (p k)
-      (λ passes. absurd (false≢true (sym (none_below total k ys below) ∙ sym (same k passes) ∙ ap (λ b. b || among k ks) (is_at_itself total k))))
+      (λ passes. absurd (false≢true (sym (none_below total k ys below) ∙ sym (same k passes)
+      ∙ ap (λ b. b || among k ks) (is_at_itself total k))))
       (λ no. no)
 
   -- lists in order that have the same keys of those that pass have them in the same places
-  pub same_filtered : (p : K → Bool) (xs ys : List K) → IsStrictlySortedBy cmp xs → IsStrictlySortedBy cmp ys → ((q : K) → p q ≡ true → among q xs ≡ among q ys) → filter p xs ≡ filter p ys
+  pub same_filtered : (p : K → Bool) (xs ys : List K) → IsStrictlySortedBy cmp xs
+      → IsStrictlySortedBy cmp ys → ((q : K) → p q ≡ true → among q xs ≡ among q ys)
+      → filter p xs ≡ filter p ys
   same_filtered p [] [] sx sy same = refl
   same_filtered p [] (y ∷ ys) sx sy same = sym (none_pass total p (y ∷ ys) same)
-  same_filtered p (x ∷ xs) [] sx sy same = none_pass total p (x ∷ xs) (λ q passes. sym (same q passes))
+  same_filtered p (x ∷ xs) [] sx sy same =
+      none_pass total p (x ∷ xs) (λ q passes. sym (same q passes))
   same_filtered p (k ∷ ks) (h ∷ hs) sx sy same =
       let above_k : AllByRecursion (λ y. cmp k y ≡ Less) ks = sorted_head cmp k ks sx in
       let above_h : AllByRecursion (λ y. cmp h y ≡ Less) hs = sorted_head cmp h hs sy in
@@ -189,19 +234,27 @@ module _ {K : Type 0} {cmp : K → K → Ordering} (total : IsTotalOrder cmp) (e
       let hs_ordered : IsStrictlySortedBy cmp hs = sorted_tail cmp h hs sy in
       by_ordering (cmp k h)
       (λ less.
-      let off : p k ≡ false = off_below p k ks (h ∷ hs) (below_all total k h hs less above_h) same in
+      let off : p k ≡ false =
+      off_below p k ks (h ∷ hs) (below_all total k h hs less above_h) same in
       rw off (same_filtered p ks (h ∷ hs) ks_ordered sy (without_first p k ks (h ∷ hs) off same)))
       (λ equal.
       let is : h ≡ k = sym (exact k h equal) in
-      let below : AllByRecursion (λ y. cmp k y ≡ Less) hs = subst (λ x. AllByRecursion (λ y. cmp x y ≡ Less) hs) is above_h in
+      let below : AllByRecursion (λ y. cmp k y ≡ Less) hs =
+      subst (λ x. AllByRecursion (λ y. cmp x y ≡ Less) hs) is above_h in
       let rest : filter p ks ≡ filter p hs =
       same_filtered p ks hs ks_ordered hs_ordered
-      (without_both p k ks hs (none_below total k ks above_k) (none_below total k hs below) (λ q passes. same q passes ∙ ap (λ x. is_at (cmp q) x || among q hs) is)) in
+      (without_both p k ks hs (none_below total k ks above_k) (none_below total k hs below)
+      (λ q passes. same q passes ∙ ap (λ x. is_at (cmp q) x || among q hs) is)) in
       both_first ks hs is rest)
       (λ greater.
       let less : cmp h k ≡ Less = total.antisymm h k ∙ ap ordering_reverse greater in
-      let off : p h ≡ false = off_below p h hs (k ∷ ks) (below_all total h k ks less above_k) (λ q passes. sym (same q passes)) in
-      rw off (same_filtered p (k ∷ ks) hs sx hs_ordered (λ q passes. sym (without_first p h hs (k ∷ ks) off (λ x y. sym (same x y)) q passes))))
+      let off : p h ≡ false = off_below p h hs (k ∷ ks) (below_all total h k ks less above_k)
+      (λ q passes. sym (same q passes)) in
+      rw off (same_filtered p (k ∷ ks) hs sx hs_ordered
+      (λ q passes. sym (without_first p h hs (k ∷ ks) off (λ x y. sym (same x y)) q passes))))
     where
-      both_first : {k h : K} (ks hs : List K) → h ≡ k → filter p ks ≡ filter p hs → filter p (k ∷ ks) ≡ filter p (h ∷ hs)
-      both_first {k} {h} ks hs is rest = ap (λ rest. cond (p k) (k ∷ rest) rest) rest ∙ ap (λ x. cond (p x) (x ∷ filter p hs) (filter p hs)) (sym is)
+      both_first : {k h : K} (ks hs : List K) → h ≡ k → filter p ks ≡ filter p hs
+          → filter p (k ∷ ks) ≡ filter p (h ∷ hs)
+      both_first {k} {h} ks hs is rest =
+          ap (λ rest. cond (p k) (k ∷ rest) rest) rest
+          ∙ ap (λ x. cond (p x) (x ∷ filter p hs) (filter p hs)) (sym is)

@@ -24,13 +24,19 @@ module _ {K S I O : Type 0} (cmp : K → K → Ordering) (machine : Machine K S 
     pub sound : IsSome table
     pub states : (q : K) → state_at cmp table q ≡ states_after machine histories q
 
-  -- whatever histories the table stood for, it stands for them with this input more, and the outputs are what the input adds
+  -- whatever histories the table stood for, it stands for them with this input more, and the
+  -- outputs are what the input adds
   pub record AddsInput (old new : Held K S) (key : K) (input : I) (outputs : List O) : Type 0 where
-    pub stands : (histories : K → List I) → StandsFor old histories → StandsFor new (longer histories key input)
-    pub added : (histories : K → List I) → StandsFor old histories → outputs ≡ adds machine key (states_after machine histories key) input
+    pub stands : (histories : K → List I) → StandsFor old histories
+        → StandsFor new (longer histories key input)
+    pub added : (histories : K → List I) → StandsFor old histories
+        → outputs ≡ adds machine key (states_after machine histories key) input
 
   -- the same with one input more of every key; the outputs follow the order of the keys
   pub record AddsInputs (old new : Held K S) (input : I) (outputs : List O) : Type 0 where
-    pub stands : (histories : K → List I) → StandsFor old histories → StandsFor new (all_longer histories input)
-    pub added : (histories : K → List I) → StandsFor old histories → (keys : List K) → Covers cmp keys (states_after machine histories)
-        → outputs ≡ flat_map (λ key. adds machine key (states_after machine histories key) input) keys
+    pub stands : (histories : K → List I) → StandsFor old histories
+        → StandsFor new (all_longer histories input)
+    pub added : (histories : K → List I) → StandsFor old histories → (keys : List K)
+        → Covers cmp keys (states_after machine histories)
+        → outputs ≡ flat_map (λ key. adds machine key (states_after machine histories key) input)
+        keys

@@ -9,19 +9,26 @@ use Rattle.sip_model.specs.Phase.{Phase, Told, history, states_after, told_next}
 
 -- ---- shards
 
--- the part of a phase that a shard is given which owns some keys: the tick, and the items of those keys
+-- the part of a phase that a shard is given which owns some keys: the tick, and the items of those
+-- keys
 abbrev pub owned_phase : {K I : Type 0} → (K → Bool) → Phase K I → Phase K I
-owned_phase owns phase = record { moment = phase.moment; items = filter (λ item. owns item.key) phase.items }
+owned_phase owns phase =
+    record { moment = phase.moment; items = filter (λ item. owns item.key) phase.items }
 
 -- the part of what is said that those keys say
 abbrev pub owned_told : {K O : Type 0} → (K → Bool) → Told K O → Told K O
-owned_told owns told = record { ticks = filter (λ said. owns said.0) told.ticks; items = filter (λ said. owns (said.0).1) told.items }
+owned_told owns told = record {
+  ticks = filter (λ said. owns said.0) told.ticks;
+  items = filter (λ said. owns (said.0).1) told.items;
+}
 
-module _ {K S I O : Type 0} (cmp : K → K → Ordering) (machine : Machine K S I O) (tick : ℕ → I) where
+module _ {K S I O : Type 0} (cmp : K → K → Ordering) (machine : Machine K S I O)
+    (tick : ℕ → I) where
   -- a shard that was given its part of each phase says its part of what all say
   abbrev pub ShardsWorkApart : Type 0
   ShardsWorkApart = (owns : K → Bool) (phases : List (Phase K I)) (phase : Phase K I)
-      → told_next cmp machine tick (map (owned_phase owns) phases) (owned_phase owns phase) ≡ owned_told owns (told_next cmp machine tick phases phase)
+      → told_next cmp machine tick (map (owned_phase owns) phases) (owned_phase owns phase)
+      ≡ owned_told owns (told_next cmp machine tick phases phase)
 
   -- and its part leaves of its own keys what all phases leave of them, and of the others nothing
   abbrev pub ShardsHoldApart : Type 0
@@ -29,10 +36,13 @@ module _ {K S I O : Type 0} (cmp : K → K → Ordering) (machine : Machine K S 
       → states_after cmp machine tick (map (owned_phase owns) phases) key
       ≡ cond (owns key) (states_after cmp machine tick phases key) None
 
-  -- what is said to a tick is in the order of the keys, and what items add in the order of their places
+  -- what is said to a tick is in the order of the keys, and what items add in the order of their
+  -- places
   pub record InOrder (phases : List (Phase K I)) (phase : Phase K I) : Type 0 where
-    pub by_key : IsStrictlySortedBy cmp (map (λ said. said.0) (told_next cmp machine tick phases phase).ticks)
-    pub by_place : map (λ said. (said.0).0) (told_next cmp machine tick phases phase).items ≡ map (λ item. item.place) phase.items
+    pub by_key : IsStrictlySortedBy cmp
+        (map (λ said. said.0) (told_next cmp machine tick phases phase).ticks)
+    pub by_place : map (λ said. (said.0).0) (told_next cmp machine tick phases phase).items
+        ≡ map (λ item. item.place) phase.items
 
   abbrev pub ToldInOrder : Type 0
   ToldInOrder = (phases : List (Phase K I)) (phase : Phase K I) → InOrder phases phase
@@ -41,13 +51,17 @@ module _ {K S I O : Type 0} (cmp : K → K → Ordering) (machine : Machine K S 
 
   -- what a key says in a phase, in order
   abbrev pub said_by : K → Told K O → List O
-  said_by key told = flat_map (λ said. said.1) (filter (λ said. is_at (cmp key) said.0) told.ticks) ++ flat_map (λ said. said.1) (filter (λ said. is_at (cmp key) (said.0).1) told.items)
+  said_by key told = flat_map (λ said. said.1) (filter (λ said. is_at (cmp key) said.0) told.ticks)
+      ++ flat_map (λ said. said.1) (filter (λ said. is_at (cmp key) (said.0).1) told.items)
 
   -- what it says in phases that come after others
   abbrev pub said_from : K → List (Phase K I) → List (Phase K I) → List O
   said_from key before [] = []
-  said_from key before (phase ∷ phases) = said_by key (told_next cmp machine tick before phase) ++ said_from key (before ++ phase ∷ []) phases
+  said_from key before (phase ∷ phases) =
+      said_by key (told_next cmp machine tick before phase)
+      ++ said_from key (before ++ phase ∷ []) phases
 
   -- what all phases say of a key is what that key's own inputs add
   abbrev pub EachKeyAlone : Type 0
-  EachKeyAlone = (phases : List (Phase K I)) (key : K) → said_from key [] phases ≡ outputs_from machine key None (history cmp tick phases key)
+  EachKeyAlone = (phases : List (Phase K I)) (key : K)
+      → said_from key [] phases ≡ outputs_from machine key None (history cmp tick phases key)

@@ -2,11 +2,13 @@
 use Rattle.std.specs.Prelude.{◌≡◌, ℕ, false, List, [], ◌∷◌, ◌++◌, Option, None, Some, IsSome}
 use Rattle.sip_timers.specs.Queue.{is_due}
 
--- one step of each key's machine, from a state or from none: the state after it, and the outputs that it adds
+-- one step of each key's machine, from a state or from none: the state after it, and the outputs
+-- that it adds
 pub record Machine (K S I O : Type 0) : Type 0 where
   pub step : K → Option S → I → Option S × List O
 
--- the moment in ms at which something is due of a key in this state; of one without a state nothing is
+-- the moment in ms at which something is due of a key in this state; of one without a state nothing
+-- is
 abbrev pub due_of : {S : Type 0} → (S → Option ℕ) → Option S → Option ℕ
 due_of due None = None
 due_of due (Some state) = due state
@@ -21,7 +23,8 @@ module _ {K S I O : Type 0} where
   -- the state of a key after a list of inputs, from a state
   abbrev pub state_from : Machine K S I O → K → Option S → List I → Option S
   state_from machine key state [] = state
-  state_from machine key state (input ∷ inputs) = state_from machine key (next machine key state input) inputs
+  state_from machine key state (input ∷ inputs) =
+      state_from machine key (next machine key state input) inputs
 
   -- the state of a key after all its inputs, oldest first; before them there is none
   abbrev pub state_after : Machine K S I O → K → List I → Option S
@@ -29,7 +32,9 @@ module _ {K S I O : Type 0} where
 
   -- an input that changes nothing and says nothing where nothing is due at the moment
   abbrev pub IsIdle : Machine K S I O → (S → Option ℕ) → ℕ → I → Type 0
-  IsIdle machine due now input = (key : K) (state : Option S) → is_due now (due_of due state) ≡ false → machine.step key state input ≡ (state, [])
+  IsIdle machine due now input =
+      (key : K) (state : Option S) → is_due now (due_of due state) ≡ false
+      → machine.step key state input ≡ (state, [])
 
   -- the outputs of a list of inputs, in order, from a state
   abbrev pub outputs_from : Machine K S I O → K → Option S → List I → List O
@@ -40,10 +45,13 @@ module _ {K S I O : Type 0} where
   -- there is a state before each of the inputs
   abbrev pub IsWithinLife : Machine K S I O → K → Option S → List I → Type 0
   IsWithinLife machine key state [] = Unit {0}
-  IsWithinLife machine key state (input ∷ inputs) = IsSome state × IsWithinLife machine key (next machine key state input) inputs
+  IsWithinLife machine key state (input ∷ inputs) =
+      IsSome state × IsWithinLife machine key (next machine key state input) inputs
 
-  -- a life: the input that leaves none, and the inputs up to the one that returns to none, or some of them
-  pub record IsLife (machine : Machine K S I O) (key : K) (before : List I) (first : I) (rest : List I) : Type 0 where
+  -- a life: the input that leaves none, and the inputs up to the one that returns to none, or some
+  -- of them
+  pub record IsLife (machine : Machine K S I O) (key : K) (before : List I) (first : I)
+      (rest : List I) : Type 0 where
     pub none_before : state_after machine key before ≡ None
     pub begins : IsSome (state_after machine key (before ++ first ∷ []))
     pub within : IsWithinLife machine key (state_after machine key (before ++ first ∷ [])) rest

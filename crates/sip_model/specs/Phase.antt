@@ -15,7 +15,8 @@ pub record Phase (K I : Type 0) : Type 0 where
   pub moment : Option ℕ
   pub items : List (Item K I)
 
--- what is said in a phase: by each key to the tick, in key order; and by each item, beside its place and its key
+-- what is said in a phase: by each key to the tick, in key order; and by each item, beside its
+-- place and its key
 pub record Told (K O : Type 0) : Type 0 where
   pub ticks : List (K × List O)
   pub items : List ((ℕ × K) × List O)
@@ -39,19 +40,22 @@ module _ {K I : Type 0} (cmp : K → K → Ordering) (tick : ℕ → I) where
   history phases key = flat_map (λ phase. own_inputs phase key) phases
 
 -- the keys of items, each once
-abbrev pub named_by : {K I : Type 0} {cmp : K → K → Ordering} → FinSet cmp → List (Item K I) → FinSet cmp
+abbrev pub named_by : {K I : Type 0} {cmp : K → K → Ordering} → FinSet cmp → List (Item K I)
+    → FinSet cmp
 named_by named items = fold (λ keys item. finite.insert keys item.key tt) named items
 
 -- the keys that have had items, in order
 abbrev pub keys_of_phases : {K I : Type 0} → (K → K → Ordering) → List (Phase K I) → List K
-keys_of_phases cmp phases = finite.keys (named_by {cmp = cmp} finite.empty (flat_map (λ phase. phase.items) phases))
+keys_of_phases cmp phases =
+    finite.keys (named_by {cmp = cmp} finite.empty (flat_map (λ phase. phase.items) phases))
 
 -- ---- the state of each key, and what is said
 
 module _ {K S I O : Type 0} (cmp : K → K → Ordering) (machine : Machine K S I O) where
   -- one item is a step of its key, and of no other
   abbrev pub stepped : (K → Option S) → Item K I → K → Option S
-  stepped states item key = cond (is_at (cmp item.key) key) (next machine item.key (states item.key) item.input) (states key)
+  stepped states item key = cond (is_at (cmp item.key) key)
+      (next machine item.key (states item.key) item.input) (states key)
 
   abbrev pub states_then : (K → Option S) → List (Item K I) → K → Option S
   states_then states [] = states
@@ -60,9 +64,12 @@ module _ {K S I O : Type 0} (cmp : K → K → Ordering) (machine : Machine K S 
   -- what each item adds, in turn
   abbrev pub told_items : (K → Option S) → List (Item K I) → List ((ℕ × K) × List O)
   told_items states [] = []
-  told_items states (item ∷ items) = ((item.place, item.key), adds machine item.key (states item.key) item.input) ∷ told_items (stepped states item) items
+  told_items states (item ∷ items) =
+      ((item.place, item.key), adds machine item.key (states item.key) item.input)
+      ∷ told_items (stepped states item) items
 
-module _ {K S I O : Type 0} (cmp : K → K → Ordering) (machine : Machine K S I O) (tick : ℕ → I) where
+module _ {K S I O : Type 0} (cmp : K → K → Ordering) (machine : Machine K S I O)
+    (tick : ℕ → I) where
   -- a tick is a step of every key
   abbrev pub ticked : (K → Option S) → Option ℕ → K → Option S
   ticked states None = states
@@ -90,14 +97,23 @@ module _ {K S I O : Type 0} (cmp : K → K → Ordering) (machine : Machine K S 
     pub states : (key : K) → state_at cmp table key ≡ states_after phases key
 
   -- a table before and after a phase, by look-ups, and what was said
-  pub record DealsPhase (old new : Held K S) (phase : Phase K I) (ticks : List (K × List O)) (items : List (ℕ × List O)) : Type 0 where
+  pub record DealsPhase (old new : Held K S) (phase : Phase K I) (ticks : List (K × List O))
+      (items : List (ℕ × List O)) : Type 0 where
     pub sound : IsSome new
-    pub states : (key : K) → state_at cmp new key ≡ states_then cmp machine (ticked (state_at cmp old) phase.moment) phase.items key
-    pub ticks_told : (keys : List K) → Covers cmp keys (state_at cmp old) → ticks ≡ told_tick (state_at cmp old) phase.moment keys
-    pub items_told : items ≡ map by_place (told_items cmp machine (ticked (state_at cmp old) phase.moment) phase.items)
+    pub states : (key : K) → state_at cmp new key
+        ≡ states_then cmp machine (ticked (state_at cmp old) phase.moment) phase.items key
+    pub ticks_told : (keys : List K) → Covers cmp keys (state_at cmp old)
+        → ticks ≡ told_tick (state_at cmp old) phase.moment keys
+    pub items_told : items ≡ map by_place
+        (told_items cmp machine (ticked (state_at cmp old) phase.moment) phase.items)
 
-  -- whatever phases the table held the states of, it holds them of this one more, and what was said is what this one adds
-  pub record AddsPhase (old new : Held K S) (phase : Phase K I) (ticks : List (K × List O)) (items : List (ℕ × List O)) : Type 0 where
-    pub stands : (phases : List (Phase K I)) → HoldsAfter old phases → HoldsAfter new (phases ++ phase ∷ [])
-    pub ticks_told : (phases : List (Phase K I)) → HoldsAfter old phases → ticks ≡ (told_next phases phase).ticks
-    pub items_told : (phases : List (Phase K I)) → HoldsAfter old phases → items ≡ map by_place (told_next phases phase).items
+  -- whatever phases the table held the states of, it holds them of this one more, and what was said
+  -- is what this one adds
+  pub record AddsPhase (old new : Held K S) (phase : Phase K I) (ticks : List (K × List O))
+      (items : List (ℕ × List O)) : Type 0 where
+    pub stands : (phases : List (Phase K I)) → HoldsAfter old phases
+        → HoldsAfter new (phases ++ phase ∷ [])
+    pub ticks_told : (phases : List (Phase K I)) → HoldsAfter old phases
+        → ticks ≡ (told_next phases phase).ticks
+    pub items_told : (phases : List (Phase K I)) → HoldsAfter old phases
+        → items ≡ map by_place (told_next phases phase).items

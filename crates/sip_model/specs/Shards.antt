@@ -21,26 +21,42 @@ pub record Dealt (K S O : Type 0) : Type 0 where
   pub ticks : List (K × List O)
   pub items : List (ℕ × List O)
 
-module _ {K S I O : Type 0} (cmp : K → K → Ordering) (machine : Machine K S I O) (tick : ℕ → I) (owner : K → ℕ) where
+module _ {K S I O : Type 0} (cmp : K → K → Ordering) (machine : Machine K S I O) (tick : ℕ → I)
+    (owner : K → ℕ) where
   -- tables whose numbers go up from this one hold what phases left of the keys that each owns
   abbrev pub HoldFrom : ℕ → List (Held K S) → List (Phase K I) → Type 0
   HoldFrom number [] phases = Unit {0}
-  HoldFrom number (table ∷ tables) phases = HoldsAfter cmp machine tick table (map (owned_phase (is_owned owner number)) phases) × HoldFrom (suc number) tables phases
+  HoldFrom number (table ∷ tables) phases =
+      HoldsAfter cmp machine tick table (map (owned_phase (is_owned owner number)) phases)
+      × HoldFrom (suc number) tables phases
 
   -- shards whose numbers go up from this one, each given its part of a phase
   abbrev pub AllDealt : Phase K I → ℕ → List (Dealt K S O) → Type 0
   AllDealt phase number [] = Unit {0}
   AllDealt phase number (dealt ∷ rest) =
-      AddsPhase cmp machine tick dealt.before dealt.after (owned_phase (is_owned owner number) phase) dealt.ticks dealt.items × AllDealt phase (suc number) rest
+      AddsPhase cmp machine tick dealt.before dealt.after
+      (owned_phase (is_owned owner number) phase) dealt.ticks dealt.items
+      × AllDealt phase (suc number) rest
 
-module _ {K S I O : Type 0} (cmp : K → K → Ordering) (machine : Machine K S I O) (tick : ℕ → I) where
-  -- after a phase of all shards they hold what it left, and what they told, joined and brought into the order of keys and of places, is what all tell
-  pub record TellAll (owner : K → ℕ) (phases : List (Phase K I)) (phase : Phase K I) (all : List (Dealt K S O)) : Type 0 where
-    pub holds : HoldFrom cmp machine tick owner zero (map (λ dealt. dealt.after) all) (phases ++ phase ∷ [])
-    pub ticks : (ticks : List (K × List O)) → Sorts cmp (flat_map (λ dealt. dealt.ticks) all) ticks → ticks ≡ (told_next cmp machine tick phases phase).ticks
-    pub items : (items : List (ℕ × List O)) → Sorts nat_cmp (flat_map (λ dealt. dealt.items) all) items → items ≡ map by_place (told_next cmp machine tick phases phase).items
+module _ {K S I O : Type 0} (cmp : K → K → Ordering) (machine : Machine K S I O)
+    (tick : ℕ → I) where
+  -- after a phase of all shards they hold what it left, and what they told, joined and brought into
+  -- the order of keys and of places, is what all tell
+  pub record TellAll (owner : K → ℕ) (phases : List (Phase K I)) (phase : Phase K I)
+      (all : List (Dealt K S O)) : Type 0 where
+    pub holds : HoldFrom cmp machine tick owner zero (map (λ dealt. dealt.after) all)
+        (phases ++ phase ∷ [])
+    pub ticks : (ticks : List (K × List O)) → Sorts cmp (flat_map (λ dealt. dealt.ticks) all) ticks
+        → ticks ≡ (told_next cmp machine tick phases phase).ticks
+    pub items : (items : List (ℕ × List O))
+        → Sorts nat_cmp (flat_map (λ dealt. dealt.items) all) items
+        → items ≡ map by_place (told_next cmp machine tick phases phase).items
 
   -- whatever shard owns each key, where there is a shard for each, and places rise
   abbrev pub ShardsTellAll : Type 0
-  ShardsTellAll = (owner : K → ℕ) (phases : List (Phase K I)) (phase : Phase K I) (all : List (Dealt K S O)) → ((key : K) → owner key < length all) → IsStrictlySortedBy nat_cmp (map (λ item. item.place) phase.items)
-      → AllDealt cmp machine tick owner phase zero all → HoldFrom cmp machine tick owner zero (map (λ dealt. dealt.before) all) phases → TellAll owner phases phase all
+  ShardsTellAll = (owner : K → ℕ) (phases : List (Phase K I)) (phase : Phase K I)
+      (all : List (Dealt K S O)) → ((key : K) → owner key < length all)
+      → IsStrictlySortedBy nat_cmp (map (λ item. item.place) phase.items)
+      → AllDealt cmp machine tick owner phase zero all
+      → HoldFrom cmp machine tick owner zero (map (λ dealt. dealt.before) all) phases
+      → TellAll owner phases phase all

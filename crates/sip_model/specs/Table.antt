@@ -35,14 +35,20 @@ module _ {K S : Type 0} (cmp : K → K → Ordering) where
     pub ordered : IsStrictlySortedBy cmp keys
     pub each : (key : K) → IsSome (states key) → list_any (is_at (cmp key)) keys ≡ true
 
-  -- the table after one input of one key: that key's state is the machine's next, and every other stays
-  pub record StepsKey {I O : Type 0} (machine : Machine K S I O) (old new : Held K S) (key : K) (input : I) (outputs : List O) : Type 0 where
+  -- the table after one input of one key: that key's state is the machine's next, and every other
+  -- stays
+  pub record StepsKey {I O : Type 0} (machine : Machine K S I O) (old new : Held K S) (key : K)
+      (input : I) (outputs : List O) : Type 0 where
     pub sound : IsSome new
-    pub states : (q : K) → state_at new q ≡ cond (is_at (cmp key) q) (next machine key (state_at old key) input) (state_at old q)
+    pub states : (q : K) → state_at new q
+        ≡ cond (is_at (cmp key) q) (next machine key (state_at old key) input) (state_at old q)
     pub added : outputs ≡ adds machine key (state_at old key) input
 
-  -- the table after one input of every key: each state is the machine's next, and the outputs follow the order of the keys
-  pub record StepsAll {I O : Type 0} (machine : Machine K S I O) (old new : Held K S) (input : I) (outputs : List O) : Type 0 where
+  -- the table after one input of every key: each state is the machine's next, and the outputs
+  -- follow the order of the keys
+  pub record StepsAll {I O : Type 0} (machine : Machine K S I O) (old new : Held K S) (input : I)
+      (outputs : List O) : Type 0 where
     pub sound : IsSome new
     pub states : (q : K) → state_at new q ≡ next machine q (state_at old q) input
-    pub added : (keys : List K) → Covers keys (state_at old) → outputs ≡ flat_map (λ key. adds machine key (state_at old key) input) keys
+    pub added : (keys : List K) → Covers keys (state_at old)
+        → outputs ≡ flat_map (λ key. adds machine key (state_at old key) input) keys

@@ -19,10 +19,15 @@ abbrev pub groups : {L O Z : Type 0} → List (L × Vec O Z) → List (L × List
 groups told = map (λ group. (group.0, group.1.items)) told
 
 -- what each of some keys says to a tick, where it says something
-abbrev pub told_ticks : {K S I O : Type 0} → Machine K S I O → (K → Option S) → I → List K → List (K × List O)
+abbrev pub told_ticks : {K S I O : Type 0} → Machine K S I O → (K → Option S) → I → List K
+    → List (K × List O)
 told_ticks machine states tick keys =
-    map (λ key. (key, adds machine key (states key) tick)) (filter (λ key. speaks (adds machine key (states key) tick)) keys)
+    map (λ key. (key, adds machine key (states key) tick))
+    (filter (λ key. speaks (adds machine key (states key) tick)) keys)
 
 -- the one list in the order of its labels, which differ, that has these groups
-abbrev pub Sorts : {L O : Type 0} → (L → L → Ordering) → List (L × List O) → List (L × List O) → Type 0
-Sorts {L} {O} cmp told sorted = (all : List (L × List O)) → IsStrictlySortedBy cmp (map (λ group. group.0) all) → IsPermutation told all → sorted ≡ all
+abbrev pub Sorts : {L O : Type 0} → (L → L → Ordering) → List (L × List O) → List (L × List O)
+    → Type 0
+Sorts {L} {O} cmp told sorted =
+    (all : List (L × List O)) → IsStrictlySortedBy cmp (map (λ group. group.0) all)
+    → IsPermutation told all → sorted ≡ all

@@ -23,9 +23,13 @@ pub(crate) fn deal_items<M: StateMachine>(
 ) -> Result<Vec<(usize, Vec<M::Output>)>, AllocError>
     requires admitted { All (λ item. IsTrue (M.admits item.input)) items.items }
     requires armed { AreDues M.Key.cmp M.due (get M.Key.cmp states.old) dues.old }
-    ensures states { OnOk result ((q : M.Key) → get M.Key.cmp states.new q ≡ states_then M.Key.cmp (M.machine machine.now) (get M.Key.cmp states.old) items.items q) }
+    ensures states { OnOk result ((q : M.Key)
+        → get M.Key.cmp states.new q ≡ states_then M.Key.cmp (M.machine machine.now)
+        (get M.Key.cmp states.old) items.items q) }
     ensures armed { OnOk result (AreDues M.Key.cmp M.due (get M.Key.cmp states.new) dues.new) }
-    ensures told { IfOk result (λ told. groups told.items ≡ map by_place (told_items M.Key.cmp (M.machine machine.now) (get M.Key.cmp states.old) items.items)) }
+    ensures told { IfOk result (λ told. groups told.items
+        ≡ map by_place (told_items M.Key.cmp (M.machine machine.now)
+        (get M.Key.cmp states.old) items.items)) }
 {
     let mut told = Vec::with_capacity(alloc, items.len())?;
     for Item { place, key, input } in items {

@@ -43,8 +43,10 @@ pub trait StateMachine {
         input: Self::Input,
     ) -> Result<(Option<Self::State>, Vec<Self::Output>), AllocError>
         requires { IsTrue (admits input) }
-        ensures next { IfOk result (λ after. after.0 ≡ next (machine self.now) key.now state input) }
-        ensures adds { IfOk result (λ after. after.1.items ≡ adds (machine self.now) key.now state input) };
+        ensures next { IfOk result (λ after. after.0
+            ≡ next (machine self.now) key.now state input) }
+        ensures adds { IfOk result (λ after. after.1.items
+            ≡ adds (machine self.now) key.now state input) };
 
     /// Keys that compare equal are one key.
     ghost exact: { CmpEqualImpliesEq Self.Key.cmp };

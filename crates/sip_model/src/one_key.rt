@@ -23,10 +23,15 @@ pub(crate) fn step_key<M: StateMachine>(
 ) -> Result<Vec<M::Output>, AllocError>
     requires { IsTrue (M.admits input) }
     ensures states { OnOk result ((q : M.Key) → get M.Key.cmp states.new q
-        ≡ cond (is_at (M.Key.cmp key.now) q) (next (M.machine machine.now) key.now (get M.Key.cmp states.old key.now) input) (get M.Key.cmp states.old q)) }
+        ≡ cond (is_at (M.Key.cmp key.now) q)
+        (next (M.machine machine.now) key.now (get M.Key.cmp states.old key.now) input)
+        (get M.Key.cmp states.old q)) }
     ensures dues { OnOk result ((q : M.Key) → moment M.Key.cmp dues.new q
-        ≡ cond (is_at (M.Key.cmp key.now) q) (due_of M.due (next (M.machine machine.now) key.now (get M.Key.cmp states.old key.now) input)) (moment M.Key.cmp dues.old q)) }
-    ensures added { IfOk result (λ outputs. outputs.items ≡ adds (M.machine machine.now) key.now (get M.Key.cmp states.old key.now) input) }
+        ≡ cond (is_at (M.Key.cmp key.now) q)
+        (due_of M.due (next (M.machine machine.now) key.now
+        (get M.Key.cmp states.old key.now) input)) (moment M.Key.cmp dues.old q)) }
+    ensures added { IfOk result (λ outputs. outputs.items
+        ≡ adds (M.machine machine.now) key.now (get M.Key.cmp states.old key.now) input) }
 {
     let (held, state) = taken(states, key);
     let (after, outputs) = machine.step(alloc, key, state, input)?;
@@ -43,8 +48,12 @@ pub(crate) fn hold_key<M: StateMachine>(
     key: M::Key,
     state: M::State,
 ) -> Result<(), AllocError>
-    ensures states { OnOk result ((q : M.Key) → get M.Key.cmp states.new q ≡ cond (is_at (M.Key.cmp key) q) (Some state) (get M.Key.cmp states.old q)) }
-    ensures dues { OnOk result ((q : M.Key) → moment M.Key.cmp dues.new q ≡ cond (is_at (M.Key.cmp key) q) (M.due state) (moment M.Key.cmp dues.old q)) }
+    ensures states { OnOk result ((q : M.Key)
+        → get M.Key.cmp states.new q ≡ cond (is_at (M.Key.cmp key) q) (Some state)
+        (get M.Key.cmp states.old q)) }
+    ensures dues { OnOk result ((q : M.Key)
+        → moment M.Key.cmp dues.new q ≡ cond (is_at (M.Key.cmp key) q) (M.due state)
+        (moment M.Key.cmp dues.old q)) }
 {
     rearm::<M>(dues, &key, machine.due_of(&state))?;
     states.insert(key, state)?;
@@ -55,7 +64,8 @@ pub(crate) fn hold_key<M: StateMachine>(
 fn taken<K: Ord, S>(states: &mut BTreeMap<K, S>, key: &K) -> (Option<K>, Option<S>)
     ensures key { IfSome result.0 (λ held. K.cmp key.now held ≡ Equal) }
     ensures state { result.1 ≡ get K.cmp states.old key.now }
-    ensures states { (q : K) → get K.cmp states.new q ≡ cond (is_at (K.cmp key.now) q) None (get K.cmp states.old q) }
+    ensures states { (q : K) → get K.cmp states.new q
+        ≡ cond (is_at (K.cmp key.now) q) None (get K.cmp states.old q) }
 {
     match states.remove_entry(key) {
         None => (None, None),
@@ -71,8 +81,11 @@ fn put_back<M: StateMachine>(
     state: Option<M::State>,
 ) -> Result<(), AllocError>
     requires same { IfSome held (λ held. M.Key.cmp key.now held ≡ Equal) }
-    requires absent { (q : M.Key) → is_at (M.Key.cmp key.now) q ≡ true → get M.Key.cmp states.old q ≡ None }
-    ensures { OnOk result ((q : M.Key) → get M.Key.cmp states.new q ≡ cond (is_at (M.Key.cmp key.now) q) state (get M.Key.cmp states.old q)) }
+    requires absent { (q : M.Key) → is_at (M.Key.cmp key.now) q ≡ true
+        → get M.Key.cmp states.old q ≡ None }
+    ensures { OnOk result ((q : M.Key)
+        → get M.Key.cmp states.new q ≡ cond (is_at (M.Key.cmp key.now) q) state
+        (get M.Key.cmp states.old q)) }
 {
     let Some(state) = state else {
         return Ok(());
@@ -108,7 +121,9 @@ fn rearm<M: StateMachine>(
     key: &M::Key,
     due: Option<u64>,
 ) -> Result<(), AllocError>
-    ensures { OnOk result ((q : M.Key) → moment M.Key.cmp dues.new q ≡ cond (is_at (M.Key.cmp key.now) q) due (moment M.Key.cmp dues.old q)) }
+    ensures { OnOk result ((q : M.Key)
+        → moment M.Key.cmp dues.new q ≡ cond (is_at (M.Key.cmp key.now) q) due
+        (moment M.Key.cmp dues.old q)) }
 {
     if dues.moment(key) == due {
         return Ok(());

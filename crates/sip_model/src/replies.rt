@@ -19,7 +19,9 @@ pub struct Replies<K, O> {
 impl<K: Drop, O: Drop> Replies<K, O> {
     /// All that was said: to the tick, in the order of keys, and then by the items.
     pub fn joined(self, alloc: Global) -> Result<Vec<O>, AllocError>
-        ensures { IfOk result (λ said. said.items ≡ flat_map (λ group. group.1) (groups self.ticks.items) ++ flat_map (λ group. group.1) (groups self.items.items)) }
+        ensures { IfOk result (λ said. said.items
+            ≡ flat_map (λ group. group.1) (groups self.ticks.items)
+            ++ flat_map (λ group. group.1) (groups self.items.items)) }
     {
         let Replies { ticks, items } = self;
         let mut said = joined(alloc, ticks)?;

@@ -23,8 +23,8 @@ use std::marker::Model;
 
 /// The keys whose machine holds a state, with those states.
 ///
-/// After a call answered [`ShardFault::NoMemory`] the table is broken: it holds nothing, and every call that
-/// can fail answers [`ShardFault::Broken`].
+/// After a call answered [`ShardFault::NoMemory`] the table is broken: it holds nothing, and every
+/// call that can fail answers [`ShardFault::Broken`].
 pub struct Table<M: StateMachine> {
     alloc: Global,
     live: Option<Live<M>>,
@@ -94,7 +94,8 @@ impl<M: StateMachine> Table<M> {
     /// How many keys are held.
     pub fn live(&self) -> usize
         ensures entries { result ≡ length (entries_of self.now) }
-        ensures counts { (keys : List M.Key) → Covers M.Key.cmp keys (state_at M.Key.cmp self.now) → result ≡ count_by (λ key. is_some (state_at M.Key.cmp self.now key)) keys }
+        ensures counts { (keys : List M.Key) → Covers M.Key.cmp keys (state_at M.Key.cmp self.now)
+            → result ≡ count_by (λ key. is_some (state_at M.Key.cmp self.now key)) keys }
     {
         match &self.live {
             None => 0,
@@ -130,7 +131,9 @@ impl<M: StateMachine> Table<M> {
         ensures only_broken { result ≡ Err ShardFault.Broken → self.old ≡ None }
         ensures err { OnErr result (self.new ≡ None) }
         ensures sound { OnOk result (IsSome self.new) }
-        ensures states { OnOk result ((q : M.Key) → state_at M.Key.cmp self.new q ≡ cond (is_at (M.Key.cmp key) q) (Some state) (state_at M.Key.cmp self.old q)) }
+        ensures states { OnOk result ((q : M.Key)
+            → state_at M.Key.cmp self.new q
+            ≡ cond (is_at (M.Key.cmp key) q) (Some state) (state_at M.Key.cmp self.old q)) }
     {
         let (mut states, mut dues) = self.live.take().ok_or(ShardFault::Broken)?.apart();
         hold_key(machine, &mut states, &mut dues, key, state)?;
@@ -138,7 +141,8 @@ impl<M: StateMachine> Table<M> {
         Ok(())
     }
 
-    /// Passes on what was made outside the table. Where memory was refused, the table is broken from then on.
+    /// Passes on what was made outside the table. Where memory was refused, the table is broken
+    /// from then on.
     pub fn check<T: Drop>(&mut self, given: Result<T, AllocError>) -> Result<T, ShardFault>
         ensures broken { self.old ≡ None → result ≡ Err ShardFault.Broken }
         ensures only_broken { result ≡ Err ShardFault.Broken → self.old ≡ None }
@@ -163,8 +167,11 @@ impl<M: StateMachine> Table<M> {
         ensures broken { self.old ≡ None → result ≡ Err ShardFault.Broken }
         ensures only_broken { result ≡ Err ShardFault.Broken → self.old ≡ None }
         ensures err { OnErr result (self.new ≡ None) }
-        ensures step { IfOk result (λ outputs. StepsKey M.Key.cmp (M.machine machine.now) self.old self.new key input outputs.items) }
-        ensures histories { IfOk result (λ outputs. AddsInput M.Key.cmp (M.machine machine.now) self.old self.new key input outputs.items) }
+        ensures step { IfOk result (λ outputs.
+            StepsKey M.Key.cmp (M.machine machine.now) self.old self.new key input outputs.items) }
+        ensures histories { IfOk result
+            (λ outputs. AddsInput M.Key.cmp
+            (M.machine machine.now) self.old self.new key input outputs.items) }
     {
         let (mut states, mut dues) = self.live.take().ok_or(ShardFault::Broken)?.apart();
         let outputs = step_key(self.alloc, machine, &mut states, &mut dues, &key, input)?;
@@ -172,15 +179,19 @@ impl<M: StateMachine> Table<M> {
         Ok(outputs)
     }
 
-    /// Gives every held key the input of a tick at a moment in ms, in key order. Only those are looked at of which
-    /// something is due.
+    /// Gives every held key the input of a tick at a moment in ms, in key order. Only those are
+    /// looked at of which something is due.
     pub fn tick(&mut self, machine: &M, now: u64) -> Result<Vec<M::Output>, ShardFault>
         requires { IsTrue (M.admits (M.tick now)) }
         ensures broken { self.old ≡ None → result ≡ Err ShardFault.Broken }
         ensures only_broken { result ≡ Err ShardFault.Broken → self.old ≡ None }
         ensures err { OnErr result (self.new ≡ None) }
-        ensures step { IfOk result (λ outputs. StepsAll M.Key.cmp (M.machine machine.now) self.old self.new (M.tick now) outputs.items) }
-        ensures histories { IfOk result (λ outputs. AddsInputs M.Key.cmp (M.machine machine.now) self.old self.new (M.tick now) outputs.items) }
+        ensures step { IfOk result (λ outputs.
+            StepsAll M.Key.cmp (M.machine machine.now) self.old self.new
+            (M.tick now) outputs.items) }
+        ensures histories { IfOk result
+            (λ outputs. AddsInputs M.Key.cmp (M.machine machine.now) self.old self.new
+            (M.tick now) outputs.items) }
     {
         let (mut states, mut dues) = self.live.take().ok_or(ShardFault::Broken)?.apart();
         let told = tick_due(self.alloc, machine, &mut states, &mut dues, now)?;
@@ -189,7 +200,8 @@ impl<M: StateMachine> Table<M> {
         Ok(outputs)
     }
 
-    /// Gives every key the tick of a moment in ms, where there is one, and then each item to its key, in their order.
+    /// Gives every key the tick of a moment in ms, where there is one, and then each item to its
+    /// key, in their order.
     pub fn deal(
         &mut self,
         machine: &M,
@@ -201,8 +213,14 @@ impl<M: StateMachine> Table<M> {
         ensures broken { self.old ≡ None → result ≡ Err ShardFault.Broken }
         ensures only_broken { result ≡ Err ShardFault.Broken → self.old ≡ None }
         ensures err { OnErr result (self.new ≡ None) }
-        ensures step { IfOk result (λ replies. DealsPhase M.Key.cmp (M.machine machine.now) M.tick self.old self.new (record { moment = moment; items = items.items }) (groups replies.ticks.items) (groups replies.items.items)) }
-        ensures phases { IfOk result (λ replies. AddsPhase M.Key.cmp (M.machine machine.now) M.tick self.old self.new (record { moment = moment; items = items.items }) (groups replies.ticks.items) (groups replies.items.items)) }
+        ensures step { IfOk result (λ replies.
+            DealsPhase M.Key.cmp (M.machine machine.now) M.tick self.old self.new
+            (record { moment = moment; items = items.items }) (groups replies.ticks.items)
+            (groups replies.items.items)) }
+        ensures phases { IfOk result (λ replies.
+            AddsPhase M.Key.cmp (M.machine machine.now) M.tick self.old self.new
+            (record { moment = moment; items = items.items }) (groups replies.ticks.items)
+            (groups replies.items.items)) }
     {
         let (mut states, mut dues) = self.live.take().ok_or(ShardFault::Broken)?.apart();
         let ticks = tick_if(self.alloc, machine, &mut states, &mut dues, moment)?;

@@ -15,8 +15,8 @@ use sip_timers::Queue;
 use std::alloc::{AllocError, Global};
 use std::collections::BTreeMap;
 
-/// Gives every key of which something is due the input of a tick at a moment in ms, in key order. Answers what each
-/// says, where it says something.
+/// Gives every key of which something is due the input of a tick at a moment in ms, in key order.
+/// Answers what each says, where it says something.
 pub(crate) fn tick_due<M: StateMachine>(
     alloc: Global,
     machine: &M,
@@ -26,10 +26,14 @@ pub(crate) fn tick_due<M: StateMachine>(
 ) -> Result<Vec<(M::Key, Vec<M::Output>)>, AllocError>
     requires admitted { IsTrue (M.admits (M.tick now)) }
     requires armed { AreDues M.Key.cmp M.due (get M.Key.cmp states.old) dues.old }
-    ensures states { OnOk result ((q : M.Key) → get M.Key.cmp states.new q ≡ next (M.machine machine.now) q (get M.Key.cmp states.old q) (M.tick now)) }
+    ensures states { OnOk result ((q : M.Key)
+        → get M.Key.cmp states.new q ≡ next (M.machine machine.now) q (get M.Key.cmp states.old q)
+        (M.tick now)) }
     ensures armed { OnOk result (AreDues M.Key.cmp M.due (get M.Key.cmp states.new) dues.new) }
-    ensures told { IfOk result (λ told. (keys : List M.Key) → Covers M.Key.cmp keys (get M.Key.cmp states.old)
-        → groups told.items ≡ told_ticks (M.machine machine.now) (get M.Key.cmp states.old) (M.tick now) keys) }
+    ensures told { IfOk result (λ told. (keys : List M.Key)
+        → Covers M.Key.cmp keys (get M.Key.cmp states.old)
+        → groups told.items ≡ told_ticks (M.machine machine.now) (get M.Key.cmp states.old)
+        (M.tick now) keys) }
 {
     let Ok(due) = dues.take_due(now) else {
         return Err(AllocError);
@@ -52,10 +56,14 @@ pub(crate) fn tick_if<M: StateMachine>(
 ) -> Result<Vec<(M::Key, Vec<M::Output>)>, AllocError>
     requires admitted { IsTrue (option_map_or (λ now. M.admits (M.tick now)) moment true) }
     requires armed { AreDues M.Key.cmp M.due (get M.Key.cmp states.old) dues.old }
-    ensures states { OnOk result ((q : M.Key) → get M.Key.cmp states.new q ≡ ticked M.Key.cmp (M.machine machine.now) M.tick (get M.Key.cmp states.old) moment q) }
+    ensures states { OnOk result ((q : M.Key)
+        → get M.Key.cmp states.new q ≡ ticked M.Key.cmp (M.machine machine.now) M.tick
+        (get M.Key.cmp states.old) moment q) }
     ensures armed { OnOk result (AreDues M.Key.cmp M.due (get M.Key.cmp states.new) dues.new) }
-    ensures told { IfOk result (λ told. (keys : List M.Key) → Covers M.Key.cmp keys (get M.Key.cmp states.old)
-        → groups told.items ≡ told_tick M.Key.cmp (M.machine machine.now) M.tick (get M.Key.cmp states.old) moment keys) }
+    ensures told { IfOk result (λ told. (keys : List M.Key)
+        → Covers M.Key.cmp keys (get M.Key.cmp states.old)
+        → groups told.items ≡ told_tick M.Key.cmp (M.machine machine.now) M.tick
+        (get M.Key.cmp states.old) moment keys) }
 {
     match moment {
         None => Ok(Vec::new(alloc)),
@@ -69,7 +77,8 @@ fn tell<K: Drop, O: Drop>(
     key: K,
     outputs: Vec<O>,
 ) -> Result<(), AllocError>
-    ensures { OnOk result (groups told.new.items ≡ with_said (groups told.old.items) key outputs.items) }
+    ensures { OnOk result (groups told.new.items
+        ≡ with_said (groups told.old.items) key outputs.items) }
 {
     if !outputs.is_empty() {
         told.push((key, outputs))?;
@@ -79,7 +88,8 @@ fn tell<K: Drop, O: Drop>(
 
 /// All that was said, one after the other.
 pub fn joined<L: Drop, O: Drop>(alloc: Global, told: Vec<(L, Vec<O>)>) -> Result<Vec<O>, AllocError>
-    ensures { IfOk result (λ outputs. outputs.items ≡ flat_map (λ group. group.1.items) told.items) }
+    ensures { IfOk result (λ outputs. outputs.items
+        ≡ flat_map (λ group. group.1.items) told.items) }
 {
     let mut outputs = Vec::new(alloc);
     for (_, mut said) in told {

@@ -25,22 +25,28 @@ pub or_right : (a b : Bool) → b ≡ true → (a || b) ≡ true
 or_right true b h = refl
 or_right false b h = h
 
-step : (test : ℕ → Bool) (c : ℕ) (cs : List ℕ) (b : ℕ) (r : Bool) → eqb c b ≡ r → not (test c) ≡ true → test b ≡ true → is_among cs b ≡ false → is_among (c ∷ cs) b ≡ false
+step : (test : ℕ → Bool) (c : ℕ) (cs : List ℕ) (b : ℕ) (r : Bool) → eqb c b ≡ r
+    → not (test c) ≡ true → test b ≡ true → is_among cs b ≡ false → is_among (c ∷ cs) b ≡ false
 step test c cs b true e fail h rest =
     absurd (true≢false (sym (ap (λ x. not (test x)) (sym (eqb-true c b e)) ∙ fail) ∙ ap not h))
 step test c cs b false e fail h rest = ap (λ r. r || is_among cs b) e ∙ rest
 
 -- a byte that passes a test is none of the bytes that fail it
-pub none_of : (test : ℕ → Bool) (bytes : List ℕ) (b : ℕ) → list_all (λ c. not (test c)) bytes ≡ true → test b ≡ true → is_among bytes b ≡ false
+pub none_of : (test : ℕ → Bool) (bytes : List ℕ) (b : ℕ) → list_all (λ c. not (test c)) bytes ≡ true
+    → test b ≡ true → is_among bytes b ≡ false
 none_of test [] b fail h = refl
 none_of test (c ∷ cs) b fail h =
-    step test c cs b (eqb c b) refl (and_left (not (test c)) (list_all (λ c. not (test c)) cs) fail) h (none_of test cs b (and_right (not (test c)) (list_all (λ c. not (test c)) cs) fail) h)
+    step test c cs b (eqb c b) refl
+    (and_left (not (test c)) (list_all (λ c. not (test c)) cs) fail) h
+    (none_of test cs b (and_right (not (test c)) (list_all (λ c. not (test c)) cs) fail) h)
 
 -- what passes the one test passes the other
-pub all_weaker : (p q : ℕ → Bool) → ((b : ℕ) → p b ≡ true → q b ≡ true) → (text : List ℕ) → list_all p text ≡ true → list_all q text ≡ true
+pub all_weaker : (p q : ℕ → Bool) → ((b : ℕ) → p b ≡ true → q b ≡ true) → (text : List ℕ)
+    → list_all p text ≡ true → list_all q text ≡ true
 all_weaker p q weaker [] h = refl
 all_weaker p q weaker (b ∷ bs) h =
-    both_true (q b) (list_all q bs) (weaker b (and_left (p b) (list_all p bs) h)) (all_weaker p q weaker bs (and_right (p b) (list_all p bs) h))
+    both_true (q b) (list_all q bs) (weaker b (and_left (p b) (list_all p bs) h))
+    (all_weaker p q weaker bs (and_right (p b) (list_all p bs) h))
 
 uri_byte : (b : ℕ) → is_uri_byte b ≡ true → is_word_byte b ≡ true
 unfolding is_uri_byte is_word_byte

@@ -1,4 +1,5 @@
--- The display text of an address in a list, where a comma ends the address (RFC 3261, section 20.10).
+-- The display text of an address in a list, where a comma ends the address (RFC 3261, section
+-- 20.10).
 use Rattle.std.specs.Prelude.{ℕ, Bool, not, ◌&&◌, ◌||◌, List, codes}
 use Rattle.std.specs.List.{list_all}
 use Rattle.sip_text.specs.Character.{is_among}
@@ -9,4 +10,5 @@ unfoldable pub is_display_text_byte : ℕ → Bool
 is_display_text_byte b = not (is_among (codes "\r\n<>\",") b)
 
 unfoldable pub is_display_text : List ℕ → Bool
-is_display_text text = is_quoted text || (has_no_blank_ends text && list_all is_display_text_byte text)
+is_display_text text =
+    is_quoted text || (has_no_blank_ends text && list_all is_display_text_byte text)

@@ -1,4 +1,5 @@
--- The one table of the headers that are read into fields of their own (RFC 3261, sections 7.3.3 and 20; RFC 3262, section 7).
+-- The one table of the headers that are read into fields of their own (RFC 3261, sections 7.3.3 and
+-- 20; RFC 3262, section 7).
 use Rattle.std.specs.Prelude.{ℕ, Bool, true, false, ◌||◌, List, [], ◌∷◌, Option, codes, find}
 use Rattle.std.specs.List.{filter}
 use Rattle.std.specs.Str.{str_eq_ignore_ascii_case}
@@ -8,7 +9,8 @@ use Rattle.sip_parts.specs.declared.header_entry.HeaderKind.TheVariants.{Once, A
 use Rattle.sip_parts.specs.declared.header_name.HeaderName.{HeaderName}
 use Rattle.sip_parts.specs.declared.header_name.HeaderName.TheVariants.{Via, From, To, CallId, CSeq, MaxForwards, ContentLength, RSeq, RAck, Contact, RecordRoute, Route, Require, Supported}
 
--- a long name, a compact name, which is empty where there is none, and how often the header's lines may stand in a message
+-- a long name, a compact name, which is empty where there is none, and how often the header's lines
+-- may stand in a message
 pub record Entry : Type 0 where
   pub name : List ℕ
   pub compact : List ℕ
@@ -36,7 +38,8 @@ entry ContentLength = row (codes "Content-Length") (codes "l") AtMostOnce
 -- all headers, in the order in which one that is missing or repeated is looked for; then the lists
 abbrev pub headers : List HeaderName
 headers =
-    Via ∷ From ∷ To ∷ CallId ∷ CSeq ∷ MaxForwards ∷ ContentLength ∷ RSeq ∷ RAck ∷ Contact ∷ RecordRoute ∷ Route ∷ Require
+    Via ∷ From ∷ To ∷ CallId ∷ CSeq ∷ MaxForwards ∷ ContentLength ∷ RSeq ∷ RAck ∷ Contact
+    ∷ RecordRoute ∷ Route ∷ Require
     ∷ Supported ∷ []
 
 abbrev pub entry_now : HeaderEntry → Entry
@@ -45,7 +48,8 @@ entry_now e = record { name = e.name.now; compact = e.compact.now; kind = e.kind
 -- the name is the header's long or its compact name, in any case of the letters
 unfoldable pub is_named : HeaderName → List ℕ → Bool
 is_named header name =
-    str_eq_ignore_ascii_case name (entry header).name || str_eq_ignore_ascii_case name (entry header).compact
+    str_eq_ignore_ascii_case name (entry header).name
+    || str_eq_ignore_ascii_case name (entry header).compact
 
 -- the header of this name
 abbrev pub header_named : List ℕ → Option HeaderName

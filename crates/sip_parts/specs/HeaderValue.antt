@@ -5,7 +5,8 @@ use Rattle.sip_text.specs.Character.{is_blank, is_line_byte}
 
 -- neither the first nor the last byte is a space or a tab
 abbrev pub has_no_blank_ends : List ℕ → Bool
-has_no_blank_ends text = not (is_blank (slice_index text 0)) && not (is_blank (slice_index text (length text - 1)))
+has_no_blank_ends text =
+    not (is_blank (slice_index text 0)) && not (is_blank (slice_index text (length text - 1)))
 
 -- neither CR nor LF stands in it
 abbrev pub has_no_line_byte : List ℕ → Bool

@@ -4,10 +4,12 @@ use Rattle.std.specs.Str.{str_eq_ignore_ascii_case}
 use Rattle.sip_text.specs.Token.{is_token}
 use Rattle.sip_parts.specs.HeaderEntry.{header_named}
 
--- the compact names of Content-Type, Subject and Content-Encoding, which are kept under their long names
+-- the compact names of Content-Type, Subject and Content-Encoding, which are kept under their long
+-- names
 unfoldable pub is_compact_name : List ℕ → Bool
 is_compact_name name =
-    str_eq_ignore_ascii_case name (codes "c") || (str_eq_ignore_ascii_case name (codes "s") || str_eq_ignore_ascii_case name (codes "e"))
+    str_eq_ignore_ascii_case name (codes "c")
+    || (str_eq_ignore_ascii_case name (codes "s") || str_eq_ignore_ascii_case name (codes "e"))
 
 -- a token, and no name of a header that is read into a field of its own
 unfoldable pub is_other_name : List ℕ → Bool

@@ -9,4 +9,5 @@ unfoldable pub is_party_display_byte : ℕ → Bool
 is_party_display_byte b = not (is_among (codes "\r\n<>\"") b)
 
 unfoldable pub is_party_display : List ℕ → Bool
-is_party_display text = is_quoted text || (has_no_blank_ends text && list_all is_party_display_byte text)
+is_party_display text =
+    is_quoted text || (has_no_blank_ends text && list_all is_party_display_byte text)

@@ -117,7 +117,8 @@ impl<R: Rule> Eq for Checked<R> {
 impl<R: Rule> PartialOrd for Checked<R> {
     ghost partial_cmp = { as_partial_cmp (slice_cmp nat_cmp) };
 
-    ghost laws = { partial_order_from_own_ties (Prim.search (comparing, rules)) (Prim.search (comparing, rules)) };
+    ghost laws = { partial_order_from_own_ties (Prim.search (comparing, rules))
+        (Prim.search (comparing, rules)) };
 
     fn partial_cmp(&self, other: &Checked<R>) -> Option<Ordering> {
         Some(self.cmp(other))

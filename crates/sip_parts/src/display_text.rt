@@ -21,8 +21,8 @@ impl Rule for DisplayTextRule {
     }
 }
 
-/// The display text of an address in a list: empty, a quoted string, or a text without `<`, `>`, `"`,
-/// `,` and line ends, and without spaces or tabs at its ends.
+/// The display text of an address in a list: empty, a quoted string, or a text without `<`, `>`,
+/// `"`, `,` and line ends, and without spaces or tabs at its ends.
 pub type DisplayText = Checked<DisplayTextRule>;
 
 impl Checked<DisplayTextRule> {

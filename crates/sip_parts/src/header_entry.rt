@@ -1,4 +1,5 @@
-//! The table of the headers that are read into fields of their own (RFC 3261, sections 7.3.3 and 20; RFC 3262, section 7).
+//! The table of the headers that are read into fields of their own (RFC 3261, sections 7.3.3 and
+//! 20; RFC 3262, section 7).
 ghost use Rattle.std.specs.Prelude.{◌≡◌, ◌==◌, IfNone, IfSome, true};
 ghost use Rattle.sip_parts.specs.HeaderEntry as table;
 
@@ -29,7 +30,8 @@ pub struct HeaderEntry {
 }
 
 impl HeaderName {
-    /// All of them, in the order in which one that is missing or repeated is looked for; then the lists.
+    /// All of them, in the order in which one that is missing or repeated is looked for; then the
+    /// lists.
     pub const ALL: [HeaderName; 14] = [
         HeaderName::Via,
         HeaderName::From,

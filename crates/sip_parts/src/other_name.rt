@@ -19,8 +19,9 @@ impl Rule for OtherNameRule {
     }
 }
 
-/// The name of a header that isn't read into a field of its own: a token, and neither a name of such a header
-/// nor one of the compact names that stand for a longer one, in any case of the letters.
+/// The name of a header that isn't read into a field of its own: a token, and neither a name of
+/// such a header nor one of the compact names that stand for a longer one, in any case of the
+/// letters.
 pub type OtherName = Checked<OtherNameRule>;
 
 /// Whether the text is such a name.

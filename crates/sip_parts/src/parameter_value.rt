@@ -18,5 +18,6 @@ impl Rule for ParameterValueRule {
     }
 }
 
-/// A quoted string with its quotes, or one or more bytes without spaces, tabs, line ends, `;`, `,`, `<`, `>` and `"`.
+/// A quoted string with its quotes, or one or more bytes without spaces, tabs, line ends, `;`, `,`,
+/// `<`, `>` and `"`.
 pub type ParameterValue = Checked<ParameterValueRule>;

@@ -21,8 +21,8 @@ impl Rule for PartyDisplayRule {
     }
 }
 
-/// The display text of a From or a To: empty, a quoted string, or a text without `<`, `>`, `"` and line
-/// ends, and without spaces or tabs at its ends.
+/// The display text of a From or a To: empty, a quoted string, or a text without `<`, `>`, `"` and
+/// line ends, and without spaces or tabs at its ends.
 pub type PartyDisplay = Checked<PartyDisplayRule>;
 
 impl Checked<PartyDisplayRule> {

@@ -1,4 +1,5 @@
-//! Tokens: methods, header names, option tags, transports, parameter names and tags (RFC 3261, section 25.1).
+//! Tokens: methods, header names, option tags, transports, parameter names and tags (RFC 3261,
+//! section 25.1).
 ghost use Rattle.std.specs.Prelude.{◌≡◌};
 ghost use Rattle.sip_text.specs.Token as rule;
 
@@ -18,6 +19,6 @@ impl Rule for TokenRule {
     }
 }
 
-/// One or more letters, digits and marks among ``-.!%*_+`'~``. Compared byte by byte; `token_eq` compares
-/// without case.
+/// One or more letters, digits and marks among ``-.!%*_+`'~``. Compared byte by byte; `token_eq`
+/// compares without case.
 pub type Token = Checked<TokenRule>;

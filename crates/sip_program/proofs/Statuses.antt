@@ -24,12 +24,18 @@ no_success replay_fault.Output e = absurd cc
 no_success replay_fault.NoMemory e = absurd cc
 
 -- where the status is that of success, all is as a replay that ended well says
-pub succeeded : {G : Type 0} (end : Result Unit ReplayFault) (status : ℕ) → MatchResult end (λ _. status ≡ 0) (λ fault. status ≡ fault_status fault) → status ≡ 0 → OnOk end G → G
+pub succeeded : {G : Type 0} (end : Result Unit ReplayFault) (status : ℕ)
+    → MatchResult end (λ _. status ≡ 0) (λ fault. status ≡ fault_status fault) → status ≡ 0
+    → OnOk end G → G
 succeeded (Ok u) status told zero well = well
 succeeded (Err fault) status told zero well = absurd (no_success fault (sym told ∙ zero))
 
--- where the status is neither that of success nor that of a failed stream, all is as a replay with no fault of its output says
-pub kept : {G : Type 0} (end : Result Unit ReplayFault) (status : ℕ) → MatchResult end (λ _. status ≡ 0) (λ fault. status ≡ fault_status fault) → status ≢ 0 → status ≢ 4
+-- where the status is neither that of success nor that of a failed stream, all is as a replay with
+-- no fault of its output says
+pub kept : {G : Type 0} (end : Result Unit ReplayFault) (status : ℕ)
+    → MatchResult end (λ _. status ≡ 0) (λ fault. status ≡ fault_status fault) → status ≢ 0
+    → status ≢ 4
     → IfErr end (λ fault. fault ≢ replay_fault.Output → G) → G
 kept (Ok u) status told nonzero unfailed well = absurd (nonzero told)
-kept (Err fault) status told nonzero unfailed well = well (λ same. unfailed (told ∙ ap fault_status same))
+kept (Err fault) status told nonzero unfailed well =
+    well (λ same. unfailed (told ∙ ap fault_status same))

@@ -41,8 +41,11 @@ pub fn ua<T: Threads + Clock + Net + RandomSource + Sync, S: AsStr, R: Read, W: 
     output: &mut W,
     errors: &mut E,
 ) -> u8
-    ensures replays { IsTrue (asks_replay (map S.text words.now)) → result ≡ 0 → IfSome (R.remaining input.old) (WritesAll (W.contents output.old) (W.contents output.new)) }
-    ensures unwritten { IsTrue (asks_replay (map S.text words.now)) → result ≢ 0 → result ≢ 4 → output.new ≡ output.old }
+    ensures replays { IsTrue (asks_replay (map S.text words.now)) → result ≡ 0
+        → IfSome (R.remaining input.old)
+        (WritesAll (W.contents output.old) (W.contents output.new)) }
+    ensures unwritten { IsTrue (asks_replay (map S.text words.now)) → result ≢ 0 → result ≢ 4
+        → output.new ≡ output.old }
     ensures unread { IsFalse (asks_replay (map S.text words.now)) → input.new ≡ input.old }
     ensures bad_words { result ≡ 2 → output.new ≡ output.old }
 {
@@ -70,8 +73,10 @@ fn replay_by<T: Threads + Sync, R: Read, W: Write>(
     requires most_shards { words.shards ≤ 256 }
     requires some_worker { 0 < words.workers }
     requires most_workers { words.workers ≤ 64 }
-    ensures replays { OnOk result (IfSome (R.remaining input.old) (WritesAll (W.contents output.old) (W.contents output.new))) }
-    ensures unwritten { IfErr result (λ fault. fault ≢ replay_fault.Output → output.new ≡ output.old) }
+    ensures replays { OnOk result (IfSome (R.remaining input.old)
+        (WritesAll (W.contents output.old) (W.contents output.new))) }
+    ensures unwritten { IfErr result
+        (λ fault. fault ≢ replay_fault.Output → output.new ≡ output.old) }
 {
     let ReplayWords {
         shards,

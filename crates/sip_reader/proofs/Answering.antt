@@ -11,7 +11,8 @@ use Rattle.sip_reader.proofs.FirstFaults.{told}
 use Rattle.sip_reader.proofs.Outcomes.{same_Ok}
 use Rattle.sip_reader.proofs.Spelled.{spelled_takes, spelled_again}
 
-pub is_found : (text : List ℕ) (r : Result Message ReadFault) → Gives r (message_at text) → IfOk r (λ m. Spells m text)
+pub is_found : (text : List ℕ) (r : Result Message ReadFault) → Gives r (message_at text)
+    → IfOk r (λ m. Spells m text)
 is_found text (Ok m) given = spelled_takes text m given
 is_found text (Err e) given = tt
 
@@ -24,9 +25,11 @@ answered : (r : Result Message ReadFault) (m : Message) → Gives r (Ok m) → A
 answered (Ok read) m given = sym (same_Ok m read given)
 answered (Err e) m given = not_failed e m given
 
-pub is_only : (text : List ℕ) (r : Result Message ReadFault) → Gives r (message_at text) → (m : Message) → Spells m text → Answers r m
+pub is_only : (text : List ℕ) (r : Result Message ReadFault) → Gives r (message_at text)
+    → (m : Message) → Spells m text → Answers r m
 is_only text r given m spelled =
-    answered r m (subst (λ (read : Result Message ReadFault). Gives r read) (spelled_again text m spelled) given)
+    answered r m (subst (λ (read : Result Message ReadFault). Gives r read)
+    (spelled_again text m spelled) given)
 
 -- a fault that was told, want of memory aside, is the first
 failed : (text : List ℕ) (e : ReadFault) → Fails e (message_at text) → TellsFault e text
@@ -42,7 +45,8 @@ failed text fault.OldBranch given = told text fault.OldBranch given
 failed text fault.MethodMismatch given = told text fault.MethodMismatch given
 failed text fault.Truncated given = told text fault.Truncated given
 
-pub is_fault : (text : List ℕ) (r : Result Message ReadFault) → Gives r (message_at text) → IfErr r (λ e. TellsFault e text)
+pub is_fault : (text : List ℕ) (r : Result Message ReadFault) → Gives r (message_at text)
+    → IfErr r (λ e. TellsFault e text)
 is_fault text (Ok m) given = tt
 is_fault text (Err e) given = failed text e given
 
@@ -61,6 +65,7 @@ gives_itself (Err fault.MethodMismatch) = refl
 gives_itself (Err fault.Truncated) = refl
 
 -- a step that failed, and nothing after it counts
-pub fails_on : {A B : Type 0} (e : ReadFault) (r : Result A ReadFault) (f : A → Result B ReadFault) → Fails e r → Fails e (r >>= f)
+pub fails_on : {A B : Type 0} (e : ReadFault) (r : Result A ReadFault) (f : A → Result B ReadFault)
+    → Fails e r → Fails e (r >>= f)
 fails_on fault.NoMemory r f given = tt
 fails_on e r f given = ap (λ q. q >>= f) given

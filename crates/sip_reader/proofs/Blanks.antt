@@ -13,15 +13,22 @@ pub record HasGap (text rest : List ℕ) : Type 0 where
   pub parts : text ≡ gap ++ rest
   pub gap_is : list_all is_blank gap ≡ true
 
-start_step : (b : ℕ) (bs : List ℕ) (r : Bool) → is_blank b ≡ r → HasGap bs (trimmed_start bs) → HasGap (b ∷ bs) (cond r (trimmed_start bs) (b ∷ bs))
-start_step b bs true blank more = record { gap = b ∷ more.gap; parts = ap (λ (xs : List ℕ). b ∷ xs) more.parts; gap_is = and_from _ _ blank more.gap_is }
+start_step : (b : ℕ) (bs : List ℕ) (r : Bool) → is_blank b ≡ r → HasGap bs (trimmed_start bs)
+    → HasGap (b ∷ bs) (cond r (trimmed_start bs) (b ∷ bs))
+start_step b bs true blank more =
+    record {
+      gap = b ∷ more.gap;
+      parts = ap (λ (xs : List ℕ). b ∷ xs) more.parts;
+      gap_is = and_from _ _ blank more.gap_is;
+    }
 start_step b bs false blank more = record { gap = []; parts = refl; gap_is = refl }
 
 pub start_gap : (text : List ℕ) → HasGap text (trimmed_start text)
 start_gap [] = record { gap = []; parts = refl; gap_is = refl }
 start_gap (b ∷ bs) = start_step b bs (is_blank b) refl (start_gap bs)
 
-pub start_is : (gap rest : List ℕ) → list_all is_blank gap ≡ true → trimmed_start rest ≡ rest → trimmed_start (gap ++ rest) ≡ rest
+pub start_is : (gap rest : List ℕ) → list_all is_blank gap ≡ true → trimmed_start rest ≡ rest
+    → trimmed_start (gap ++ rest) ≡ rest
 start_is [] rest blank same = same
 start_is (b ∷ bs) rest blank same =
     let both = and_parts (is_blank b) (list_all is_blank bs) blank in
@@ -31,13 +38,18 @@ start_is (b ∷ bs) rest blank same =
 pub starts_full : (b : ℕ) (bs : List ℕ) → is_blank b ≡ false → trimmed_start (b ∷ bs) ≡ b ∷ bs
 starts_full b bs full = rw full refl
 
-first_full : (test : ℕ → Bool) → ((b : ℕ) → test b ≡ true → is_blank b ≡ false) → (word more : List ℕ) → is_run test word ≡ true → trimmed_start (word ++ more) ≡ word ++ more
+first_full : (test : ℕ → Bool) → ((b : ℕ) → test b ≡ true → is_blank b ≡ false)
+    → (word more : List ℕ) → is_run test word ≡ true → trimmed_start (word ++ more) ≡ word ++ more
 first_full test excludes [] more run = absurd cc
-first_full test excludes (b ∷ bs) more run = starts_full b (bs ++ more) (excludes b (and_parts (test b) (list_all test bs) run).0)
+first_full test excludes (b ∷ bs) more run =
+    starts_full b (bs ++ more) (excludes b (and_parts (test b) (list_all test bs) run).0)
 
 -- white space before a word
-pub gap_before : (test : ℕ → Bool) → ((b : ℕ) → test b ≡ true → is_blank b ≡ false) → (gap word more : List ℕ) → list_all is_blank gap ≡ true → is_run test word ≡ true → trimmed_start (gap ++ (word ++ more)) ≡ word ++ more
-gap_before test excludes gap word more blank run = start_is gap (word ++ more) blank (first_full test excludes word more run)
+pub gap_before : (test : ℕ → Bool) → ((b : ℕ) → test b ≡ true → is_blank b ≡ false)
+    → (gap word more : List ℕ) → list_all is_blank gap ≡ true → is_run test word ≡ true
+    → trimmed_start (gap ++ (word ++ more)) ≡ word ++ more
+gap_before test excludes gap word more blank run =
+    start_is gap (word ++ more) blank (first_full test excludes word more run)
 
 -- ---- at the end
 
@@ -46,9 +58,11 @@ pub record EndsInGap (text front : List ℕ) : Type 0 where
   pub parts : text ≡ front ++ gap
   pub gap_is : list_all is_blank gap ≡ true
 
-end_step : (b : ℕ) (bs : List ℕ) (r : Bool) → (is_blank b && list_all is_blank bs) ≡ r → EndsInGap bs (trimmed_end bs) → EndsInGap (b ∷ bs) (cond r [] (b ∷ trimmed_end bs))
+end_step : (b : ℕ) (bs : List ℕ) (r : Bool) → (is_blank b && list_all is_blank bs) ≡ r
+    → EndsInGap bs (trimmed_end bs) → EndsInGap (b ∷ bs) (cond r [] (b ∷ trimmed_end bs))
 end_step b bs true blank more = record { gap = b ∷ bs; parts = refl; gap_is = blank }
-end_step b bs false blank more = record { gap = more.gap; parts = ap (λ (xs : List ℕ). b ∷ xs) more.parts; gap_is = more.gap_is }
+end_step b bs false blank more =
+    record { gap = more.gap; parts = ap (λ (xs : List ℕ). b ∷ xs) more.parts; gap_is = more.gap_is }
 
 pub end_gap : (text : List ℕ) → EndsInGap text (trimmed_end text)
 end_gap [] = record { gap = []; parts = refl; gap_is = refl }
@@ -58,7 +72,8 @@ all_blank : (gap : List ℕ) → list_all is_blank gap ≡ true → trimmed_end 
 all_blank [] blank = refl
 all_blank (b ∷ bs) blank = rw blank refl
 
-pub end_is : (front gap : List ℕ) → list_all (λ b. not (is_blank b)) front ≡ true → list_all is_blank gap ≡ true → trimmed_end (front ++ gap) ≡ front
+pub end_is : (front gap : List ℕ) → list_all (λ b. not (is_blank b)) front ≡ true
+    → list_all is_blank gap ≡ true → trimmed_end (front ++ gap) ≡ front
 end_is [] gap full blank = all_blank gap blank
 end_is (c ∷ cs) gap full blank =
     let both = and_parts (not (is_blank c)) (list_all (λ b. not (is_blank b)) cs) full in

@@ -17,13 +17,17 @@ use Rattle.sip_reader.proofs.Pieces.{by_bool}
 
 pub full_at : (test : ℕ → Bool) (b at : ℕ) → test at ≡ false → test b ≡ true → eqb b at ≡ false
 full_at test b at fails passes =
-    by_bool (eqb b at) (λ r. r ≡ false) (λ e. absurd (true≢false (sym passes ∙ ap test (eqb-true b at e) ∙ fails))) (λ e. refl)
+    by_bool (eqb b at) (λ r. r ≡ false)
+    (λ e. absurd (true≢false (sym passes ∙ ap test (eqb-true b at e) ∙ fails))) (λ e. refl)
 
 -- a test that neither the space nor the tab passes
-pub full_bytes : (test : ℕ → Bool) → test 32 ≡ false → test 9 ≡ false → (b : ℕ) → test b ≡ true → is_blank b ≡ false
-full_bytes test space tab b passes = rw (full_at test b 32 space passes, full_at test b 9 tab passes) refl
+pub full_bytes : (test : ℕ → Bool) → test 32 ≡ false → test 9 ≡ false → (b : ℕ) → test b ≡ true
+    → is_blank b ≡ false
+full_bytes test space tab b passes =
+    rw (full_at test b 32 space passes, full_at test b 9 tab passes) refl
 
-pub not_blank : (test : ℕ → Bool) → test 32 ≡ false → test 9 ≡ false → (b : ℕ) → test b ≡ true → not (is_blank b) ≡ true
+pub not_blank : (test : ℕ → Bool) → test 32 ≡ false → test 9 ≡ false → (b : ℕ) → test b ≡ true
+    → not (is_blank b) ≡ true
 not_blank test space tab b passes = ap not (full_bytes test space tab b passes)
 
 -- ---- tokens
@@ -39,10 +43,13 @@ pub token_full : (b : ℕ) → is_token_byte b ≡ true → is_blank b ≡ false
 unfolding is_token_byte
 token_full b passes = full_bytes is_token_byte refl refl b passes
 
-pub token_not_blank : (text : List ℕ) → is_token text ≡ true → list_all (λ b. not (is_blank b)) text ≡ true
-token_not_blank text token = all_imply is_token_byte (λ b. not (is_blank b)) (λ b passes. ap not (token_full b passes)) text (token_bytes text token)
+pub token_not_blank : (text : List ℕ) → is_token text ≡ true
+    → list_all (λ b. not (is_blank b)) text ≡ true
+token_not_blank text token = all_imply is_token_byte (λ b. not (is_blank b))
+    (λ b passes. ap not (token_full b passes)) text (token_bytes text token)
 
-pub token_without : (at : ℕ) → is_token_byte at ≡ false → (text : List ℕ) → is_token text ≡ true → has_no at text ≡ true
+pub token_without : (at : ℕ) → is_token_byte at ≡ false → (text : List ℕ) → is_token text ≡ true
+    → has_no at text ≡ true
 token_without at fails text token = none_of is_token_byte at fails text (token_bytes text token)
 
 pub no_colon : is_token_byte 58 ≡ false
@@ -71,9 +78,11 @@ pub word_bytes : (text : List ℕ) → is_word text ≡ true → list_all is_wor
 unfolding is_word
 word_bytes text word = run_all is_word_byte text word
 
-pub word_not_blank : (text : List ℕ) → is_word text ≡ true → list_all (λ b. not (is_blank b)) text ≡ true
+pub word_not_blank : (text : List ℕ) → is_word text ≡ true
+    → list_all (λ b. not (is_blank b)) text ≡ true
 unfolding is_word_byte
-word_not_blank text word = all_imply is_word_byte (λ b. not (is_blank b)) (not_blank is_word_byte refl refl) text (word_bytes text word)
+word_not_blank text word = all_imply is_word_byte (λ b. not (is_blank b))
+    (not_blank is_word_byte refl refl) text (word_bytes text word)
 
 pub word_without_space : (text : List ℕ) → is_word text ≡ true → has_no 32 text ≡ true
 unfolding is_word_byte
@@ -85,13 +94,16 @@ uri_without_bracket text uri = none_of is_uri_byte 62 refl text (run_all is_uri_
 
 pub value_without_semicolon : (text : List ℕ) → is_value_word text ≡ true → has_no 59 text ≡ true
 unfolding is_value_word is_value_byte
-value_without_semicolon text value = none_of is_value_byte 59 refl text (run_all is_value_byte text value)
+value_without_semicolon text value =
+    none_of is_value_byte 59 refl text (run_all is_value_byte text value)
 
-pub bracket_without_semicolon : (text : List ℕ) → list_all is_bracket_byte text ≡ true → has_no 59 text ≡ true
+pub bracket_without_semicolon : (text : List ℕ) → list_all is_bracket_byte text ≡ true
+    → has_no 59 text ≡ true
 unfolding is_bracket_byte
 bracket_without_semicolon text all = none_of is_bracket_byte 59 refl text all
 
-pub host_without_semicolon : (text : List ℕ) → list_all is_host_byte text ≡ true → has_no 59 text ≡ true
+pub host_without_semicolon : (text : List ℕ) → list_all is_host_byte text ≡ true
+    → has_no 59 text ≡ true
 unfolding is_host_byte
 host_without_semicolon text all = none_of is_host_byte 59 refl text all
 
@@ -105,31 +117,45 @@ host_full b passes = full_bytes is_host_byte refl refl b passes
 
 -- ---- without case
 
-pub same_lower : (one other : List ℕ) → str_eq_ignore_ascii_case one other ≡ true → str_to_ascii_lowercase one ≡ str_to_ascii_lowercase other
-same_lower one other same = (bytes_eq-Decides (str_to_ascii_lowercase one) (str_to_ascii_lowercase other)).0 same
+pub same_lower : (one other : List ℕ) → str_eq_ignore_ascii_case one other ≡ true
+    → str_to_ascii_lowercase one ≡ str_to_ascii_lowercase other
+same_lower one other same =
+    (bytes_eq-Decides (str_to_ascii_lowercase one) (str_to_ascii_lowercase other)).0 same
 
 upper_blank : (b : ℕ) → 65 ≤ b → is_blank (b + 32) ≡ is_blank b
 upper_blank b low =
-    rw (ne_eqb (b + 32) 32 (λ e. omega arith), ne_eqb (b + 32) 9 (λ e. omega arith), ne_eqb b 32 (λ e. omega arith), ne_eqb b 9 (λ e. omega arith)) refl
+    rw (
+      ne_eqb (b + 32) 32 (λ e. omega arith),
+      ne_eqb (b + 32) 9 (λ e. omega arith),
+      ne_eqb b 32 (λ e. omega arith),
+      ne_eqb b 9 (λ e. omega arith),
+    ) refl
 
 lower_blank : (b : ℕ) → is_blank (to_ascii_lowercase b) ≡ is_blank b
 lower_blank b =
-    by_bool (ltb b 65) (λ r. is_blank (cond r b (cond (ltb b 91) (b + 32) b)) ≡ is_blank b) (λ e. refl)
-    (λ e. by_bool (ltb b 91) (λ r. is_blank (cond r (b + 32) b) ≡ is_blank b) (λ f. upper_blank b (ltb-false b 65 e)) (λ f. refl))
+    by_bool (ltb b 65) (λ r. is_blank (cond r b (cond (ltb b 91) (b + 32) b)) ≡ is_blank b)
+    (λ e. refl)
+    (λ e. by_bool (ltb b 91) (λ r. is_blank (cond r (b + 32) b) ≡ is_blank b)
+    (λ f. upper_blank b (ltb-false b 65 e)) (λ f. refl))
 
-pub lower_not_blank : (text : List ℕ) → list_all (λ b. not (is_blank b)) (str_to_ascii_lowercase text) ≡ list_all (λ b. not (is_blank b)) text
+pub lower_not_blank : (text : List ℕ)
+    → list_all (λ b. not (is_blank b)) (str_to_ascii_lowercase text)
+    ≡ list_all (λ b. not (is_blank b)) text
 lower_not_blank [] = refl
 lower_not_blank (b ∷ bs) = rw (lower_blank b, lower_not_blank bs) refl
 
 upper_other : (b at : ℕ) → 65 ≤ b → at < 65 → eqb (b + 32) at ≡ eqb b at
-upper_other b at low lt = ne_eqb (b + 32) at (λ e. omega arith) ∙ sym (ne_eqb b at (λ e. omega arith))
+upper_other b at low lt =
+    ne_eqb (b + 32) at (λ e. omega arith) ∙ sym (ne_eqb b at (λ e. omega arith))
 
 lower_other : (at : ℕ) → at < 65 → (b : ℕ) → eqb (to_ascii_lowercase b) at ≡ eqb b at
 lower_other at lt b =
     by_bool (ltb b 65) (λ r. eqb (cond r b (cond (ltb b 91) (b + 32) b)) at ≡ eqb b at) (λ e. refl)
-    (λ e. by_bool (ltb b 91) (λ r. eqb (cond r (b + 32) b) at ≡ eqb b at) (λ f. upper_other b at (ltb-false b 65 e) lt) (λ f. refl))
+    (λ e. by_bool (ltb b 91) (λ r. eqb (cond r (b + 32) b) at ≡ eqb b at)
+    (λ f. upper_other b at (ltb-false b 65 e) lt) (λ f. refl))
 
 -- a byte below the letters stands in a text where it stands in the text in lower case
-pub lower_without : (at : ℕ) → at < 65 → (text : List ℕ) → has_no at (str_to_ascii_lowercase text) ≡ has_no at text
+pub lower_without : (at : ℕ) → at < 65 → (text : List ℕ)
+    → has_no at (str_to_ascii_lowercase text) ≡ has_no at text
 lower_without at lt [] = refl
 lower_without at lt (b ∷ bs) = rw (lower_other at lt b, lower_without at lt bs) refl

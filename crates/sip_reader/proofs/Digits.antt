@@ -21,18 +21,22 @@ pub record IsNumber (limit number : ℕ) (word : List ℕ) : Type 0 where
 abbrev told : Bool → Bool → ℕ → Result ℕ TextFault
 told digits small number = cond digits (cond small (Ok number) (Err NumberTooLarge)) (Err NotAToken)
 
-told_ok : (digits small : Bool) (number other : ℕ) → told digits small number ≡ Ok other → ((digits && small) ≡ true) × (number ≡ other)
+told_ok : (digits small : Bool) (number other : ℕ) → told digits small number ≡ Ok other
+    → ((digits && small) ≡ true) × (number ≡ other)
 told_ok true true number other e = (refl, cc)
 told_ok true false number other e = absurd cc
 told_ok false small number other e = absurd cc
 
-pub number_is : (text : List ℕ) (number : ℕ) → number_of text ≡ Ok number → IsNumber (2 ^ 32) number text
+pub number_is : (text : List ℕ) (number : ℕ) → number_of text ≡ Ok number
+    → IsNumber (2 ^ 32) number text
 unfolding number_of
 number_is text number e =
-    let both = told_ok (is_digits text) (ltb (digits_value 10 text) (2 ^ 32)) (digits_value 10 text) number e in
+    let both = told_ok (is_digits text) (ltb (digits_value 10 text) (2 ^ 32))
+    (digits_value 10 text) number e in
     record { is = both.0; value = both.1 }
 
-pub number_again : (text : List ℕ) (number : ℕ) → IsNumber (2 ^ 32) number text → number_of text ≡ Ok number
+pub number_again : (text : List ℕ) (number : ℕ) → IsNumber (2 ^ 32) number text
+    → number_of text ≡ Ok number
 unfolding number_of
 number_again text number is =
     let both = and_parts (is_digits text) (ltb (digits_value 10 text) (2 ^ 32)) is.is in

@@ -22,13 +22,17 @@ use Rattle.sip_reader.proofs.Pieces.{map_some}
 abbrev stripped : List ℕ × List ℕ → List ℕ × List ℕ
 stripped p = (strip_carriage_return p.0, p.1)
 
-pub line_again : (text line after : List ℕ) → IsLine text line after → line_at text ≡ Some (line, after)
+pub line_again : (text line after : List ℕ) → IsLine text line after
+    → line_at text ≡ Some (line, after)
 unfolding line_at
 line_again text line after is =
-    ap (λ (xs : List ℕ). option_map stripped (cut_at 10 xs)) is.parts ∙ ap (option_map stripped) (at_again 10 is.part after is.one) ∙ ap (λ (xs : List ℕ). Some (xs, after)) (sym is.stripped)
+    ap (λ (xs : List ℕ). option_map stripped (cut_at 10 xs)) is.parts
+    ∙ ap (option_map stripped) (at_again 10 is.part after is.one)
+    ∙ ap (λ (xs : List ℕ). Some (xs, after)) (sym is.stripped)
 
 after_shorter : (text line after : List ℕ) → IsLine text line after → length after < length text
-after_shorter text line after is = omega (arith, ap length is.parts, length-append is.part (10 ∷ after))
+after_shorter text line after is =
+    omega (arith, ap length is.parts, length-append is.part (10 ∷ after))
 
 -- ---- the lines up to the empty one
 
@@ -36,7 +40,8 @@ abbrev after_line : Option (List ℕ × List ℕ) → Option Section
 after_line None = None
 after_line (Some p) = with_line_of p.0 p.1 (section_at p.1)
 
-section_by : (text : List ℕ) (o : Option (List ℕ × List ℕ)) → line_at text ≡ o → section_at text ≡ after_line o
+section_by : (text : List ℕ) (o : Option (List ℕ × List ℕ)) → line_at text ≡ o
+    → section_at text ≡ after_line o
 section_by text None e = no_line text e
 section_by text (Some p) e = one_line text p.0 p.1 e
 
@@ -55,10 +60,13 @@ full b bs e = absurd cc
 abbrev with_line : List ℕ → Section → Section
 with_line line h = (line ∷ h.0, h.1)
 
-from_line : (text : List ℕ) (o : Option (List ℕ × List ℕ)) → line_at text ≡ o → ((after : List ℕ) → length after < length text → Finds after) → (h : Section) → after_line o ≡ Some h → Found text h
+from_line : (text : List ℕ) (o : Option (List ℕ × List ℕ)) → line_at text ≡ o
+    → ((after : List ℕ) → length after < length text → Finds after) → (h : Section)
+    → after_line o ≡ Some h → Found text h
 from_line text None is more h e = absurd cc
 from_line text (Some ([], after)) is more h e =
-    subst (λ (k : Section). Found text k) (same_Some ([], after) h e) ((after, line_takes text [] after is, refl), tt)
+    subst (λ (k : Section). Found text k) (same_Some ([], after) h e)
+    ((after, line_takes text [] after is, refl), tt)
 from_line text (Some (b ∷ bs, after)) is more h e =
     let line = line_takes text (b ∷ bs) after is in
     let m = map_some (with_line (b ∷ bs)) (section_at after) h e in
@@ -67,22 +75,29 @@ from_line text (Some (b ∷ bs, after)) is more h e =
 
 section_within : (n : ℕ) (text : List ℕ) → length text ≤ n → Finds text
 section_within zero text short h e =
-    from_line text (line_at text) refl (λ after lt. absurd (omega arith)) h (sym (section_at-line text) ∙ e)
+    from_line text (line_at text) refl (λ after lt. absurd (omega arith)) h
+    (sym (section_at-line text) ∙ e)
 section_within (suc n) text short h e =
-    from_line text (line_at text) refl (λ after lt. section_within n after (omega arith)) h (sym (section_at-line text) ∙ e)
+    from_line text (line_at text) refl (λ after lt. section_within n after (omega arith)) h
+    (sym (section_at-line text) ∙ e)
 
 section_takes : (text : List ℕ) → Finds text
 section_takes text = section_within (length text) text (omega arith)
 
-one_more : (line after : List ℕ) (lines : List (List ℕ)) (rest : List ℕ) → IsFull line → section_at after ≡ Some (lines, rest) → with_line_of line after (section_at after) ≡ Some (line ∷ lines, rest)
+one_more : (line after : List ℕ) (lines : List (List ℕ)) (rest : List ℕ) → IsFull line
+    → section_at after ≡ Some (lines, rest)
+    → with_line_of line after (section_at after) ≡ Some (line ∷ lines, rest)
 one_more [] after lines rest is more = absurd (is refl)
 one_more (b ∷ bs) after lines rest is more = ap (option_map (with_line (b ∷ bs))) more
 
-section_again : (lines : List (List ℕ)) (text rest : List ℕ) → AllByRecursion IsFull lines → IsLines text (lines ++ ([] ∷ [])) rest → section_at text ≡ Some (lines, rest)
+section_again : (lines : List (List ℕ)) (text rest : List ℕ) → AllByRecursion IsFull lines
+    → IsLines text (lines ++ ([] ∷ [])) rest → section_at text ≡ Some (lines, rest)
 section_again [] text rest all is =
-    section_at-line text ∙ ap after_line (line_again text [] is.0 is.1) ∙ ap (λ (xs : List ℕ). Some ([], xs)) is.2
+    section_at-line text ∙ ap after_line (line_again text [] is.0 is.1)
+    ∙ ap (λ (xs : List ℕ). Some ([], xs)) is.2
 section_again (line ∷ lines) text rest all is =
-    section_at-line text ∙ ap after_line (line_again text line is.0 is.1) ∙ one_more line is.0 lines rest all.0 (section_again lines is.0 rest all.1 is.2)
+    section_at-line text ∙ ap after_line (line_again text line is.0 is.1)
+    ∙ one_more line is.0 lines rest all.0 (section_again lines is.0 rest all.1 is.2)
 
 -- ---- empty lines at the start
 
@@ -90,8 +105,10 @@ section_again (line ∷ lines) text rest all is =
 abbrev NoEnd : List ℕ → Type 0
 NoEnd text = (after : List ℕ) → (text ≡ 10 ∷ after) ⊎ (text ≡ 13 ∷ (10 ∷ after)) → ⊥
 
-strip_long : (b c : ℕ) (bs : List ℕ) (r : Bool) → [] ≡ cond r (take (length (b ∷ (c ∷ bs)) - 1) (b ∷ (c ∷ bs))) (b ∷ (c ∷ bs)) → ⊥
-strip_long b c bs true e = omega (arith, ap length e, length-take (length (b ∷ (c ∷ bs)) - 1) (b ∷ (c ∷ bs)))
+strip_long : (b c : ℕ) (bs : List ℕ) (r : Bool)
+    → [] ≡ cond r (take (length (b ∷ (c ∷ bs)) - 1) (b ∷ (c ∷ bs))) (b ∷ (c ∷ bs)) → ⊥
+strip_long b c bs true e =
+    omega (arith, ap length e, length-take (length (b ∷ (c ∷ bs)) - 1) (b ∷ (c ∷ bs)))
 strip_long b c bs false e = absurd cc
 
 strip_one : (b : ℕ) (r : Bool) → eqb b 13 ≡ r → [] ≡ cond r [] (b ∷ []) → b ≡ 13
@@ -99,17 +116,21 @@ strip_one b true is e = eqb-true b 13 is
 strip_one b false is e = absurd cc
 
 -- an empty line is LF or CR LF
-empty_part : (part after : List ℕ) → [] ≡ strip_carriage_return part → (part ++ (10 ∷ after) ≡ 10 ∷ after) ⊎ (part ++ (10 ∷ after) ≡ 13 ∷ (10 ∷ after))
+empty_part : (part after : List ℕ) → [] ≡ strip_carriage_return part
+    → (part ++ (10 ∷ after) ≡ 10 ∷ after) ⊎ (part ++ (10 ∷ after) ≡ 13 ∷ (10 ∷ after))
 empty_part [] after e = inl refl
 empty_part (b ∷ []) after e = inr (ap (λ (c : ℕ). c ∷ (10 ∷ after)) (strip_one b (eqb b 13) refl e))
 empty_part (b ∷ (c ∷ bs)) after e =
     absurd (strip_long b c bs (eqb (get_or (b ∷ (c ∷ bs)) (length (b ∷ (c ∷ bs)) - 1) 0) 13) e)
 
-empty_line : (text after : List ℕ) → IsLine text [] after → (text ≡ 10 ∷ after) ⊎ (text ≡ 13 ∷ (10 ∷ after))
+empty_line : (text after : List ℕ) → IsLine text [] after
+    → (text ≡ 10 ∷ after) ⊎ (text ≡ 13 ∷ (10 ∷ after))
 empty_line text after is =
-    subst (λ (xs : List ℕ). (xs ≡ 10 ∷ after) ⊎ (xs ≡ 13 ∷ (10 ∷ after))) (sym is.parts) (empty_part is.part after is.stripped)
+    subst (λ (xs : List ℕ). (xs ≡ 10 ∷ after) ⊎ (xs ≡ 13 ∷ (10 ∷ after))) (sym is.parts)
+    (empty_part is.part after is.stripped)
 
-an_empty_line : (text after : List ℕ) → (text ≡ 10 ∷ after) ⊎ (text ≡ 13 ∷ (10 ∷ after)) → IsLine text [] after
+an_empty_line : (text after : List ℕ) → (text ≡ 10 ∷ after) ⊎ (text ≡ 13 ∷ (10 ∷ after))
+    → IsLine text [] after
 an_empty_line text after (inl e) = record { part = []; parts = e; one = refl; stripped = refl }
 an_empty_line text after (inr e) = record { part = 13 ∷ []; parts = e; one = refl; stripped = refl }
 
@@ -118,32 +139,49 @@ an_empty_line text after (inr e) = record { part = 13 ∷ []; parts = e; one = r
 abbrev Skipped : List ℕ → List (List ℕ) → List ℕ → Type 0
 Skipped text lines rest = (n : ℕ) × IsLines text (replicate n [] ++ lines) rest
 
-skip_one : (text after : List ℕ) (lines : List (List ℕ)) (rest : List ℕ) → IsLine text [] after → Skipped after lines rest → Skipped text lines rest
+skip_one : (text after : List ℕ) (lines : List (List ℕ)) (rest : List ℕ) → IsLine text [] after
+    → Skipped after lines rest → Skipped text lines rest
 skip_one text after lines rest is more = (suc more.0, (after, is, more.1))
 
-last_one : (b : ℕ) (lines : List (List ℕ)) (rest : List ℕ) (r : Bool) → eqb b 10 ≡ r → IsLines (cond r [] (b ∷ [])) lines rest → Skipped (b ∷ []) lines rest
+last_one : (b : ℕ) (lines : List (List ℕ)) (rest : List ℕ) (r : Bool) → eqb b 10 ≡ r
+    → IsLines (cond r [] (b ∷ [])) lines rest → Skipped (b ∷ []) lines rest
 last_one b lines rest true is h =
-    skip_one (b ∷ []) [] lines rest (an_empty_line (b ∷ []) [] (inl (ap (λ (c : ℕ). c ∷ []) (eqb-true b 10 is)))) (0, h)
+    skip_one (b ∷ []) [] lines rest
+    (an_empty_line (b ∷ []) [] (inl (ap (λ (c : ℕ). c ∷ []) (eqb-true b 10 is)))) (0, h)
 last_one b lines rest false is h = (0, h)
 
-after_cr : (b c : ℕ) (bs : List ℕ) (lines : List (List ℕ)) (rest : List ℕ) (r : Bool) → (eqb b 13 && eqb c 10) ≡ r → (IsLines (without_line_ends bs) lines rest → Skipped bs lines rest) → IsLines (cond r (without_line_ends bs) (b ∷ (c ∷ bs))) lines rest → Skipped (b ∷ (c ∷ bs)) lines rest
+after_cr : (b c : ℕ) (bs : List ℕ) (lines : List (List ℕ)) (rest : List ℕ) (r : Bool)
+    → (eqb b 13 && eqb c 10) ≡ r → (IsLines (without_line_ends bs) lines rest
+    → Skipped bs lines rest) → IsLines (cond r (without_line_ends bs) (b ∷ (c ∷ bs))) lines rest
+    → Skipped (b ∷ (c ∷ bs)) lines rest
 after_cr b c bs lines rest true is more h =
     let both = and_parts (eqb b 13) (eqb c 10) is in
-    let begins : b ∷ (c ∷ bs) ≡ 13 ∷ (10 ∷ bs) = ap (λ (x : ℕ). x ∷ (c ∷ bs)) (eqb-true b 13 both.0) ∙ ap (λ (x : ℕ). 13 ∷ (x ∷ bs)) (eqb-true c 10 both.1) in
+    let begins : b ∷ (c ∷ bs) ≡ 13 ∷ (10 ∷ bs) =
+    ap (λ (x : ℕ). x ∷ (c ∷ bs)) (eqb-true b 13 both.0)
+    ∙ ap (λ (x : ℕ). 13 ∷ (x ∷ bs)) (eqb-true c 10 both.1) in
     skip_one (b ∷ (c ∷ bs)) bs lines rest (an_empty_line (b ∷ (c ∷ bs)) bs (inr begins)) (more h)
 after_cr b c bs lines rest false is more h = (0, h)
 
-first_one : (b c : ℕ) (bs : List ℕ) (lines : List (List ℕ)) (rest : List ℕ) (r : Bool) → eqb b 10 ≡ r → (IsLines (without_line_ends (c ∷ bs)) lines rest → Skipped (c ∷ bs) lines rest) → (IsLines (without_line_ends bs) lines rest → Skipped bs lines rest) → IsLines (cond r (without_line_ends (c ∷ bs)) (cond (eqb b 13 && eqb c 10) (without_line_ends bs) (b ∷ (c ∷ bs)))) lines rest → Skipped (b ∷ (c ∷ bs)) lines rest
+first_one : (b c : ℕ) (bs : List ℕ) (lines : List (List ℕ)) (rest : List ℕ) (r : Bool)
+    → eqb b 10 ≡ r → (IsLines (without_line_ends (c ∷ bs)) lines rest → Skipped (c ∷ bs) lines rest)
+    → (IsLines (without_line_ends bs) lines rest → Skipped bs lines rest)
+    → IsLines (cond r (without_line_ends (c ∷ bs))
+    (cond (eqb b 13 && eqb c 10) (without_line_ends bs) (b ∷ (c ∷ bs)))) lines rest
+    → Skipped (b ∷ (c ∷ bs)) lines rest
 first_one b c bs lines rest true is more further h =
-    skip_one (b ∷ (c ∷ bs)) (c ∷ bs) lines rest (an_empty_line (b ∷ (c ∷ bs)) (c ∷ bs) (inl (ap (λ (x : ℕ). x ∷ (c ∷ bs)) (eqb-true b 10 is)))) (more h)
+    skip_one (b ∷ (c ∷ bs)) (c ∷ bs) lines rest
+    (an_empty_line (b ∷ (c ∷ bs)) (c ∷ bs)
+    (inl (ap (λ (x : ℕ). x ∷ (c ∷ bs)) (eqb-true b 10 is)))) (more h)
 first_one b c bs lines rest false is more further h =
     after_cr b c bs lines rest (eqb b 13 && eqb c 10) refl further h
 
-skip_takes : (text : List ℕ) (lines : List (List ℕ)) (rest : List ℕ) → IsLines (without_line_ends text) lines rest → Skipped text lines rest
+skip_takes : (text : List ℕ) (lines : List (List ℕ)) (rest : List ℕ)
+    → IsLines (without_line_ends text) lines rest → Skipped text lines rest
 skip_takes [] lines rest h = (0, h)
 skip_takes (b ∷ []) lines rest h = last_one b lines rest (eqb b 10) refl h
 skip_takes (b ∷ (c ∷ bs)) lines rest h =
-    first_one b c bs lines rest (eqb b 10) refl (skip_takes (c ∷ bs) lines rest) (skip_takes bs lines rest) h
+    first_one b c bs lines rest (eqb b 10) refl (skip_takes (c ∷ bs) lines rest)
+    (skip_takes bs lines rest) h
 
 -- ---- and nothing else is
 
@@ -157,24 +195,30 @@ ends_one b other after (inl e) =
     eqb-false b 10 other same
 ends_one b other after (inr e) = absurd cc
 
-ends_more : (b c : ℕ) (bs : List ℕ) → eqb b 10 ≡ false → (eqb b 13 && eqb c 10) ≡ false → NoEnd (b ∷ (c ∷ bs))
+ends_more : (b c : ℕ) (bs : List ℕ) → eqb b 10 ≡ false → (eqb b 13 && eqb c 10) ≡ false
+    → NoEnd (b ∷ (c ∷ bs))
 ends_more b c bs other not_both after (inl e) =
     let same : b ≡ 10 = cc in
     eqb-false b 10 other same
 ends_more b c bs other not_both after (inr e) =
     let first : b ≡ 13 = cc in
     let second : c ≡ 10 = cc in
-    true≢false (sym (ap (λ (x : ℕ). eqb x 13 && eqb 10 10) first ∙ refl) ∙ ap (λ (x : ℕ). eqb b 13 && eqb x 10) (sym second) ∙ not_both)
+    true≢false (sym (ap (λ (x : ℕ). eqb x 13 && eqb 10 10) first ∙ refl)
+    ∙ ap (λ (x : ℕ). eqb b 13 && eqb x 10) (sym second) ∙ not_both)
 
 done_one : (b : ℕ) (r : Bool) → eqb b 10 ≡ r → NoEnd (cond r [] (b ∷ []))
 done_one b true is = ends_none
 done_one b false is = ends_one b is
 
-done_cr : (b c : ℕ) (bs : List ℕ) (r : Bool) → eqb b 10 ≡ false → (eqb b 13 && eqb c 10) ≡ r → NoEnd (without_line_ends bs) → NoEnd (cond r (without_line_ends bs) (b ∷ (c ∷ bs)))
+done_cr : (b c : ℕ) (bs : List ℕ) (r : Bool) → eqb b 10 ≡ false → (eqb b 13 && eqb c 10) ≡ r
+    → NoEnd (without_line_ends bs) → NoEnd (cond r (without_line_ends bs) (b ∷ (c ∷ bs)))
 done_cr b c bs true other is more = more
 done_cr b c bs false other is more = ends_more b c bs other is
 
-done_first : (b c : ℕ) (bs : List ℕ) (r : Bool) → eqb b 10 ≡ r → NoEnd (without_line_ends (c ∷ bs)) → NoEnd (without_line_ends bs) → NoEnd (cond r (without_line_ends (c ∷ bs)) (cond (eqb b 13 && eqb c 10) (without_line_ends bs) (b ∷ (c ∷ bs))))
+done_first : (b c : ℕ) (bs : List ℕ) (r : Bool) → eqb b 10 ≡ r → NoEnd (without_line_ends (c ∷ bs))
+    → NoEnd (without_line_ends bs)
+    → NoEnd (cond r (without_line_ends (c ∷ bs))
+    (cond (eqb b 13 && eqb c 10) (without_line_ends bs) (b ∷ (c ∷ bs))))
 done_first b c bs true is more further = more
 done_first b c bs false is more further = done_cr b c bs (eqb b 13 && eqb c 10) is refl further
 
@@ -187,13 +231,17 @@ kept_one : (b : ℕ) (r : Bool) → eqb b 10 ≡ r → NoEnd (b ∷ []) → cond
 kept_one b true is none = absurd (none [] (inl (ap (λ (c : ℕ). c ∷ []) (eqb-true b 10 is))))
 kept_one b false is none = refl
 
-kept_cr : (b c : ℕ) (bs : List ℕ) (r : Bool) → (eqb b 13 && eqb c 10) ≡ r → NoEnd (b ∷ (c ∷ bs)) → cond r (without_line_ends bs) (b ∷ (c ∷ bs)) ≡ b ∷ (c ∷ bs)
+kept_cr : (b c : ℕ) (bs : List ℕ) (r : Bool) → (eqb b 13 && eqb c 10) ≡ r → NoEnd (b ∷ (c ∷ bs))
+    → cond r (without_line_ends bs) (b ∷ (c ∷ bs)) ≡ b ∷ (c ∷ bs)
 kept_cr b c bs true is none =
     let both = and_parts (eqb b 13) (eqb c 10) is in
-    absurd (none bs (inr (ap (λ (x : ℕ). x ∷ (c ∷ bs)) (eqb-true b 13 both.0) ∙ ap (λ (x : ℕ). 13 ∷ (x ∷ bs)) (eqb-true c 10 both.1))))
+    absurd (none bs (inr (ap (λ (x : ℕ). x ∷ (c ∷ bs)) (eqb-true b 13 both.0)
+    ∙ ap (λ (x : ℕ). 13 ∷ (x ∷ bs)) (eqb-true c 10 both.1))))
 kept_cr b c bs false is none = refl
 
-kept_first : (b c : ℕ) (bs : List ℕ) (r : Bool) → eqb b 10 ≡ r → NoEnd (b ∷ (c ∷ bs)) → cond r (without_line_ends (c ∷ bs)) (cond (eqb b 13 && eqb c 10) (without_line_ends bs) (b ∷ (c ∷ bs))) ≡ b ∷ (c ∷ bs)
+kept_first : (b c : ℕ) (bs : List ℕ) (r : Bool) → eqb b 10 ≡ r → NoEnd (b ∷ (c ∷ bs))
+    → cond r (without_line_ends (c ∷ bs))
+    (cond (eqb b 13 && eqb c 10) (without_line_ends bs) (b ∷ (c ∷ bs))) ≡ b ∷ (c ∷ bs)
 kept_first b c bs true is none =
     absurd (none (c ∷ bs) (inl (ap (λ (x : ℕ). x ∷ (c ∷ bs)) (eqb-true b 10 is))))
 kept_first b c bs false is none = kept_cr b c bs (eqb b 13 && eqb c 10) refl none
@@ -207,7 +255,8 @@ skip_lf : (after : List ℕ) → without_line_ends (10 ∷ after) ≡ without_li
 skip_lf [] = refl
 skip_lf (c ∷ cs) = refl
 
-skip_line : (text after : List ℕ) → (text ≡ 10 ∷ after) ⊎ (text ≡ 13 ∷ (10 ∷ after)) → without_line_ends text ≡ without_line_ends after
+skip_line : (text after : List ℕ) → (text ≡ 10 ∷ after) ⊎ (text ≡ 13 ∷ (10 ∷ after))
+    → without_line_ends text ≡ without_line_ends after
 skip_line text after (inl e) = ap without_line_ends e ∙ skip_lf after
 skip_line text after (inr e) = ap without_line_ends e
 
@@ -218,26 +267,39 @@ no_end text line after is some_line other ends =
     let both : Some ([], other) ≡ Some (line, after) = sym empty ∙ line_again text line after is in
     some_line (ap (λ (p : List ℕ × List ℕ). p.0) (sym (same_Some _ _ both)))
 
-skip_again : (n : ℕ) (text start : List ℕ) (lines : List (List ℕ)) (rest : List ℕ) → IsFull start → IsLines text (replicate n [] ++ (start ∷ lines)) rest → IsLines (without_line_ends text) (start ∷ lines) rest
+skip_again : (n : ℕ) (text start : List ℕ) (lines : List (List ℕ)) (rest : List ℕ) → IsFull start
+    → IsLines text (replicate n [] ++ (start ∷ lines)) rest
+    → IsLines (without_line_ends text) (start ∷ lines) rest
 skip_again zero text start lines rest some_line is =
-    subst (λ (xs : List ℕ). IsLines xs (start ∷ lines) rest) (sym (kept text (no_end text start is.0 is.1 some_line))) is
+    subst (λ (xs : List ℕ). IsLines xs (start ∷ lines) rest)
+    (sym (kept text (no_end text start is.0 is.1 some_line))) is
 skip_again (suc n) text start lines rest some_line is =
-    subst (λ (xs : List ℕ). IsLines xs (start ∷ lines) rest) (sym (skip_line text is.0 (empty_line text is.0 is.1))) (skip_again n is.0 start lines rest some_line is.2)
+    subst (λ (xs : List ℕ). IsLines xs (start ∷ lines) rest)
+    (sym (skip_line text is.0 (empty_line text is.0 is.1)))
+    (skip_again n is.0 start lines rest some_line is.2)
 
 -- ---- the whole
 
-pub laid_takes : (text first after start : List ℕ) (lines : List (List ℕ)) (rest : List ℕ) → line_at (without_line_ends text) ≡ Some (first, after) → onto_section first (section_at after) ≡ Some (start ∷ lines, rest) → Lays text start lines rest
+pub laid_takes : (text first after start : List ℕ) (lines : List (List ℕ)) (rest : List ℕ)
+    → line_at (without_line_ends text) ≡ Some (first, after)
+    → onto_section first (section_at after) ≡ Some (start ∷ lines, rest)
+    → Lays text start lines rest
 laid_takes text first after start lines rest e f =
     let line = line_takes (without_line_ends text) first after e in
-    let m = map_some (λ (s : Section). (folded_onto first s.0, s.1)) (section_at after) (start ∷ lines, rest) f in
+    let m = map_some (λ (s : Section). (folded_onto first s.0, s.1)) (section_at after)
+    (start ∷ lines, rest) f in
     let found = section_takes after m.0 m.1 in
     let skipped = skip_takes text (first ∷ (m.0.0 ++ ([] ∷ []))) m.0.1 (after, line, found.0) in
-    let begins : IsFull first = λ (none : first ≡ []). skip_done text after (empty_line (without_line_ends text) after (subst (λ (xs : List ℕ). IsLine (without_line_ends text) xs after) none line)) in
+    let begins : IsFull first = λ (none : first ≡ []).
+    skip_done text after (empty_line (without_line_ends text) after
+    (subst (λ (xs : List ℕ). IsLine (without_line_ends text) xs after) none line)) in
     record {
       skipped = skipped.0;
       first = first;
       more = m.0.0;
-      parts = subst (λ (xs : List ℕ). IsLines text (replicate skipped.0 [] ++ (first ∷ (m.0.0 ++ ([] ∷ [])))) xs) (ap (λ (s : Section). s.1) m.2) skipped.1;
+      parts = subst (λ (xs : List ℕ).
+          IsLines text (replicate skipped.0 [] ++ (first ∷ (m.0.0 ++ ([] ∷ [])))) xs)
+          (ap (λ (s : Section). s.1) m.2) skipped.1;
       first_is = begins;
       more_are = found.1;
       whole = sym (ap (λ (s : Section). s.0) m.2);
@@ -249,12 +311,16 @@ pub record Laid (text start : List ℕ) (lines : List (List ℕ)) (rest : List �
   pub line_is : line_at (without_line_ends text) ≡ Some (first, after)
   pub section_is : onto_section first (section_at after) ≡ Some (start ∷ lines, rest)
 
-pub laid_again : (text start : List ℕ) (lines : List (List ℕ)) (rest : List ℕ) → Lays text start lines rest → Laid text start lines rest
+pub laid_again : (text start : List ℕ) (lines : List (List ℕ)) (rest : List ℕ)
+    → Lays text start lines rest → Laid text start lines rest
 laid_again text start lines rest lays =
-    let is = skip_again lays.skipped text lays.first (lays.more ++ ([] ∷ [])) rest lays.first_is lays.parts in
+    let is = skip_again lays.skipped text lays.first
+    (lays.more ++ ([] ∷ [])) rest lays.first_is lays.parts in
     record {
       first = lays.first;
       after = is.0;
       line_is = line_again (without_line_ends text) lays.first is.0 is.1;
-      section_is = ap (onto_section lays.first) (section_again lays.more is.0 rest lays.more_are is.2) ∙ ap (λ (ls : List (List ℕ)). Some (ls, rest)) (sym lays.whole);
+      section_is = ap (onto_section lays.first)
+          (section_again lays.more is.0 rest lays.more_are is.2)
+          ∙ ap (λ (ls : List (List ℕ)). Some (ls, rest)) (sym lays.whole);
     }

@@ -35,13 +35,16 @@ use Rattle.sip_reader.proofs.StartLines.{start_reads}
 
 abbrev pub then_body : Headers → List ℕ → Numbers → List Via → StartLine → Result Message ReadFault
 then_body h rest numbers vias says =
-    or_fault fault.Truncated (body_of rest numbers.content_length) >>= λ body. Ok (message_with says vias numbers h body)
+    or_fault fault.Truncated (body_of rest numbers.content_length) >>= λ body.
+    Ok (message_with says vias numbers h body)
 
 abbrev pub then_start : FirstLine → Headers → List ℕ → Numbers → List Via → Result Message ReadFault
 then_start line h rest numbers vias =
-    or_fault fault.MethodMismatch (start_line_of line h.cseq.method) >>= λ says. then_body h rest numbers vias says
+    or_fault fault.MethodMismatch (start_line_of line h.cseq.method) >>= λ says.
+    then_body h rest numbers vias says
 
-abbrev pub then_branch : FirstLine → Headers → List ℕ → Numbers → List Via → Result Message ReadFault
+abbrev pub then_branch : FirstLine → Headers → List ℕ → Numbers → List Via
+    → Result Message ReadFault
 then_branch line h rest numbers vias =
     or_fault fault.OldBranch (good_vias vias) >>= λ good. then_start line h rest numbers good
 
@@ -58,28 +61,48 @@ pub record IsMade (line : FirstLine) (h : Headers) (rest : List ℕ) (m : Messag
   pub body_is : body_of rest numbers.content_length ≡ Some body
   pub same : message_with says vias numbers h body ≡ m
 
-vias_take : (drafts : List ViaDraft) (vias : List Via) → vias_of drafts ≡ Ok vias → (each via_with drafts ≡ Some vias) × (are_vias vias ≡ true)
+vias_take : (drafts : List ViaDraft) (vias : List Via) → vias_of drafts ≡ Ok vias
+    → (each via_with drafts ≡ Some vias) × (are_vias vias ≡ true)
 unfolding vias_of
 vias_take drafts vias e =
-    let a = step_ok fault.BadNumber (each via_with drafts) (λ vs. or_fault fault.OldBranch (good_vias vs)) vias e in
+    let a = step_ok fault.BadNumber (each via_with drafts)
+    (λ vs. or_fault fault.OldBranch (good_vias vs)) vias e in
     let g = good (are_vias a.0) a.0 vias a.2 in
     (a.1 ∙ ap (λ vs. Some vs) g.1, subst (λ vs. are_vias vs ≡ true) g.1 g.0)
   where
-    good : (r : Bool) (vs ws : List Via) → or_fault fault.OldBranch (cond r (Some vs) None) ≡ Ok ws → (r ≡ true) × (vs ≡ ws)
+    good : (r : Bool) (vs ws : List Via) → or_fault fault.OldBranch (cond r (Some vs) None) ≡ Ok ws
+        → (r ≡ true) × (vs ≡ ws)
     good true vs ws p = (refl, same_Ok vs ws p)
     good false vs ws p = absurd cc
 
-pub made : (line : FirstLine) (h : Headers) (rest : List ℕ) (m : Message) → message_of_headers line h rest ≡ Ok m → IsMade line h rest m
+pub made : (line : FirstLine) (h : Headers) (rest : List ℕ) (m : Message)
+    → message_of_headers line h rest ≡ Ok m → IsMade line h rest m
 unfolding message_of_headers
 made line h rest m e =
-    let a = step_ok fault.BadNumber (numbers_in h) (λ numbers. vias_of h.vias >>= λ vias. then_start line h rest numbers vias) m e in
+    let a = step_ok fault.BadNumber (numbers_in h)
+    (λ numbers. vias_of h.vias >>= λ vias. then_start line h rest numbers vias) m e in
     let b = result_ok (vias_of h.vias) (λ vias. then_start line h rest a.0 vias) m a.2 in
     let vias = vias_take h.vias b.0 b.1 in
-    let c = step_ok fault.MethodMismatch (start_line_of line h.cseq.method) (λ says. then_body h rest a.0 b.0 says) m b.2 in
-    let d = step_ok fault.Truncated (body_of rest a.0.content_length) (λ body. Ok (message_with c.0 b.0 a.0 h body)) m c.2 in
-    record { numbers = a.0; vias = b.0; says = c.0; body = d.0; numbers_are = a.1; vias_are = vias.0; branch_is = vias.1; start_is = c.1; body_is = d.1; same = same_Ok _ m d.2 }
+    let c = step_ok fault.MethodMismatch (start_line_of line h.cseq.method)
+    (λ says. then_body h rest a.0 b.0 says) m b.2 in
+    let d = step_ok fault.Truncated (body_of rest a.0.content_length)
+    (λ body. Ok (message_with c.0 b.0 a.0 h body)) m c.2 in
+    record {
+      numbers = a.0;
+      vias = b.0;
+      says = c.0;
+      body = d.0;
+      numbers_are = a.1;
+      vias_are = vias.0;
+      branch_is =
+          vias.1;
+      start_is = c.1;
+      body_is = d.1;
+      same = same_Ok _ m d.2;
+    }
 
-sized : (r : Bool) (read : Result Message ReadFault) (m : Message) → cond r (Err fault.TooLong) read ≡ Ok m → (r ≡ false) × (read ≡ Ok m)
+sized : (r : Bool) (read : Result Message ReadFault) (m : Message)
+    → cond r (Err fault.TooLong) read ≡ Ok m → (r ≡ false) × (read ≡ Ok m)
 sized true read m e = absurd cc
 sized false read m e = (refl, e)
 
@@ -91,20 +114,28 @@ pub record IsSection (section : Option Section) (m : Message) : Type 0 where
   pub section_is : section ≡ Some (start ∷ lines, rest)
   pub read_is : message_of_lines start (draft_of lines) rest ≡ Ok m
 
-section_takes : (section : Option Section) (m : Message) → message_of_section section ≡ Ok m → IsSection section m
+section_takes : (section : Option Section) (m : Message) → message_of_section section ≡ Ok m
+    → IsSection section m
 unfolding message_of_section
 section_takes None m e = absurd cc
 section_takes (Some ([], rest)) m e = absurd cc
 section_takes (Some (start ∷ lines, rest)) m e =
     record { start = start; lines = lines; rest = rest; section_is = refl; read_is = e }
 
-lines_take : (text start : List ℕ) (lines : List (List ℕ)) (rest : List ℕ) (m : Message) → length text ≤ 65535 → (first after : List ℕ) → line_at (without_line_ends text) ≡ Some (first, after) → onto_section first (section_at after) ≡ Some (start ∷ lines, rest) → message_of_lines start (draft_of lines) rest ≡ Ok m → Spells m text
+lines_take : (text start : List ℕ) (lines : List (List ℕ)) (rest : List ℕ) (m : Message)
+    → length text ≤ 65535 → (first after : List ℕ)
+    → line_at (without_line_ends text) ≡ Some (first, after)
+    → onto_section first (section_at after) ≡ Some (start ∷ lines, rest)
+    → message_of_lines start (draft_of lines) rest ≡ Ok m → Spells m text
 unfolding message_of_lines
 lines_take text start lines rest m short first after line_is section_is e =
-    let a = step_ok fault.BadStartLine (start_at start) (λ says. headers_of (draft_of lines) >>= λ h. message_of_headers says h rest) m e in
+    let a = step_ok fault.BadStartLine (start_at start)
+    (λ says. headers_of (draft_of lines) >>= λ h. message_of_headers says h rest) m e in
     let b = result_ok (headers_of (draft_of lines)) (λ h. message_of_headers a.0 h rest) m a.2 in
     let made_is = made a.0 b.0 rest m b.2 in
-    let own : b.0 ≡ headers_with (message_with made_is.says made_is.vias made_is.numbers b.0 made_is.body) made_is.numbers.content_length = numbered b.0 made_is.says made_is.vias made_is.numbers made_is.body made_is.numbers_are made_is.vias_are in
+    let own : b.0 ≡ headers_with (message_with made_is.says made_is.vias made_is.numbers b.0
+    made_is.body) made_is.numbers.content_length = numbered b.0 made_is.says made_is.vias
+    made_is.numbers made_is.body made_is.numbers_are made_is.vias_are in
     subst (λ (n : Message). Spells n text) made_is.same (record {
       start = start;
       lines = lines;
@@ -114,12 +145,14 @@ lines_take text start lines rest m short first after line_is section_is e =
       laid = laid_takes text first after start lines rest line_is section_is;
       start_is = start_again_at a.0 b.0 made_is start a.1;
       headers_are = subst (λ (h : Headers). AreHeaders h lines) own (headers_take lines b.0 b.1);
-      numbers_are = ap are_numbers (sym own) ∙ are_all_numbers b.0 made_is.numbers made_is.vias made_is.numbers_are made_is.vias_are;
+      numbers_are = ap are_numbers (sym own)
+          ∙ are_all_numbers b.0 made_is.numbers made_is.vias made_is.numbers_are made_is.vias_are;
       branch_is = made_is.branch_is;
       body_is = body_takes rest made_is.numbers.content_length made_is.body made_is.body_is;
     })
   where
-    start_again_at : (line : FirstLine) (h : Headers) (is : IsMade line h rest m) (text : List ℕ) → start_at text ≡ Some line → SpellsStart is.says h.cseq.method text
+    start_again_at : (line : FirstLine) (h : Headers) (is : IsMade line h rest m) (text : List ℕ)
+        → start_at text ≡ Some line → SpellsStart is.says h.cseq.method text
     start_again_at line h is text p =
         start_takes line h.cseq.method is.says text is.start_is (start_reads.takes text line p)
 
@@ -127,39 +160,63 @@ pub spelled_takes : (text : List ℕ) (m : Message) → message_at text ≡ Ok m
 unfolding message_in
 spelled_takes text m e =
     let size = sized (ltb 65535 (length text)) (message_in (without_line_ends text)) m e in
-    let first = step_ok fault.NoEmptyLine (line_at (without_line_ends text)) (λ p. message_of_section (onto_section p.0 (section_at p.1))) m size.1 in
+    let first = step_ok fault.NoEmptyLine (line_at (without_line_ends text))
+    (λ p. message_of_section (onto_section p.0 (section_at p.1))) m size.1 in
     let section = section_takes (onto_section first.0.0 (section_at first.0.1)) m first.2 in
-    lines_take text section.start section.lines section.rest m (ltb-false 65535 (length text) size.0) first.0.0 first.0.1 first.1 section.section_is section.read_is
+    lines_take text section.start section.lines section.rest m
+    (ltb-false 65535 (length text) size.0) first.0.0 first.0.1 first.1 section.section_is
+    section.read_is
 
 -- ---- and the other way round
 
-vias_again : (m : Message) (content_length : Option ℕ) → are_numbers (headers_with m content_length) ≡ true → are_vias m.vias ≡ true → vias_of (map via_draft m.vias) ≡ Ok m.vias
+vias_again : (m : Message) (content_length : Option ℕ)
+    → are_numbers (headers_with m content_length) ≡ true → are_vias m.vias ≡ true
+    → vias_of (map via_draft m.vias) ≡ Ok m.vias
 unfolding vias_of
 vias_again m content_length numbers branch =
-    ap (λ o. or_fault fault.BadNumber o >>= λ vs. or_fault fault.OldBranch (good_vias vs)) (ports_again m content_length numbers)
+    ap (λ o. or_fault fault.BadNumber o >>= λ vs. or_fault fault.OldBranch (good_vias vs))
+    (ports_again m content_length numbers)
     ∙ ap (λ b. or_fault fault.OldBranch (cond b (Some m.vias) None)) branch
 
-pub made_again : (m : Message) (content_length : Option ℕ) (rest : List ℕ) → are_numbers (headers_with m content_length) ≡ true → are_vias m.vias ≡ true → body_of rest content_length ≡ Some m.body → message_of_headers (first_of m.start m.cseq.method) (headers_with m content_length) rest ≡ Ok m
+pub made_again : (m : Message) (content_length : Option ℕ) (rest : List ℕ)
+    → are_numbers (headers_with m content_length) ≡ true → are_vias m.vias ≡ true
+    → body_of rest content_length ≡ Some m.body
+    → message_of_headers (first_of m.start m.cseq.method) (headers_with m content_length) rest
+    ≡ Ok m
 unfolding message_of_headers
 made_again m content_length rest numbers branch body =
     let h = headers_with m content_length in
     let line = first_of m.start m.cseq.method in
-    step_again fault.BadNumber (numbers_in h) (λ ns. vias_of h.vias >>= λ vs. then_start line h rest ns vs) (numbers_with m content_length) (numbers_again m content_length)
-    ∙ result_again (vias_of h.vias) (λ vs. then_start line h rest (numbers_with m content_length) vs) m.vias (vias_again m content_length numbers branch)
-    ∙ step_again fault.MethodMismatch (start_line_of line m.cseq.method) (λ says. then_body h rest (numbers_with m content_length) m.vias says) m.start (start_line_again m.start m.cseq.method)
-    ∙ step_again fault.Truncated (body_of rest content_length) (λ b. Ok (message_with m.start m.vias (numbers_with m content_length) h b)) m.body body
+    step_again fault.BadNumber (numbers_in h)
+    (λ ns. vias_of h.vias >>= λ vs. then_start line h rest ns vs)
+    (numbers_with m content_length) (numbers_again m content_length)
+    ∙ result_again (vias_of h.vias)
+    (λ vs. then_start line h rest (numbers_with m content_length) vs) m.vias
+    (vias_again m content_length numbers branch)
+    ∙ step_again fault.MethodMismatch (start_line_of line m.cseq.method)
+    (λ says. then_body h rest (numbers_with m content_length) m.vias says) m.start
+    (start_line_again m.start m.cseq.method)
+    ∙ step_again fault.Truncated (body_of rest content_length)
+    (λ b. Ok (message_with m.start m.vias (numbers_with m content_length) h b)) m.body body
     ∙ ap (λ (n : Message). Ok n) (message_again m content_length)
 
-lines_again : (m : Message) (text : List ℕ) (is : Spells m text) → message_of_lines is.start (draft_of is.lines) is.rest ≡ Ok m
+lines_again : (m : Message) (text : List ℕ) (is : Spells m text)
+    → message_of_lines is.start (draft_of is.lines) is.rest ≡ Ok m
 unfolding message_of_lines
 lines_again m text is =
     let line = first_of m.start m.cseq.method in
     let h = headers_with m is.content_length in
-    step_again fault.BadStartLine (start_at is.start) (λ says. headers_of (draft_of is.lines) >>= λ g. message_of_headers says g is.rest) line (start_reads.again is.start line (first_spelled m.start m.cseq.method is.start is.start_is))
-    ∙ result_again (headers_of (draft_of is.lines)) (λ g. message_of_headers line g is.rest) h (headers_again h is.lines is.headers_are)
-    ∙ made_again m is.content_length is.rest is.numbers_are is.branch_is (body_again is.rest is.content_length m.body is.body_is)
+    step_again fault.BadStartLine (start_at is.start)
+    (λ says. headers_of (draft_of is.lines) >>= λ g. message_of_headers says g is.rest) line
+    (start_reads.again is.start line (first_spelled m.start m.cseq.method is.start is.start_is))
+    ∙ result_again (headers_of (draft_of is.lines)) (λ g. message_of_headers line g is.rest) h
+    (headers_again h is.lines is.headers_are)
+    ∙ made_again m is.content_length is.rest is.numbers_are is.branch_is
+    (body_again is.rest is.content_length m.body is.body_is)
 
-section_again : (section : Option Section) (start : List ℕ) (lines : List (List ℕ)) (rest : List ℕ) → section ≡ Some (start ∷ lines, rest) → message_of_section section ≡ message_of_lines start (draft_of lines) rest
+section_again : (section : Option Section) (start : List ℕ) (lines : List (List ℕ)) (rest : List ℕ)
+    → section ≡ Some (start ∷ lines, rest)
+    → message_of_section section ≡ message_of_lines start (draft_of lines) rest
 unfolding message_of_section
 section_again section start lines rest e = ap message_of_section e
 
@@ -167,7 +224,11 @@ pub spelled_again : (text : List ℕ) (m : Message) → Spells m text → messag
 unfolding message_in
 spelled_again text m is =
     let laid = laid_again text is.start is.lines is.rest is.laid in
-    ap (λ b. cond b (Err fault.TooLong) (message_in (without_line_ends text))) (le-ltb 65535 (length text) is.short)
-    ∙ step_again fault.NoEmptyLine (line_at (without_line_ends text)) (λ p. message_of_section (onto_section p.0 (section_at p.1))) (laid.first, laid.after) laid.line_is
-    ∙ section_again (onto_section laid.first (section_at laid.after)) is.start is.lines is.rest laid.section_is
+    ap (λ b. cond b (Err fault.TooLong) (message_in (without_line_ends text)))
+    (le-ltb 65535 (length text) is.short)
+    ∙ step_again fault.NoEmptyLine (line_at (without_line_ends text))
+    (λ p. message_of_section (onto_section p.0 (section_at p.1)))
+    (laid.first, laid.after) laid.line_is
+    ∙ section_again (onto_section laid.first (section_at laid.after)) is.start is.lines is.rest
+    laid.section_is
     ∙ lines_again m text is

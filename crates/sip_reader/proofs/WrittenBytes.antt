@@ -34,39 +34,54 @@ is_solid b = not (is_blank b) && not (is_line_byte b)
 abbrev pub solid : List ℕ → Bool
 solid text = list_all is_solid text
 
-solid_byte : (test : ℕ → Bool) → test 32 ≡ false → test 9 ≡ false → test 13 ≡ false → test 10 ≡ false → (b : ℕ) → test b ≡ true → is_solid b ≡ true
+solid_byte : (test : ℕ → Bool) → test 32 ≡ false → test 9 ≡ false → test 13 ≡ false
+    → test 10 ≡ false → (b : ℕ) → test b ≡ true → is_solid b ≡ true
 solid_byte test space tab cr lf b passes =
-    rw (full_at test b 32 space passes, full_at test b 9 tab passes, full_at test b 13 cr passes, full_at test b 10 lf passes) refl
+    rw (
+      full_at test b 32 space passes,
+      full_at test b 9 tab passes,
+      full_at test b 13 cr passes,
+      full_at test b 10 lf passes,
+    ) refl
 
 pub token_solid : (text : List ℕ) → is_token text ≡ true → solid text ≡ true
 unfolding is_token_byte
-token_solid text token = all_imply is_token_byte is_solid (solid_byte is_token_byte refl refl refl refl) text (token_bytes text token)
+token_solid text token = all_imply is_token_byte is_solid
+    (solid_byte is_token_byte refl refl refl refl) text (token_bytes text token)
 
 pub word_solid : (text : List ℕ) → is_word text ≡ true → solid text ≡ true
 unfolding is_word is_word_byte
-word_solid text word = all_imply is_word_byte is_solid (solid_byte is_word_byte refl refl refl refl) text (run_all is_word_byte text word)
+word_solid text word = all_imply is_word_byte is_solid
+    (solid_byte is_word_byte refl refl refl refl) text (run_all is_word_byte text word)
 
 pub uri_solid : (text : List ℕ) → is_uri text ≡ true → solid text ≡ true
 unfolding is_uri is_uri_byte
-uri_solid text uri = all_imply is_uri_byte is_solid (solid_byte is_uri_byte refl refl refl refl) text (run_all is_uri_byte text uri)
+uri_solid text uri = all_imply is_uri_byte is_solid
+    (solid_byte is_uri_byte refl refl refl refl) text (run_all is_uri_byte text uri)
 
 pub value_solid : (text : List ℕ) → is_value_word text ≡ true → solid text ≡ true
 unfolding is_value_word is_value_byte
-value_solid text value = all_imply is_value_byte is_solid (solid_byte is_value_byte refl refl refl refl) text (run_all is_value_byte text value)
+value_solid text value = all_imply is_value_byte is_solid
+    (solid_byte is_value_byte refl refl refl refl) text (run_all is_value_byte text value)
 
 pub digits_solid : (text : List ℕ) → is_digits text ≡ true → solid text ≡ true
-digits_solid text digits = all_imply is_ascii_digit is_solid (solid_byte is_ascii_digit refl refl refl refl) text (run_all is_ascii_digit text digits)
+digits_solid text digits = all_imply is_ascii_digit is_solid
+    (solid_byte is_ascii_digit refl refl refl refl) text (run_all is_ascii_digit text digits)
 
 pub host_bytes_solid : (text : List ℕ) → list_all is_host_byte text ≡ true → solid text ≡ true
 unfolding is_host_byte
-host_bytes_solid text all = all_imply is_host_byte is_solid (solid_byte is_host_byte refl refl refl refl) text all
+host_bytes_solid text all =
+    all_imply is_host_byte is_solid (solid_byte is_host_byte refl refl refl refl) text all
 
 pub bracket_bytes_solid : (text : List ℕ) → list_all is_bracket_byte text ≡ true → solid text ≡ true
 unfolding is_bracket_byte
-bracket_bytes_solid text all = all_imply is_bracket_byte is_solid (solid_byte is_bracket_byte refl refl refl refl) text all
+bracket_bytes_solid text all =
+    all_imply is_bracket_byte is_solid (solid_byte is_bracket_byte refl refl refl refl) text all
 
-pub solid_both : (one other : List ℕ) → solid one ≡ true → solid other ≡ true → solid (one ++ other) ≡ true
-solid_both one other p q = list_all-append is_solid one other ∙ and_from (solid one) (solid other) p q
+pub solid_both : (one other : List ℕ) → solid one ≡ true → solid other ≡ true
+    → solid (one ++ other) ≡ true
+solid_both one other p q =
+    list_all-append is_solid one other ∙ and_from (solid one) (solid other) p q
 
 pub solid_full : (b : ℕ) → is_solid b ≡ true → not (is_blank b) ≡ true
 solid_full b s = (and_parts (not (is_blank b)) (not (is_line_byte b)) s).0
@@ -79,68 +94,98 @@ solid_line text s = all_imply is_solid (λ b. not (is_line_byte b)) solid_plain 
 
 pub no_lf : (text : List ℕ) → has_no_line_byte text ≡ true → has_no 10 text ≡ true
 no_lf text plain =
-    all_imply (λ b. not (is_line_byte b)) (λ b. not (eqb b 10)) (λ b p. ap not (or_parts (eqb b 13) (eqb b 10) (not-true (is_line_byte b) p)).1) text plain
+    all_imply (λ b. not (is_line_byte b)) (λ b. not (eqb b 10))
+    (λ b p. ap not (or_parts (eqb b 13) (eqb b 10) (not-true (is_line_byte b) p)).1) text plain
 
 -- ---- the ends of a value
 
 pub solid_end : (text : List ℕ) → solid text ≡ true → trimmed_end text ≡ text
 solid_end text s =
-    ap trimmed_end (sym (append-nil text)) ∙ end_is text [] (all_imply is_solid (λ b. not (is_blank b)) solid_full text s) refl
+    ap trimmed_end (sym (append-nil text))
+    ∙ end_is text [] (all_imply is_solid (λ b. not (is_blank b)) solid_full text s) refl
 
 some_full : (b : ℕ) (bs : List ℕ) (r : Bool) → cond r [] (b ∷ trimmed_end bs) ≡ b ∷ bs → r ≡ false
 some_full b bs true e = absurd cc
 some_full b bs false e = refl
 
 -- what ends in a text whose end stays
-pub longer_end : (front : List ℕ) (b : ℕ) (bs : List ℕ) → trimmed_end (b ∷ bs) ≡ b ∷ bs → trimmed_end (front ++ (b ∷ bs)) ≡ front ++ (b ∷ bs)
+pub longer_end : (front : List ℕ) (b : ℕ) (bs : List ℕ) → trimmed_end (b ∷ bs) ≡ b ∷ bs
+    → trimmed_end (front ++ (b ∷ bs)) ≡ front ++ (b ∷ bs)
 longer_end [] b bs e = e
 longer_end (c ∷ cs) b bs e =
-    let some : list_all is_blank (b ∷ bs) ≡ false = some_full b bs (is_blank b && list_all is_blank bs) e in
-    let all : list_all is_blank (cs ++ (b ∷ bs)) ≡ false = list_all-append is_blank cs (b ∷ bs) ∙ and_right (list_all is_blank cs) (list_all is_blank (b ∷ bs)) some in
+    let some : list_all is_blank (b ∷ bs) ≡ false =
+    some_full b bs (is_blank b && list_all is_blank bs) e in
+    let all : list_all is_blank (cs ++ (b ∷ bs)) ≡ false =
+    list_all-append is_blank cs (b ∷ bs)
+    ∙ and_right (list_all is_blank cs) (list_all is_blank (b ∷ bs)) some in
     rw (and_right (is_blank c) (list_all is_blank (cs ++ (b ∷ bs))) all, longer_end cs b bs e) refl
 
 -- a value behind the space that is written before it
-pub behind_space : (b : ℕ) (bs : List ℕ) → is_blank b ≡ false → trimmed_end (b ∷ bs) ≡ b ∷ bs → b ∷ bs ≡ trimmed (32 ∷ (b ∷ bs))
+pub behind_space : (b : ℕ) (bs : List ℕ) → is_blank b ≡ false → trimmed_end (b ∷ bs) ≡ b ∷ bs
+    → b ∷ bs ≡ trimmed (32 ∷ (b ∷ bs))
 behind_space b bs full end = sym (ap trimmed_end (starts_full b bs full) ∙ end)
 
-pub kept_end : (value : List ℕ) → 1 ≤ length value → not (is_blank (get_or value (length value - 1) 0)) ≡ true → trimmed_end value ≡ value
-kept_end value some last = other_last value some (not-true (is_blank (get_or value (length value - 1) 0)) last)
+pub kept_end : (value : List ℕ) → 1 ≤ length value
+    → not (is_blank (get_or value (length value - 1) 0)) ≡ true → trimmed_end value ≡ value
+kept_end value some last =
+    other_last value some (not-true (is_blank (get_or value (length value - 1) 0)) last)
 
-pub header_value_kept : (value : List ℕ) → is_header_value value ≡ true → value ≡ trimmed (32 ∷ value)
+pub header_value_kept : (value : List ℕ) → is_header_value value ≡ true
+    → value ≡ trimmed (32 ∷ value)
 unfolding is_header_value
 header_value_kept [] is = refl
 header_value_kept (b ∷ bs) is =
-    let ends = and_parts (not (is_blank b)) (not (is_blank (get_or (b ∷ bs) (length (b ∷ bs) - 1) 0))) (and_parts (has_no_blank_ends (b ∷ bs)) (has_no_line_byte (b ∷ bs)) is).0 in
+    let ends = and_parts (not (is_blank b))
+    (not (is_blank (get_or (b ∷ bs) (length (b ∷ bs) - 1) 0)))
+    (and_parts (has_no_blank_ends (b ∷ bs)) (has_no_line_byte (b ∷ bs)) is).0 in
     behind_space b bs (not-true (is_blank b) ends.0) (kept_end (b ∷ bs) (omega arith) ends.1)
 
-pub header_value_plain : (value : List ℕ) → is_header_value value ≡ true → has_no_line_byte value ≡ true
+pub header_value_plain : (value : List ℕ) → is_header_value value ≡ true
+    → has_no_line_byte value ≡ true
 unfolding is_header_value
 header_value_plain value is = (and_parts (has_no_blank_ends value) (has_no_line_byte value) is).1
 
 -- ---- decimal numbers
 
-run_from : (test : ℕ → Bool) (text : List ℕ) → 0 < length text → list_all test text ≡ true → is_run test text ≡ true
+run_from : (test : ℕ → Bool) (text : List ℕ) → 0 < length text → list_all test text ≡ true
+    → is_run test text ≡ true
 run_from test [] some all = absurd (omega arith)
 run_from test (b ∷ bs) some all = all
 
 pub decimal_digits : (n : ℕ) → n < 2 ^ 64 → is_digits (decimal n) ≡ true
 decimal_digits n lt =
-    run_from is_ascii_digit (decimal n) (decimal_nonempty n lt) (sym (all_digits (decimal n)) ∙ digits_decimal (numerals_by_value (λ ds. all_ascii_digits ds ≡ true) tells_all_ascii_digits) n lt)
+    run_from is_ascii_digit (decimal n) (decimal_nonempty n lt)
+    (sym (all_digits (decimal n)) ∙ digits_decimal
+    (numerals_by_value (λ ds. all_ascii_digits ds ≡ true) tells_all_ascii_digits) n lt)
 
 pub decimal_value : (n : ℕ) → n < 2 ^ 64 → digits_value 10 (decimal n) ≡ n
-decimal_value n lt = digits_value-decimal (numerals_by_value (λ ds. all_ascii_digits ds ≡ true) tells_all_ascii_digits) n lt
+decimal_value n lt = digits_value-decimal
+    (numerals_by_value (λ ds. all_ascii_digits ds ≡ true) tells_all_ascii_digits) n lt
 
 pub decimal_number : (limit n : ℕ) → n < limit → limit ≤ 2 ^ 64 → IsNumber limit n (decimal n)
 decimal_number limit n lt small =
     let value = decimal_value n (omega arith) in
-    record { is = and_from _ _ (decimal_digits n (omega arith)) (lt-ltb (digits_value 10 (decimal n)) limit (omega (arith, value))); value = value }
+    record {
+      is = and_from _ _ (decimal_digits n (omega arith))
+          (lt-ltb (digits_value 10 (decimal n)) limit (omega (arith, value)));
+      value = value;
+    }
 
 full_to : (test : ℕ → Bool) (b at : ℕ) → test at ≡ false → test b ≡ true → eqb at b ≡ false
 full_to test b at fails passes =
-    by_bool (eqb at b) (λ r. r ≡ false) (λ e. absurd (true≢false (sym passes ∙ ap test (sym (eqb-true at b e)) ∙ fails))) (λ e. refl)
+    by_bool (eqb at b) (λ r. r ≡ false)
+    (λ e. absurd (true≢false (sym passes ∙ ap test (sym (eqb-true at b e)) ∙ fails)))
+    (λ e. refl)
 
 pub digits_word : (text : List ℕ) → is_digits text ≡ true → is_word text ≡ true
 unfolding is_word is_word_byte
 digits_word [] digits = absurd (true≢false (sym digits))
 digits_word (b ∷ bs) digits =
-    all_imply is_ascii_digit is_word_byte (λ c d. rw (full_to is_ascii_digit c 32 refl d, full_to is_ascii_digit c 9 refl d, full_to is_ascii_digit c 13 refl d, full_to is_ascii_digit c 10 refl d) refl) (b ∷ bs) digits
+    all_imply is_ascii_digit is_word_byte
+    (λ c d. rw (
+      full_to is_ascii_digit c 32 refl d,
+      full_to is_ascii_digit c 9 refl d,
+      full_to is_ascii_digit c 13 refl d,
+      full_to is_ascii_digit c 10 refl d,
+    ) refl)
+    (b ∷ bs) digits

@@ -15,10 +15,12 @@ use Rattle.sip_headers.specs.declared.headers.Headers.{Headers}
 use Rattle.sip_reader.specs.Layout.{Lays}
 use Rattle.sip_reader.specs.StartLine.{IsRequestLine, SpellsStart}
 
--- the text has lines up to an empty one, and this holds of the start line, of the header lines, and of the rest
+-- the text has lines up to an empty one, and this holds of the start line, of the header lines, and
+-- of the rest
 abbrev pub WithLines : (List ℕ → List (List ℕ) → List ℕ → Type 0) → List ℕ → Type 0
 WithLines P text =
-    (start : List ℕ) × (lines : List (List ℕ)) × (rest : List ℕ) × Lays text start lines rest × P start lines rest
+    (start : List ℕ) × (lines : List (List ℕ)) × (rest : List ℕ) × Lays text start lines rest
+    × P start lines rest
 
 -- the lines have headers, and this holds of them
 abbrev pub WithHeaders : (Headers → Type 0) → List (List ℕ) → Type 0
@@ -46,14 +48,17 @@ LineCondition start lines rest fault.BadStartLine =
     (says : StartLine) (method : List ℕ) → SpellsStart says method start → ⊥
 LineCondition start lines rest fault.BadNumber = WithHeaders (λ h. IsFalse (are_numbers h)) lines
 LineCondition start lines rest fault.OldBranch = WithHeaders (λ h. HasOldBranch h.vias) lines
-LineCondition start lines rest fault.MethodMismatch = WithHeaders (λ h. HasOtherMethod start h.cseq.method) lines
-LineCondition start lines rest fault.Truncated = WithHeaders (λ h. IsTruncated h.content_length rest) lines
+LineCondition start lines rest fault.MethodMismatch =
+    WithHeaders (λ h. HasOtherMethod start h.cseq.method) lines
+LineCondition start lines rest fault.Truncated =
+    WithHeaders (λ h. IsTruncated h.content_length rest) lines
 LineCondition start lines rest other = HeaderCondition lines other
 
 -- what a fault says of a text
 abbrev pub Condition : List ℕ → ReadFault → Type 0
 Condition text fault.TooLong = 65535 < length text
-Condition text fault.NoEmptyLine = (start : List ℕ) (lines : List (List ℕ)) (rest : List ℕ) → Lays text start lines rest → ⊥
+Condition text fault.NoEmptyLine =
+    (start : List ℕ) (lines : List (List ℕ)) (rest : List ℕ) → Lays text start lines rest → ⊥
 Condition text fault.NoMemory = ⊥
 Condition text other = WithLines (λ start lines rest. LineCondition start lines rest other) text
 

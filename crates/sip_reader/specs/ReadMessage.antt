@@ -1,4 +1,5 @@
--- Reading a message from left to right, with the first fault that is met. What is a message is said in the relations of Spells.
+-- Reading a message from left to right, with the first fault that is met. What is a message is said
+-- in the relations of Spells.
 use Rattle.std.specs.Prelude.{◌≡◌, ℕ, List, [], ◌∷◌, length, take, Option, Some, None, Result, Ok, Err, nat_lt, if◌then◌else◌}
 use Rattle.std.specs.Str.{bytes_eq}
 use Rattle.sip_text.specs.Forms.{each}
@@ -23,7 +24,8 @@ use Rattle.sip_reader.specs.declared.first_line.FirstLine.{FirstLine}
 use Rattle.sip_reader.specs.declared.first_line.FirstLine.TheVariants as first
 
 infixl 10 ◌>>=◌
-abbrev pub ◌>>=◌ : {A B : Type 0} → Result A ReadFault → (A → Result B ReadFault) → Result B ReadFault
+abbrev pub ◌>>=◌ : {A B : Type 0} → Result A ReadFault → (A → Result B ReadFault)
+    → Result B ReadFault
 (Ok x) >>= f = f x
 (Err e) >>= f = Err e
 
@@ -53,7 +55,8 @@ vias_of drafts = do
   or_fault fault.OldBranch (good_vias vias)
 
 unfoldable pub start_line_of : FirstLine → List ℕ → Option StartLine
-start_line_of (first.Request method uri) cseq_method = if bytes_eq method cseq_method then Some (start.Request uri) else None
+start_line_of (first.Request method uri) cseq_method =
+    if bytes_eq method cseq_method then Some (start.Request uri) else None
 start_line_of (first.Response status reason) cseq_method = Some (start.Response status reason)
 
 unfoldable pub body_of : List ℕ → Option ℕ → Option (List ℕ)
@@ -78,7 +81,8 @@ message_of_lines start_line draft text = do
 unfoldable pub message_of_section : Option Section → Result Message ReadFault
 message_of_section None = Err fault.NoEmptyLine
 message_of_section (Some ([], rest)) = Err fault.NoEmptyLine
-message_of_section (Some (start_line ∷ lines, rest)) = message_of_lines start_line (draft_of lines) rest
+message_of_section (Some (start_line ∷ lines, rest)) =
+    message_of_lines start_line (draft_of lines) rest
 
 -- a text that doesn't begin with a line end
 unfoldable pub message_in : List ℕ → Result Message ReadFault
@@ -87,4 +91,5 @@ message_in text = do
   message_of_section (onto_section line.0 (section_at line.1))
 
 abbrev pub message_at : List ℕ → Result Message ReadFault
-message_at text = if nat_lt 65535 (length text) then Err fault.TooLong else message_in (without_line_ends text)
+message_at text =
+    if nat_lt 65535 (length text) then Err fault.TooLong else message_in (without_line_ends text)

@@ -15,7 +15,8 @@ use Rattle.sip_reader.specs.declared.first_line.FirstLine.TheVariants as first
 unfoldable pub request_at : List ℕ → List ℕ → Option FirstLine
 request_at method rest = do
   p ← cut_at 32 rest
-  if is_version p.1 && (is_token method && is_word p.0) then Some (first.Request method p.0) else None
+  if is_version p.1 && (is_token method && is_word p.0) then Some (first.Request method p.0)
+      else None
 
 abbrev pub code_from : ℕ → Option ℕ
 code_from number = if nat_lt number 100 || nat_lt 699 number then None else Some number

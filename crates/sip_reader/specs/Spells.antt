@@ -9,11 +9,12 @@ use Rattle.sip_headers.specs.Numbers.{headers_with, are_numbers}
 use Rattle.sip_reader.specs.Layout.{Lays}
 use Rattle.sip_reader.specs.StartLine.{SpellsStart}
 
--- As many bytes as the Content-Length says; what follows them is discarded (section 18.3). Without a Content-Length the body
--- is all that follows the empty line.
+-- As many bytes as the Content-Length says; what follows them is discarded (section 18.3). Without
+-- a Content-Length the body is all that follows the empty line.
 abbrev pub IsBody : Option ℕ → List ℕ → List ℕ → Type 0
 IsBody None body rest = rest ≡ body
-IsBody (Some count) body rest = (discarded : List ℕ) × (rest ≡ body ++ discarded) × (length body ≡ count)
+IsBody (Some count) body rest =
+    (discarded : List ℕ) × (rest ≡ body ++ discarded) × (length body ≡ count)
 
 -- The text spells the message.
 pub record Spells (m : Message) (text : List ℕ) : Type 0 where

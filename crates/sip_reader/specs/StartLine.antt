@@ -29,7 +29,8 @@ pub record IsStatusCode (status : ℕ) (text : List ℕ) : Type 0 where
   pub least : 100 ≤ status
   pub most : status ≤ 699
 
--- A space and the reason. Where the reason is empty the space may be missing, which is this project's choice.
+-- A space and the reason. Where the reason is empty the space may be missing, which is this
+-- project's choice.
 abbrev pub IsReasonPart : List ℕ → List ℕ → Type 0
 IsReasonPart reason text = (text ≡ 32 ∷ reason) ⊎ ((text ≡ []) × (reason ≡ []))
 

@@ -28,7 +28,8 @@ impl FirstLine {
     /// The start line; a request's method has to be that of its CSeq.
     #[tactic(auto, unfolding(crate::specs::ReadMessage::start_line_of))]
     pub(crate) fn fitting(self, cseq_method: &Token) -> Result<StartLine, ReadFault>
-        ensures { result ≡ reading.or_fault fault.MethodMismatch (reading.start_line_of self cseq_method.now) }
+        ensures { result ≡ reading.or_fault fault.MethodMismatch
+            (reading.start_line_of self cseq_method.now) }
     {
         match self {
             FirstLine::Request { method, uri } => {

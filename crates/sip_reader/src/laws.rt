@@ -14,8 +14,8 @@ pub fn one_message()
     ensures { (text : List ℕ) (m n : Message) → Spells m text → Spells n text → m ≡ n }
 {}
 
-/// Reading from left to right gives the message that the text spells; where it spells none, the first fault whose condition
-/// holds.
+/// Reading from left to right gives the message that the text spells; where it spells none, the
+/// first fault whose condition holds.
 pub fn what_is_read()
     ensures found { (text : List ℕ) → IfOk (message_at text) (λ m. Spells m text) }
     ensures only { (text : List ℕ) (m : Message) → Spells m text → message_at text ≡ Ok m }
@@ -24,7 +24,8 @@ pub fn what_is_read()
 
 /// Where a fault is told, no message is spelled.
 pub fn no_fault_of_a_message()
-    ensures { (text : List ℕ) (m : Message) (fault : ReadFault) → Spells m text → IsFirstFault fault text → ⊥ }
+    ensures { (text : List ℕ) (m : Message) (fault : ReadFault) → Spells m text
+        → IsFirstFault fault text → ⊥ }
 {}
 
 /// What is written for a message is read again as the same message, where it isn't too long.

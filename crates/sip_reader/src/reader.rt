@@ -124,7 +124,8 @@ fn vias_of(alloc: Global, drafts: Series<ViaDraft>) -> Result<Vias, ReadFault>
 /// As many bytes as the Content-Length says; without it all of them.
 #[tactic(auto, unfolding(crate::specs::ReadMessage::body_of))]
 fn body_of(alloc: Global, text: &[u8], length: Option<u32>) -> Result<Text, ReadFault>
-    ensures { reading.Gives result (reading.or_fault fault.Truncated (reading.body_of text.now length)) }
+    ensures { reading.Gives result
+        (reading.or_fault fault.Truncated (reading.body_of text.now length)) }
 {
     let Some(length) = length else {
         return Ok(Text::copy_of(alloc, text)?);

@@ -1,4 +1,5 @@
--- The reliable provisional responses of one INVITE that wait for a PRACK, read from all that happened (RFC 3262 section 3).
+-- The reliable provisional responses of one INVITE that wait for a PRACK, read from all that
+-- happened (RFC 3262 section 3).
 -- Moments are in milliseconds; T1 is 500.
 use Rattle.std.specs.Prelude.{◌≡◌, ◌≢◌, ◌<◌, ℕ, ◌+◌, ◌*◌, ◌^◌, ◌==◌, nat_le, nat_lt, not, true, false, Bool, ◌&&◌, if◌then◌else◌, List, [], ◌∷◌, ◌++◌, map, filter, count_by, fold, Option, None, Some, min, Result, Ok, Err, length}
 use Rattle.std.specs.List.{list_any, reduce, flat_map}
@@ -29,7 +30,8 @@ pub record Ledger : Type 0 where
 
 -- ---- what is read from all that happened
 
--- the interval before a response is sent again, by how often it was: T1, 2*T1, 4*T1 and so on, with no cap
+-- the interval before a response is sent again, by how often it was: T1, 2*T1, 4*T1 and so on, with
+-- no cap
 abbrev pub interval_after : ℕ → ℕ
 interval_after repeats = 500 * 2 ^ repeats
 
@@ -45,24 +47,42 @@ last_moment wanted last Closes = last
 abbrev pub retransmission_after : ℕ → ℕ → List Happening → Option Retransmission
 retransmission_after number sent later =
     let interval = interval_after (count_by (is_repeat_of number) later) in
-    if list_any is_giving_up later then None else Some record { due = fold (last_moment number) sent later + interval; interval = interval }
+    if list_any is_giving_up later then None
+    else Some record {
+      due = fold (last_moment number) sent later + interval;
+      interval = interval;
+    }
 
 abbrev pub sent_before : ℕ → Bool → ℕ → List Happening → Provisional
-sent_before number has_body sent later = record { number = number; has_body = has_body; sent = sent; retransmission = retransmission_after number sent later }
+sent_before number has_body sent later =
+    record {
+      number = number;
+      has_body = has_body;
+      sent = sent;
+      retransmission = retransmission_after number sent later;
+    }
 
 -- the responses that were sent and have no PRACK after them
 abbrev pub waiting_after : List Happening → List Provisional
 waiting_after [] = []
 waiting_after (Sends number has_body now ∷ later) =
-    if list_any (is_acknowledgment_of number) later then waiting_after later else sent_before number has_body now later ∷ waiting_after later
+    if list_any (is_acknowledgment_of number) later then waiting_after later
+    else sent_before number has_body now later ∷ waiting_after later
 waiting_after (Repeats number now ∷ later) = waiting_after later
 waiting_after (GivesUp ∷ later) = waiting_after later
 waiting_after (Acknowledges number ∷ later) = waiting_after later
 waiting_after (Closes ∷ later) = waiting_after later
 
--- the ledger of an INVITE, whose first RSeq number is `first`, after all that happened; each response has the next number
+-- the ledger of an INVITE, whose first RSeq number is `first`, after all that happened; each
+-- response has the next number
 abbrev pub ledger_after : ℕ → Bool → List Happening → Ledger
-ledger_after first supported life = record { next = first + count_by is_sending life; supported = supported; closed = list_any is_closing life; waiting = waiting_after life }
+ledger_after first supported life =
+    record {
+      next = first + count_by is_sending life;
+      supported = supported;
+      closed = list_any is_closing life;
+      waiting = waiting_after life;
+    }
 
 -- ---- what is due at a moment
 
@@ -90,7 +110,10 @@ given_up p = record p { retransmission = None }
 
 -- the next interval is twice the last, and counts from the moment of this sending
 abbrev pub sent_again : ℕ → Provisional → Provisional
-sent_again now p = record p { retransmission = option_map (λ r. record { due = now + 2 * r.interval; interval = 2 * r.interval }) p.retransmission }
+sent_again now p = record p {
+  retransmission = option_map
+      (λ r. record { due = now + 2 * r.interval; interval = 2 * r.interval }) p.retransmission;
+}
 
 -- one response, after what was due of it
 abbrev pub after_due : Tick → ℕ → Provisional → Provisional
@@ -106,7 +129,8 @@ happenings_of GivenUp l now = GivesUp ∷ []
 
 abbrev pub ticked : Tick → Ledger → ℕ → Ledger
 ticked Nothing l now = l
-ticked Again l now = record l { waiting = map (λ p. if is_repeated now p then sent_again now p else p) l.waiting }
+ticked Again l now =
+    record l { waiting = map (λ p. if is_repeated now p then sent_again now p else p) l.waiting }
 ticked GivenUp l now = record l { waiting = map given_up l.waiting }
 
 -- the earliest moment at which something is due
@@ -119,7 +143,8 @@ next_moment l = if l.closed then None else reduce min (flat_map due_moment l.wai
 -- nothing is due before the moment, and something is at it; nothing is ever due where there is none
 abbrev pub IsNextDue : (ℕ → Tick) → Option ℕ → Type 0
 IsNextDue answers None = (now : ℕ) → answers now ≡ Nothing
-IsNextDue answers (Some due) = (answers due ≢ Nothing) × ((now : ℕ) → now < due → answers now ≡ Nothing)
+IsNextDue answers (Some due) =
+    (answers due ≢ Nothing) × ((now : ℕ) → now < due → answers now ≡ Nothing)
 
 -- ---- what the calls do
 
@@ -140,7 +165,8 @@ abbrev pub send_answer : Ledger → Result ℕ SendFault
 send_answer l = ok_unless (send_fault l) l.next
 
 abbrev pub with_sent : Bool → ℕ → Ledger → Ledger
-with_sent has_body now l = record l { next = l.next + 1; waiting = l.waiting ++ sent_before l.next has_body now [] ∷ [] }
+with_sent has_body now l =
+    record l { next = l.next + 1; waiting = l.waiting ++ sent_before l.next has_body now [] ∷ [] }
 
 abbrev pub waits_for : ℕ → Ledger → Bool
 waits_for number l = list_any (λ p. p.number == number) l.waiting

@@ -4,7 +4,8 @@ ghost use Rattle.sip_reliable.specs.Inbound.{in_order, latest, offered, taken, l
 use crate::Offer;
 use std::marker::Model;
 
-/// Which reliable provisional responses of one early dialog a caller takes, by their RSeq numbers (RFC 3262 section 4).
+/// Which reliable provisional responses of one early dialog a caller takes, by their RSeq numbers
+/// (RFC 3262 section 4).
 ///
 /// Contracts see it as the latest number taken.
 #[derive(Clone, Copy)]
@@ -37,7 +38,8 @@ impl Inbound {
         ensures after { self.new ≡ latest_after result self.old rseq }
 
         // Of all numbers that came, this one too, those that were taken are the ones in order.
-        ensures stays { (came : List ℕ) → self.old ≡ latest came → self.new ≡ latest (came ++ rseq ∷ []) }
+        ensures stays { (came : List ℕ) → self.old ≡ latest came
+            → self.new ≡ latest (came ++ rseq ∷ []) }
         ensures in_order { (came : List ℕ) → self.old ≡ latest came
             → in_order (came ++ rseq ∷ []) ≡ in_order came ++ taken result rseq }
     {

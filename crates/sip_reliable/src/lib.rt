@@ -1,4 +1,5 @@
-//! The ledgers of reliable provisional responses (RFC 3262): what a caller takes, and what a callee sends again.
+//! The ledgers of reliable provisional responses (RFC 3262): what a caller takes, and what a callee
+//! sends again.
 #![tactic(auto)]
 
 mod inbound;

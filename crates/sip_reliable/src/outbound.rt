@@ -9,8 +9,9 @@ use std::marker::Model;
 
 /// The reliable provisional responses that a callee sends for one INVITE (RFC 3262 section 3).
 ///
-/// Each has an RSeq number, one more than the last. It is sent again after 500 ms, then after 1,000 ms, and so on with
-/// the interval doubled each time, until its PRACK comes; after 32,000 ms it is given up.
+/// Each has an RSeq number, one more than the last. It is sent again after 500 ms, then after 1,000
+/// ms, and so on with the interval doubled each time, until its PRACK comes; after 32,000 ms it is
+/// given up.
 /// Moments are in ms. Nothing takes memory.
 ///
 /// Contracts see it as a `Ledger`, and `ledger_after` says which one stands for all that happened.
@@ -31,13 +32,19 @@ impl Model for Outbound {
 
     ghost use Rattle.sip_reliable.specs.Waiting.{waiting_in};
 
-    ghost view = { λ o. record { next = o.next; supported = o.supported; closed = o.closed; waiting = waiting_in o.waiting } };
+    ghost view = { λ o. record {
+      next = o.next;
+      supported = o.supported;
+      closed = o.closed;
+      waiting = waiting_in o.waiting;
+    } };
 
     ghost invariant = { λ o. (1 ≤ o.next) × (o.next ≤ 2 ^ 32) };
 }
 
 impl Outbound {
-    /// Nothing was sent; the first number will be `first`. `supported` says whether the INVITE has 100rel.
+    /// Nothing was sent; the first number will be `first`. `supported` says whether the INVITE has
+    /// 100rel.
     pub fn new(first: u32, supported: bool) -> Outbound
         requires { 1 ≤ first }
         ensures { result ≡ ledger_after first supported [] }
@@ -143,7 +150,8 @@ impl Outbound {
         }
     }
 
-    /// The PRACK for the number `rseq` came. Once closed or given up, a response is acknowledged all the same.
+    /// The PRACK for the number `rseq` came. Once closed or given up, a response is acknowledged
+    /// all the same.
     ///
     /// # Errors
     ///

@@ -16,7 +16,8 @@ pub(crate) struct Provisional {
     /// None once it was given up.
     pub(crate) retransmission: Option<Retransmission>,
     ghost sent_fits: { sent ≤ 2 ^ 62 },
-    ghost paced: { ForSome retransmission (λ r. (sent + 2 * r.interval ≤ r.due + 500) × (r.due ≤ 2 ^ 63)) },
+    ghost paced: { ForSome retransmission
+        (λ r. (sent + 2 * r.interval ≤ r.due + 500) × (r.due ≤ 2 ^ 63)) },
 }
 
 /// When a response is sent again, and the interval before it, both in ms.
@@ -48,7 +49,8 @@ impl Provisional {
 
     /// The next moment at which something is due.
     pub(crate) fn next_due(&self) -> Option<u64>
-        ensures { result ≡ option_map (λ r. min r.due (self.now.sent + 32000)) self.now.retransmission }
+        ensures { result ≡ option_map (λ r. min r.due (self.now.sent + 32000))
+            self.now.retransmission }
     {
         let retransmission = self.retransmission?;
         Some(retransmission.due.min(self.end()))

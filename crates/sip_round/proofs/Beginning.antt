@@ -15,13 +15,16 @@ use Rattle.sip_round.specs.AgentState.{ShardTables}
 use Rattle.sip_round.specs.Answers.{StandsFor, calls_of, last_moment, past_of}
 use Rattle.sip_round.specs.Parts.{owner_of}
 
-module _ {K S I O : Type 0} (cmp : K → K → Ordering) (machine : Machine K S I O) (tick : ℕ → I) (owner : K → ℕ) where
-  hold_nothing : (number : ℕ) (tables : List (Held K S)) → All (λ table. table ≡ Some []) tables → HoldFrom cmp machine tick owner number tables []
+module _ {K S I O : Type 0} (cmp : K → K → Ordering) (machine : Machine K S I O) (tick : ℕ → I)
+    (owner : K → ℕ) where
+  hold_nothing : (number : ℕ) (tables : List (Held K S)) → All (λ table. table ≡ Some []) tables
+      → HoldFrom cmp machine tick owner number tables []
   hold_nothing number [] empty = tt
   hold_nothing number (t ∷ ts) empty = (
     record {
       sound = subst IsSome (sym (All-head (λ table. table ≡ Some []) t ts empty)) refl;
-      states = λ key. subst (λ table. state_at cmp table key ≡ None) (sym (All-head (λ table. table ≡ Some []) t ts empty)) refl;
+      states = λ key. subst (λ table. state_at cmp table key ≡ None)
+          (sym (All-head (λ table. table ≡ Some []) t ts empty)) refl;
     },
     hold_nothing (suc number) ts (All-tail (λ table. table ≡ Some []) t ts empty),
   )
@@ -29,8 +32,16 @@ module _ {K S I O : Type 0} (cmp : K → K → Ordering) (machine : Machine K S 
 at_first : (number : ℕ) → number ≡ number + 0
 at_first number = omega arith
 
-pub begins : {C : Type 0} (shard_of : C → List ℕ → ℕ → ℕ) (cut : C) (config : Config) (made : ShardTables) → All (λ table. table ≡ Some []) made.transactions → All (λ table. table ≡ Some []) made.calls
-    → StandsFor shard_of (record { calls = calls_of config; cut = cut; next_round = config.first; last_moment = 0; shards = Some made }) config []
+pub begins : {C : Type 0} (shard_of : C → List ℕ → ℕ → ℕ) (cut : C) (config : Config)
+    (made : ShardTables) → All (λ table. table ≡ Some []) made.transactions
+    → All (λ table. table ≡ Some []) made.calls
+    → StandsFor shard_of (record {
+      calls = calls_of config;
+      cut = cut;
+      next_round = config.first;
+      last_moment = 0;
+      shards = Some made;
+    }) config []
 unfolding past_of last_moment
 begins shard_of cut config made no_lives no_calls = record {
   shards = made;
@@ -38,6 +49,9 @@ begins shard_of cut config made no_lives no_calls = record {
   shared = refl;
   number = at_first config.first;
   moment = refl;
-  transactions = hold_nothing key_cmp transaction_machine tick_at (owner_of (shard_of cut) branch_in (length made.transactions)) zero made.transactions no_lives;
-  calls = hold_nothing call_cmp (call_machine (calls_of config)) tick_input (owner_of (shard_of cut) (λ call_id. call_id) (length made.calls)) zero made.calls no_calls;
+  transactions = hold_nothing key_cmp transaction_machine tick_at
+      (owner_of (shard_of cut) branch_in (length made.transactions)) zero made.transactions
+      no_lives;
+  calls = hold_nothing call_cmp (call_machine (calls_of config)) tick_input
+      (owner_of (shard_of cut) (λ call_id. call_id) (length made.calls)) zero made.calls no_calls;
 }

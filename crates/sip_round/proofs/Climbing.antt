@@ -17,14 +17,19 @@ below_is_less x y below = ap (λ b. cond b Less (cond (x == y) Equal Greater)) (
     is_below : (x y : ℕ) → x < y → nat_lt x y ≡ true
     is_below x y below = grind (arith, common_steps, below)
 
-all_above : (x n : ℕ) (xs : List ℕ) → x < n → Climbs n xs → AllByRecursion (λ y. nat_cmp x y ≡ Less) xs
+all_above : (x n : ℕ) (xs : List ℕ) → x < n → Climbs n xs
+    → AllByRecursion (λ y. nat_cmp x y ≡ Less) xs
 all_above x n [] below climbs = tt
-all_above x n (y ∷ ys) below climbs = (below_is_less x y (omega (arith, below, climbs.0)), all_above x (suc y) ys (omega (arith, below, climbs.0)) climbs.1)
+all_above x n (y ∷ ys) below climbs = (
+  below_is_less x y (omega (arith, below, climbs.0)),
+  all_above x (suc y) ys (omega (arith, below, climbs.0)) climbs.1,
+)
 
 pub climbs_in_order : (n : ℕ) (xs : List ℕ) → Climbs n xs → IsStrictlySortedBy nat_cmp xs
 unfolding IsStrictlySortedBy
 climbs_in_order n [] climbs = tt
-climbs_in_order n (x ∷ xs) climbs = (all_above x (suc x) xs (omega arith) climbs.1, climbs_in_order (suc x) xs climbs.1)
+climbs_in_order n (x ∷ xs) climbs =
+    (all_above x (suc x) xs (omega arith) climbs.1, climbs_in_order (suc x) xs climbs.1)
 
 pub climbs_from_less : (n m : ℕ) (xs : List ℕ) → n ≤ m → Climbs m xs → Climbs n xs
 climbs_from_less n m [] less climbs = tt

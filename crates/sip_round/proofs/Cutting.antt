@@ -9,9 +9,12 @@ use Rattle.sip_model.proofs.Ordered.{by_bool}
 use Rattle.sip_round.specs.Parts.{cut_by}
 
 -- the parts of so far, with what is left, are the parts of all
-pub record PartsLeft {K I : Type 0} (owner : K → ℕ) (shards : ℕ) (all rest : List (Item K I)) (parts : List (List (Item K I))) : Type 0 where
+pub record PartsLeft {K I : Type 0} (owner : K → ℕ) (shards : ℕ) (all rest : List (Item K I))
+    (parts : List (List (Item K I))) : Type 0 where
   pub count : length parts ≡ shards
-  pub each : (k : ℕ) → k < shards → get_or parts k [] ++ filter (λ item. is_owned owner k item.key) rest ≡ filter (λ item. is_owned owner k item.key) all
+  pub each : (k : ℕ) → k < shards
+      → get_or parts k [] ++ filter (λ item. is_owned owner k item.key) rest
+      ≡ filter (λ item. is_owned owner k item.key) all
 
 pub nat_eq_true : {a b : ℕ} → nat_eq a b ≡ true → a ≡ b
 nat_eq_true {a} {b} e = grind (arith, common_steps, e)
@@ -30,17 +33,23 @@ map_long f (x ∷ xs) = ap suc (map_long f xs)
 
 module _ {K I : Type 0} (owner : K → ℕ) (shards : ℕ) (all : List (Item K I)) where
   -- before the first item every part is empty
-  pub parts_empty : (V : Type 0) (items : V → List (Item K I)) (d : V) (parts : List V) → length parts ≡ shards → All (λ part. items part ≡ []) parts → PartsLeft owner shards all all (map items parts)
+  pub parts_empty : (V : Type 0) (items : V → List (Item K I)) (d : V) (parts : List V)
+      → length parts ≡ shards → All (λ part. items part ≡ []) parts
+      → PartsLeft owner shards all all (map items parts)
   parts_empty V items d parts count empty = record {
     count = map_long items parts ∙ count;
     each = λ k below.
         let inside : k < length parts = omega (arith, count, below) in
-        ap (λ part. part ++ filter (λ item. is_owned owner k item.key) all) (get_or-map items parts k d [] inside ∙ empty k d inside);
+        ap (λ part. part ++ filter (λ item. is_owned owner k item.key) all)
+        (get_or-map items parts k d [] inside ∙ empty k d inside);
   }
 
   -- an item goes behind the part of its owner
-  pushed_at : (item : Item K I) (rest : List (Item K I)) (parts : List (List (Item K I))) (newer : List (Item K I)) → owner item.key < shards → newer ≡ get_or parts (owner item.key) [] ++ item ∷ []
-      → PartsLeft owner shards all (item ∷ rest) parts → PartsLeft owner shards all rest (slice_set parts (owner item.key) newer)
+  pushed_at : (item : Item K I) (rest : List (Item K I)) (parts : List (List (Item K I)))
+      (newer : List (Item K I)) → owner item.key < shards
+      → newer ≡ get_or parts (owner item.key) [] ++ item ∷ []
+      → PartsLeft owner shards all (item ∷ rest) parts
+      → PartsLeft owner shards all rest (slice_set parts (owner item.key) newer)
   pushed_at item rest parts newer within pushed left = record {
     count = set_long parts (owner item.key) newer ∙ left.count;
     each = λ k below.
@@ -48,32 +57,47 @@ module _ {K I : Type 0} (owner : K → ℕ) (shards : ℕ) (all : List (Item K I
         (λ mine.
         let at : k ≡ owner item.key = omega (arith, nat_eq_true mine) in
         let inside : owner item.key < length parts = omega (arith, within, left.count) in
-        ap (λ n. get_or (slice_set parts (owner item.key) newer) n [] ++ filter (λ i. is_owned owner k i.key) rest) at
-        ∙ ap (λ part. part ++ filter (λ i. is_owned owner k i.key) rest) (get_or-set_same parts (owner item.key) newer [] inside ∙ pushed)
-        ∙ append_assoc (get_or parts (owner item.key) []) (item ∷ []) (filter (λ i. is_owned owner k i.key) rest)
+        ap (λ n. get_or (slice_set parts (owner item.key) newer) n []
+        ++ filter (λ i. is_owned owner k i.key) rest) at
+        ∙ ap (λ part. part ++ filter (λ i. is_owned owner k i.key) rest)
+        (get_or-set_same parts (owner item.key) newer [] inside ∙ pushed)
+        ∙ append_assoc (get_or parts (owner item.key) []) (item ∷ [])
+        (filter (λ i. is_owned owner k i.key) rest)
         ∙ ap (λ n. get_or parts n [] ++ item ∷ filter (λ i. is_owned owner k i.key) rest) (sym at)
-        ∙ ap (λ b. get_or parts k [] ++ cond b (item ∷ filter (λ i. is_owned owner k i.key) rest) (filter (λ i. is_owned owner k i.key) rest)) (sym mine)
+        ∙ ap (λ b. get_or parts k [] ++ cond b (item ∷ filter (λ i. is_owned owner k i.key) rest)
+        (filter (λ i. is_owned owner k i.key) rest)) (sym mine)
         ∙ left.each k below)
         (λ other.
-        ap (λ part. part ++ filter (λ i. is_owned owner k i.key) rest) (get_or-set_other parts (owner item.key) k newer [] (λ same. nat_eq_false other (sym same)))
-        ∙ ap (λ b. get_or parts k [] ++ cond b (item ∷ filter (λ i. is_owned owner k i.key) rest) (filter (λ i. is_owned owner k i.key) rest)) (sym other)
+        ap (λ part. part ++ filter (λ i. is_owned owner k i.key) rest)
+        (get_or-set_other parts (owner item.key) k newer []
+        (λ same. nat_eq_false other (sym same)))
+        ∙ ap (λ b. get_or parts k [] ++ cond b (item ∷ filter (λ i. is_owned owner k i.key) rest)
+        (filter (λ i. is_owned owner k i.key) rest)) (sym other)
         ∙ left.each k below);
   }
 
-  pub one_pushed : (item : Item K I) (rest : List (Item K I)) (parts : List (List (Item K I))) (shard : ℕ) (newer : List (Item K I)) → shard ≡ owner item.key → owner item.key < shards → newer ≡ get_or parts shard [] ++ item ∷ []
-      → PartsLeft owner shards all (item ∷ rest) parts → PartsLeft owner shards all rest (slice_set parts shard newer)
+  pub one_pushed : (item : Item K I) (rest : List (Item K I)) (parts : List (List (Item K I)))
+      (shard : ℕ) (newer : List (Item K I)) → shard ≡ owner item.key → owner item.key < shards
+      → newer ≡ get_or parts shard [] ++ item ∷ []
+      → PartsLeft owner shards all (item ∷ rest) parts
+      → PartsLeft owner shards all rest (slice_set parts shard newer)
   one_pushed item rest parts shard newer owned within pushed left =
       subst (λ n. PartsLeft owner shards all rest (slice_set parts n newer)) (sym owned)
-      (pushed_at item rest parts newer within (pushed ∙ ap (λ n. get_or parts n [] ++ item ∷ []) owned) left)
+      (pushed_at item rest parts newer within
+      (pushed ∙ ap (λ n. get_or parts n [] ++ item ∷ []) owned) left)
 
   -- lists that are the parts at each index
   cut_from : (number : ℕ) (parts : List (List (Item K I)))
-      → ((k : ℕ) → k < length parts → get_or parts k [] ≡ filter (λ item. is_owned owner (number + k) item.key) all) → parts ≡ cut_by owner number (length parts) all
+      → ((k : ℕ) → k < length parts → get_or parts k []
+      ≡ filter (λ item. is_owned owner (number + k) item.key) all)
+      → parts ≡ cut_by owner number (length parts) all
   cut_from number [] each = refl
   cut_from number (part ∷ parts) each =
-      ap (λ p. p ∷ parts) (each 0 (omega arith) ∙ ap (λ n. filter (λ item. is_owned owner n item.key) all) (at_first number))
+      ap (λ p. p ∷ parts) (each 0 (omega arith)
+      ∙ ap (λ n. filter (λ item. is_owned owner n item.key) all) (at_first number))
       ∙ ap (λ more. filter (λ item. is_owned owner number item.key) all ∷ more)
-      (cut_from (suc number) parts (λ k below. each (suc k) (omega (arith, below)) ∙ ap (λ n. filter (λ item. is_owned owner n item.key) all) (later number k)))
+      (cut_from (suc number) parts (λ k below. each (suc k) (omega (arith, below))
+      ∙ ap (λ n. filter (λ item. is_owned owner n item.key) all) (later number k)))
     where
       at_first : (n : ℕ) → n + 0 ≡ n
       at_first n = omega arith
@@ -81,9 +105,12 @@ module _ {K I : Type 0} (owner : K → ℕ) (shards : ℕ) (all : List (Item K I
       later : (n k : ℕ) → n + suc k ≡ suc n + k
       later n k = omega arith
 
-  pub parts_whole : (parts : List (List (Item K I))) → PartsLeft owner shards all [] parts → parts ≡ cut_by owner 0 shards all
+  pub parts_whole : (parts : List (List (Item K I))) → PartsLeft owner shards all [] parts
+      → parts ≡ cut_by owner 0 shards all
   parts_whole parts left =
-      cut_from 0 parts (λ k below. sym (append-nil (get_or parts k [])) ∙ left.each k (omega (arith, below, left.count)) ∙ ap (λ n. filter (λ item. is_owned owner n item.key) all) (from_first k))
+      cut_from 0 parts (λ k below. sym (append-nil (get_or parts k []))
+      ∙ left.each k (omega (arith, below, left.count))
+      ∙ ap (λ n. filter (λ item. is_owned owner n item.key) all) (from_first k))
       ∙ ap (λ n. cut_by owner 0 n all) left.count
     where
       from_first : (k : ℕ) → k ≡ 0 + k

@@ -46,7 +46,8 @@ few_of_kind id kind.Timeout = inl refl
 few_of_kind id kind.Failed = inl refl
 
 -- what a row hands up, and sends
-few_told : (id : Id) (key : Key) (to : Addr) (told : Option Out) (sent : Option (List ℕ)) → Few id (raised id (option_to_list told ++ option_to_list (option_map (send_out key to) sent)))
+few_told : (id : Id) (key : Key) (to : Addr) (told : Option Out) (sent : Option (List ℕ))
+    → Few id (raised id (option_to_list told ++ option_to_list (option_map (send_out key to) sent)))
 few_told id key to None None = inl refl
 few_told id key to None (Some bytes) = inl refl
 few_told id key to (Some (out.Up up)) None = few_of_kind id up.kind
@@ -56,7 +57,9 @@ few_told id key to (Some (out.Send other there bytes)) (Some more) = inl refl
 few_told id key to (Some (out.Dropped place why)) None = inl refl
 few_told id key to (Some (out.Dropped place why)) (Some bytes) = inl refl
 
-none_told : (id : Id) (key : Key) (life : Life) (h : Handed) (sent : Option (List ℕ)) → raised id (option_to_list (handed_out key life h None) ++ option_to_list (option_map (send_out key life.to) sent)) ≡ []
+none_told : (id : Id) (key : Key) (life : Life) (h : Handed) (sent : Option (List ℕ))
+    → raised id (option_to_list (handed_out key life h None)
+    ++ option_to_list (option_map (send_out key life.to) sent)) ≡ []
 unfolding handed_out
 none_told id key life handed.Nothing None = refl
 none_told id key life handed.Nothing (Some bytes) = refl
@@ -69,31 +72,42 @@ none_told id key life handed.Failed (Some bytes) = refl
 none_told id key life handed.NoTransaction None = refl
 none_told id key life handed.NoTransaction (Some bytes) = refl
 
-few_acted : (id : Id) (key : Key) (now : ℕ) (input : Input) (o : Option Life) (step : Step) → Few id (raised id (acted_if key now input o step).1)
+few_acted : (id : Id) (key : Key) (now : ℕ) (input : Input) (o : Option Life) (step : Step)
+    → Few id (raised id (acted_if key now input o step).1)
 unfolding outputs_of
 few_acted id key now input None step = inl refl
 few_acted id key now input (Some life) step =
-    few_told id key life.to (handed_out key life step.handed (arrived_in input)) (sent_bytes life.last step.sent (made_bytes life.request step.sent (message_in input)))
+    few_told id key life.to (handed_out key life step.handed (arrived_in input))
+    (sent_bytes life.last step.sent (made_bytes life.request step.sent (message_in input)))
 
-few_by : (id : Id) (key : Key) (held : Option Life) (now : ℕ) (input : Input) (o : Option Step) → Few id (raised id (stepped_by key held now input o).1)
+few_by : (id : Id) (key : Key) (held : Option Life) (now : ℕ) (input : Input) (o : Option Step)
+    → Few id (raised id (stepped_by key held now input o).1)
 few_by id key held now input None = inl refl
-few_by id key held now input (Some step) = few_acted id key now input (life_of (role_of key) held input) step
+few_by id key held now input (Some step) =
+    few_acted id key now input (life_of (role_of key) held input) step
 
 -- to one input
-pub few_ups : (id : Id) (key : Key) (held : Option Life) (timed : Timed) → Few id (raised id (adds transaction_machine key held timed))
+pub few_ups : (id : Id) (key : Key) (held : Option Life) (timed : Timed)
+    → Few id (raised id (adds transaction_machine key held timed))
 unfolding stepped
-few_ups id key held timed = few_by id key held timed.moment timed.input (step_for key held timed.moment timed.input)
+few_ups id key held timed =
+    few_by id key held timed.moment timed.input (step_for key held timed.moment timed.input)
 
-none_acted : (id : Id) (key : Key) (now : ℕ) (o : Option Life) (step : Step) → raised id (acted_if key now Tick o step).1 ≡ []
+none_acted : (id : Id) (key : Key) (now : ℕ) (o : Option Life) (step : Step)
+    → raised id (acted_if key now Tick o step).1 ≡ []
 unfolding outputs_of
 none_acted id key now None step = refl
-none_acted id key now (Some life) step = none_told id key life step.handed (sent_bytes life.last step.sent (made_bytes life.request step.sent (message_in Tick)))
+none_acted id key now (Some life) step =
+    none_told id key life step.handed
+    (sent_bytes life.last step.sent (made_bytes life.request step.sent (message_in Tick)))
 
-none_by : (id : Id) (key : Key) (held : Option Life) (now : ℕ) (o : Option Step) → raised id (stepped_by key held now Tick o).1 ≡ []
+none_by : (id : Id) (key : Key) (held : Option Life) (now : ℕ) (o : Option Step)
+    → raised id (stepped_by key held now Tick o).1 ≡ []
 none_by id key held now None = refl
 none_by id key held now (Some step) = none_acted id key now (life_of (role_of key) held Tick) step
 
 -- to a tick
-pub no_ups : (id : Id) (key : Key) (held : Option Life) (now : ℕ) → raised id (adds transaction_machine key held (tick_at now)) ≡ []
+pub no_ups : (id : Id) (key : Key) (held : Option Life) (now : ℕ)
+    → raised id (adds transaction_machine key held (tick_at now)) ≡ []
 unfolding stepped
 no_ups id key held now = none_by id key held now (step_for key held now Tick)

@@ -35,28 +35,49 @@ use Rattle.sip_round.specs.Phases.{first_phase, second_phase, third_phase}
 use Rattle.sip_round.specs.Steps.Waiting.{all_waiting, woven}
 use Rattle.sip_round.proofs.Weaving.{flat_map-map, woven_by_place}
 
-joined_by_place : {K O : Type 0} (told : List ((ℕ × K) × List O)) → joined (map by_place told) ≡ joined told
+joined_by_place : {K O : Type 0} (told : List ((ℕ × K) × List O))
+    → joined (map by_place told) ≡ joined told
 joined_by_place [] = refl
 joined_by_place (t ∷ ts) = ap (λ more. t.1 ++ more) (joined_by_place ts)
 
 -- what was said, shard by shard in order, is all that is said
-whole : {K O : Type 0} (told : Told K O) (ticks : List (K × List O)) (said : List (ℕ × List O)) (outs : List O) → ticks ≡ told.ticks → said ≡ map by_place told.items → outs ≡ joined ticks ++ joined said → outs ≡ all_said told
+whole : {K O : Type 0} (told : Told K O) (ticks : List (K × List O)) (said : List (ℕ × List O))
+    (outs : List O) → ticks ≡ told.ticks → said ≡ map by_place told.items
+    → outs ≡ joined ticks ++ joined said → outs ≡ all_said told
 whole told ticks said outs by_tick by_item are =
-    are ∙ ap (λ t. joined t ++ joined said) by_tick ∙ ap (λ s. joined told.ticks ++ joined s) by_item ∙ ap (λ s. joined told.ticks ++ s) (joined_by_place told.items)
+    are ∙ ap (λ t. joined t ++ joined said) by_tick
+    ∙ ap (λ s. joined told.ticks ++ joined s) by_item
+    ∙ ap (λ s. joined told.ticks ++ s) (joined_by_place told.items)
 
 -- ---- the first phase
 
-module _ (owner : Key → ℕ) (old new : List (Held Key Life)) (number now : ℕ) (arrived : List (Id × Arrival)) (placed : ArePlaced 1 arrived) (law : ToldInOrder key_cmp transaction_machine tick_at)
-    (ticks : List (Key × List Out)) (said : List (ℕ × List Out)) (deals : DealsAll key_cmp transaction_machine tick_at owner old new (first_phase now arrived) ticks said) where
-  woven_told : (past : List (Phase Key Timed)) → HoldFrom key_cmp transaction_machine tick_at owner zero old past
-      → woven (all_waiting arrived) said ≡ map (λ a. (a.0, outs_of (said_at (said_by_transactions past (first_phase now arrived))) a.0 a.1, user_items a.0 a.1)) arrived
+module _ (owner : Key → ℕ) (old new : List (Held Key Life)) (number now : ℕ)
+    (arrived : List (Id × Arrival)) (placed : ArePlaced 1 arrived)
+    (law : ToldInOrder key_cmp transaction_machine tick_at)
+    (ticks : List (Key × List Out)) (said : List (ℕ × List Out))
+    (deals : DealsAll key_cmp transaction_machine tick_at owner old new
+    (first_phase now arrived) ticks said) where
+  woven_told : (past : List (Phase Key Timed))
+      → HoldFrom key_cmp transaction_machine tick_at owner zero old past
+      → woven (all_waiting arrived) said
+      ≡ map (λ a. (
+        a.0,
+        outs_of (said_at (said_by_transactions past (first_phase now arrived))) a.0
+            a.1,
+        user_items a.0 a.1,
+      )) arrived
   woven_told past hold =
       ap (woven (all_waiting arrived)) (deals.items_told past hold)
-      ∙ woven_by_place now 1 arrived placed (said_by_transactions past (first_phase now arrived)).items (law past (first_phase now arrived)).by_place
+      ∙ woven_by_place now 1 arrived placed
+      (said_by_transactions past (first_phase now arrived)).items
+      (law past (first_phase now arrived)).by_place
 
-  pub led_first : (waiting : List (Id × Waiting)) (outputs : List Output) (items : List (Id × Item)) → waiting ≡ all_waiting arrived
-      → outputs ≡ flat_map sent_of (joined ticks) ++ flat_map (λ w. flat_map sent_of w.1) (woven waiting said)
-      → items ≡ flat_map (raised_of (record { round = number; place = 0 })) (joined ticks) ++ flat_map (λ w. flat_map (raised_of w.0) w.1 ++ w.2) (woven waiting said)
+  pub led_first : (waiting : List (Id × Waiting)) (outputs : List Output) (items : List (Id × Item))
+      → waiting ≡ all_waiting arrived
+      → outputs ≡ flat_map sent_of (joined ticks)
+      ++ flat_map (λ w. flat_map sent_of w.1) (woven waiting said)
+      → items ≡ flat_map (raised_of (record { round = number; place = 0 })) (joined ticks)
+      ++ flat_map (λ w. flat_map (raised_of w.0) w.1 ++ w.2) (woven waiting said)
       → LedFirst owner old new number now arrived outputs items
   led_first waiting outputs items waits sends raises = record {
     count = deals.count;
@@ -64,103 +85,200 @@ module _ (owner : Key → ℕ) (old new : List (Held Key Life)) (number now : �
     sent = λ past hold.
         let told : Told Key Out = said_by_transactions past (first_phase now arrived) in
         sends
-        ∙ ap (λ t. flat_map sent_of (joined t) ++ flat_map (λ w. flat_map sent_of w.1) (woven waiting said)) (deals.ticks_told past hold)
-        ∙ ap (λ w. flat_map sent_of (joined told.ticks) ++ flat_map (λ w. flat_map sent_of w.1) (woven w said)) waits
-        ∙ ap (λ w. flat_map sent_of (joined told.ticks) ++ flat_map (λ w. flat_map sent_of w.1) w) (woven_told past hold)
+        ∙ ap (λ t. flat_map sent_of (joined t)
+        ++ flat_map (λ w. flat_map sent_of w.1) (woven waiting said))
+        (deals.ticks_told past hold)
+        ∙ ap (λ w. flat_map sent_of (joined told.ticks)
+        ++ flat_map (λ w. flat_map sent_of w.1) (woven w said)) waits
+        ∙ ap (λ w. flat_map sent_of (joined told.ticks) ++ flat_map (λ w. flat_map sent_of w.1) w)
+        (woven_told past hold)
         ∙ ap (λ more. flat_map sent_of (joined told.ticks) ++ more)
-        (flat_map-map (λ (w : Id × List Out × List (Id × Item)). flat_map sent_of w.1) (λ a. (a.0, outs_of (said_at told) a.0 a.1, user_items a.0 a.1)) arrived);
+        (flat_map-map (λ (w : Id × List Out × List (Id × Item)). flat_map sent_of w.1)
+        (λ a. (a.0, outs_of (said_at told) a.0 a.1, user_items a.0 a.1)) arrived);
     raised = λ past hold.
         let told : Told Key Out = said_by_transactions past (first_phase now arrived) in
         let tick_id : Id = record { round = number; place = 0 } in
         raises
-        ∙ ap (λ t. flat_map (raised_of tick_id) (joined t) ++ flat_map (λ w. flat_map (raised_of w.0) w.1 ++ w.2) (woven waiting said)) (deals.ticks_told past hold)
-        ∙ ap (λ w. flat_map (raised_of tick_id) (joined told.ticks) ++ flat_map (λ w. flat_map (raised_of w.0) w.1 ++ w.2) (woven w said)) waits
-        ∙ ap (λ w. flat_map (raised_of tick_id) (joined told.ticks) ++ flat_map (λ w. flat_map (raised_of w.0) w.1 ++ w.2) w) (woven_told past hold)
+        ∙ ap (λ t. flat_map (raised_of tick_id) (joined t)
+        ++ flat_map (λ w. flat_map (raised_of w.0) w.1 ++ w.2) (woven waiting said))
+        (deals.ticks_told past hold)
+        ∙ ap (λ w. flat_map (raised_of tick_id) (joined told.ticks)
+        ++ flat_map (λ w. flat_map (raised_of w.0) w.1 ++ w.2) (woven w said)) waits
+        ∙ ap (λ w. flat_map (raised_of tick_id) (joined told.ticks)
+        ++ flat_map (λ w. flat_map (raised_of w.0) w.1 ++ w.2) w) (woven_told past hold)
         ∙ ap (λ more. flat_map (raised_of tick_id) (joined told.ticks) ++ more)
-        (flat_map-map (λ (w : Id × List Out × List (Id × Item)). flat_map (raised_of w.0) w.1 ++ w.2) (λ a. (a.0, outs_of (said_at told) a.0 a.1, user_items a.0 a.1)) arrived);
+        (flat_map-map (λ (w : Id × List Out × List (Id × Item)). flat_map (raised_of w.0) w.1
+        ++ w.2) (λ a. (a.0, outs_of (said_at told) a.0 a.1, user_items a.0 a.1)) arrived);
   }
 
 -- ---- the second and the third
 
-pub led_second : (shared : Calls) (owner : List ℕ → ℕ) (old new : List (Held (List ℕ) Call)) (now : ℕ) (items : List (Id × Item)) (ticks : List (List ℕ × List CallOut)) (said : List (ℕ × List CallOut)) (outs : List CallOut)
-    (before outputs : List Output) (none commands : List (Id × Command)) → DealsAll call_cmp (call_machine shared) tick_input owner old new (second_phase now items) ticks said → outs ≡ joined ticks ++ joined said
-    → outputs ≡ before ++ flat_map shown_of outs → none ≡ [] → commands ≡ none ++ flat_map command_of outs → LedSecond shared owner old new now items before outputs commands
-led_second shared owner old new now items ticks said outs before outputs none commands deals are shows nothing commanded = record {
-  count = deals.count;
-  stands = deals.stands;
-  shown = λ past hold. shows ∙ ap (λ os. before ++ flat_map shown_of os) (whole (said_by_calls shared past (second_phase now items)) ticks said outs (deals.ticks_told past hold) (deals.items_told past hold) are);
-  commanded = λ past hold. commanded ∙ ap (λ cs. cs ++ flat_map command_of outs) nothing
-      ∙ ap (flat_map command_of) (whole (said_by_calls shared past (second_phase now items)) ticks said outs (deals.ticks_told past hold) (deals.items_told past hold) are);
-}
+pub led_second : (shared : Calls) (owner : List ℕ → ℕ) (old new : List (Held (List ℕ) Call))
+    (now : ℕ) (items : List (Id × Item)) (ticks : List (List ℕ × List CallOut))
+    (said : List (ℕ × List CallOut)) (outs : List CallOut)
+    (before outputs : List Output) (none commands : List (Id × Command))
+    → DealsAll call_cmp (call_machine shared) tick_input owner old new
+    (second_phase now items) ticks said → outs ≡ joined ticks ++ joined said
+    → outputs ≡ before ++ flat_map shown_of outs → none ≡ []
+    → commands ≡ none ++ flat_map command_of outs
+    → LedSecond shared owner old new now items before outputs commands
+led_second shared owner old new now items ticks said outs before outputs none commands deals are
+    shows nothing commanded = record {
+      count = deals.count;
+      stands = deals.stands;
+      shown = λ past hold. shows ∙ ap (λ os. before ++ flat_map shown_of os)
+          (whole (said_by_calls shared past (second_phase now items)) ticks said outs
+          (deals.ticks_told past hold) (deals.items_told past hold) are);
+      commanded = λ past hold. commanded ∙ ap (λ cs. cs ++ flat_map command_of outs) nothing
+          ∙ ap (flat_map command_of) (whole
+          (said_by_calls shared past (second_phase now items)) ticks said outs
+          (deals.ticks_told past hold) (deals.items_told past hold) are);
+    }
 
-pub led_third : (owner : Key → ℕ) (old new : List (Held Key Life)) (now : ℕ) (commands : List (Id × Command)) (ticks : List (Key × List Out)) (said : List (ℕ × List Out)) (outs : List Out) (before outputs : List Output)
-    → DealsAll key_cmp transaction_machine tick_at owner old new (third_phase now commands) ticks said → outs ≡ joined ticks ++ joined said → outputs ≡ before ++ flat_map sent_of outs → LedThird owner old new now commands before outputs
+pub led_third : (owner : Key → ℕ) (old new : List (Held Key Life)) (now : ℕ)
+    (commands : List (Id × Command)) (ticks : List (Key × List Out)) (said : List (ℕ × List Out))
+    (outs : List Out) (before outputs : List Output)
+    → DealsAll key_cmp transaction_machine tick_at owner old new
+    (third_phase now commands) ticks said → outs ≡ joined ticks ++ joined said
+    → outputs ≡ before ++ flat_map sent_of outs → LedThird owner old new now commands before outputs
 led_third owner old new now commands ticks said outs before outputs deals are sends = record {
   count = deals.count;
   stands = deals.stands;
-  sent = λ past hold. sends ∙ ap (λ os. before ++ flat_map sent_of os) (whole (said_by_transactions past (third_phase now commands)) ticks said outs (deals.ticks_told past hold) (deals.items_told past hold) are);
+  sent = λ past hold. sends ∙ ap (λ os. before ++ flat_map sent_of os)
+      (whole (said_by_transactions past (third_phase now commands)) ticks said outs
+      (deals.ticks_told past hold) (deals.items_told past hold) are);
 }
 
 -- ---- a round
 
-module _ (shard_of : List ℕ → ℕ → ℕ) (number : ℕ) (round : Round) (old_lives mid_lives new_lives : List (Held Key Life)) (old_calls new_calls : List (Held (List ℕ) Call)) (items : List (Id × Item)) (commands : List (Id × Command)) (sent shown outputs : List Output)
-    (after_third : LedThird (owner_of shard_of branch_in (length mid_lives)) mid_lives new_lives round.moment commands shown outputs) where
+module _ (shard_of : List ℕ → ℕ → ℕ) (number : ℕ) (round : Round)
+    (old_lives mid_lives new_lives : List (Held Key Life))
+    (old_calls new_calls : List (Held (List ℕ) Call)) (items : List (Id × Item))
+    (commands : List (Id × Command)) (sent shown outputs : List Output)
+    (after_third : LedThird (owner_of shard_of branch_in (length mid_lives)) mid_lives new_lives
+    round.moment commands shown outputs) where
   module _ (config : Config)
-      (after_first : LedFirst (owner_of shard_of branch_in (length old_lives)) old_lives mid_lives number round.moment (arrivals_from config.local number 1 round.events) sent items)
-      (after_second : LedSecond (calls_of config) (owner_of shard_of (λ call_id. call_id) (length old_calls)) old_calls new_calls round.moment items sent shown commands)
-      (past : Past) (lives : HoldFrom key_cmp transaction_machine tick_at (owner_of shard_of branch_in (length old_lives)) zero old_lives past.transactions)
-      (calls : HoldFrom call_cmp (call_machine (calls_of config)) tick_input (owner_of shard_of (λ call_id. call_id) (length old_calls)) zero old_calls past.calls) where
+      (after_first : LedFirst (owner_of shard_of branch_in (length old_lives)) old_lives mid_lives
+      number round.moment (arrivals_from config.local number 1 round.events) sent items)
+      (after_second : LedSecond (calls_of config)
+      (owner_of shard_of (λ call_id. call_id) (length old_calls)) old_calls new_calls
+      round.moment items sent shown commands)
+      (past : Past) (lives : HoldFrom key_cmp transaction_machine tick_at
+      (owner_of shard_of branch_in (length old_lives)) zero old_lives past.transactions)
+      (calls : HoldFrom call_cmp (call_machine (calls_of config)) tick_input
+      (owner_of shard_of (λ call_id. call_id) (length old_calls)) zero old_calls
+      past.calls) where
     same_items : items ≡ items_of_round config number past round
     unfolding first items_of_round
     same_items = after_first.raised past.transactions lives
 
     same_commands : commands ≡ flat_map command_of (given_second config number past round)
     unfolding second given_second
-    same_commands = after_second.commanded past.calls calls ∙ ap (λ is. flat_map command_of (all_said (said_by_calls (calls_of config) past.calls (second_phase round.moment is)))) same_items
+    same_commands = after_second.commanded past.calls calls
+        ∙ ap (λ is. flat_map command_of
+        (all_said (said_by_calls (calls_of config) past.calls (second_phase round.moment is))))
+        same_items
 
-    mid_held : HoldFrom key_cmp transaction_machine tick_at (owner_of shard_of branch_in (length mid_lives)) zero mid_lives (past.transactions ++ first config number past round ∷ [])
+    mid_held : HoldFrom key_cmp transaction_machine tick_at
+        (owner_of shard_of branch_in (length mid_lives)) zero mid_lives
+        (past.transactions ++ first config number past round ∷ [])
     unfolding first
-    mid_held = subst (λ n. HoldFrom key_cmp transaction_machine tick_at (owner_of shard_of branch_in n) zero mid_lives (past.transactions ++ first_phase round.moment (arrivals config number past round) ∷ [])) (sym after_first.count)
+    mid_held = subst (λ n. HoldFrom key_cmp transaction_machine tick_at
+        (owner_of shard_of branch_in n) zero mid_lives
+        (past.transactions ++ first_phase round.moment (arrivals config number past round) ∷ []))
+        (sym after_first.count)
         (after_first.stands past.transactions lives)
 
-    new_held : HoldFrom key_cmp transaction_machine tick_at (owner_of shard_of branch_in (length new_lives)) zero new_lives (past_after config number past round).transactions
+    new_held : HoldFrom key_cmp transaction_machine tick_at
+        (owner_of shard_of branch_in (length new_lives)) zero new_lives
+        (past_after config number past round).transactions
     unfolding third past_after
     new_held =
-        subst (λ n. HoldFrom key_cmp transaction_machine tick_at (owner_of shard_of branch_in n) zero new_lives ((past.transactions ++ first config number past round ∷ []) ++ third_phase round.moment (flat_map command_of (given_second config number past round)) ∷ [])) (sym after_third.count)
-        (subst (λ cs. HoldFrom key_cmp transaction_machine tick_at (owner_of shard_of branch_in (length mid_lives)) zero new_lives ((past.transactions ++ first config number past round ∷ []) ++ third_phase round.moment cs ∷ [])) same_commands
+        subst (λ n. HoldFrom key_cmp transaction_machine tick_at
+        (owner_of shard_of branch_in n) zero new_lives
+        ((past.transactions ++ first config number past round ∷ [])
+        ++ third_phase round.moment (flat_map command_of
+        (given_second config number past round)) ∷ [])) (sym after_third.count)
+        (subst (λ cs. HoldFrom key_cmp transaction_machine tick_at
+        (owner_of shard_of branch_in (length mid_lives)) zero new_lives
+        ((past.transactions ++ first config number past round ∷ [])
+        ++ third_phase round.moment cs ∷ [])) same_commands
         (after_third.stands (past.transactions ++ first config number past round ∷ []) mid_held))
 
-    new_called : HoldFrom call_cmp (call_machine (calls_of config)) tick_input (owner_of shard_of (λ call_id. call_id) (length new_calls)) zero new_calls (past_after config number past round).calls
+    new_called : HoldFrom call_cmp (call_machine (calls_of config)) tick_input
+        (owner_of shard_of (λ call_id. call_id) (length new_calls)) zero new_calls
+        (past_after config number past round).calls
     unfolding second past_after
     new_called =
-        subst (λ n. HoldFrom call_cmp (call_machine (calls_of config)) tick_input (owner_of shard_of (λ call_id. call_id) n) zero new_calls (past.calls ++ second_phase round.moment (items_of_round config number past round) ∷ [])) (sym after_second.count)
-        (subst (λ is. HoldFrom call_cmp (call_machine (calls_of config)) tick_input (owner_of shard_of (λ call_id. call_id) (length old_calls)) zero new_calls (past.calls ++ second_phase round.moment is ∷ [])) same_items
+        subst (λ n. HoldFrom call_cmp (call_machine (calls_of config)) tick_input
+        (owner_of shard_of (λ call_id. call_id) n) zero new_calls
+        (past.calls ++ second_phase round.moment (items_of_round config number past round)
+        ∷ [])) (sym after_second.count)
+        (subst (λ is. HoldFrom call_cmp (call_machine (calls_of config)) tick_input
+        (owner_of shard_of (λ call_id. call_id) (length old_calls)) zero new_calls
+        (past.calls ++ second_phase round.moment is ∷ [])) same_items
         (after_second.stands past.calls calls))
 
     answered : outputs ≡ answer config number past round
     unfolding first second third given_second answer
     answered =
         after_third.sent (past.transactions ++ first config number past round ∷ []) mid_held
-        ∙ ap (λ cs. shown ++ flat_map sent_of (all_said (said_by_transactions (past.transactions ++ first config number past round ∷ []) (third_phase round.moment cs)))) same_commands
-        ∙ ap (λ os. os ++ flat_map sent_of (all_said (said_by_transactions (past.transactions ++ first config number past round ∷ []) (third config number past round))))
-        (after_second.shown past.calls calls ∙ ap (λ is. sent ++ flat_map shown_of (all_said (said_by_calls (calls_of config) past.calls (second_phase round.moment is)))) same_items
-        ∙ ap (λ os. os ++ flat_map shown_of (given_second config number past round)) (after_first.sent past.transactions lives))
+        ∙ ap (λ cs. shown ++ flat_map sent_of
+        (all_said (said_by_transactions
+        (past.transactions ++ first config number past round ∷ [])
+        (third_phase round.moment cs)))) same_commands
+        ∙ ap (λ os. os ++ flat_map sent_of
+        (all_said (said_by_transactions
+        (past.transactions ++ first config number past round ∷ [])
+        (third config number past round))))
+        (after_second.shown past.calls calls
+        ∙ ap (λ is. sent ++ flat_map shown_of
+        (all_said (said_by_calls (calls_of config) past.calls (second_phase round.moment is))))
+        same_items
+        ∙ ap (λ os. os ++ flat_map shown_of (given_second config number past round))
+        (after_first.sent past.transactions lives))
 
-  pub deals : (shared : Calls) → LedFirst (owner_of shard_of branch_in (length old_lives)) old_lives mid_lives number round.moment (arrivals_from shared.local number 1 round.events) sent items
-      → LedSecond shared (owner_of shard_of (λ call_id. call_id) (length old_calls)) old_calls new_calls round.moment items sent shown commands
-      → Deals shared shard_of number round (record { transactions = old_lives; calls = old_calls }) (record { transactions = new_lives; calls = new_calls }) outputs
+  pub deals : (shared : Calls) → LedFirst
+      (owner_of shard_of branch_in (length old_lives)) old_lives mid_lives number round.moment
+      (arrivals_from shared.local number 1 round.events) sent items
+      → LedSecond shared (owner_of shard_of (λ call_id. call_id) (length old_calls)) old_calls
+      new_calls round.moment items sent shown commands
+      → Deals shared shard_of number round (record { transactions = old_lives; calls = old_calls })
+      (record { transactions = new_lives; calls = new_calls }) outputs
   deals shared after_first after_second =
-      let one : (config : Config) → shared ≡ calls_of config → LedFirst (owner_of shard_of branch_in (length old_lives)) old_lives mid_lives number round.moment (arrivals_from config.local number 1 round.events) sent items =
-      λ config same. subst (λ s. LedFirst (owner_of shard_of branch_in (length old_lives)) old_lives mid_lives number round.moment (arrivals_from s number 1 round.events) sent items) (ap (λ s. s.local) same) after_first in
-      let two : (config : Config) → shared ≡ calls_of config → LedSecond (calls_of config) (owner_of shard_of (λ call_id. call_id) (length old_calls)) old_calls new_calls round.moment items sent shown commands =
-      λ config same. subst (λ s. LedSecond s (owner_of shard_of (λ call_id. call_id) (length old_calls)) old_calls new_calls round.moment items sent shown commands) same after_second in
-      let held : (config : Config) (past : Past) → shared ≡ calls_of config → HoldFrom call_cmp (call_machine shared) tick_input (owner_of shard_of (λ call_id. call_id) (length old_calls)) zero old_calls past.calls
-      → HoldFrom call_cmp (call_machine (calls_of config)) tick_input (owner_of shard_of (λ call_id. call_id) (length old_calls)) zero old_calls past.calls =
-      λ config past same. subst (λ s. HoldFrom call_cmp (call_machine s) tick_input (owner_of shard_of (λ call_id. call_id) (length old_calls)) zero old_calls past.calls) same in
+      let one : (config : Config) → shared ≡ calls_of config
+      → LedFirst (owner_of shard_of branch_in (length old_lives)) old_lives mid_lives number
+      round.moment (arrivals_from config.local number 1 round.events) sent items =
+      λ config same. subst (λ s. LedFirst
+      (owner_of shard_of branch_in (length old_lives)) old_lives mid_lives number round.moment
+      (arrivals_from s number 1 round.events) sent items)
+      (ap (λ s. s.local) same) after_first in
+      let two : (config : Config) → shared ≡ calls_of config
+      → LedSecond (calls_of config) (owner_of shard_of (λ call_id. call_id) (length old_calls))
+      old_calls new_calls round.moment items sent shown commands =
+      λ config same. subst (λ s. LedSecond s
+      (owner_of shard_of (λ call_id. call_id) (length old_calls)) old_calls new_calls
+      round.moment items sent shown commands) same after_second in
+      let held : (config : Config) (past : Past) → shared ≡ calls_of config
+      → HoldFrom call_cmp (call_machine shared) tick_input
+      (owner_of shard_of (λ call_id. call_id) (length old_calls)) zero old_calls past.calls
+      → HoldFrom call_cmp (call_machine (calls_of config)) tick_input
+      (owner_of shard_of (λ call_id. call_id) (length old_calls)) zero old_calls past.calls =
+      λ config past same. subst (λ s.
+      HoldFrom call_cmp (call_machine s) tick_input
+      (owner_of shard_of (λ call_id. call_id) (length old_calls)) zero old_calls past.calls)
+      same in
       record {
-        transactions = λ config past same lives calls. new_held config (one config same) (two config same) past lives (held config past same calls);
+        transactions = λ config past same lives calls.
+            new_held config (one config same) (two config same) past lives
+            (held config past same calls);
         calls = λ config past same lives calls.
-            subst (λ s. HoldFrom call_cmp (call_machine s) tick_input (owner_of shard_of (λ call_id. call_id) (length new_calls)) zero new_calls (past_after config number past round).calls) (sym same)
-            (new_called config (one config same) (two config same) past lives (held config past same calls));
-        answered = λ config past same lives calls. answered config (one config same) (two config same) past lives (held config past same calls);
+            subst (λ s. HoldFrom call_cmp (call_machine s) tick_input
+            (owner_of shard_of (λ call_id. call_id) (length new_calls)) zero new_calls
+            (past_after config number past round).calls) (sym same)
+            (new_called config (one config same) (two config same) past lives
+            (held config past same calls));
+        answered = λ config past same lives calls.
+            answered config (one config same) (two config same) past lives
+            (held config past same calls);
       }

@@ -20,18 +20,37 @@ use Rattle.sip_round.specs.Live.{live_of}
 use Rattle.sip_round.specs.Parts.{owner_of}
 use Rattle.sip_round.proofs.Living.{counted}
 
-pub live_shards : {C : Type 0} (shard_of : C → List ℕ → ℕ → ℕ) → ((name : List ℕ) (n : ℕ) (cut : C) → 0 < n → shard_of cut name n < n)
-    → (agent : AgentState C) (shards : ShardTables) (config : Config) (rounds : List Round) (live : ℕ × ℕ) → agent.shards ≡ Some shards → AreShards shards → StandsFor shard_of agent config rounds
-    → ((keys : List Key) → All (λ table. Covers key_cmp keys (state_at key_cmp table)) shards.transactions → live.0 ≡ sum_by (λ table. count_by (λ key. is_some (state_at key_cmp table key)) keys) shards.transactions)
-    → ((keys : List (List ℕ)) → All (λ table. Covers call_cmp keys (state_at call_cmp table)) shards.calls → live.1 ≡ sum_by (λ table. count_by (λ key. is_some (state_at call_cmp table key)) keys) shards.calls)
+pub live_shards : {C : Type 0} (shard_of : C → List ℕ → ℕ → ℕ)
+    → ((name : List ℕ) (n : ℕ) (cut : C) → 0 < n → shard_of cut name n < n)
+    → (agent : AgentState C) (shards : ShardTables) (config : Config) (rounds : List Round)
+    (live : ℕ × ℕ) → agent.shards ≡ Some shards → AreShards shards
+    → StandsFor shard_of agent config rounds
+    → ((keys : List Key) → All (λ table. Covers key_cmp keys (state_at key_cmp table))
+    shards.transactions → live.0 ≡ sum_by
+    (λ table. count_by (λ key. is_some (state_at key_cmp table key)) keys) shards.transactions)
+    → ((keys : List (List ℕ)) → All
+    (λ table. Covers call_cmp keys (state_at call_cmp table)) shards.calls
+    → live.1 ≡ sum_by (λ table. count_by (λ key. is_some (state_at call_cmp table key)) keys)
+    shards.calls)
     → live ≡ live_of config (past_of config rounds)
 live_shards shard_of within agent shards config rounds live sound are stands lives calls_live =
-    let same : stands.shards ≡ shards = ap (λ held. unwrap_or held stands.shards) (sym stands.sound ∙ sound) in
-    let mine = subst (λ s. HoldTransactions (shard_of agent.cut) s (past_of config rounds).transactions) same stands.transactions in
-    let theirs = subst (λ c. HoldCalls c (shard_of agent.cut) shards (past_of config rounds).calls) stands.shared (subst (λ s. HoldCalls agent.calls (shard_of agent.cut) s (past_of config rounds).calls) same stands.calls) in
+    let same : stands.shards ≡ shards =
+    ap (λ held. unwrap_or held stands.shards) (sym stands.sound ∙ sound) in
+    let mine = subst (λ s. HoldTransactions (shard_of agent.cut) s
+    (past_of config rounds).transactions) same stands.transactions in
+    let theirs = subst (λ c. HoldCalls c (shard_of agent.cut) shards (past_of config rounds).calls)
+    stands.shared (subst (λ s. HoldCalls agent.calls (shard_of agent.cut) s
+    (past_of config rounds).calls) same stands.calls) in
     let some_calls : 0 < length shards.calls = subst (λ n. 0 < n) (sym are.2) are.0 in
-    let first = counted keys_total exact_keys transaction_machine life_due tick_at transactions.ticks_are_idle (owner_of (shard_of agent.cut) branch_in (length shards.transactions)) (past_of config rounds).transactions shards.transactions live.0
+    let first = counted keys_total exact_keys transaction_machine life_due tick_at
+    transactions.ticks_are_idle (owner_of (shard_of agent.cut) branch_in
+    (length shards.transactions)) (past_of config rounds).transactions shards.transactions
+    live.0
     (λ key. within (branch_in key) (length shards.transactions) agent.cut are.0) mine lives in
-    let second = counted nat_list_cmp_total exact_bytes (call_machine (calls_of config)) call_due tick_input (calls.ticks_are_idle (calls_of config)) (owner_of (shard_of agent.cut) (λ call_id. call_id) (length shards.calls)) (past_of config rounds).calls shards.calls live.1
+    let second = counted nat_list_cmp_total exact_bytes
+    (call_machine (calls_of config)) call_due tick_input
+    (calls.ticks_are_idle (calls_of config))
+    (owner_of (shard_of agent.cut) (λ call_id. call_id) (length shards.calls))
+    (past_of config rounds).calls shards.calls live.1
     (λ key. within key (length shards.calls) agent.cut some_calls) theirs calls_live in
     λ i. (first i, second i)

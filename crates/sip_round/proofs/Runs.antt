@@ -17,71 +17,110 @@ pub at_first : (number : ℕ) → number ≡ number + 0
 at_first number = omega arith
 
 module _ (config : Config) where
-  past_from-push : (number : ℕ) (past : Past) (rounds : List Round) (round : Round) → past_from config number past (rounds ++ round ∷ []) ≡ past_after config (number + length rounds) (past_from config number past rounds) round
+  past_from-push : (number : ℕ) (past : Past) (rounds : List Round) (round : Round)
+      → past_from config number past (rounds ++ round ∷ [])
+      ≡ past_after config (number + length rounds) (past_from config number past rounds) round
   past_from-push number past [] round = ap (λ n. past_after config n past round) (at_first number)
   past_from-push number past (r ∷ rs) round =
       past_from-push (suc number) (past_after config number past r) rs round
-      ∙ ap (λ n. past_after config n (past_from config (suc number) (past_after config number past r) rs) round) (later number (length rs))
+      ∙ ap (λ n. past_after config n
+      (past_from config (suc number) (past_after config number past r) rs) round)
+      (later number (length rs))
 
-  answers_from-push : (number : ℕ) (past : Past) (rounds : List Round) (round : Round) → answers_from config number past (rounds ++ round ∷ []) ≡ answers_from config number past rounds ++ answer config (number + length rounds) (past_from config number past rounds) round ∷ []
-  answers_from-push number past [] round = ap (λ n. answer config n past round ∷ []) (at_first number)
+  answers_from-push : (number : ℕ) (past : Past) (rounds : List Round) (round : Round)
+      → answers_from config number past (rounds ++ round ∷ [])
+      ≡ answers_from config number past rounds
+      ++ answer config (number + length rounds) (past_from config number past rounds) round ∷ []
+  answers_from-push number past [] round =
+      ap (λ n. answer config n past round ∷ []) (at_first number)
   answers_from-push number past (r ∷ rs) round =
       ap (λ rest. answer config number past r ∷ rest)
       (answers_from-push (suc number) (past_after config number past r) rs round
-      ∙ ap (λ n. answers_from config (suc number) (past_after config number past r) rs ++ answer config n (past_from config (suc number) (past_after config number past r) rs) round ∷ []) (later number (length rs)))
+      ∙ ap (λ n. answers_from config (suc number) (past_after config number past r) rs
+      ++ answer config n (past_from config (suc number) (past_after config number past r) rs)
+      round ∷ []) (later number (length rs)))
 
-last_moment_from-push : (moment : ℕ) (rounds : List Round) (round : Round) → last_moment_from moment (rounds ++ round ∷ []) ≡ round.moment
+last_moment_from-push : (moment : ℕ) (rounds : List Round) (round : Round)
+    → last_moment_from moment (rounds ++ round ∷ []) ≡ round.moment
 last_moment_from-push moment [] round = refl
 last_moment_from-push moment (r ∷ rs) round = last_moment_from-push r.moment rs round
 
 one_later : (next first n more : ℕ) → next ≡ first + n → more ≡ n + 1 → next + 1 ≡ first + more
 one_later next first n more e f = omega (arith, e, f)
 
--- an agent that stands for rounds and dealt with one more stands for these, and its outputs are the last of the answers
-pub stands_longer : {C : Type 0} (shard_of : C → List ℕ → ℕ → ℕ) (old new : AgentState C) (config : Config) (rounds : List Round) (round : Round) (outputs : List Output)
-    → ((shards : ShardTables) → old.shards ≡ Some shards → (led : ShardTables) × (new.shards ≡ Some led) × Deals old.calls (shard_of old.cut) old.next_round round shards led outputs)
-    → new.calls ≡ old.calls → new.cut ≡ old.cut → new.next_round ≡ old.next_round + 1 → new.last_moment ≡ round.moment → StandsFor shard_of old config rounds
-    → StandsFor shard_of new config (rounds ++ round ∷ []) × (answers config (rounds ++ round ∷ []) ≡ answers config rounds ++ outputs ∷ [])
+-- an agent that stands for rounds and dealt with one more stands for these, and its outputs are the
+-- last of the answers
+pub stands_longer : {C : Type 0} (shard_of : C → List ℕ → ℕ → ℕ) (old new : AgentState C)
+    (config : Config) (rounds : List Round) (round : Round) (outputs : List Output)
+    → ((shards : ShardTables) → old.shards ≡ Some shards
+    → (led : ShardTables) × (new.shards ≡ Some led)
+    × Deals old.calls (shard_of old.cut) old.next_round round shards led outputs)
+    → new.calls ≡ old.calls → new.cut ≡ old.cut → new.next_round ≡ old.next_round + 1
+    → new.last_moment ≡ round.moment → StandsFor shard_of old config rounds
+    → StandsFor shard_of new config (rounds ++ round ∷ [])
+    × (answers config (rounds ++ round ∷ []) ≡ answers config rounds ++ outputs ∷ [])
 unfolding past_of answers last_moment
-stands_longer shard_of old new config rounds round outputs leads same_calls same_cut number moment before =
+stands_longer shard_of old new config rounds round outputs leads same_calls same_cut number moment
+    before =
     let led = leads before.shards before.sound in
     let past : Past = past_of config rounds in
-    let same_past : past_after config old.next_round past round ≡ past_of config (rounds ++ round ∷ []) =
-    ap (λ n. past_after config n past round) before.number ∙ sym (past_from-push config config.first no_past rounds round) in (
+    let same_past : past_after config old.next_round past round
+    ≡ past_of config (rounds ++ round ∷ []) =
+    ap (λ n. past_after config n past round) before.number
+    ∙ sym (past_from-push config config.first no_past rounds round) in (
       record {
         shards = led.0;
         sound = led.1;
         shared = same_calls ∙ before.shared;
-        number = number ∙ one_later old.next_round config.first (length rounds) _ before.number (length_push rounds round);
+        number = number ∙ one_later old.next_round config.first (length rounds) _ before.number
+            (length_push rounds round);
         moment = moment ∙ sym (last_moment_from-push 0 rounds round);
         transactions =
-            subst (λ cut. HoldTransactions (shard_of cut) led.0 (past_of config (rounds ++ round ∷ [])).transactions) (sym same_cut)
-            (subst (λ p. HoldTransactions (shard_of old.cut) led.0 p.transactions) same_past (led.2.transactions config past before.shared before.transactions before.calls));
+            subst (λ cut. HoldTransactions (shard_of cut) led.0
+            (past_of config (rounds ++ round ∷ [])).transactions) (sym same_cut)
+            (subst (λ p. HoldTransactions (shard_of old.cut) led.0 p.transactions) same_past
+            (led.2.transactions config past before.shared before.transactions before.calls));
         calls =
-            subst (λ calls. HoldCalls calls (shard_of new.cut) led.0 (past_of config (rounds ++ round ∷ [])).calls) (sym same_calls)
-            (subst (λ cut. HoldCalls old.calls (shard_of cut) led.0 (past_of config (rounds ++ round ∷ [])).calls) (sym same_cut)
-            (subst (λ p. HoldCalls old.calls (shard_of old.cut) led.0 p.calls) same_past (led.2.calls config past before.shared before.transactions before.calls)));
+            subst (λ calls. HoldCalls calls (shard_of new.cut) led.0
+            (past_of config (rounds ++ round ∷ [])).calls) (sym same_calls)
+            (subst (λ cut. HoldCalls old.calls (shard_of cut) led.0
+            (past_of config (rounds ++ round ∷ [])).calls) (sym same_cut)
+            (subst (λ p. HoldCalls old.calls (shard_of old.cut) led.0 p.calls) same_past
+            (led.2.calls config past before.shared before.transactions before.calls)));
       },
       answers_from-push config config.first no_past rounds round
           ∙ ap (λ n. answers config rounds ++ answer config n past round ∷ []) (sym before.number)
-          ∙ ap (λ os. answers config rounds ++ os ∷ []) (sym (led.2.answered config past before.shared before.transactions before.calls)),
+          ∙ ap (λ os. answers config rounds ++ os ∷ [])
+          (sym (led.2.answered config past before.shared before.transactions before.calls)),
     )
 
 -- ---- the first round that is refused
 
 -- rounds that aren't refused, and one more
-pub refused_from-push : (number moment index : ℕ) (rounds : List Round) (round : Round) (more : List Round) → refused_from number moment index rounds ≡ None
-    → refused_from number moment index (rounds ++ round ∷ more) ≡ refused_from (number + length rounds) (last_moment_from moment rounds) (index + length rounds) (round ∷ more)
+pub refused_from-push : (number moment index : ℕ) (rounds : List Round) (round : Round)
+    (more : List Round) → refused_from number moment index rounds ≡ None
+    → refused_from number moment index (rounds ++ round ∷ more)
+    ≡ refused_from (number + length rounds) (last_moment_from moment rounds) (index + length rounds)
+    (round ∷ more)
 refused_from-push number moment index [] round more none =
-    ap (λ n. refused_from n moment index (round ∷ more)) (at_first number) ∙ ap (λ i. refused_from (number + 0) moment i (round ∷ more)) (at_first index)
+    ap (λ n. refused_from n moment index (round ∷ more)) (at_first number)
+    ∙ ap (λ i. refused_from (number + 0) moment i (round ∷ more)) (at_first index)
 refused_from-push number moment index (r ∷ rs) round more none =
-    by_fault (round_fault moment number r) (refused_from-push (suc number) r.moment (suc index) rs round more) none
+    by_fault (round_fault moment number r)
+    (refused_from-push (suc number) r.moment (suc index) rs round more) none
   where
     by_fault : (fault : Option RoundFault)
-        → (refused_from (suc number) r.moment (suc index) rs ≡ None → refused_from (suc number) r.moment (suc index) (rs ++ round ∷ more) ≡ refused_from (suc number + length rs) (last_moment_from r.moment rs) (suc index + length rs) (round ∷ more))
+        → (refused_from (suc number) r.moment (suc index) rs ≡ None
+        → refused_from (suc number) r.moment (suc index) (rs ++ round ∷ more)
+        ≡ refused_from (suc number + length rs) (last_moment_from r.moment rs)
+        (suc index + length rs) (round ∷ more))
         → refused_or fault index (refused_from (suc number) r.moment (suc index) rs) ≡ None
-        → refused_or fault index (refused_from (suc number) r.moment (suc index) (rs ++ round ∷ more)) ≡ refused_from (number + length (r ∷ rs)) (last_moment_from r.moment rs) (index + length (r ∷ rs)) (round ∷ more)
+        → refused_or fault index (refused_from (suc number) r.moment (suc index)
+        (rs ++ round ∷ more)) ≡ refused_from (number + length (r ∷ rs))
+        (last_moment_from r.moment rs) (index + length (r ∷ rs)) (round ∷ more)
     by_fault (Some fault) rest n = absurd cc
     by_fault None rest n =
-        rest n ∙ ap (λ k. refused_from k (last_moment_from r.moment rs) (suc index + length rs) (round ∷ more)) (later number (length rs))
-        ∙ ap (λ k. refused_from (number + suc (length rs)) (last_moment_from r.moment rs) k (round ∷ more)) (later index (length rs))
+        rest n ∙ ap (λ k. refused_from k (last_moment_from r.moment rs) (suc index + length rs)
+        (round ∷ more)) (later number (length rs))
+        ∙ ap (λ k. refused_from (number + suc (length rs)) (last_moment_from r.moment rs) k
+        (round ∷ more)) (later index (length rs))

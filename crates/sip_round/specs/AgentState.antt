@@ -16,9 +16,11 @@ pub record ShardTables : Type 0 where
 
 -- at least one shard, and at most 256; each has a table of both kinds
 abbrev pub AreShards : ShardTables → Type 0
-AreShards shards = (0 < length shards.transactions) × (length shards.transactions ≤ 256) × (length shards.calls ≡ length shards.transactions)
+AreShards shards = (0 < length shards.transactions) × (length shards.transactions ≤ 256)
+    × (length shards.calls ≡ length shards.transactions)
 
--- what the calls share, how names are cut, the number of the next round, the moment of the last one, and the shards; a broken agent has none
+-- what the calls share, how names are cut, the number of the next round, the moment of the last
+-- one, and the shards; a broken agent has none
 pub record AgentState (C : Type 0) : Type 0 where
   pub calls : Calls
   pub cut : C
@@ -26,7 +28,8 @@ pub record AgentState (C : Type 0) : Type 0 where
   pub last_moment : ℕ
   pub shards : Option ShardTables
 
--- why a round is no round after that moment and of that number: the first fault that fits; moments and numbers of rounds are at most 2^62
+-- why a round is no round after that moment and of that number: the first fault that fits; moments
+-- and numbers of rounds are at most 2^62
 abbrev pub round_fault : ℕ → ℕ → Round → Option RoundFault
 round_fault last number round =
     if nat_lt round.moment last then Some MomentBackwards
@@ -37,4 +40,5 @@ round_fault last number round =
 
 -- the first refusal that fits
 abbrev pub refusal_of : {C : Type 0} → AgentState C → Round → Option RoundFault
-refusal_of agent round = if is_some agent.shards then round_fault agent.last_moment agent.next_round round else Some Broken
+refusal_of agent round = if is_some agent.shards
+    then round_fault agent.last_moment agent.next_round round else Some Broken

@@ -1,4 +1,5 @@
--- What rounds answer: the tables folded over each transaction's and each call's own inputs alone, in stamp order.
+-- What rounds answer: the tables folded over each transaction's and each call's own inputs alone,
+-- in stamp order.
 use Rattle.std.specs.Prelude.{suc, ◌≡◌, ℕ, ◌+◌, zero, List, [], ◌∷◌, ◌++◌, length, Option, Some, None}
 use Rattle.std.specs.List.{flat_map}
 use Rattle.sip_message.specs.declared.id.Id.{Id}
@@ -40,18 +41,22 @@ pub record Past : Type 0 where
 abbrev pub said_by_transactions : List (Phase Key Timed) → Phase Key Timed → Told Key Out
 said_by_transactions = told_next key_cmp transaction_machine tick_at
 
-abbrev pub said_by_calls : Calls → List (Phase (List ℕ) CallInput) → Phase (List ℕ) CallInput → Told (List ℕ) CallOut
+abbrev pub said_by_calls : Calls → List (Phase (List ℕ) CallInput) → Phase (List ℕ) CallInput
+    → Told (List ℕ) CallOut
 said_by_calls calls = told_next call_cmp (call_machine calls) tick_input
 
 -- what the first phase sends and drops: at the ticks, and then by place
 abbrev pub sent_first : Told Key Out → List (Id × Arrival) → List Output
-sent_first told arrivals = flat_map sent_of (joined told.ticks) ++ flat_map (λ a. flat_map sent_of (outs_of (said_at told) a.0 a.1)) arrivals
+sent_first told arrivals = flat_map sent_of (joined told.ticks)
+    ++ flat_map (λ a. flat_map sent_of (outs_of (said_at told) a.0 a.1)) arrivals
 
--- the items of the calls: what comes up at the ticks, with place 0, and then what comes up and the user's commands, by place
+-- the items of the calls: what comes up at the ticks, with place 0, and then what comes up and the
+-- user's commands, by place
 abbrev pub items_first : ℕ → Told Key Out → List (Id × Arrival) → List (Id × Item)
 items_first number told arrivals =
     flat_map (raised_of (record { round = number; place = 0 })) (joined told.ticks)
-    ++ flat_map (λ a. flat_map (raised_of a.0) (outs_of (said_at told) a.0 a.1) ++ user_items a.0 a.1) arrivals
+    ++ flat_map (λ a. flat_map (raised_of a.0) (outs_of (said_at told) a.0 a.1)
+    ++ user_items a.0 a.1) arrivals
 
 -- ---- one round of this number, after a past
 
@@ -77,12 +82,16 @@ module _ (config : Config) (number : ℕ) (past : Past) (round : Round) where
 
   -- all phases so far: the transactions had two in this round
   unfoldable pub past_after : Past
-  past_after = record { transactions = (past.transactions ++ first ∷ []) ++ third ∷ []; calls = past.calls ++ second ∷ [] }
+  past_after = record {
+    transactions = (past.transactions ++ first ∷ []) ++ third ∷ [];
+    calls = past.calls ++ second ∷ [];
+  }
 
   -- sends and drops of the first phase, notices and direct sends of the second, sends of the third
   unfoldable pub answer : List Output
   answer =
-      (sent_first (said_by_transactions past.transactions first) arrivals ++ flat_map shown_of given_second)
+      (sent_first (said_by_transactions past.transactions first) arrivals
+      ++ flat_map shown_of given_second)
       ++ flat_map sent_of (all_said (said_by_transactions (past.transactions ++ first ∷ []) third))
 
 -- ---- whole lists of rounds
@@ -93,11 +102,14 @@ no_past = record { transactions = []; calls = [] }
 -- the past after rounds of which the first has this number, and their answers
 abbrev pub past_from : Config → ℕ → Past → List Round → Past
 past_from config number past [] = past
-past_from config number past (round ∷ rounds) = past_from config (suc number) (past_after config number past round) rounds
+past_from config number past (round ∷ rounds) =
+    past_from config (suc number) (past_after config number past round) rounds
 
 abbrev pub answers_from : Config → ℕ → Past → List Round → List (List Output)
 answers_from config number past [] = []
-answers_from config number past (round ∷ rounds) = answer config number past round ∷ answers_from config (suc number) (past_after config number past round) rounds
+answers_from config number past (round ∷ rounds) =
+    answer config number past round
+    ∷ answers_from config (suc number) (past_after config number past round) rounds
 
 abbrev pub last_moment_from : ℕ → List Round → ℕ
 last_moment_from moment [] = moment
@@ -120,26 +132,36 @@ refused_or None index later = later
 abbrev pub refused_from : ℕ → ℕ → ℕ → List Round → Option (ℕ × RoundFault)
 refused_from number moment index [] = None
 refused_from number moment index (round ∷ rounds) =
-    refused_or (round_fault moment number round) index (refused_from (suc number) round.moment (suc index) rounds)
+    refused_or (round_fault moment number round) index
+    (refused_from (suc number) round.moment (suc index) rounds)
 
 unfoldable pub refused : Config → List Round → Option (ℕ × RoundFault)
 refused config rounds = refused_from config.first 0 0 rounds
 
 -- ---- what an agent is after rounds
 
--- each shard's tables hold the states that the past leaves of the keys that the cut names for it, and nothing else: transactions are cut by their branch, calls by their Call-ID
+-- each shard's tables hold the states that the past leaves of the keys that the cut names for it,
+-- and nothing else: transactions are cut by their branch, calls by their Call-ID
 abbrev pub HoldTransactions : (List ℕ → ℕ → ℕ) → ShardTables → List (Phase Key Timed) → Type 0
-HoldTransactions shard_of shards past = HoldFrom key_cmp transaction_machine tick_at (owner_of shard_of branch_in (length shards.transactions)) zero shards.transactions past
+HoldTransactions shard_of shards past =
+    HoldFrom key_cmp transaction_machine tick_at
+    (owner_of shard_of branch_in (length shards.transactions)) zero shards.transactions past
 
-abbrev pub HoldCalls : Calls → (List ℕ → ℕ → ℕ) → ShardTables → List (Phase (List ℕ) CallInput) → Type 0
-HoldCalls calls shard_of shards past = HoldFrom call_cmp (call_machine calls) tick_input (owner_of shard_of (λ call_id. call_id) (length shards.calls)) zero shards.calls past
+abbrev pub HoldCalls : Calls → (List ℕ → ℕ → ℕ) → ShardTables → List (Phase (List ℕ) CallInput)
+    → Type 0
+HoldCalls calls shard_of shards past =
+    HoldFrom call_cmp (call_machine calls) tick_input
+    (owner_of shard_of (λ call_id. call_id) (length shards.calls)) zero shards.calls past
 
--- the agent isn't broken, is at the round and the moment after these rounds, and holds just what their past leaves
-pub record StandsFor {C : Type 0} (shard_of : C → List ℕ → ℕ → ℕ) (agent : AgentState C) (config : Config) (rounds : List Round) : Type 0 where
+-- the agent isn't broken, is at the round and the moment after these rounds, and holds just what
+-- their past leaves
+pub record StandsFor {C : Type 0} (shard_of : C → List ℕ → ℕ → ℕ) (agent : AgentState C)
+    (config : Config) (rounds : List Round) : Type 0 where
   pub shards : ShardTables
   pub sound : agent.shards ≡ Some shards
   pub shared : agent.calls ≡ calls_of config
   pub number : agent.next_round ≡ config.first + length rounds
   pub moment : agent.last_moment ≡ last_moment rounds
-  pub transactions : HoldTransactions (shard_of agent.cut) shards (past_of config rounds).transactions
+  pub transactions : HoldTransactions (shard_of agent.cut) shards
+      (past_of config rounds).transactions
   pub calls : HoldCalls agent.calls (shard_of agent.cut) shards (past_of config rounds).calls

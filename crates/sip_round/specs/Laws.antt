@@ -27,21 +27,31 @@ inputs_of config rounds key = history key_cmp tick_at (past_of config rounds).tr
 
 -- all that the phases of rounds say of a transaction, in order
 abbrev pub said_of : Config → List Round → Key → List Out
-said_of config rounds key = said_from key_cmp transaction_machine tick_at key [] (past_of config rounds).transactions
+said_of config rounds key =
+    said_from key_cmp transaction_machine tick_at key [] (past_of config rounds).transactions
 
--- what rounds say of a transaction is what comes before a life, what its first input adds, what the rest of it adds, and what comes after; its request comes up with the first input, and not again
-pub record OneRequestSaid (said : List Out) (key : Key) (before : List Timed) (first : Timed) (rest after : List Timed) : Type 0 where
+-- what rounds say of a transaction is what comes before a life, what its first input adds, what the
+-- rest of it adds, and what comes after; its request comes up with the first input, and not again
+pub record OneRequestSaid (said : List Out) (key : Key) (before : List Timed) (first : Timed)
+    (rest after : List Timed) : Type 0 where
   pub said_in_order : said ≡ outputs_from transaction_machine key None before
       ++ (adds transaction_machine key (state_after transaction_machine key before) first
-      ++ (outputs_from transaction_machine key (state_after transaction_machine key (before ++ first ∷ [])) rest
-      ++ outputs_from transaction_machine key (state_after transaction_machine key (before ++ first ∷ rest)) after))
-  pub once : requests_in (adds transaction_machine key (state_after transaction_machine key before) first) ≡ 1
-  pub no_more : requests_in (outputs_from transaction_machine key (state_after transaction_machine key (before ++ first ∷ [])) rest) ≡ 0
+      ++ (outputs_from transaction_machine key
+      (state_after transaction_machine key (before ++ first ∷ [])) rest
+      ++ outputs_from transaction_machine key
+      (state_after transaction_machine key (before ++ first ∷ rest)) after))
+  pub once : requests_in (adds transaction_machine key
+      (state_after transaction_machine key before) first) ≡ 1
+  pub no_more : requests_in (outputs_from transaction_machine key
+      (state_after transaction_machine key (before ++ first ∷ [])) rest) ≡ 0
 
 -- each life of a server transaction hands its request up once, by its first input
 abbrev pub OneRequestInLives : Config → List Round → Type 0
-OneRequestInLives config rounds = (key : Key) → IsServer key → (before : List Timed) (first : Timed) (rest after : List Timed)
-    → inputs_of config rounds key ≡ before ++ (first ∷ (rest ++ after)) → IsLife transaction_machine key before first rest → OneRequestSaid (said_of config rounds key) key before first rest after
+OneRequestInLives config rounds =
+    (key : Key) → IsServer key → (before : List Timed) (first : Timed) (rest after : List Timed)
+    → inputs_of config rounds key ≡ before ++ (first ∷ (rest ++ after))
+    → IsLife transaction_machine key before first rest
+    → OneRequestSaid (said_of config rounds key) key before first rest after
 
 -- so in any rounds
 abbrev pub OneRequestInEachLife : Type 0
@@ -49,9 +59,12 @@ OneRequestInEachLife = (config : Config) (rounds : List Round) → OneRequestInL
 
 -- nothing is handed up under the id of a life after it has ended
 abbrev pub NothingAfterEnds : Config → List Round → Type 0
-NothingAfterEnds config rounds = (key : Key) (before : List Timed) (first : Timed) (rest after : List Timed) (id : Id)
-    → inputs_of config rounds key ≡ before ++ (first ∷ (rest ++ after)) → IsLife transaction_machine key before first rest
-    → state_after transaction_machine key (before ++ first ∷ rest) ≡ None → id_of first.input ≡ Some id
+NothingAfterEnds config rounds =
+    (key : Key) (before : List Timed) (first : Timed) (rest after : List Timed) (id : Id)
+    → inputs_of config rounds key ≡ before ++ (first ∷ (rest ++ after))
+    → IsLife transaction_machine key before first rest
+    → state_after transaction_machine key (before ++ first ∷ rest) ≡ None
+    → id_of first.input ≡ Some id
     → list_any (carries id) (outputs_from transaction_machine key None after) ≡ false
 
 -- so in any rounds
@@ -62,19 +75,31 @@ NothingAfterEachEnd = (config : Config) (rounds : List Round) → NothingAfterEn
 
 -- all that a call is given in rounds, oldest first
 abbrev pub call_inputs_of : Config → List Round → List ℕ → List CallInput
-call_inputs_of config rounds call_id = history call_cmp tick_input (past_of config rounds).calls call_id
+call_inputs_of config rounds call_id =
+    history call_cmp tick_input (past_of config rounds).calls call_id
 
 -- all that the phases of rounds say of a call, in order
 abbrev pub said_of_call : Config → List Round → List ℕ → List CallOut
-said_of_call config rounds call_id = said_from call_cmp (call_machine (calls_of config)) tick_input call_id [] (past_of config rounds).calls
+said_of_call config rounds call_id =
+    said_from call_cmp (call_machine (calls_of config)) tick_input call_id []
+    (past_of config rounds).calls
 
--- What rounds say of a call is what its inputs add, in order; and of the reliable provisional responses that came among these to an
+-- What rounds say of a call is what its inputs add, in order; and of the reliable provisional
+-- responses that came among these to an
 -- INVITE in a life of a dialog those in order are shown, so each once.
-pub record ProvisionalsShown (config : Config) (rounds : List Round) (call_id : List ℕ) (invite : AnInvite) (life : DialogLife) : Type 0 where
-  pub said_in_order : said_of_call config rounds call_id ≡ outputs_from (call_machine (calls_of config)) call_id None (call_inputs_of config rounds call_id)
-  pub shown_in_order : shown (calls_of config) invite life (call_inputs_of config rounds call_id) ≡ in_order (came (calls_of config) invite life (call_inputs_of config rounds call_id))
-  pub consecutive : IsConsecutive (shown (calls_of config) invite life (call_inputs_of config rounds call_id))
-  pub once : AllPairs (λ x y. x ≢ y) (shown (calls_of config) invite life (call_inputs_of config rounds call_id))
+pub record ProvisionalsShown (config : Config) (rounds : List Round) (call_id : List ℕ)
+    (invite : AnInvite) (life : DialogLife) : Type 0 where
+  pub said_in_order : said_of_call config rounds call_id
+      ≡ outputs_from (call_machine (calls_of config)) call_id None
+      (call_inputs_of config rounds call_id)
+  pub shown_in_order : shown (calls_of config) invite life (call_inputs_of config rounds call_id)
+      ≡ in_order (came (calls_of config) invite life (call_inputs_of config rounds call_id))
+  pub consecutive : IsConsecutive
+      (shown (calls_of config) invite life (call_inputs_of config rounds call_id))
+  pub once : AllPairs (λ x y. x ≢ y)
+      (shown (calls_of config) invite life (call_inputs_of config rounds call_id))
 
 abbrev pub ProvisionalsInLives : Config → List Round → Type 0
-ProvisionalsInLives config rounds = (call_id : List ℕ) (invite : AnInvite) (life : DialogLife) → ProvisionalsShown config rounds call_id invite life
+ProvisionalsInLives config rounds =
+    (call_id : List ℕ) (invite : AnInvite) (life : DialogLife)
+    → ProvisionalsShown config rounds call_id invite life

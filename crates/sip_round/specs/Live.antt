@@ -11,9 +11,14 @@ use Rattle.sip_round.specs.declared.config.Config.{Config}
 use Rattle.sip_round.specs.Answers.{Past, calls_of}
 
 -- how many keys have a state after their own inputs
-abbrev pub live_after : {K S I O : Type 0} (cmp : K → K → Ordering) → Machine K S I O → (ℕ → I) → List (Phase K I) → ℕ
-live_after cmp machine tick phases = count_by (λ key. is_some (states_after cmp machine tick phases key)) (keys_of_phases cmp phases)
+abbrev pub live_after : {K S I O : Type 0} (cmp : K → K → Ordering) → Machine K S I O → (ℕ → I)
+    → List (Phase K I) → ℕ
+live_after cmp machine tick phases =
+    count_by (λ key. is_some (states_after cmp machine tick phases key)) (keys_of_phases cmp phases)
 
 -- the transactions that have begun and not ended, and the calls under which something is held
 abbrev pub live_of : Config → Past → ℕ × ℕ
-live_of config past = (live_after key_cmp transaction_machine tick_at past.transactions, live_after call_cmp (call_machine (calls_of config)) tick_input past.calls)
+live_of config past = (
+  live_after key_cmp transaction_machine tick_at past.transactions,
+  live_after call_cmp (call_machine (calls_of config)) tick_input past.calls,
+)

@@ -10,4 +10,5 @@ owner_of shard_of name shards key = shard_of (name key) shards
 -- the items of each of so many shards from this number on, in their order
 abbrev pub cut_by : {K I : Type 0} → (K → ℕ) → ℕ → ℕ → List (Item K I) → List (List (Item K I))
 cut_by owner number zero items = []
-cut_by owner number (suc count) items = filter (λ item. is_owned owner number item.key) items ∷ cut_by owner (suc number) count items
+cut_by owner number (suc count) items =
+    filter (λ item. is_owned owner number item.key) items ∷ cut_by owner (suc number) count items

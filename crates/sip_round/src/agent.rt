@@ -30,7 +30,8 @@ pub const MAX_EVENTS_OF_ROUND: usize = 65_536;
 
 /// The transactions and the calls of one user agent, in shards, led through rounds.
 ///
-/// After a round answered `NoMemory` with `broken` it holds nothing, and every later round is refused as `Broken`.
+/// After a round answered `NoMemory` with `broken` it holds nothing, and every later round is
+/// refused as `Broken`.
 pub struct Agent<C: Cut> {
     alloc: Global,
     cut: C,
@@ -103,7 +104,9 @@ impl<C: Cut + Drop> Agent<C> {
         ensures broken { self.now.shards ≡ None → result ≡ (0, 0) }
 
         // Of an agent that stands for rounds: those that have begun and not ended.
-        ensures counts { (config : Config) (rounds : List Round) → StandsFor C.shard_of self.now config rounds → result ≡ live_of config (past_of config rounds) }
+        ensures counts { (config : Config) (rounds : List Round)
+            → StandsFor C.shard_of self.now config rounds
+            → result ≡ live_of config (past_of config rounds) }
     {
         match &self.shards {
             None => (0, 0),
@@ -111,7 +114,8 @@ impl<C: Cut + Drop> Agent<C> {
         }
     }
 
-    /// Deals with the events of a round, on up to so many workers, and answers its outputs in stamp order. One worker starts no thread.
+    /// Deals with the events of a round, on up to so many workers, and answers its outputs in stamp
+    /// order. One worker starts no thread.
     ///
     /// # Errors
     ///
@@ -125,14 +129,21 @@ impl<C: Cut + Drop> Agent<C> {
     ) -> Result<Vec<Output>, RoundFault>
         requires some { 0 < workers }
         requires most { workers ≤ 64 }
-        ensures refused { IfSome (refusal_of self.old round.now) (λ fault. (result ≡ Err fault) × (self.new ≡ self.old)) }
-        ensures memory { refusal_of self.old round.now ≡ None → OnErr result ((result ≡ Err (round_fault.NoMemory false)) ⊎ (result ≡ Err (round_fault.NoMemory true))) }
+        ensures refused { IfSome (refusal_of self.old round.now)
+            (λ fault. (result ≡ Err fault) × (self.new ≡ self.old)) }
+        ensures memory { refusal_of self.old round.now ≡ None
+            → OnErr result ((result ≡ Err (round_fault.NoMemory false))
+            ⊎ (result ≡ Err (round_fault.NoMemory true))) }
         ensures unbroken { result ≡ Err (round_fault.NoMemory false) → self.new ≡ self.old }
         ensures broken { result ≡ Err (round_fault.NoMemory true) → self.new.shards ≡ None }
 
-        // Whatever rounds the agent stood for, it stands for these and this one, and answers as this one is answered after them.
-        ensures answers { IfOk result (λ outputs. (config : Config) (rounds : List Round) → StandsFor C.shard_of self.old config rounds
-            → StandsFor C.shard_of self.new config (rounds ++ round.now ∷ []) × (answers config (rounds ++ round.now ∷ []) ≡ answers config rounds ++ outputs.items ∷ [])) }
+        // Whatever rounds the agent stood for, it stands for these and this one, and answers as
+        // this one is answered after them.
+        ensures answers { IfOk result (λ outputs. (config : Config) (rounds : List Round)
+            → StandsFor C.shard_of self.old config rounds
+            → StandsFor C.shard_of self.new config (rounds ++ round.now ∷ [])
+            × (answers config (rounds ++ round.now ∷ []) ≡ answers config rounds
+            ++ outputs.items ∷ [])) }
     {
         if let Some(fault) = self.refusal(round) {
             return Err(fault);
@@ -154,16 +165,23 @@ impl<C: Cut + Drop> Agent<C> {
     ///
     /// # Errors
     ///
-    /// `Broken` after an earlier call answered `NoMemory` with `broken`. `NoMemory`: without `broken` nothing has changed.
+    /// `Broken` after an earlier call answered `NoMemory` with `broken`. `NoMemory`: without
+    /// `broken` nothing has changed.
     pub fn reshard(&mut self, shards: usize) -> Result<(), RoundFault>
         requires some { 0 < shards }
         requires most { shards ≤ 256 }
-        ensures refused { self.old.shards ≡ None → (result ≡ Err round_fault.Broken) × (self.new ≡ self.old) }
-        ensures memory { IsSome self.old.shards → OnErr result ((result ≡ Err (round_fault.NoMemory false)) ⊎ (result ≡ Err (round_fault.NoMemory true))) }
+        ensures refused { self.old.shards ≡ None
+            → (result ≡ Err round_fault.Broken) × (self.new ≡ self.old) }
+        ensures memory { IsSome self.old.shards
+            → OnErr result ((result ≡ Err (round_fault.NoMemory false))
+            ⊎ (result ≡ Err (round_fault.NoMemory true))) }
         ensures unbroken { result ≡ Err (round_fault.NoMemory false) → self.new ≡ self.old }
         ensures broken { result ≡ Err (round_fault.NoMemory true) → self.new.shards ≡ None }
-        ensures count { OnOk result (IfSome self.new.shards (λ held. length held.transactions ≡ shards)) }
-        ensures stands { OnOk result ((config : Config) (rounds : List Round) → StandsFor C.shard_of self.old config rounds → StandsFor C.shard_of self.new config rounds) }
+        ensures count { OnOk result (IfSome self.new.shards
+            (λ held. length held.transactions ≡ shards)) }
+        ensures stands { OnOk result ((config : Config) (rounds : List Round)
+            → StandsFor C.shard_of self.old config rounds
+            → StandsFor C.shard_of self.new config rounds) }
     {
         let Some(held) = self.shards.take() else {
             return Err(RoundFault::Broken);
@@ -201,8 +219,12 @@ impl<C: Cut + Drop> Agent<C> {
     // What arrived in the round, read and stamped, and cut into the parts of the shards.
     fn arrived(&self, round: &Round) -> Result<Arrived, AllocError>
         requires places { length round.now.events ≤ 65536 }
-        ensures { IfOk result (λ arrived. IfSome self.now.shards (λ shards. IsArrived (owner_of (C.shard_of self.now.cut) branch_in (length shards.transactions)) (length shards.transactions) round.now.moment
-            (arrivals_from self.now.calls.local self.now.next_round 1 round.now.events) (map (λ part. part.items) arrived.parts.items) arrived.waiting.items)) }
+        ensures { IfOk result (λ arrived.
+            IfSome self.now.shards (λ shards.
+            IsArrived (owner_of (C.shard_of self.now.cut) branch_in (length shards.transactions))
+            (length shards.transactions) round.now.moment
+            (arrivals_from self.now.calls.local self.now.next_round 1 round.now.events)
+            (map (λ part. part.items) arrived.parts.items) arrived.waiting.items)) }
     {
         let Some(shards) = &self.shards else {
             return Err(AllocError);
@@ -226,14 +248,21 @@ impl<C: Cut + Drop> Agent<C> {
         requires some { 0 < workers }
         requires most { workers ≤ 64 }
         requires moment { round.now.moment ≤ 2 ^ 62 }
-        requires arrived { IfSome self.old.shards (λ shards. IsArrived (owner_of (C.shard_of self.old.cut) branch_in (length shards.transactions)) (length shards.transactions) round.now.moment
-            (arrivals_from self.old.calls.local self.old.next_round 1 round.now.events) (map (λ part. part.items) arrived.parts.items) arrived.waiting.items) }
+        requires arrived { IfSome self.old.shards
+            (λ shards. IsArrived (owner_of (C.shard_of self.old.cut) branch_in
+            (length shards.transactions)) (length shards.transactions) round.now.moment
+            (arrivals_from self.old.calls.local self.old.next_round 1 round.now.events)
+            (map (λ part. part.items) arrived.parts.items) arrived.waiting.items) }
         ensures calls { self.new.calls ≡ self.old.calls }
         ensures cut { self.new.cut ≡ self.old.cut }
         ensures number { self.new.next_round ≡ self.old.next_round }
         ensures moment { self.new.last_moment ≡ self.old.last_moment }
         ensures lost { OnErr result (self.new.shards ≡ None) }
-        ensures deals { IfOk result (λ outputs. (shards : ShardTables) → self.old.shards ≡ Some shards → (led : ShardTables) × (self.new.shards ≡ Some led) × Deals self.old.calls (C.shard_of self.old.cut) self.old.next_round round.now shards led outputs.items) }
+        ensures deals { IfOk result (λ outputs. (shards : ShardTables)
+            → self.old.shards ≡ Some shards
+            → (led : ShardTables) × (self.new.shards ≡ Some led)
+            × Deals self.old.calls (C.shard_of self.old.cut) self.old.next_round round.now shards
+            led outputs.items) }
     {
         let Some(shards) = self.shards.take() else {
             return Err(NoMemory);

@@ -60,7 +60,8 @@ fn arrived(
     from: Addr,
     bytes: &[u8],
 ) -> Result<Arrival, AllocError>
-    ensures { IfOk result (λ arrival. arrival ≡ arrivals.datagram_arrival local id from (message_at bytes.now)) }
+    ensures { IfOk result (λ arrival. arrival
+        ≡ arrivals.datagram_arrival local id from (message_at bytes.now)) }
 {
     match read(alloc, bytes) {
         Ok(message) => taken(alloc, local, id, from, message),

@@ -29,7 +29,10 @@ pub(crate) struct Dealt<M: StateMachine> {
 impl<M: StateMachine + Drop> Job for Dealing<M> {
     type Done = Result<Dealt<M>, ShardFault>;
 
-    ghost gives = { λ job done. IfOk done (λ dealt. AddsPhase M.Key.cmp (M.machine job.machine) M.tick job.table dealt.table (record { moment = job.moment; items = job.items.items }) (groups dealt.replies.ticks.items) (groups dealt.replies.items.items)) };
+    ghost gives = { λ job done. IfOk done
+        (λ dealt. AddsPhase M.Key.cmp (M.machine job.machine) M.tick job.table dealt.table
+        (record { moment = job.moment; items = job.items.items }) (groups dealt.replies.ticks.items)
+        (groups dealt.replies.items.items)) };
 
     fn run(self) -> Result<Dealt<M>, ShardFault> {
         let Dealing {

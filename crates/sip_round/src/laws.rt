@@ -10,8 +10,8 @@ use sip_model::laws_of_phases;
 use sip_transactions::Transactions;
 use sip_transactions::laws::{nothing_after_the_end, one_request_up};
 
-/// In any rounds, what is said of a transaction is what its own inputs add, in order; and each life of a server transaction hands its request up
-/// once, by its first input.
+/// In any rounds, what is said of a transaction is what its own inputs add, in order; and each life
+/// of a server transaction hands its request up once, by its first input.
 pub fn one_request_in_each_life()
     ensures { OneRequestInEachLife }
 {
@@ -19,7 +19,8 @@ pub fn one_request_in_each_life()
     one_request_up();
 }
 
-/// In any rounds, nothing is handed up under the id of a transaction's life after that life has ended.
+/// In any rounds, nothing is handed up under the id of a transaction's life after that life has
+/// ended.
 pub fn nothing_after_each_end()
     ensures { NothingAfterEachEnd }
 {

@@ -8,7 +8,8 @@ use sip_transactions::DropReason;
 /// One output of a round.
 #[derive(Drop)]
 pub enum Output {
-    /// A datagram to send; the key is that of its transaction, and absent where none stands behind it.
+    /// A datagram to send; the key is that of its transaction, and absent where none stands behind
+    /// it.
     Send {
         key: Option<Key>,
         to: Addr,

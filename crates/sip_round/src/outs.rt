@@ -17,8 +17,10 @@ pub(crate) fn part(
     outputs: &mut Vec<Output>,
     items: &mut Vec<(Id, Item)>,
 ) -> Result<(), AllocError>
-    ensures outputs { OnOk result (outputs.new.items ≡ outputs.old.items ++ flat_map sent_of outs.items) }
-    ensures items { OnOk result (items.new.items ≡ items.old.items ++ flat_map (raised_of id) outs.items) }
+    ensures outputs { OnOk result (outputs.new.items ≡ outputs.old.items
+        ++ flat_map sent_of outs.items) }
+    ensures items { OnOk result (items.new.items ≡ items.old.items
+        ++ flat_map (raised_of id) outs.items) }
 {
     for out in outs {
         put(out, id, outputs, items)?;
@@ -79,8 +81,10 @@ pub(crate) fn part_calls(
     outputs: &mut Vec<Output>,
     commands: &mut Vec<(Id, Command)>,
 ) -> Result<(), AllocError>
-    ensures outputs { OnOk result (outputs.new.items ≡ outputs.old.items ++ flat_map shown_of outs.items) }
-    ensures commands { OnOk result (commands.new.items ≡ commands.old.items ++ flat_map command_of outs.items) }
+    ensures outputs { OnOk result (outputs.new.items ≡ outputs.old.items
+        ++ flat_map shown_of outs.items) }
+    ensures commands { OnOk result
+        (commands.new.items ≡ commands.old.items ++ flat_map command_of outs.items) }
 {
     for out in outs {
         match out {

@@ -43,7 +43,8 @@ pub(crate) fn parts_of<C: Cut, K: Named + Drop, I: Drop>(
 ) -> Result<Vec<Vec<Item<K, I>>>, AllocError>
     requires some { 0 < shards }
     requires most { shards ≤ 256 }
-    ensures { IfOk result (λ parts. map (λ part. part.items) parts.items ≡ cut_by (owner_of (C.shard_of cut.now) K.name shards) 0 shards items.items) }
+    ensures { IfOk result (λ parts. map (λ part. part.items) parts.items
+        ≡ cut_by (owner_of (C.shard_of cut.now) K.name shards) 0 shards items.items) }
 {
     let mut parts = empty_parts(alloc, shards)?;
     for item in items {

@@ -17,8 +17,8 @@ use sip_workers::{Gate, NoMemory, Piece, dones_in_order, gather, run_pieces};
 use std::alloc::{AllocError, Global};
 use std::thread::Threads;
 
-/// Deals with a phase: each shard with its part, on up to so many workers. Gives the tables back, in order, and what was said, in
-/// the order of keys and of places.
+/// Deals with a phase: each shard with its part, on up to so many workers. Gives the tables back,
+/// in order, and what was said, in the order of keys and of places.
 ///
 /// # Errors
 ///
@@ -41,11 +41,16 @@ where
     requires some { 0 < workers }
     requires most { workers ≤ 64 }
     requires moment { IsTrue (option_map_or (λ now. M.admits (M.tick now)) moment true) }
-    requires items { All (λ part. All (λ item. IsTrue (M.admits item.input)) part.items) parts.items }
+    requires items { All (λ part. All (λ item. IsTrue (M.admits item.input)) part.items)
+        parts.items }
     requires count { vec_len parts ≡ vec_len tables }
-    ensures { IfOk result (λ dealt. (owner : M.Key → ℕ) (items : List (AnItem M.Key M.Input)) → ((key : M.Key) → owner key < length tables.items)
-        → map (λ part. part.items) parts.items ≡ cut_by owner 0 (length tables.items) items → IsStrictlySortedBy nat_cmp (map (λ item. item.place) items)
-        → DealsAll M.Key.cmp (M.machine machine) M.tick owner tables.items dealt.0.items (record { moment = moment; items = items }) (groups dealt.1.ticks.items) (groups dealt.1.items.items)) }
+    ensures { IfOk result (λ dealt. (owner : M.Key → ℕ) (items : List (AnItem M.Key M.Input))
+        → ((key : M.Key) → owner key < length tables.items)
+        → map (λ part. part.items) parts.items ≡ cut_by owner 0 (length tables.items) items
+        → IsStrictlySortedBy nat_cmp (map (λ item. item.place) items)
+        → DealsAll M.Key.cmp (M.machine machine) M.tick owner tables.items dealt.0.items
+        (record { moment = moment; items = items }) (groups dealt.1.ticks.items)
+        (groups dealt.1.items.items)) }
 {
     laws_of_phases(&machine);
     dones_in_order::<Dealing<M>>();
@@ -67,12 +72,17 @@ fn pieces_of<M: StateMachine + Copy>(
     parts: Vec<Vec<Item<M::Key, M::Input>>>,
 ) -> Result<Vec<Piece<Dealing<M>>>, AllocError>
     requires moment { IsTrue (option_map_or (λ now. M.admits (M.tick now)) moment true) }
-    requires items { All (λ part. All (λ item. IsTrue (M.admits item.input)) part.items) parts.items }
+    requires items { All (λ part. All (λ item. IsTrue (M.admits item.input)) part.items)
+        parts.items }
     requires count { vec_len parts ≡ vec_len tables }
     ensures numbered { IfOk result (λ pieces. IsNumbered pieces.items) }
-    ensures tables { IfOk result (λ pieces. map (λ piece. piece.job.table) pieces.items ≡ tables.items) }
-    ensures parts { IfOk result (λ pieces. map (λ piece. piece.job.items.items) pieces.items ≡ map (λ part. part.items) parts.items) }
-    ensures shared { IfOk result (λ pieces. AllByRecursion (λ piece. (piece.job.machine ≡ machine) × (piece.job.moment ≡ moment)) pieces.items) }
+    ensures tables { IfOk result (λ pieces. map (λ piece. piece.job.table) pieces.items
+        ≡ tables.items) }
+    ensures parts { IfOk result (λ pieces. map (λ piece. piece.job.items.items) pieces.items
+        ≡ map (λ part. part.items) parts.items) }
+    ensures shared { IfOk result (λ pieces.
+        AllByRecursion (λ piece. (piece.job.machine ≡ machine) × (piece.job.moment ≡ moment))
+        pieces.items) }
 {
     let mut pieces = Vec::with_capacity(alloc, tables.len())?;
     let mut left = parts.into_iter();
@@ -97,7 +107,10 @@ fn apart<M: StateMachine>(
     alloc: Global,
     dones: Vec<Result<Dealt<M>, ShardFault>>,
 ) -> Result<(Vec<Table<M>>, Replies<M::Key, M::Output>), NoMemory>
-    ensures { IfOk result (λ all. IsApart (λ dealt. dealt.table) (λ dealt. groups dealt.replies.ticks.items) (λ dealt. groups dealt.replies.items.items) dones.items all.0.items (groups all.1.ticks.items) (groups all.1.items.items)) }
+    ensures { IfOk result (λ all. IsApart (λ dealt. dealt.table)
+        (λ dealt. groups dealt.replies.ticks.items)
+        (λ dealt. groups dealt.replies.items.items) dones.items all.0.items
+        (groups all.1.ticks.items) (groups all.1.items.items)) }
 {
     let mut tables = Vec::with_capacity(alloc, dones.len())?;
     let mut ticks = Vec::new(alloc);

@@ -26,7 +26,8 @@ use sip_workers::{Gate, NoMemory};
 use std::alloc::Global;
 use std::thread::Threads;
 
-/// Where phases are run: names are cut so, and the pieces of work go to so many workers, each told to the gate.
+/// Where phases are run: names are cut so, and the pieces of work go to so many workers, each told
+/// to the gate.
 #[derive(Drop)]
 pub(crate) struct Ground<'a, R, C, G> {
     pub(crate) rt: &'a R,
@@ -61,7 +62,8 @@ impl Arrived {
 }
 
 impl<'a, R: Threads + Sync, C: Cut, G: Gate> Ground<'a, R, C, G> {
-    /// The three phases of a round of this number. Gives the shards back, and the outputs in stamp order.
+    /// The three phases of a round of this number. Gives the shards back, and the outputs in stamp
+    /// order.
     pub(crate) fn round(
         &self,
         calls: Calls,
@@ -73,9 +75,12 @@ impl<'a, R: Threads + Sync, C: Cut, G: Gate> Ground<'a, R, C, G> {
         requires some { 0 < self.now.workers }
         requires most { self.now.workers ≤ 64 }
         requires moment { round.now.moment ≤ 2 ^ 62 }
-        requires arrived { IsArrived (owner_of (C.shard_of self.now.cut.now) branch_in (length shards.transactions)) (length shards.transactions) round.now.moment
-            (arrivals_from calls.local number 1 round.now.events) (map (λ part. part.items) arrived.parts.items) arrived.waiting.items }
-        ensures { IfOk result (λ led. Deals calls (C.shard_of self.now.cut.now) number round.now shards led.0 led.1.items) }
+        requires arrived { IsArrived (owner_of (C.shard_of self.now.cut.now) branch_in
+            (length shards.transactions)) (length shards.transactions) round.now.moment
+            (arrivals_from calls.local number 1 round.now.events)
+            (map (λ part. part.items) arrived.parts.items) arrived.waiting.items }
+        ensures { IfOk result (λ led. Deals calls
+            (C.shard_of self.now.cut.now) number round.now shards led.0 led.1.items) }
     {
         let now = round.moment;
         let (transactions, tables) = shards.apart();
@@ -90,8 +95,8 @@ impl<'a, R: Threads + Sync, C: Cut, G: Gate> Ground<'a, R, C, G> {
         Ok((Shards::of(transactions, tables), outputs))
     }
 
-    /// The first phase: every transaction takes a tick, and then what arrived, by place. Gives the tables back, the outputs, and the
-    /// items of the calls.
+    /// The first phase: every transaction takes a tick, and then what arrived, by place. Gives the
+    /// tables back, the outputs, and the items of the calls.
     pub(crate) fn first_phase(
         &self,
         tables: Vec<Table<Transactions>>,
@@ -102,11 +107,17 @@ impl<'a, R: Threads + Sync, C: Cut, G: Gate> Ground<'a, R, C, G> {
         requires some { 0 < self.now.workers }
         requires most { self.now.workers ≤ 64 }
         requires moment { now ≤ 2 ^ 62 }
-        requires arrived { (arrivals : List (AnId × AnArrival)) × IsArrived (owner_of (C.shard_of self.now.cut.now) branch_in (length tables.items)) (length tables.items) now arrivals (map (λ part. part.items) arrived.parts.items) arrived.waiting.items }
+        requires arrived { (arrivals : List (AnId × AnArrival))
+            × IsArrived (owner_of (C.shard_of self.now.cut.now) branch_in (length tables.items))
+            (length tables.items) now arrivals
+            (map (λ part. part.items) arrived.parts.items) arrived.waiting.items }
         requires shards { 0 < length tables.items }
         ensures { IfOk result (λ led. (arrivals : List (AnId × AnArrival))
-            → IsArrived (owner_of (C.shard_of self.now.cut.now) branch_in (length tables.items)) (length tables.items) now arrivals (map (λ part. part.items) arrived.parts.items) arrived.waiting.items
-            → LedFirst (owner_of (C.shard_of self.now.cut.now) branch_in (length tables.items)) tables.items led.0.items number now arrivals led.1.items led.2.items) }
+            → IsArrived (owner_of (C.shard_of self.now.cut.now) branch_in (length tables.items))
+            (length tables.items) now arrivals
+            (map (λ part. part.items) arrived.parts.items) arrived.waiting.items
+            → LedFirst (owner_of (C.shard_of self.now.cut.now) branch_in (length tables.items))
+            tables.items led.0.items number now arrivals led.1.items led.2.items) }
     {
         laws_of_phases(&Transactions);
         let (parts, waiting) = arrived.apart();
@@ -123,8 +134,8 @@ impl<'a, R: Threads + Sync, C: Cut, G: Gate> Ground<'a, R, C, G> {
         let (outputs, items) = weave(self.alloc, number, replies, waiting)?;
         Ok((tables, outputs, items))
     }
-    /// The second phase: every call takes a tick, and then each item goes to its call. Notices and direct sends go behind the outputs,
-    /// and what is left are the commands of the third phase.
+    /// The second phase: every call takes a tick, and then each item goes to its call. Notices and
+    /// direct sends go behind the outputs, and what is left are the commands of the third phase.
     pub(crate) fn second_phase(
         &self,
         calls: Calls,
@@ -138,7 +149,10 @@ impl<'a, R: Threads + Sync, C: Cut, G: Gate> Ground<'a, R, C, G> {
         requires moment { now ≤ 2 ^ 62 }
         requires shards { 0 < length tables.items }
         requires few { length tables.items ≤ 256 }
-        ensures { IfOk result (λ led. LedSecond calls (owner_of (C.shard_of self.now.cut.now) (λ call_id. call_id) (length tables.items)) tables.items led.0.items now items.items outputs.old.items outputs.new.items led.1.items) }
+        ensures { IfOk result (λ led. LedSecond calls
+            (owner_of (C.shard_of self.now.cut.now) (λ call_id. call_id) (length tables.items))
+            tables.items led.0.items now items.items outputs.old.items outputs.new.items
+            led.1.items) }
     {
         let items = call_items(self.alloc, now, items)?;
         let parts = parts_of(self.alloc, self.cut, items, tables.len())?;
@@ -170,7 +184,9 @@ impl<'a, R: Threads + Sync, C: Cut, G: Gate> Ground<'a, R, C, G> {
         requires moment { now ≤ 2 ^ 62 }
         requires shards { 0 < length tables.items }
         requires few { length tables.items ≤ 256 }
-        ensures { IfOk result (λ led. LedThird (owner_of (C.shard_of self.now.cut.now) branch_in (length tables.items)) tables.items led.items now commands.items outputs.old.items outputs.new.items) }
+        ensures { IfOk result (λ led. LedThird
+            (owner_of (C.shard_of self.now.cut.now) branch_in (length tables.items)) tables.items
+            led.items now commands.items outputs.old.items outputs.new.items) }
     {
         let items = command_items(self.alloc, now, commands)?;
         let parts = parts_of(self.alloc, self.cut, items, tables.len())?;

@@ -15,7 +15,8 @@ use sip_workers::NoMemory;
 use std::alloc::{AllocError, Global};
 use std::marker::Model;
 
-/// The tables of the transactions and of the calls: as many of these as of those, at least one and at most 256.
+/// The tables of the transactions and of the calls: as many of these as of those, at least one and
+/// at most 256.
 pub(crate) struct Shards {
     transactions: Vec<Table<Transactions>>,
     calls: Vec<Table<Calls>>,
@@ -52,7 +53,8 @@ impl Shards {
         requires some { 0 < shards }
         requires most { shards ≤ 256 }
         ensures count { IfOk result (λ made. length made.transactions ≡ shards) }
-        ensures transactions { IfOk result (λ made. All (λ table. table ≡ Some []) made.transactions) }
+        ensures transactions { IfOk result
+            (λ made. All (λ table. table ≡ Some []) made.transactions) }
         ensures calls { IfOk result (λ made. All (λ table. table ≡ Some []) made.calls) }
     {
         let transactions = empty_tables(alloc, shards)?;
@@ -77,7 +79,10 @@ impl Shards {
     /// The tables.
     pub(crate) fn apart(self) -> (Vec<Table<Transactions>>, Vec<Table<Calls>>)
         ensures tables { record { transactions = result.0.items; calls = result.1.items } ≡ self }
-        ensures shards { AreShards (record { transactions = result.0.items; calls = result.1.items }) }
+        ensures shards { AreShards (record {
+          transactions = result.0.items;
+          calls = result.1.items;
+        }) }
     {
         let Shards {
             transactions,
@@ -86,7 +91,8 @@ impl Shards {
         (transactions, calls)
     }
 
-    /// Moves all that is held to other shards, which hold nothing: each key to the shard that the cut names for it.
+    /// Moves all that is held to other shards, which hold nothing: each key to the shard that the
+    /// cut names for it.
     ///
     /// # Errors
     ///
@@ -99,11 +105,14 @@ impl Shards {
     ) -> Result<Shards, NoMemory>
         requires transactions { All (λ table. table ≡ Some []) others.transactions }
         requires calls { All (λ table. table ≡ Some []) others.calls }
-        ensures count { IfOk result (λ moved. length moved.transactions ≡ length others.transactions) }
+        ensures count { IfOk result (λ moved. length moved.transactions
+            ≡ length others.transactions) }
         ensures transactions { IfOk result (λ moved. (past : List (Phase Key Timed))
-            → HoldTransactions (C.shard_of cut.now) self past → HoldTransactions (C.shard_of cut.now) moved past) }
+            → HoldTransactions (C.shard_of cut.now) self past
+            → HoldTransactions (C.shard_of cut.now) moved past) }
         ensures calls { IfOk result (λ moved. (past : List (Phase (List ℕ) CallInput))
-            → HoldCalls calls.now (C.shard_of cut.now) self past → HoldCalls calls.now (C.shard_of cut.now) moved past) }
+            → HoldCalls calls.now (C.shard_of cut.now) self past
+            → HoldCalls calls.now (C.shard_of cut.now) moved past) }
     {
         let (transactions, tables) = self.apart();
         let (other_transactions, other_tables) = others.apart();
@@ -124,10 +133,14 @@ impl Shards {
     /// How many transactions and how many calls are held.
     pub(crate) fn live(&self) -> (u128, u128)
         ensures shards { AreShards self.now }
-        ensures transactions { (keys : List Key) → All (λ table. Covers key_cmp keys (state_at key_cmp table)) self.now.transactions
-            → result.0 ≡ sum_by (λ table. count_by (λ key. is_some (state_at key_cmp table key)) keys) self.now.transactions }
-        ensures calls { (keys : List (List ℕ)) → All (λ table. Covers call_cmp keys (state_at call_cmp table)) self.now.calls
-            → result.1 ≡ sum_by (λ table. count_by (λ key. is_some (state_at call_cmp table key)) keys) self.now.calls }
+        ensures transactions { (keys : List Key)
+            → All (λ table. Covers key_cmp keys (state_at key_cmp table)) self.now.transactions
+            → result.0 ≡ sum_by (λ table. count_by
+            (λ key. is_some (state_at key_cmp table key)) keys) self.now.transactions }
+        ensures calls { (keys : List (List ℕ))
+            → All (λ table. Covers call_cmp keys (state_at call_cmp table)) self.now.calls
+            → result.1 ≡ sum_by (λ table. count_by
+            (λ key. is_some (state_at call_cmp table key)) keys) self.now.calls }
     {
         (
             live_in(self.transactions.as_slice()),
@@ -149,8 +162,10 @@ fn empty_tables<M: StateMachine>(alloc: Global, shards: usize) -> Result<Vec<Tab
 
 fn live_in<M: StateMachine>(tables: &[Table<M>]) -> u128
     requires { length tables.now ≤ 256 }
-    ensures { (keys : List M.Key) → All (λ table. Covers M.Key.cmp keys (state_at M.Key.cmp table)) tables.now
-        → result ≡ sum_by (λ table. count_by (λ key. is_some (state_at M.Key.cmp table key)) keys) tables.now }
+    ensures { (keys : List M.Key) → All
+        (λ table. Covers M.Key.cmp keys (state_at M.Key.cmp table)) tables.now
+        → result ≡ sum_by (λ table. count_by (λ key. is_some (state_at M.Key.cmp table key)) keys)
+        tables.now }
 {
     let mut live = 0u128;
     for table in tables {

@@ -13,7 +13,8 @@ use sip_message::Cut;
 use sip_model::{StateMachine, Table, laws_of_phases};
 use sip_workers::NoMemory;
 
-/// Moves all that the tables hold to other tables, which hold nothing: each key to the shard that the cut names for it.
+/// Moves all that the tables hold to other tables, which hold nothing: each key to the shard that
+/// the cut names for it.
 ///
 /// # Errors
 ///
@@ -33,7 +34,8 @@ where
     ensures holds { IfOk result (λ moved. (owner : M.Key → ℕ) (phases : List (Phase M.Key M.Input))
         → ((key : M.Key) → owner key < length tables.items)
         → HoldFrom M.Key.cmp (M.machine machine.now) M.tick owner 0 tables.items phases
-        → HoldFrom M.Key.cmp (M.machine machine.now) M.tick (owner_of (C.shard_of cut.now) M.Key.name (length others.items)) 0 moved.items phases) }
+        → HoldFrom M.Key.cmp (M.machine machine.now) M.tick
+        (owner_of (C.shard_of cut.now) M.Key.name (length others.items)) 0 moved.items phases) }
 {
     laws_of_phases(machine);
     let mut moved = others;
@@ -54,11 +56,17 @@ where
     M::Key: Named,
     requires some { 0 < vec_len moved.old }
     requires most { vec_len moved.old ≤ 256 }
-    requires owners { AreOwners M.Key.cmp (owner_of (C.shard_of cut.now) M.Key.name (vec_len moved.old)) moved.old.items }
+    requires owners { AreOwners M.Key.cmp
+        (owner_of (C.shard_of cut.now) M.Key.name (vec_len moved.old)) moved.old.items }
     ensures count { vec_len moved.new ≡ vec_len moved.old }
-    ensures owners { OnOk result (AreOwners M.Key.cmp (owner_of (C.shard_of cut.now) M.Key.name (vec_len moved.old)) moved.new.items) }
-    ensures states { OnOk result ((q : M.Key) → held_by_owner M.Key.cmp (owner_of (C.shard_of cut.now) M.Key.name (vec_len moved.old)) moved.new.items q
-        ≡ option_or (state_at M.Key.cmp table q) (held_by_owner M.Key.cmp (owner_of (C.shard_of cut.now) M.Key.name (vec_len moved.old)) moved.old.items q)) }
+    ensures owners { OnOk result (AreOwners M.Key.cmp
+        (owner_of (C.shard_of cut.now) M.Key.name (vec_len moved.old)) moved.new.items) }
+    ensures states { OnOk result ((q : M.Key)
+        → held_by_owner M.Key.cmp (owner_of (C.shard_of cut.now) M.Key.name (vec_len moved.old))
+        moved.new.items q
+        ≡ option_or (state_at M.Key.cmp table q)
+        (held_by_owner M.Key.cmp (owner_of (C.shard_of cut.now) M.Key.name (vec_len moved.old))
+        moved.old.items q)) }
 {
     let Some(mut states) = table.into_states() else {
         return Err(NoMemory);

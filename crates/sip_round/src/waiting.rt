@@ -35,7 +35,8 @@ pub(crate) fn split(
     now: u64,
     arrivals: Vec<(Id, Arrival)>,
 ) -> Result<(Vec<model::Item<Key, Timed>>, Vec<(Id, Waiting)>), AllocError>
-    ensures items { IfOk result (λ both. both.0.items ≡ flat_map (λ a. transaction_item now a.0 a.1) arrivals.items) }
+    ensures items { IfOk result (λ both. both.0.items
+        ≡ flat_map (λ a. transaction_item now a.0 a.1) arrivals.items) }
     ensures waiting { IfOk result (λ both. both.1.items ≡ all_waiting arrivals.items) }
 {
     let mut items = Vec::with_capacity(alloc, arrivals.len())?;
@@ -54,7 +55,8 @@ fn set_out(
     arrival: Arrival,
     items: &mut Vec<model::Item<Key, Timed>>,
 ) -> Result<Waiting, AllocError>
-    ensures items { OnOk result (items.new.items ≡ items.old.items ++ transaction_item now id arrival) }
+    ensures items { OnOk result (items.new.items ≡ items.old.items
+        ++ transaction_item now id arrival) }
     ensures left { IfOk result (λ left. left ≡ waiting_of arrival) }
 {
     match arrival {
@@ -69,15 +71,23 @@ fn set_out(
     }
 }
 
-/// The outputs of the first phase of the round of this number, and the items of the calls: those of the ticks, and then by place.
+/// The outputs of the first phase of the round of this number, and the items of the calls: those of
+/// the ticks, and then by place.
 pub(crate) fn weave(
     alloc: Global,
     round: u64,
     replies: Replies<Key, Out>,
     waiting: Vec<(Id, Waiting)>,
 ) -> Result<(Vec<Output>, Vec<(Id, Item)>), AllocError>
-    ensures outputs { IfOk result (λ both. both.0.items ≡ flat_map sent_of (joined (groups replies.ticks.items)) ++ flat_map (λ w. flat_map sent_of w.1) (woven waiting.items (groups replies.items.items))) }
-    ensures items { IfOk result (λ both. both.1.items ≡ flat_map (raised_of (record { round = round; place = 0 })) (joined (groups replies.ticks.items)) ++ flat_map (λ w. flat_map (raised_of w.0) w.1 ++ w.2) (woven waiting.items (groups replies.items.items))) }
+    ensures outputs { IfOk result (λ both. both.0.items
+        ≡ flat_map sent_of (joined (groups replies.ticks.items))
+        ++ flat_map (λ w. flat_map sent_of w.1)
+        (woven waiting.items (groups replies.items.items))) }
+    ensures items { IfOk result (λ both. both.1.items
+        ≡ flat_map (raised_of (record { round = round; place = 0 }))
+        (joined (groups replies.ticks.items))
+        ++ flat_map (λ w. flat_map (raised_of w.0) w.1 ++ w.2)
+        (woven waiting.items (groups replies.items.items))) }
 {
     let Replies { ticks, items: said } = replies;
     let ticked = joined(alloc, ticks)?;
@@ -94,8 +104,11 @@ fn weave_all(
     outputs: &mut Vec<Output>,
     items: &mut Vec<(Id, Item)>,
 ) -> Result<(), AllocError>
-    ensures outputs { OnOk result (outputs.new.items ≡ outputs.old.items ++ flat_map (λ w. flat_map sent_of w.1) (woven waiting.items (groups said.items))) }
-    ensures items { OnOk result (items.new.items ≡ items.old.items ++ flat_map (λ w. flat_map (raised_of w.0) w.1 ++ w.2) (woven waiting.items (groups said.items))) }
+    ensures outputs { OnOk result (outputs.new.items ≡ outputs.old.items
+        ++ flat_map (λ w. flat_map sent_of w.1) (woven waiting.items (groups said.items))) }
+    ensures items { OnOk result (items.new.items ≡ items.old.items
+        ++ flat_map (λ w. flat_map (raised_of w.0) w.1 ++ w.2)
+        (woven waiting.items (groups said.items))) }
 {
     let mut said = said.into_iter();
     for (id, left) in waiting {
@@ -111,9 +124,13 @@ fn weave_one(
     outputs: &mut Vec<Output>,
     items: &mut Vec<(Id, Item)>,
 ) -> Result<(), AllocError>
-    ensures said { OnOk result (groups (into_iter_items said.new) ≡ said_rest left (groups (into_iter_items said.old))) }
-    ensures outputs { OnOk result (outputs.new.items ≡ outputs.old.items ++ flat_map sent_of (outs_next id left (groups (into_iter_items said.old)))) }
-    ensures items { OnOk result (items.new.items ≡ items.old.items ++ (flat_map (raised_of id) (outs_next id left (groups (into_iter_items said.old))) ++ items_waiting id left)) }
+    ensures said { OnOk result (groups (into_iter_items said.new)
+        ≡ said_rest left (groups (into_iter_items said.old))) }
+    ensures outputs { OnOk result (outputs.new.items ≡ outputs.old.items
+        ++ flat_map sent_of (outs_next id left (groups (into_iter_items said.old)))) }
+    ensures items { OnOk result (items.new.items ≡ items.old.items
+        ++ (flat_map (raised_of id) (outs_next id left (groups (into_iter_items said.old)))
+        ++ items_waiting id left)) }
 {
     match left {
         Waiting::Transaction => {

@@ -16,8 +16,8 @@ use sip_workers::Gate;
 use std::alloc::Global;
 use std::thread::Threads;
 
-/// The outputs of each round, from an agent that begins with this configuration, of so many shards among which names are cut so, on
-/// up to so many workers.
+/// The outputs of each round, from an agent that begins with this configuration, of so many shards
+/// among which names are cut so, on up to so many workers.
 ///
 /// So of these rounds: each life of a server transaction hands its request up once
 /// (`each_request_once`); of the reliable provisional responses that come to an INVITE in one life
@@ -26,7 +26,8 @@ use std::thread::Threads;
 ///
 /// # Errors
 ///
-/// The first round that is refused, by its index from 0, with its fault. Where the agent itself found no memory, the index is 0.
+/// The first round that is refused, by its index from 0, with its fault. Where the agent itself
+/// found no memory, the index is 0.
 pub fn run<R: Threads + Sync, C: Cut + Drop, G: Gate>(
     rt: &R,
     alloc: Global,
@@ -41,9 +42,12 @@ pub fn run<R: Threads + Sync, C: Cut + Drop, G: Gate>(
     requires most_shards { shards ≤ 256 }
     requires some_worker { 0 < workers }
     requires most_workers { workers ≤ 64 }
-    ensures answers { IfOk result (λ made. map (λ outputs. outputs.items) made.items ≡ answers.answers config rounds.now) }
+    ensures answers { IfOk result (λ made. map (λ outputs. outputs.items) made.items
+        ≡ answers.answers config rounds.now) }
     ensures unrefused { IfOk result (λ made. answers.refused config rounds.now ≡ None) }
-    ensures refused { IfErr result (λ fault. ((broken : Bool) × (fault.1 ≡ round_fault.NoMemory broken)) ⊎ (answers.refused config rounds.now ≡ Some fault)) }
+    ensures refused { IfErr result
+        (λ fault. ((broken : Bool) × (fault.1 ≡ round_fault.NoMemory broken))
+        ⊎ (answers.refused config rounds.now ≡ Some fault)) }
     ensures each_request_once { OneRequestInLives config rounds.now }
     ensures provisionals_in_order { ProvisionalsInLives config rounds.now }
     ensures nothing_after_the_end { NothingAfterEnds config rounds.now }

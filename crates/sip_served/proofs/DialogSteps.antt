@@ -1,4 +1,5 @@
--- Each item of the server side keeps what was heard in each dialog, ends the dialog, or makes it anew.
+-- Each item of the server side keeps what was heard in each dialog, ends the dialog, or makes it
+-- anew.
 use Rattle.std.proofs.Common.{ℕ, Bool, true, false, not, ◌&&◌, cond, List, [], refl}
 use Rattle.std.specs.Prelude.{Option, None, Some, find, is_some, if◌then◌else◌}
 use Rattle.indexmap.specs.IndexMap.{insert_entry}
@@ -32,64 +33,106 @@ use Rattle.sip_served.proofs.Heard.{AreApart, Keeps, Leads, keeps_then, leads_ch
 
 numbered_keeps : (number : ℕ) (held : HeldDialog) → Keeps held (numbered number held)
 numbered_keeps number held =
-    elim (takes held number) as (λ b. Keeps held (if b then record held { dialog = with_accepted held.dialog number } else held)) [ true ↦ (refl, refl) | false ↦ (refl, refl) ]
+    elim (takes held number) as (λ b.
+    Keeps held (if b then record held { dialog = with_accepted held.dialog number }
+    else held)) [ true ↦ (refl, refl) | false ↦ (refl, refl) ]
 
-pub retargeted_keeps : (uri : Option (List ℕ)) (held : HeldDialog) → Keeps held (retargeted uri held)
+pub retargeted_keeps : (uri : Option (List ℕ)) (held : HeldDialog)
+    → Keeps held (retargeted uri held)
 retargeted_keeps None held = (refl, refl)
 retargeted_keeps (Some uri) held =
-    elim (is_some (ended_fault held.dialog)) as (λ b. Keeps held (if b then held else record held { dialog = with_target held.dialog uri })) [ true ↦ (refl, refl) | false ↦ (refl, refl) ]
+    elim (is_some (ended_fault held.dialog)) as (λ b.
+    Keeps held (if b then held else record held { dialog = with_target held.dialog uri })) [
+      | true ↦ (refl, refl)
+      | false ↦ (refl, refl)
+    ]
 
 refreshed_keeps : (request : Message) (held : HeldDialog) → Keeps held (refreshed request held)
 refreshed_keeps request held =
-    elim (is_invite request) as (λ b. Keeps held (if b then retargeted (contact_uri request) held else held)) [ true ↦ retargeted_keeps (contact_uri request) held | false ↦ (refl, refl) ]
+    elim (is_invite request) as (λ b.
+    Keeps held (if b then retargeted (contact_uri request) held else held)) [
+      | true ↦ retargeted_keeps (contact_uri request) held
+      | false ↦ (refl, refl)
+    ]
 
 visited_keeps : (request : Message) (held : HeldDialog) → Keeps held (visited request held)
 visited_keeps request held =
     let number = (request.cseq).number in
-    elim (is_cancel request) as (λ b. Keeps held (if b then held else refreshed request (numbered number held))) [
+    elim (is_cancel request) as (λ b.
+    Keeps held (if b then held else refreshed request (numbered number held))) [
       | true ↦ (refl, refl)
-      | false ↦ keeps_then held (numbered number held) (refreshed request (numbered number held)) (numbered_keeps number held) (refreshed_keeps request (numbered number held))
+      | false ↦ keeps_then held (numbered number held) (refreshed request (numbered number held))
+          (numbered_keeps number held) (refreshed_keeps request (numbered number held))
     ]
 
-pub confirmed_keeps : (response : Message) (held : HeldDialog) → Keeps held (confirmed response held)
+pub confirmed_keeps : (response : Message) (held : HeldDialog)
+    → Keeps held (confirmed response held)
 confirmed_keeps response held =
-    elim (is_some (ended_fault held.dialog)) as (λ b. Keeps held (if b then held else record held { dialog = confirmed_by held.dialog response })) [ true ↦ (refl, refl) | false ↦ (refl, refl) ]
+    elim (is_some (ended_fault held.dialog)) as (λ b.
+    Keeps held (if b then held else record held
+    { dialog = confirmed_by held.dialog response })) [
+      | true ↦ (refl, refl)
+      | false ↦ (refl, refl)
+    ]
 
 -- ---- a request that comes up, and an ACK
 
 module _ (Makes : Id → Type 0) where
-  noted_leads : (state : State) (name : DialogName) (request : Message) → AreApart state.dialogs → Leads Makes state.dialogs (noted state name request).dialogs
+  noted_leads : (state : State) (name : DialogName) (request : Message) → AreApart state.dialogs
+      → Leads Makes state.dialogs (noted state name request).dialogs
   noted_leads state name request apart =
-      elim (is_inside request) as (λ b. Leads Makes state.dialogs (if b then record state { dialogs = dialog_changed name (visited request) state.dialogs } else state).dialogs) [
-        | true ↦ leads_changed Makes name (visited request) (visited_keeps request) state.dialogs apart
+      elim (is_inside request) as (λ b.
+      Leads Makes state.dialogs (if b
+      then record state { dialogs = dialog_changed name (visited request) state.dialogs }
+      else state).dialogs) [
+        | true ↦ leads_changed Makes name (visited request)
+            (visited_keeps request) state.dialogs apart
         | false ↦ leads_same Makes state.dialogs apart
       ]
 
-  bye_leads : (b : Bool) (state : State) (name : DialogName) (outs : List CallOut) → AreApart state.dialogs
-      → Leads Makes state.dialogs ((cond {A = Taken} b (record state { dialogs = (ended_at name state.dialogs).0 }, outs) (state, [])).0).dialogs
+  bye_leads : (b : Bool) (state : State) (name : DialogName) (outs : List CallOut)
+      → AreApart state.dialogs
+      → Leads Makes state.dialogs ((cond {A = Taken} b
+      (record state { dialogs = (ended_at name state.dialogs).0 }, outs) (state, [])).0).dialogs
   bye_leads true state name outs apart = leads_removed Makes name state.dialogs apart
   bye_leads false state name outs apart = leads_same Makes state.dialogs apart
 
-  case_leads : (case : ArrivalCase) (state : State) (name : DialogName) (arrival : Arrival) → AreApart state.dialogs → Leads Makes state.dialogs ((by_case case state name arrival).0).dialogs
+  case_leads : (case : ArrivalCase) (state : State) (name : DialogName) (arrival : Arrival)
+      → AreApart state.dialogs → Leads Makes state.dialogs
+      ((by_case case state name arrival).0).dialogs
   case_leads Merged state name arrival apart = leads_same Makes state.dialogs apart
   case_leads BadExtension state name arrival apart = leads_same Makes state.dialogs apart
   case_leads NoDialog state name arrival apart = leads_same Makes state.dialogs apart
   case_leads OutOfOrder state name arrival apart = leads_same Makes state.dialogs apart
-  case_leads (Acknowledges invite rseq) state name arrival apart = noted_leads state name arrival.request apart
-  case_leads AcknowledgesNothing state name arrival apart = noted_leads state name arrival.request apart
+  case_leads (Acknowledges invite rseq) state name arrival apart =
+      noted_leads state name arrival.request apart
+  case_leads AcknowledgesNothing state name arrival apart =
+      noted_leads state name arrival.request apart
   case_leads ForUser state name arrival apart =
       let before = noted state name arrival.request in
       let held = (request_held before name arrival).0 in
-      leads_then Makes state.dialogs before.dialogs ((bye_taken arrival name held).0).dialogs (noted_leads state name arrival.request apart)
-      (λ later. bye_leads (is_inside arrival.request && is_bye arrival.request) held name (ended_at name held.dialogs).1 later)
+      leads_then Makes state.dialogs before.dialogs ((bye_taken arrival name held).0).dialogs
+      (noted_leads state name arrival.request apart)
+      (λ later. bye_leads (is_inside arrival.request && is_bye arrival.request) held name
+      (ended_at name held.dialogs).1 later)
 
-  pub kind_leads : (state : State) (tag : List ℕ) (up : Up) (kind : Kind) → AreApart state.dialogs → Leads Makes state.dialogs ((kind_taken state tag up kind).0).dialogs
+  pub kind_leads : (state : State) (tag : List ℕ) (up : Up) (kind : Kind) → AreApart state.dialogs
+      → Leads Makes state.dialogs ((kind_taken state tag up kind).0).dialogs
   kind_leads state tag up (Request request reply_to) apart =
-      case_leads (case_of state.requests state.dialogs (dialog_name request tag) request) state (dialog_name request tag)
-      record { key = up.key; id = up.id; call_id = up.call_id; request = request; reply_to = reply_to; tag = tag } apart
+      case_leads (case_of state.requests state.dialogs (dialog_name request tag) request) state
+      (dialog_name request tag)
+      record {
+        key = up.key;
+        id = up.id;
+        call_id = up.call_id;
+        request = request;
+        reply_to = reply_to;
+        tag = tag;
+      } apart
   kind_leads state tag up (Ack ack) apart = ack_leads (acknowledged_invite ack state.requests)
     where
-      ack_leads : (o : Option Id) → Leads Makes state.dialogs ((ack_noted state up.call_id ack o).0).dialogs
+      ack_leads : (o : Option Id) → Leads Makes state.dialogs
+          ((ack_noted state up.call_id ack o).0).dialogs
       ack_leads None = leads_same Makes state.dialogs apart
       ack_leads (Some invite) = leads_same Makes state.dialogs apart
   kind_leads state tag up (Response response) apart = leads_same Makes state.dialogs apart
@@ -99,29 +142,39 @@ module _ (Makes : Id → Type 0) where
 -- ---- an answer of the user
 
 module _ (Makes : Id → Type 0) (event : Id) (makes : Makes event) where
-  dialogs_lead : (held : HeldRequest) (r : Answer) (response : Message) (dialogs : Dialogs) (fresh success rejected : Bool) → AreApart dialogs
+  dialogs_lead : (held : HeldRequest) (r : Answer) (response : Message) (dialogs : Dialogs)
+      (fresh success rejected : Bool) → AreApart dialogs
       → let name = dialog_name held.request held.tag in
       Leads Makes dialogs (cond {A = Dialogs × List CallOut} fresh
       (insert_entry is_named dialogs name (made_dialog event held r.status), [])
       (cond success (dialog_changed name (confirmed response) dialogs, [])
       (cond rejected (early_ended held.id dialogs) (dialogs, [])))).0
   dialogs_lead held r response dialogs true success rejected apart =
-      leads_made Makes (dialog_name held.request held.tag) (made_dialog event held r.status) makes refl dialogs apart
+      leads_made Makes (dialog_name held.request held.tag)
+      (made_dialog event held r.status) makes refl dialogs apart
   dialogs_lead held r response dialogs false true rejected apart =
-      leads_changed Makes (dialog_name held.request held.tag) (confirmed response) (confirmed_keeps response) dialogs apart
-  dialogs_lead held r response dialogs false false true apart = leads_filtered Makes (λ dialog. not (is_early_of held.id dialog)) dialogs apart
+      leads_changed Makes (dialog_name held.request held.tag) (confirmed response)
+      (confirmed_keeps response) dialogs apart
+  dialogs_lead held r response dialogs false false true apart =
+      leads_filtered Makes (λ dialog. not (is_early_of held.id dialog)) dialogs apart
   dialogs_lead held r response dialogs false false false apart = leads_same Makes dialogs apart
 
-  refusal_leads : (state : State) (r : Answer) (now : ℕ) (held : HeldRequest) (o : Option Refusal) → AreApart state.dialogs
+  refusal_leads : (state : State) (r : Answer) (now : ℕ) (held : HeldRequest) (o : Option Refusal)
+      → AreApart state.dialogs
       → Leads Makes state.dialogs ((by_refusal state event r now held o).0).dialogs
   refusal_leads state r now held (Some refusal) apart = leads_same Makes state.dialogs apart
   refusal_leads state r now held None apart =
-      dialogs_lead held r (answer_to state.local held r) state.dialogs (makes_dialog held r.status) (confirms_dialog held r.status) (rejects held r.status) apart
+      dialogs_lead held r (answer_to state.local held r) state.dialogs (makes_dialog held r.status)
+      (confirms_dialog held r.status) (rejects held r.status) apart
 
-  request_leads : (state : State) (r : Answer) (now : ℕ) (o : Option HeldRequest) → AreApart state.dialogs
+  request_leads : (state : State) (r : Answer) (now : ℕ) (o : Option HeldRequest)
+      → AreApart state.dialogs
       → Leads Makes state.dialogs ((by_request state event r now o).0).dialogs
   request_leads state r now None apart = leads_same Makes state.dialogs apart
-  request_leads state r now (Some held) apart = refusal_leads state r now held (refusal_for state.dialogs r held) apart
+  request_leads state r now (Some held) apart =
+      refusal_leads state r now held (refusal_for state.dialogs r held) apart
 
-  pub respond_leads : (state : State) (r : Answer) (now : ℕ) → AreApart state.dialogs → Leads Makes state.dialogs ((respond_taken state event r now).0).dialogs
-  respond_leads state r now apart = request_leads state r now (find (has_id r.id) state.requests) apart
+  pub respond_leads : (state : State) (r : Answer) (now : ℕ) → AreApart state.dialogs
+      → Leads Makes state.dialogs ((respond_taken state event r now).0).dialogs
+  respond_leads state r now apart =
+      request_leads state r now (find (has_id r.id) state.requests) apart

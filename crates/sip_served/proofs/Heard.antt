@@ -1,4 +1,5 @@
--- What was heard last in the dialog of a name: what happens to the dialogs keeps it, ends the dialog, or makes it anew.
+-- What was heard last in the dialog of a name: what happens to the dialogs keeps it, ends the
+-- dialog, or makes it anew.
 use Rattle.std.proofs.Common.{◌≡◌, ◌⊎◌, inl, inr, Bool, true, ◌&&◌, refl, sym, subst, ◌∙◌, nat_eq}
 use Rattle.std.specs.Prelude.{Option, None, Some, filter}
 use Rattle.std.specs.Cmp.{IsEquivalence, first_so, second_so}
@@ -20,21 +21,28 @@ and_true x y e f = λ i. e i && f i
 
 pub name_laws : IsEquivalence is_named
 name_laws = record {
-  refl = λ x. and_true (pointwise nat_eq x.local x.local) (pointwise nat_eq x.remote x.remote) (nat_list_eq_equiv.refl x.local) (nat_list_eq_equiv.refl x.remote);
-  symm = λ x y i. nat_list_eq_equiv.symm x.local y.local i && nat_list_eq_equiv.symm x.remote y.remote i;
+  refl = λ x. and_true (pointwise nat_eq x.local x.local) (pointwise nat_eq x.remote x.remote)
+      (nat_list_eq_equiv.refl x.local) (nat_list_eq_equiv.refl x.remote);
+  symm = λ x y i. nat_list_eq_equiv.symm x.local y.local i
+      && nat_list_eq_equiv.symm x.remote y.remote i;
   congr = λ x y z e.
-      let local = nat_list_eq_equiv.congr x.local y.local z.local (first_so (pointwise nat_eq x.local y.local) (pointwise nat_eq x.remote y.remote) e) in
-      let remote = nat_list_eq_equiv.congr x.remote y.remote z.remote (second_so (pointwise nat_eq x.local y.local) (pointwise nat_eq x.remote y.remote) e) in
+      let local = nat_list_eq_equiv.congr x.local y.local z.local
+      (first_so (pointwise nat_eq x.local y.local) (pointwise nat_eq x.remote y.remote) e) in
+      let remote = nat_list_eq_equiv.congr x.remote y.remote z.remote
+      (second_so (pointwise nat_eq x.local y.local) (pointwise nat_eq x.remote y.remote) e) in
       λ i. local i && remote i;
 }
 
 pub id_laws : IsEquivalence is_id
 id_laws = record {
-  refl = λ x. and_true (nat_eq x.round x.round) (nat_eq x.place x.place) (nat_eq_equiv.refl x.round) (nat_eq_equiv.refl x.place);
+  refl = λ x. and_true (nat_eq x.round x.round) (nat_eq x.place x.place) (nat_eq_equiv.refl x.round)
+      (nat_eq_equiv.refl x.place);
   symm = λ x y i. nat_eq_equiv.symm x.round y.round i && nat_eq_equiv.symm x.place y.place i;
   congr = λ x y z e.
-      let round = nat_eq_equiv.congr x.round y.round z.round (first_so (nat_eq x.round y.round) (nat_eq x.place y.place) e) in
-      let place = nat_eq_equiv.congr x.place y.place z.place (second_so (nat_eq x.round y.round) (nat_eq x.place y.place) e) in
+      let round = nat_eq_equiv.congr x.round y.round z.round
+      (first_so (nat_eq x.round y.round) (nat_eq x.place y.place) e) in
+      let place = nat_eq_equiv.congr x.place y.place z.place
+      (second_so (nat_eq x.round y.round) (nat_eq x.place y.place) e) in
       λ i. round i && place i;
 }
 
@@ -73,15 +81,18 @@ stays_then x None (Some z) first second = absurd second
 stays_then None (Some y) (Some z) first second = absurd first
 stays_then (Some x) (Some y) (Some z) first second = keeps_then x y z first second
 
-pub begun_stays : (Makes : Id → Type 0) (x y z : Option HeldDialog) → Begins Makes y → Stays y z → Goes Makes x z
+pub begun_stays : (Makes : Id → Type 0) (x y z : Option HeldDialog) → Begins Makes y → Stays y z
+    → Goes Makes x z
 begun_stays Makes x y None first second = inl tt
 begun_stays Makes x None (Some z) first second = absurd first
-begun_stays Makes x (Some y) (Some z) first second = inr (by_born (sym second.0) first.0, second.1 ∙ first.1)
+begun_stays Makes x (Some y) (Some z) first second =
+    inr (by_born (sym second.0) first.0, second.1 ∙ first.1)
   where
     by_born : y.born ≡ z.born → Makes y.born → Makes z.born
     by_born same makes = subst Makes same makes
 
-pub goes_then : (Makes : Id → Type 0) (x y z : Option HeldDialog) → Goes Makes x y → Goes Makes y z → Goes Makes x z
+pub goes_then : (Makes : Id → Type 0) (x y z : Option HeldDialog) → Goes Makes x y → Goes Makes y z
+    → Goes Makes x z
 goes_then Makes x y z first (inr begins) = inr begins
 goes_then Makes x y z (inl stays) (inl second) = inl (stays_then x y z stays second)
 goes_then Makes x y z (inr begins) (inl second) = begun_stays Makes x y z begins second
@@ -106,33 +117,46 @@ module _ (Makes : Id → Type 0) where
   pub leads_same : (dialogs : Dialogs) → AreApart dialogs → Leads Makes dialogs dialogs
   leads_same dialogs apart = record { apart = apart; goes = λ name. same (dialog_at name dialogs) }
 
-  pub leads_then : (x y z : Dialogs) → Leads Makes x y → (AreApart y → Leads Makes y z) → Leads Makes x z
+  pub leads_then : (x y z : Dialogs) → Leads Makes x y → (AreApart y → Leads Makes y z)
+      → Leads Makes x z
   leads_then x y z first second =
       let later = second first.apart in
-      record { apart = later.apart; goes = λ name. goes_then Makes (dialog_at name x) (dialog_at name y) (dialog_at name z) (first.goes name) (later.goes name) }
+      record {
+        apart = later.apart;
+        goes = λ name.
+            goes_then Makes (dialog_at name x) (dialog_at name y) (dialog_at name z)
+            (first.goes name)
+            (later.goes name);
+      }
 
-  pub leads_changed : (name : DialogName) (change : HeldDialog → HeldDialog) → ((held : HeldDialog) → Keeps held (change held)) → (dialogs : Dialogs) → AreApart dialogs
+  pub leads_changed : (name : DialogName) (change : HeldDialog → HeldDialog)
+      → ((held : HeldDialog) → Keeps held (change held)) → (dialogs : Dialogs) → AreApart dialogs
       → Leads Makes dialogs (dialog_changed name change dialogs)
   leads_changed name change keeps dialogs apart = record {
     apart = entries.apart_changed name_laws name change dialogs (dialog_at name dialogs) apart;
-    goes = λ other. entries.by_change name_laws (Goes Makes) same over name other change (λ held. inl (keeps held)) dialogs;
+    goes = λ other. entries.by_change name_laws (Goes Makes) same over name other change
+        (λ held. inl (keeps held)) dialogs;
   }
 
-  pub leads_removed : (name : DialogName) (dialogs : Dialogs) → AreApart dialogs → Leads Makes dialogs (remove_entry (is_named name) dialogs)
+  pub leads_removed : (name : DialogName) (dialogs : Dialogs) → AreApart dialogs
+      → Leads Makes dialogs (remove_entry (is_named name) dialogs)
   leads_removed name dialogs apart = record {
     apart = entries.apart_removed name_laws (is_named name) dialogs apart;
     goes = λ other. entries.by_removal name_laws (Goes Makes) same over name other dialogs apart;
   }
 
-  pub leads_filtered : (p : HeldDialog → Bool) (dialogs : Dialogs) → AreApart dialogs → Leads Makes dialogs (filter (λ entry. p entry.1) dialogs)
+  pub leads_filtered : (p : HeldDialog → Bool) (dialogs : Dialogs) → AreApart dialogs
+      → Leads Makes dialogs (filter (λ entry. p entry.1) dialogs)
   leads_filtered p dialogs apart = record {
     apart = entries.apart_filtered name_laws (λ entry. p entry.1) dialogs apart;
     goes = λ other. entries.by_filter name_laws (Goes Makes) same over p other dialogs apart;
   }
 
-  pub leads_made : (name : DialogName) (held : HeldDialog) → Makes held.born → held.heard ≡ None → (dialogs : Dialogs) → AreApart dialogs
+  pub leads_made : (name : DialogName) (held : HeldDialog) → Makes held.born → held.heard ≡ None
+      → (dialogs : Dialogs) → AreApart dialogs
       → Leads Makes dialogs (insert_entry is_named dialogs name held)
   leads_made name held makes none dialogs apart = record {
     apart = entries.apart_inserted name_laws name held dialogs apart;
-    goes = λ other. entries.by_insertion name_laws (Goes Makes) same over name other held dialogs (λ _. inr (makes, none));
+    goes = λ other. entries.by_insertion name_laws (Goes Makes) same over name other held dialogs
+        (λ _. inr (makes, none));
   }

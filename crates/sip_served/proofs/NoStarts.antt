@@ -1,4 +1,5 @@
--- The server side of a call starts no transaction of a client: what it asks of transactions are answers.
+-- The server side of a call starts no transaction of a client: what it asks of transactions are
+-- answers.
 use Rattle.std.proofs.Common.{◌≡◌, ℕ, Bool, true, false, ◌&&◌, cond, List, [], ◌∷◌, ◌++◌, map, refl, ◌∙◌}
 use Rattle.std.specs.Prelude.{Option, None, Some, filter, filter_map, find}
 use Rattle.std.specs.List.{cons_option, flat_map}
@@ -56,34 +57,40 @@ starts outs = filter_map start_in outs
 pub none_of_both : (xs ys : List CallOut) → starts xs ≡ [] → starts ys ≡ [] → starts (xs ++ ys) ≡ []
 none_of_both xs ys no_x no_y = filter_map-append start_in xs ys ∙ (λ i. no_x i ++ no_y i)
 
-pub none_of_map : {X : Type 0} (f : X → CallOut) → ((x : X) → start_in (f x) ≡ None) → (xs : List X) → starts (map f xs) ≡ []
+pub none_of_map : {X : Type 0} (f : X → CallOut) → ((x : X) → start_in (f x) ≡ None) → (xs : List X)
+    → starts (map f xs) ≡ []
 none_of_map f none [] = refl
 none_of_map f none (x ∷ xs) = (λ i. option_rest (none x i)) ∙ none_of_map f none xs
   where
     option_rest : Option (Id × Key) → List (Id × Key)
     option_rest o = cons_option o (starts (map f xs))
 
-pub none_of_all : {X : Type 0} (f : X → List CallOut) → ((x : X) → starts (f x) ≡ []) → (xs : List X) → starts (flat_map f xs) ≡ []
+pub none_of_all : {X : Type 0} (f : X → List CallOut) → ((x : X) → starts (f x) ≡ [])
+    → (xs : List X) → starts (flat_map f xs) ≡ []
 none_of_all f none [] = refl
 none_of_all f none (x ∷ xs) = none_of_both (f x) (flat_map f xs) (none x) (none_of_all f none xs)
 
 pub early_starts : (invite : Id) (dialogs : Dialogs) → starts (early_ended invite dialogs).1 ≡ []
-early_starts invite dialogs = none_of_map ended_notice (λ held. refl) (filter (is_early_of invite) (values_of dialogs))
+early_starts invite dialogs =
+    none_of_map ended_notice (λ held. refl) (filter (is_early_of invite) (values_of dialogs))
 
 pub ended_starts : (name : DialogName) (dialogs : Dialogs) → starts (ended_at name dialogs).1 ≡ []
 ended_starts name dialogs = by_dialog (dialog_at name dialogs)
   where
-    by_dialog : (o : Option HeldDialog) → starts (option_map_or (λ held. ended_notice held ∷ []) o []) ≡ []
+    by_dialog : (o : Option HeldDialog)
+        → starts (option_map_or (λ held. ended_notice held ∷ []) o []) ≡ []
     by_dialog None = refl
     by_dialog (Some held) = refl
 
 -- ---- what comes up
 
-bye_starts : (b : Bool) (state : State) (outs : List CallOut) (after : State) → starts outs ≡ [] → starts (cond {A = Taken} b (after, outs) (state, [])).1 ≡ []
+bye_starts : (b : Bool) (state : State) (outs : List CallOut) (after : State) → starts outs ≡ []
+    → starts (cond {A = Taken} b (after, outs) (state, [])).1 ≡ []
 bye_starts true state outs after none = none
 bye_starts false state outs after none = refl
 
-case_starts : (case : ArrivalCase) (state : State) (name : DialogName) (arrival : Arrival) → starts (by_case case state name arrival).1 ≡ []
+case_starts : (case : ArrivalCase) (state : State) (name : DialogName) (arrival : Arrival)
+    → starts (by_case case state name arrival).1 ≡ []
 case_starts Merged state name arrival = refl
 case_starts BadExtension state name arrival = refl
 case_starts NoDialog state name arrival = refl
@@ -92,12 +99,24 @@ case_starts (Acknowledges invite rseq) state name arrival = refl
 case_starts AcknowledgesNothing state name arrival = refl
 case_starts ForUser state name arrival =
     let before = (request_held (noted state name arrival.request) name arrival).0 in
-    bye_starts (is_inside arrival.request && is_bye arrival.request) before (ended_at name before.dialogs).1 (record before { dialogs = (ended_at name before.dialogs).0 }) (ended_starts name before.dialogs)
+    bye_starts (is_inside arrival.request && is_bye arrival.request) before
+    (ended_at name before.dialogs).1
+    (record before { dialogs = (ended_at name before.dialogs).0 })
+    (ended_starts name before.dialogs)
 
-pub kind_starts : (state : State) (tag : List ℕ) (up : Up) (kind : Kind) → starts (kind_taken state tag up kind).1 ≡ []
+pub kind_starts : (state : State) (tag : List ℕ) (up : Up) (kind : Kind)
+    → starts (kind_taken state tag up kind).1 ≡ []
 kind_starts state tag up (Request request reply_to) =
-    case_starts (case_of state.requests state.dialogs (dialog_name request tag) request) state (dialog_name request tag)
-    record { key = up.key; id = up.id; call_id = up.call_id; request = request; reply_to = reply_to; tag = tag }
+    case_starts (case_of state.requests state.dialogs (dialog_name request tag) request) state
+    (dialog_name request tag)
+    record {
+      key = up.key;
+      id = up.id;
+      call_id = up.call_id;
+      request = request;
+      reply_to = reply_to;
+      tag = tag;
+    }
 kind_starts state tag up (Ack ack) = by_invite (acknowledged_invite ack state.requests)
   where
     by_invite : (o : Option Id) → starts (ack_noted state up.call_id ack o).1 ≡ []
@@ -109,46 +128,65 @@ kind_starts state tag up Failed = refl
 
 -- ---- an answer of the user
 
-dialogs_start : (fresh success rejected : Bool) (one two three : Dialogs) (invite : Id) (dialogs : Dialogs)
-    → starts (cond {A = Dialogs × List CallOut} fresh (one, []) (cond success (two, []) (cond rejected (early_ended invite dialogs) (three, [])))).1 ≡ []
+dialogs_start : (fresh success rejected : Bool) (one two three : Dialogs) (invite : Id)
+    (dialogs : Dialogs)
+    → starts (cond {A = Dialogs × List CallOut} fresh (one, [])
+    (cond success (two, []) (cond rejected (early_ended invite dialogs) (three, [])))).1 ≡ []
 dialogs_start true success rejected one two three invite dialogs = refl
 dialogs_start false true rejected one two three invite dialogs = refl
 dialogs_start false false true one two three invite dialogs = early_starts invite dialogs
 dialogs_start false false false one two three invite dialogs = refl
 
-refusal_starts : (state : State) (event : Id) (r : Answer) (now : ℕ) (held : HeldRequest) (o : Option Refusal) → starts (by_refusal state event r now held o).1 ≡ []
+refusal_starts : (state : State) (event : Id) (r : Answer) (now : ℕ) (held : HeldRequest)
+    (o : Option Refusal) → starts (by_refusal state event r now held o).1 ≡ []
 refusal_starts state event r now held (Some refusal) = refl
 refusal_starts state event r now held None =
-    dialogs_start (makes_dialog held r.status) (confirms_dialog held r.status) (rejects held r.status)
-    (insert_entry is_named state.dialogs (dialog_name held.request held.tag) (made_dialog event held r.status))
-    (dialog_changed (dialog_name held.request held.tag) (confirmed (answer_to state.local held r)) state.dialogs) state.dialogs held.id state.dialogs
+    dialogs_start (makes_dialog held r.status) (confirms_dialog held r.status)
+    (rejects held r.status)
+    (insert_entry is_named state.dialogs (dialog_name held.request held.tag)
+    (made_dialog event held r.status))
+    (dialog_changed (dialog_name held.request held.tag)
+    (confirmed (answer_to state.local held r)) state.dialogs) state.dialogs held.id
+    state.dialogs
 
-request_starts : (state : State) (event : Id) (r : Answer) (now : ℕ) (o : Option HeldRequest) → starts (by_request state event r now o).1 ≡ []
+request_starts : (state : State) (event : Id) (r : Answer) (now : ℕ) (o : Option HeldRequest)
+    → starts (by_request state event r now o).1 ≡ []
 request_starts state event r now None = refl
-request_starts state event r now (Some held) = refusal_starts state event r now held (refusal_for state.dialogs r held)
+request_starts state event r now (Some held) =
+    refusal_starts state event r now held (refusal_for state.dialogs r held)
 
-pub respond_starts : (state : State) (event : Id) (r : Answer) (now : ℕ) → starts (respond_taken state event r now).1 ≡ []
-respond_starts state event r now = request_starts state event r now (find (has_id r.id) state.requests)
+pub respond_starts : (state : State) (event : Id) (r : Answer) (now : ℕ)
+    → starts (respond_taken state event r now).1 ≡ []
+respond_starts state event r now =
+    request_starts state event r now (find (has_id r.id) state.requests)
 
 -- ---- a tick
 
-told_starts : (t : Tick) (held : HeldRequest) (response : Message) (notice : Notice) → starts (told_of t held response notice) ≡ []
+told_starts : (t : Tick) (held : HeldRequest) (response : Message) (notice : Notice)
+    → starts (told_of t held response notice) ≡ []
 told_starts tick.Nothing held response notice = refl
 told_starts tick.Again held response notice = refl
 told_starts tick.GivenUp held response notice = refl
 
-success_starts : (now : ℕ) (held : HeldRequest) (o : Option Success) → starts (success_of now held o).1 ≡ []
+success_starts : (now : ℕ) (held : HeldRequest) (o : Option Success)
+    → starts (success_of now held o).1 ≡ []
 success_starts now held None = refl
-success_starts now held (Some success) = told_starts (success_answer now success) held success.response _
+success_starts now held (Some success) =
+    told_starts (success_answer now success) held success.response _
 
-provisional_starts : (now : ℕ) (held : HeldRequest) (o : Option Message) → starts (provisional_of now held o).1 ≡ []
+provisional_starts : (now : ℕ) (held : HeldRequest) (o : Option Message)
+    → starts (provisional_of now held o).1 ≡ []
 provisional_starts now held None = refl
-provisional_starts now held (Some response) = told_starts (tick_answer held.ledger now) held response _
+provisional_starts now held (Some response) =
+    told_starts (tick_answer held.ledger now) held response _
 
 ticked_starts : (now : ℕ) (held : HeldRequest) → starts (request_ticked now held).1 ≡ []
 ticked_starts now held =
     let first = success_ticked now held in
-    none_of_both first.1 (provisional_of now first.0 (first.0).provisional).1 (success_starts now held held.success) (provisional_starts now first.0 (first.0).provisional)
+    none_of_both first.1 (provisional_of now first.0 (first.0).provisional).1
+    (success_starts now held held.success)
+    (provisional_starts now first.0 (first.0).provisional)
 
 pub tick_starts : (state : State) (now : ℕ) → starts (tick_taken state now).1 ≡ []
-tick_starts state now = none_of_all (λ held. (request_ticked now held).1) (ticked_starts now) state.requests
+tick_starts state now =
+    none_of_all (λ held. (request_ticked now held).1) (ticked_starts now) state.requests

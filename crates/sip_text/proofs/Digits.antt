@@ -15,14 +15,19 @@ not_false true h = refl
 not_false false h = absurd (h refl)
 
 -- each element of a list that passes passes
-pub passes_at : {X : Type 0} (p : X → Bool) (xs : List X) (i : ℕ) (d : X) → list_all p xs ≡ true → i < length xs → p (get_or xs i d) ≡ true
-passes_at p xs i d all lt = not_false _ (λ fails. false≢true (sym (list_all_at p xs i d lt fails) ∙ all))
+pub passes_at : {X : Type 0} (p : X → Bool) (xs : List X) (i : ℕ) (d : X) → list_all p xs ≡ true
+    → i < length xs → p (get_or xs i d) ≡ true
+passes_at p xs i d all lt =
+    not_false _ (λ fails. false≢true (sym (list_all_at p xs i d lt fails) ∙ all))
 
 in_digits : (c : ℕ) → is_ascii_digit c ≡ true → IsInRange 48 57 c
 in_digits c h = grind (arith, nat_tests)
 
-pub one_more : (text : List ℕ) (i : ℕ) → list_all is_ascii_digit text ≡ true → i < length text → digits_value 10 (take (i + 1) text) ≡ digits_value 10 (take i text) * 10 + (get_or text i 0 - 48)
+pub one_more : (text : List ℕ) (i : ℕ) → list_all is_ascii_digit text ≡ true → i < length text
+    → digits_value 10 (take (i + 1) text) ≡ digits_value 10 (take i text) * 10
+    + (get_or text i 0 - 48)
 one_more text i all lt =
-    let digit = digit_value_digit (get_or text i 0) (in_digits _ (passes_at is_ascii_digit text i 0 all lt)) in
+    let digit = digit_value_digit (get_or text i 0)
+    (in_digits _ (passes_at is_ascii_digit text i 0 all lt)) in
     let step = digits_value_more 10 text i lt in
     omega (arith, digit, step)

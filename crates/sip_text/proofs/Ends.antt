@@ -14,33 +14,46 @@ and_false : (a : Bool) → (a && false) ≡ false
 and_false true = refl
 and_false false = refl
 
-all_push : (xs : List ℕ) (b : ℕ) → list_all is_blank (xs ++ b ∷ []) ≡ (list_all is_blank xs && is_blank b)
-all_push xs b = list_all-append is_blank xs (b ∷ []) ∙ ap (λ t. list_all is_blank xs && t) (and_true (is_blank b))
+all_push : (xs : List ℕ) (b : ℕ)
+    → list_all is_blank (xs ++ b ∷ []) ≡ (list_all is_blank xs && is_blank b)
+all_push xs b = list_all-append is_blank xs (b ∷ [])
+    ∙ ap (λ t. list_all is_blank xs && t) (and_true (is_blank b))
 
 -- a blank at the end is cut off
-pub trimmed_end-blank : (xs : List ℕ) (b : ℕ) → is_blank b ≡ true → trimmed_end (xs ++ b ∷ []) ≡ trimmed_end xs
+pub trimmed_end-blank : (xs : List ℕ) (b : ℕ) → is_blank b ≡ true
+    → trimmed_end (xs ++ b ∷ []) ≡ trimmed_end xs
 trimmed_end-blank [] b h = ap (λ t. cond (t && true) [] (b ∷ [])) h
 trimmed_end-blank (x ∷ xs) b h =
-    let all : list_all is_blank (xs ++ b ∷ []) ≡ list_all is_blank xs = all_push xs b ∙ ap (λ t. list_all is_blank xs && t) h ∙ and_true _ in
+    let all : list_all is_blank (xs ++ b ∷ []) ≡ list_all is_blank xs =
+    all_push xs b ∙ ap (λ t. list_all is_blank xs && t) h ∙ and_true _ in
     rw (all, trimmed_end-blank xs b h) refl
 
 -- any other byte stays, with all that stands before it
-pub trimmed_end-other : (xs : List ℕ) (b : ℕ) → is_blank b ≡ false → trimmed_end (xs ++ b ∷ []) ≡ xs ++ b ∷ []
+pub trimmed_end-other : (xs : List ℕ) (b : ℕ) → is_blank b ≡ false
+    → trimmed_end (xs ++ b ∷ []) ≡ xs ++ b ∷ []
 trimmed_end-other [] b h = ap (λ t. cond (t && true) [] (b ∷ [])) h
 trimmed_end-other (x ∷ xs) b h =
-    let all : list_all is_blank (xs ++ b ∷ []) ≡ false = all_push xs b ∙ ap (λ t. list_all is_blank xs && t) h ∙ and_false _ in
+    let all : list_all is_blank (xs ++ b ∷ []) ≡ false =
+    all_push xs b ∙ ap (λ t. list_all is_blank xs && t) h ∙ and_false _ in
     rw (all, and_false (is_blank x), trimmed_end-other xs b h) refl
 
-pub front_last : (text : List ℕ) → 1 ≤ length text → text ≡ take (length text - 1) text ++ get_or text (length text - 1) 0 ∷ []
+pub front_last : (text : List ℕ) → 1 ≤ length text
+    → text ≡ take (length text - 1) text ++ get_or text (length text - 1) 0 ∷ []
 front_last text some =
     let more = take_more text (length text - 1) 0 (omega arith) in
     let whole : take ((length text - 1) + 1) text ≡ text = take_all _ _ (omega arith) in
     sym whole ∙ more
 
 -- the step of a walk from the end
-pub blank_last : (text : List ℕ) → 1 ≤ length text → is_blank (get_or text (length text - 1) 0) ≡ true → trimmed_end (take (length text - 1) text) ≡ trimmed_end text
+pub blank_last : (text : List ℕ) → 1 ≤ length text
+    → is_blank (get_or text (length text - 1) 0) ≡ true
+    → trimmed_end (take (length text - 1) text) ≡ trimmed_end text
 blank_last text some h =
-    sym (trimmed_end-blank (take (length text - 1) text) (get_or text (length text - 1) 0) h) ∙ ap trimmed_end (sym (front_last text some))
+    sym (trimmed_end-blank (take (length text - 1) text) (get_or text (length text - 1) 0) h)
+    ∙ ap trimmed_end (sym (front_last text some))
 
-pub other_last : (text : List ℕ) → 1 ≤ length text → is_blank (get_or text (length text - 1) 0) ≡ false → trimmed_end text ≡ text
-other_last text some h = ap trimmed_end (front_last text some) ∙ trimmed_end-other (take (length text - 1) text) (get_or text (length text - 1) 0) h ∙ sym (front_last text some)
+pub other_last : (text : List ℕ) → 1 ≤ length text
+    → is_blank (get_or text (length text - 1) 0) ≡ false → trimmed_end text ≡ text
+other_last text some h = ap trimmed_end (front_last text some)
+    ∙ trimmed_end-other (take (length text - 1) text) (get_or text (length text - 1) 0) h
+    ∙ sym (front_last text some)

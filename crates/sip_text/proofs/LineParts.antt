@@ -24,13 +24,20 @@ record IsAtEnd (text : List ℕ) (p : List ℕ × List ℕ) : Type 0 where
   pub parts : text ≡ p.0 ++ (10 ∷ p.1)
   pub one : IsTrue (has_no 10 p.0)
 
-at_end_by : (c : ℕ) (cs : List ℕ) (p : List ℕ × List ℕ) (r : Bool) → eqb c 10 ≡ r → ((q : List ℕ × List ℕ) → cut_at 10 cs ≡ Some q → IsAtEnd cs q) → cond r (Some ([], cs)) (option_map (longer c) (cut_at 10 cs)) ≡ Some p → IsAtEnd (c ∷ cs) p
+at_end_by : (c : ℕ) (cs : List ℕ) (p : List ℕ × List ℕ) (r : Bool) → eqb c 10 ≡ r
+    → ((q : List ℕ × List ℕ) → cut_at 10 cs ≡ Some q → IsAtEnd cs q)
+    → cond r (Some ([], cs)) (option_map (longer c) (cut_at 10 cs)) ≡ Some p → IsAtEnd (c ∷ cs) p
 at_end_by c cs p true t more e =
-    subst (λ (q : List ℕ × List ℕ). IsAtEnd (c ∷ cs) q) (same_Some _ _ e) (record { parts = ap (λ (b : ℕ). b ∷ cs) (eqb-true c 10 t); one = refl })
+    subst (λ (q : List ℕ × List ℕ). IsAtEnd (c ∷ cs) q) (same_Some _ _ e)
+    (record { parts = ap (λ (b : ℕ). b ∷ cs) (eqb-true c 10 t); one = refl })
 at_end_by c cs p false t more e =
     let m = mapped (longer c) (cut_at 10 cs) p e in
     let end = more m.0 m.1 in
-    subst (λ (q : List ℕ × List ℕ). IsAtEnd (c ∷ cs) q) m.2 (record { parts = ap (λ (xs : List ℕ). c ∷ xs) end.parts; one = and_from _ _ (ap not t) end.one })
+    subst (λ (q : List ℕ × List ℕ). IsAtEnd (c ∷ cs) q) m.2
+    (record {
+      parts = ap (λ (xs : List ℕ). c ∷ xs) end.parts;
+      one = and_from _ _ (ap not t) end.one;
+    })
 
 at_end : (text : List ℕ) (p : List ℕ × List ℕ) → cut_at 10 text ≡ Some p → IsAtEnd text p
 at_end [] p e = absurd cc
@@ -40,18 +47,24 @@ not_mapped : {A B : Type 0} (f : A → B) (o : Option A) → option_map f o ≡ 
 not_mapped f None e = refl
 not_mapped f (Some x) e = absurd cc
 
-no_end_by : (c : ℕ) (cs : List ℕ) (r : Bool) → eqb c 10 ≡ r → (cut_at 10 cs ≡ None → IsTrue (has_no 10 cs)) → cond r (Some ([], cs)) (option_map (longer c) (cut_at 10 cs)) ≡ None → IsTrue (has_no 10 (c ∷ cs))
+no_end_by : (c : ℕ) (cs : List ℕ) (r : Bool) → eqb c 10 ≡ r
+    → (cut_at 10 cs ≡ None → IsTrue (has_no 10 cs))
+    → cond r (Some ([], cs)) (option_map (longer c) (cut_at 10 cs)) ≡ None
+    → IsTrue (has_no 10 (c ∷ cs))
 no_end_by c cs true t more e = absurd cc
-no_end_by c cs false t more e = and_from _ _ (ap not t) (more (not_mapped (longer c) (cut_at 10 cs) e))
+no_end_by c cs false t more e =
+    and_from _ _ (ap not t) (more (not_mapped (longer c) (cut_at 10 cs) e))
 
 no_end : (text : List ℕ) → cut_at 10 text ≡ None → IsTrue (has_no 10 text)
 no_end [] e = refl
 no_end (c ∷ cs) e = no_end_by c cs (eqb c 10) refl (no_end cs) e
 
-pub line_takes : (text line after : List ℕ) → line_at text ≡ Some (line, after) → IsLine text line after
+pub line_takes : (text line after : List ℕ) → line_at text ≡ Some (line, after)
+    → IsLine text line after
 unfolding line_at
 line_takes text line after e =
-    let m = mapped (λ (p : List ℕ × List ℕ). (strip_carriage_return p.0, p.1)) (cut_at 10 text) (line, after) e in
+    let m = mapped (λ (p : List ℕ × List ℕ). (strip_carriage_return p.0, p.1)) (cut_at 10 text)
+    (line, after) e in
     let end = at_end text m.0 m.1 in
     let after_is : m.0.1 ≡ after = ap (λ (p : List ℕ × List ℕ). p.1) m.2 in
     record {
@@ -63,17 +76,22 @@ line_takes text line after e =
 
 pub no_line : (text : List ℕ) → line_at text ≡ None → IsTrue (has_no 10 text)
 unfolding line_at
-no_line text e = no_end text (not_mapped (λ (p : List ℕ × List ℕ). (strip_carriage_return p.0, p.1)) (cut_at 10 text) e)
+no_line text e = no_end text (not_mapped (λ (p : List ℕ × List ℕ). (strip_carriage_return p.0, p.1))
+    (cut_at 10 text) e)
 
 -- ---- the loop over lines
 
 -- the lines before are those that the text begins with
 abbrev pub HasBefore : List ℕ → List (List ℕ) → List ℕ → Type 0
-HasBefore text front rest = (more : List (List ℕ)) (end : List ℕ) → IsLines rest more end → IsLines text (front ++ more) end
+HasBefore text front rest =
+    (more : List (List ℕ)) (end : List ℕ) → IsLines rest more end → IsLines text (front ++ more) end
 
-pub one_line_more : (text : List ℕ) (front : List (List ℕ)) (rest line after : List ℕ) → HasBefore text front rest → line_at rest ≡ Some (line, after) → HasBefore text (front ++ line ∷ []) after
+pub one_line_more : (text : List ℕ) (front : List (List ℕ)) (rest line after : List ℕ)
+    → HasBefore text front rest → line_at rest ≡ Some (line, after)
+    → HasBefore text (front ++ line ∷ []) after
 one_line_more text front rest line after before e more end lines =
-    subst (λ (ls : List (List ℕ)). IsLines text ls end) (sym (append_assoc front (line ∷ []) more)) (before (line ∷ more) end (after, line_takes rest line after e, lines))
+    subst (λ (ls : List (List ℕ)). IsLines text ls end) (sym (append_assoc front (line ∷ []) more))
+    (before (line ∷ more) end (after, line_takes rest line after e, lines))
 
 -- ---- folds
 
@@ -85,11 +103,14 @@ abbrev split_at : List ℕ → Option (List ℕ × List ℕ) → List (List ℕ)
 split_at text None = text ∷ []
 split_at text (Some p) = p.0 ∷ slice_split at_lf p.1
 
-onto_first-split_at : (b : ℕ) (bs : List ℕ) (o : Option (List ℕ × List ℕ)) → onto_first b (split_at bs o) ≡ split_at (b ∷ bs) (option_map (longer b) o)
+onto_first-split_at : (b : ℕ) (bs : List ℕ) (o : Option (List ℕ × List ℕ))
+    → onto_first b (split_at bs o) ≡ split_at (b ∷ bs) (option_map (longer b) o)
 onto_first-split_at b bs None = refl
 onto_first-split_at b bs (Some p) = refl
 
-split_at_by : (b : ℕ) (bs : List ℕ) (r : Bool) → slice_split at_lf bs ≡ split_at bs (cut_at 10 bs) → cond r ([] ∷ slice_split at_lf bs) (onto_first b (slice_split at_lf bs)) ≡ split_at (b ∷ bs) (cond r (Some ([], bs)) (option_map (longer b) (cut_at 10 bs)))
+split_at_by : (b : ℕ) (bs : List ℕ) (r : Bool) → slice_split at_lf bs ≡ split_at bs (cut_at 10 bs)
+    → cond r ([] ∷ slice_split at_lf bs) (onto_first b (slice_split at_lf bs))
+    ≡ split_at (b ∷ bs) (cond r (Some ([], bs)) (option_map (longer b) (cut_at 10 bs)))
 split_at_by b bs true rest = refl
 split_at_by b bs false rest = ap (onto_first b) rest ∙ onto_first-split_at b bs (cut_at 10 bs)
 
@@ -105,10 +126,17 @@ record Begins (text : List ℕ) : Type 0 where
   pub blank_is : begins_blank line ≡ begins_blank text
   pub trimmed_is : slice_split at_lf (trimmed_start text) ≡ trimmed_start line ∷ lines
 
-begins_by : (b : ℕ) (bs : List ℕ) (lf blank : Bool) → eqb b 10 ≡ lf → is_blank b ≡ blank → Begins bs → Begins (b ∷ bs)
+begins_by : (b : ℕ) (bs : List ℕ) (lf blank : Bool) → eqb b 10 ≡ lf → is_blank b ≡ blank → Begins bs
+    → Begins (b ∷ bs)
 begins_by b bs true blank l k rest =
     let not_blank : is_blank b ≡ false = ap is_blank (eqb-true b 10 l) in
-    record { line = []; lines = slice_split at_lf bs; split_is = rw l refl; blank_is = sym not_blank; trimmed_is = rw (not_blank, l) refl }
+    record {
+      line = [];
+      lines = slice_split at_lf bs;
+      split_is = rw l refl;
+      blank_is = sym not_blank;
+      trimmed_is = rw (not_blank, l) refl;
+    }
 begins_by b bs false true l k rest =
     record {
       line = b ∷ rest.line;
@@ -133,35 +161,52 @@ begins (b ∷ bs) = begins_by b bs (eqb b 10) (is_blank b) refl refl (begins bs)
 abbrev pub folded_behind : List ℕ → List ℕ → List ℕ
 folded_behind whole rest = unfolded_behind whole (slice_split at_lf rest)
 
-at_break : (whole rest line after : List ℕ) → cut_at 10 rest ≡ Some (line, after) → folded_behind whole rest ≡ unfolded_from (whole ++ line) (slice_split at_lf after)
+at_break : (whole rest line after : List ℕ) → cut_at 10 rest ≡ Some (line, after)
+    → folded_behind whole rest ≡ unfolded_from (whole ++ line) (slice_split at_lf after)
 at_break whole rest line after e =
     ap (unfolded_behind whole) (slice_split-cut_at rest ∙ ap (split_at rest) e)
 
 -- the line goes on
-pub goes_on : (whole rest line after : List ℕ) → cut_at 10 rest ≡ Some (line, after) → begins_blank after ≡ true → folded_behind (trimmed_end (strip_carriage_return (whole ++ line)) ++ 32 ∷ []) (trimmed_start after) ≡ folded_behind whole rest
+pub goes_on : (whole rest line after : List ℕ) → cut_at 10 rest ≡ Some (line, after)
+    → begins_blank after ≡ true → folded_behind
+    (trimmed_end (strip_carriage_return (whole ++ line)) ++ 32 ∷ []) (trimmed_start after)
+    ≡ folded_behind whole rest
 goes_on whole rest line after e blank =
     let first = begins after in
     let here : begins_blank first.line ≡ true = first.blank_is ∙ blank in
     let kept = trimmed_end (strip_carriage_return (whole ++ line)) in
     ap (unfolded_behind (kept ++ 32 ∷ [])) first.trimmed_is
-    ∙ ap (λ (text : List ℕ). unfolded_from text first.lines) (append_assoc kept (32 ∷ []) (trimmed_start first.line))
-    ∙ sym (at_break whole rest line after e ∙ ap (unfolded_from (whole ++ line)) first.split_is ∙ ap (λ b. cond b (unfolded_from (joined (strip_carriage_return (whole ++ line)) first.line) first.lines) (unfolded_from ((whole ++ line) ++ (10 ∷ first.line)) first.lines)) here)
+    ∙ ap (λ (text : List ℕ). unfolded_from text first.lines)
+    (append_assoc kept (32 ∷ []) (trimmed_start first.line))
+    ∙ sym (at_break whole rest line after e ∙ ap (unfolded_from (whole ++ line)) first.split_is
+    ∙ ap (λ b. cond b (unfolded_from
+    (joined (strip_carriage_return (whole ++ line)) first.line) first.lines)
+    (unfolded_from ((whole ++ line) ++ (10 ∷ first.line)) first.lines)) here)
 
 -- another line begins
-pub begins_anew : (whole rest line after : List ℕ) → cut_at 10 rest ≡ Some (line, after) → begins_blank after ≡ false → folded_behind ((whole ++ line) ++ 10 ∷ []) after ≡ folded_behind whole rest
+pub begins_anew : (whole rest line after : List ℕ) → cut_at 10 rest ≡ Some (line, after)
+    → begins_blank after ≡ false → folded_behind ((whole ++ line) ++ 10 ∷ []) after
+    ≡ folded_behind whole rest
 begins_anew whole rest line after e blank =
     let first = begins after in
     let here : begins_blank first.line ≡ false = first.blank_is ∙ blank in
     ap (unfolded_behind ((whole ++ line) ++ 10 ∷ [])) first.split_is
-    ∙ ap (λ (text : List ℕ). unfolded_from text first.lines) (append_assoc (whole ++ line) (10 ∷ []) first.line)
-    ∙ sym (at_break whole rest line after e ∙ ap (unfolded_from (whole ++ line)) first.split_is ∙ ap (λ b. cond b (unfolded_from (joined (strip_carriage_return (whole ++ line)) first.line) first.lines) (unfolded_from ((whole ++ line) ++ (10 ∷ first.line)) first.lines)) here)
+    ∙ ap (λ (text : List ℕ). unfolded_from text first.lines)
+    (append_assoc (whole ++ line) (10 ∷ []) first.line)
+    ∙ sym (at_break whole rest line after e ∙ ap (unfolded_from (whole ++ line)) first.split_is
+    ∙ ap (λ b. cond b (unfolded_from
+    (joined (strip_carriage_return (whole ++ line)) first.line) first.lines)
+    (unfolded_from ((whole ++ line) ++ (10 ∷ first.line)) first.lines)) here)
 
-pub last_line : (whole rest : List ℕ) → cut_at 10 rest ≡ None → whole ++ rest ≡ folded_behind whole rest
-last_line whole rest e = sym (ap (unfolded_behind whole) (slice_split-cut_at rest ∙ ap (split_at rest) e))
+pub last_line : (whole rest : List ℕ) → cut_at 10 rest ≡ None
+    → whole ++ rest ≡ folded_behind whole rest
+last_line whole rest e =
+    sym (ap (unfolded_behind whole) (slice_split-cut_at rest ∙ ap (split_at rest) e))
 
 -- ---- what is taken off the end of a line
 
-cut_off_by : (b : ℕ) (bs : List ℕ) (r : Bool) → (rest : List ℕ) × (bs ≡ trimmed_end bs ++ rest) → (rest : List ℕ) × (b ∷ bs ≡ cond r [] (b ∷ trimmed_end bs) ++ rest)
+cut_off_by : (b : ℕ) (bs : List ℕ) (r : Bool) → (rest : List ℕ) × (bs ≡ trimmed_end bs ++ rest)
+    → (rest : List ℕ) × (b ∷ bs ≡ cond r [] (b ∷ trimmed_end bs) ++ rest)
 cut_off_by b bs true more = (b ∷ bs, refl)
 cut_off_by b bs false more = (more.0, ap (λ (xs : List ℕ). b ∷ xs) more.1)
 
@@ -169,19 +214,25 @@ cut_off : (text : List ℕ) → (rest : List ℕ) × (text ≡ trimmed_end text 
 cut_off [] = ([], refl)
 cut_off (b ∷ bs) = cut_off_by b bs (is_blank b && list_all is_blank bs) (cut_off bs)
 
-stripped_by : (r : Bool) (n : ℕ) (text : List ℕ) → (rest : List ℕ) × (text ≡ cond r (take n text) text ++ rest)
+stripped_by : (r : Bool) (n : ℕ) (text : List ℕ)
+    → (rest : List ℕ) × (text ≡ cond r (take n text) text ++ rest)
 stripped_by true n text = (drop n text, sym (take-append-drop n text))
 stripped_by false n text = ([], sym (append-nil text))
 
-pub kept_front : (text : List ℕ) → take (length (trimmed_end (strip_carriage_return text))) text ≡ trimmed_end (strip_carriage_return text)
+pub kept_front : (text : List ℕ)
+    → take (length (trimmed_end (strip_carriage_return text))) text
+    ≡ trimmed_end (strip_carriage_return text)
 kept_front text =
     let stripped = stripped_by (eqb (get_or text (length text - 1) 0) 13) (length text - 1) text in
     let kept = cut_off (strip_carriage_return text) in
     let short = trimmed_end (strip_carriage_return text) in
-    let whole : text ≡ short ++ (kept.0 ++ stripped.0) = stripped.1 ∙ ap (λ (xs : List ℕ). xs ++ stripped.0) kept.1 ∙ append_assoc short kept.0 stripped.0 in
+    let whole : text ≡ short ++ (kept.0 ++ stripped.0) =
+    stripped.1 ∙ ap (λ (xs : List ℕ). xs ++ stripped.0) kept.1
+    ∙ append_assoc short kept.0 stripped.0 in
     ap (take (length short)) whole ∙ take-append_seam short (kept.0 ++ stripped.0)
 
-shorter_by : (b : ℕ) (bs : List ℕ) (r : Bool) → length (trimmed_start bs) ≤ length bs → length (cond r (trimmed_start bs) (b ∷ bs)) ≤ length (b ∷ bs)
+shorter_by : (b : ℕ) (bs : List ℕ) (r : Bool) → length (trimmed_start bs) ≤ length bs
+    → length (cond r (trimmed_start bs) (b ∷ bs)) ≤ length (b ∷ bs)
 shorter_by b bs true le = omega arith
 shorter_by b bs false le = omega arith
 

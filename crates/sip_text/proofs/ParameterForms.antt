@@ -15,11 +15,14 @@ pub value_reads : Reads (List ℕ) (List ℕ) value_from Value
 value_reads = of_reads trimmed (passing_reads is_parameter_value)
 
 pub parameter_reads : Reads (List ℕ) (List ℕ × Option (List ℕ)) parameter_from IsParameter
-parameter_reads = cut_reads (Byte 61) (told_reads with_value (both_reads name_reads value_reads)) (told_reads without_value name_reads)
+parameter_reads = cut_reads (Byte 61) (told_reads with_value (both_reads name_reads value_reads))
+    (told_reads without_value name_reads)
 
-pub parameters_reads : {X : Type 0} {f : List ℕ → Option X} {P : X → List ℕ → Type 0} → Reads (List ℕ) X f P → Reads (List ℕ) (List X) (parameters_from f) (Parameters P)
+pub parameters_reads : {X : Type 0} {f : List ℕ → Option X} {P : X → List ℕ → Type 0}
+    → Reads (List ℕ) X f P → Reads (List ℕ) (List X) (parameters_from f) (Parameters P)
 parameters_reads reads =
-    cut_reads (Byte 59) (behind_reads is_blanks (split_reads (Byte 59) reads)) (guarded_reads is_blanks (always_reads []))
+    cut_reads (Byte 59) (behind_reads is_blanks (split_reads (Byte 59) reads))
+    (guarded_reads is_blanks (always_reads []))
 
 pub all_trimmed : (texts : List (List ℕ)) → AllZip IsTrimmed (map trimmed texts) texts
 all_trimmed [] = tt

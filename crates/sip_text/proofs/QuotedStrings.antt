@@ -28,7 +28,8 @@ nothing_more (b ∷ bs) e = absurd cc
 with_unit : (unit bs : List ℕ) → IsUnit unit → Closes bs → Closes (unit ++ bs)
 with_unit unit bs is closes = record {
   units = unit ∷ closes.units;
-  parts = ap (λ (rest : List ℕ). unit ++ rest) closes.parts ∙ sym (append_assoc unit (concat closes.units) (34 ∷ []));
+  parts = ap (λ (rest : List ℕ). unit ++ rest) closes.parts
+      ∙ sym (append_assoc unit (concat closes.units) (34 ∷ []));
   each = (is, closes.each);
 }
 
@@ -36,31 +37,45 @@ escape : (b : ℕ) (bs : List ℕ) → b ≡ 92 → ClosesAfterByte bs → Close
 escape b [] is closes = absurd closes
 escape b (c ∷ cs) is closes = with_unit (b ∷ (c ∷ [])) cs (is, closes.0) closes.1
 
-walk : (escaped line back quote : Bool) (b : ℕ) (bs : List ℕ) → is_line_byte b ≡ line → eqb b 92 ≡ back → eqb b 34 ≡ quote → ((e : Bool) → ends_in_quote e bs ≡ true → Goes e bs) → cond line false (cond escaped (ends_in_quote false bs) (cond back (ends_in_quote true bs) (cond quote (is_nothing bs) (ends_in_quote false bs)))) ≡ true → Goes escaped (b ∷ bs)
+walk : (escaped line back quote : Bool) (b : ℕ) (bs : List ℕ) → is_line_byte b ≡ line
+    → eqb b 92 ≡ back → eqb b 34 ≡ quote → ((e : Bool) → ends_in_quote e bs ≡ true → Goes e bs)
+    → cond line false (cond escaped (ends_in_quote false bs)
+    (cond back (ends_in_quote true bs) (cond quote (is_nothing bs) (ends_in_quote false bs))))
+    ≡ true → Goes escaped (b ∷ bs)
 walk escaped true back quote b bs l k q more e = absurd cc
 walk true false back quote b bs l k q more e = (l, more false e)
 walk false false true quote b bs l k q more e = escape b bs (eqb-true b 92 k) (more true e)
 walk false false false true b bs l k q more e =
     record { units = []; parts = rw (nothing_more bs e, eqb-true b 34 q) refl; each = tt }
 walk false false false false b bs l k q more e =
-    with_unit (b ∷ []) bs (not_from_false (eqb b 34 || (eqb b 92 || is_line_byte b)) (or_from (eqb b 34) (eqb b 92 || is_line_byte b) q (or_from (eqb b 92) (is_line_byte b) k l))) (more false e)
+    with_unit (b ∷ []) bs (not_from_false (eqb b 34 || (eqb b 92 || is_line_byte b))
+    (or_from (eqb b 34) (eqb b 92 || is_line_byte b) q
+    (or_from (eqb b 92) (is_line_byte b) k l))) (more false e)
 
 goes : (escaped : Bool) (text : List ℕ) → ends_in_quote escaped text ≡ true → Goes escaped text
 goes escaped [] e = absurd cc
-goes escaped (b ∷ bs) e = walk escaped (is_line_byte b) (eqb b 92) (eqb b 34) b bs refl refl refl (λ r f. goes r bs f) e
+goes escaped (b ∷ bs) e =
+    walk escaped (is_line_byte b) (eqb b 92) (eqb b 34) b bs refl refl refl (λ r f. goes r bs f) e
 
 pub quoted_takes : (text : List ℕ) → IsTrue (is_quoted text) → IsQuoted text
 unfolding is_quoted
 quoted_takes [] e = absurd cc
 quoted_takes (b ∷ bs) e = by (eqb b 34) refl e
   where
-    by : (r : Bool) → eqb b 34 ≡ r → cond r (ends_in_quote false bs) false ≡ true → IsQuoted (b ∷ bs)
+    by : (r : Bool) → eqb b 34 ≡ r → cond r (ends_in_quote false bs) false ≡ true
+        → IsQuoted (b ∷ bs)
     by true is e =
         let closes = goes false bs e in
-        record { units = closes.units; parts = rw (eqb-true b 34 is) (ap (λ (rest : List ℕ). 34 ∷ rest) closes.parts); each = closes.each }
+        record {
+          units = closes.units;
+          parts = rw (eqb-true b 34 is) (ap (λ (rest : List ℕ). 34 ∷ rest) closes.parts);
+          each =
+              closes.each;
+        }
     by false is e = absurd cc
 
-closes_again : (units : List (List ℕ)) → AllByRecursion IsUnit units → ends_in_quote false (concat units ++ (34 ∷ [])) ≡ true
+closes_again : (units : List (List ℕ)) → AllByRecursion IsUnit units
+    → ends_in_quote false (concat units ++ (34 ∷ [])) ≡ true
 closes_again [] each = refl
 closes_again ([] ∷ units) each = absurd each.0
 closes_again ((b ∷ []) ∷ units) each =

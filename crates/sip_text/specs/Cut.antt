@@ -6,7 +6,8 @@ use Rattle.std.specs.Borrow.{Bor}
 -- the parts before and after the first byte that passes the test, or nothing where none does
 abbrev pub cut_where : (ℕ → Bool) → List ℕ → Option (List ℕ × List ℕ)
 cut_where test [] = None
-cut_where test (b ∷ bs) = if test b then Some ([], bs) else option_map (λ p. (b ∷ p.0, p.1)) (cut_where test bs)
+cut_where test (b ∷ bs) =
+    if test b then Some ([], bs) else option_map (λ p. (b ∷ p.0, p.1)) (cut_where test bs)
 
 -- the parts before and after the first such byte
 abbrev pub cut_at : ℕ → List ℕ → Option (List ℕ × List ℕ)

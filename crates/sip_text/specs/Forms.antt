@@ -1,5 +1,6 @@
--- Forms of text, made of smaller ones. A form says which value stands in it to a text; beside it, in small letters, is the
--- value that reading from left to right finds, and nothing where there is none.
+-- Forms of text, made of smaller ones. A form says which value stands in it to a text; beside it,
+-- in small letters, is the value that reading from left to right finds, and nothing where there is
+-- none.
 use Rattle.std.specs.Prelude.{◌≡◌, ◌⊎◌, ℕ, Bool, IsTrue, List, [], ◌∷◌, Option, Some, None, option_and_then, if◌then◌else◌}
 use Rattle.std.specs.Option.{option_map}
 use Rattle.std.specs.List.{AllZip}
@@ -70,10 +71,12 @@ told to f a = option_map to (f a)
 -- ---- two texts, and a text that is cut
 
 -- the form of the second, where the first passes the test
-abbrev pub Behind : {X : Type 0} → (List ℕ → Bool) → (X → List ℕ → Type 0) → X → List ℕ × List ℕ → Type 0
+abbrev pub Behind : {X : Type 0} → (List ℕ → Bool) → (X → List ℕ → Type 0) → X → List ℕ × List ℕ
+    → Type 0
 Behind test P x parts = IsTrue (test parts.0) × P x parts.1
 
-abbrev pub behind : {X : Type 0} → (List ℕ → Bool) → (List ℕ → Option X) → List ℕ × List ℕ → Option X
+abbrev pub behind : {X : Type 0} → (List ℕ → Bool) → (List ℕ → Option X) → List ℕ × List ℕ
+    → Option X
 behind test f parts = if test parts.0 then f parts.1 else None
 
 -- a form of each of two
@@ -84,14 +87,18 @@ abbrev pub both : {A B X Y : Type 0} → (A → Option X) → (B → Option Y) �
 both f g ab = option_and_then (λ x. option_and_then (λ y. Some (x, y)) (g ab.1)) (f ab.0)
 
 -- the form of its two parts where a separator cuts the text, otherwise that of the whole
-abbrev pub OnCut : {X : Type 0} → Separator → (X → List ℕ × List ℕ → Type 0) → (X → List ℕ → Type 0) → X → List ℕ → Type 0
-OnCut at P Q x text = ((parts : List ℕ × List ℕ) × IsCut at parts text × P x parts) ⊎ (IsWhole at text × Q x text)
+abbrev pub OnCut : {X : Type 0} → Separator → (X → List ℕ × List ℕ → Type 0) → (X → List ℕ → Type 0)
+    → X → List ℕ → Type 0
+OnCut at P Q x text =
+    ((parts : List ℕ × List ℕ) × IsCut at parts text × P x parts) ⊎ (IsWhole at text × Q x text)
 
-abbrev pub by_cut : {X : Type 0} → Option (List ℕ × List ℕ) → (List ℕ × List ℕ → Option X) → Option X → Option X
+abbrev pub by_cut : {X : Type 0} → Option (List ℕ × List ℕ) → (List ℕ × List ℕ → Option X)
+    → Option X → Option X
 by_cut None f whole = whole
 by_cut (Some parts) f whole = f parts
 
-abbrev pub on_cut : {X : Type 0} → Separator → (List ℕ × List ℕ → Option X) → (List ℕ → Option X) → List ℕ → Option X
+abbrev pub on_cut : {X : Type 0} → Separator → (List ℕ × List ℕ → Option X) → (List ℕ → Option X)
+    → List ℕ → Option X
 on_cut at f g text = by_cut (cut_from at Plain text) f (g text)
 
 -- a value for each piece between separators

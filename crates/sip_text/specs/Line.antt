@@ -1,4 +1,5 @@
--- The first line of a text. A line ends in CR LF or in LF alone (RFC 3261, section 7; LF alone is this project's choice).
+-- The first line of a text. A line ends in CR LF or in LF alone (RFC 3261, section 7; LF alone is
+-- this project's choice).
 use Rattle.std.specs.Prelude.{ℕ, List, Option}
 use Rattle.std.specs.Option.{option_map}
 use Rattle.std.specs.Str.Lines.{strip_carriage_return}

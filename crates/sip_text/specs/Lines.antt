@@ -1,4 +1,5 @@
--- The lines of a text (RFC 3261, section 7). A line ends in CR LF or in LF alone, which is this project's choice.
+-- The lines of a text (RFC 3261, section 7). A line ends in CR LF or in LF alone, which is this
+-- project's choice.
 use Rattle.std.specs.Prelude.{◌≡◌, ◌==◌, ℕ, not, Bool, IsTrue, List, [], ◌∷◌, ◌++◌}
 use Rattle.std.specs.List.{list_all}
 use Rattle.std.specs.Str.Lines.{strip_carriage_return}
@@ -17,7 +18,8 @@ pub record IsLine (text line after : List ℕ) : Type 0 where
 -- The text is these lines, each with its end, and then the rest.
 abbrev pub IsLines : List ℕ → List (List ℕ) → List ℕ → Type 0
 IsLines text [] rest = text ≡ rest
-IsLines text (line ∷ lines) rest = (after : List ℕ) × IsLine text line after × IsLines after lines rest
+IsLines text (line ∷ lines) rest =
+    (after : List ℕ) × IsLine text line after × IsLines after lines rest
 
 -- All the lines of the text that have their end; what follows them has no end.
 pub record AreLines (lines : List (List ℕ)) (text : List ℕ) : Type 0 where

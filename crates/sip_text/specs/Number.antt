@@ -14,5 +14,6 @@ is_digits text = is_run is_ascii_digit text
 unfoldable pub number_of : List ℕ → Result ℕ TextFault
 number_of text =
     if is_digits text
-    then (if nat_lt (digits_value 10 text) (2 ^ 32) then Ok (digits_value 10 text) else Err NumberTooLarge)
+    then (if nat_lt (digits_value 10 text) (2 ^ 32) then Ok (digits_value 10 text)
+    else Err NumberTooLarge)
     else Err NotAToken

@@ -1,5 +1,5 @@
--- Parameters as text (RFC 3261, sections 7.3.1 and 25.1): each a semicolon, a token, and optionally `=` and a value, with
--- white space allowed round both marks.
+-- Parameters as text (RFC 3261, sections 7.3.1 and 25.1): each a semicolon, a token, and optionally
+-- `=` and a value, with white space allowed round both marks.
 use Rattle.std.specs.Prelude.{ℕ, Bool, not, ◌||◌, List, [], Option, Some, None, codes}
 use Rattle.std.specs.List.{list_all}
 use Rattle.sip_text.specs.Character.{is_among, is_blank}
@@ -47,17 +47,22 @@ without_value name = (name, None)
 
 -- a name, `=` and a value, or a name alone
 abbrev pub IsParameter : List ℕ × Option (List ℕ) → List ℕ → Type 0
-IsParameter parameter text = OnCut (Byte 61) (Told with_value (Both Name Value)) (Told without_value Name) parameter text
+IsParameter parameter text =
+    OnCut (Byte 61) (Told with_value (Both Name Value)) (Told without_value Name) parameter text
 
 abbrev pub parameter_from : List ℕ → Option (List ℕ × Option (List ℕ))
-parameter_from text = on_cut (Byte 61) (told with_value (both name_from value_from)) (told without_value name_from) text
+parameter_from text = on_cut (Byte 61) (told with_value (both name_from value_from))
+    (told without_value name_from) text
 
--- nothing, or what stands in this form behind a semicolon, once or more; white space before the first
+-- nothing, or what stands in this form behind a semicolon, once or more; white space before the
+-- first
 abbrev pub Parameters : {X : Type 0} → (X → List ℕ → Type 0) → List X → List ℕ → Type 0
-Parameters P xs text = OnCut (Byte 59) (Behind is_blanks (Split (Byte 59) P)) (Guarded is_blanks (Always [])) xs text
+Parameters P xs text =
+    OnCut (Byte 59) (Behind is_blanks (Split (Byte 59) P)) (Guarded is_blanks (Always [])) xs text
 
 abbrev pub parameters_from : {X : Type 0} → (List ℕ → Option X) → List ℕ → Option (List X)
-parameters_from f text = on_cut (Byte 59) (behind is_blanks (split (Byte 59) f)) (guarded is_blanks (always [])) text
+parameters_from f text =
+    on_cut (Byte 59) (behind is_blanks (split (Byte 59) f)) (guarded is_blanks (always [])) text
 
 abbrev pub AreParameters : List (List ℕ × Option (List ℕ)) → List ℕ → Type 0
 AreParameters parameters text = Parameters IsParameter parameters text

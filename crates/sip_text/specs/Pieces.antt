@@ -27,7 +27,8 @@ pub record AreValues (values : List (List ℕ)) (text : List ℕ) : Type 0 where
   pub values_are : Split (Byte 44) IsTrimmed values text
 
 -- The parameters of a text; no quoted string is left open.
-pub record AreClosedParameters (parameters : List (List ℕ × Option (List ℕ))) (text : List ℕ) : Type 0 where
+pub record AreClosedParameters (parameters : List (List ℕ × Option (List ℕ)))
+    (text : List ℕ) : Type 0 where
   pub closed : has_open_quote text ≡ false
   pub parameters_are : AreParameters parameters text
 
@@ -41,7 +42,8 @@ TellsList other text = ⊥
 abbrev pub TellsParameters : TextFault → List ℕ → Type 0
 TellsParameters fault.OpenQuote text = has_open_quote text ≡ true
 TellsParameters fault.NotAToken text =
-    (has_open_quote text ≡ false) × ((parameters : List (List ℕ × Option (List ℕ))) → AreParameters parameters text → ⊥)
+    (has_open_quote text ≡ false) × ((parameters : List (List ℕ × Option (List ℕ)))
+    → AreParameters parameters text → ⊥)
 TellsParameters fault.NoMemory text = Unit {0}
 TellsParameters fault.NumberTooLarge text = ⊥
 

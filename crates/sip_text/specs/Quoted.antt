@@ -25,7 +25,8 @@ abbrev pub is_nothing : List ℕ → Bool
 is_nothing [] = true
 is_nothing (b ∷ bs) = false
 
--- The text goes on to the closing quote, which is its last byte. After a backslash any byte is plain.
+-- The text goes on to the closing quote, which is its last byte. After a backslash any byte is
+-- plain.
 abbrev pub ends_in_quote : Bool → List ℕ → Bool
 ends_in_quote escaped [] = false
 ends_in_quote escaped (b ∷ bs) =

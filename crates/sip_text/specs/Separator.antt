@@ -1,4 +1,5 @@
--- A text cut at a separator that counts only outside quoted strings and brackets (RFC 3261, sections 7.3.1 and 25.1).
+-- A text cut at a separator that counts only outside quoted strings and brackets (RFC 3261,
+-- sections 7.3.1 and 25.1).
 use Rattle.std.specs.Prelude.{◌≡◌, ℕ, Bool, false, List, [], ◌∷◌, ◌++◌, Option, Some, None, ◌==◌, ◌||◌, if◌then◌else◌, option_and_then}
 use Rattle.std.specs.Option.{option_map}
 use Rattle.std.specs.List.{onto_first}
@@ -10,7 +11,8 @@ use Rattle.sip_text.specs.declared.separator.Place.TheVariants.{Plain, Quoted, E
 
 -- ---- where a text stands
 
--- A quote opens a quoted string and another closes it, but for one behind a backslash; `<` opens brackets, `>` closes them.
+-- A quote opens a quoted string and another closes it, but for one behind a backslash; `<` opens
+-- brackets, `>` closes them.
 abbrev pub after : Place → ℕ → Place
 after Plain b = if b == 34 then Quoted else (if b == 60 then Bracketed else Plain)
 after Quoted b = if b == 34 then Plain else (if b == 92 then Escaped else Quoted)
@@ -55,8 +57,10 @@ place_after at place (b ∷ bs) = option_and_then (λ p. place_after at p bs) (n
 
 -- ---- cuts
 
--- The text is cut in these parts at the first separator that counts, where it is read from this place on.
-pub record IsCutFrom (at : Separator) (place : Place) (parts : List ℕ × List ℕ) (text : List ℕ) : Type 0 where
+-- The text is cut in these parts at the first separator that counts, where it is read from this
+-- place on.
+pub record IsCutFrom (at : Separator) (place : Place) (parts : List ℕ × List ℕ)
+    (text : List ℕ) : Type 0 where
   pub byte : ℕ
   pub last : Place
   pub together : text ≡ parts.0 ++ (byte ∷ parts.1)
@@ -79,14 +83,16 @@ abbrev pub IsSplitFrom : Separator → Place → List (List ℕ) → List ℕ �
 IsSplitFrom at place [] text = ⊥
 IsSplitFrom at place (piece ∷ []) text = (text ≡ piece) × IsWholeFrom at place piece
 IsSplitFrom at place (piece ∷ (next ∷ pieces)) text =
-    (rest : List ℕ) × IsCutFrom at place (piece, rest) text × IsSplitFrom at Plain (next ∷ pieces) rest
+    (rest : List ℕ) × IsCutFrom at place (piece, rest) text
+    × IsSplitFrom at Plain (next ∷ pieces) rest
 
 abbrev pub IsSplit : Separator → List (List ℕ) → List ℕ → Type 0
 IsSplit at pieces text = IsSplitFrom at Plain pieces text
 
 -- ---- the same, from left to right
 
-abbrev pub by_place : ℕ → List ℕ → Option Place → (Place → Option (List ℕ × List ℕ)) → Option (List ℕ × List ℕ)
+abbrev pub by_place : ℕ → List ℕ → Option Place → (Place → Option (List ℕ × List ℕ))
+    → Option (List ℕ × List ℕ)
 by_place b bs None more = Some ([], bs)
 by_place b bs (Some place) more = option_map (λ p. (b ∷ p.0, p.1)) (more place)
 

@@ -1,5 +1,5 @@
--- Folded lines (RFC 3261, section 7.3.1). A line that begins with a space or tab goes on with the line before it; the break,
--- and the spaces and tabs round it, count as one space.
+-- Folded lines (RFC 3261, section 7.3.1). A line that begins with a space or tab goes on with the
+-- line before it; the break, and the spaces and tabs round it, count as one space.
 use Rattle.std.specs.Prelude.{ℕ, Bool, false, ◌==◌, List, [], ◌∷◌, ◌++◌, if◌then◌else◌}
 use Rattle.std.specs.List.{slice_split}
 use Rattle.std.specs.Str.Lines.{strip_carriage_return}
@@ -14,7 +14,8 @@ begins_blank (b ∷ bs) = is_blank b
 abbrev pub joined : List ℕ → List ℕ → List ℕ
 joined line more = trimmed_end line ++ (32 ∷ trimmed_start more)
 
--- a text that these further lines follow, each behind an LF: those that begin with white space go on with it
+-- a text that these further lines follow, each behind an LF: those that begin with white space go
+-- on with it
 abbrev pub unfolded_from : List ℕ → List (List ℕ) → List ℕ
 unfolded_from text [] = text
 unfolded_from text (line ∷ lines) =

@@ -13,7 +13,8 @@ use crate::pieces::cut;
 use crate::trim::{trimmed_end, trimmed_start};
 use std::alloc::{AllocError, Global};
 
-/// The text with each fold as one space: a line break before a space or tab, with the white space round it.
+/// The text with each fold as one space: a line break before a space or tab, with the white space
+/// round it.
 ///
 /// # Errors
 ///
@@ -31,7 +32,8 @@ pub fn unfold(alloc: Global, text: &[u8]) -> Result<Vec<u8>, TextFault>
 ///
 /// NoMemory.
 pub fn lines(alloc: Global, text: &[u8]) -> Result<Vec<&[u8]>, TextFault>
-    ensures lines { IfOk result (λ found. line_parts.AreLines (pieces.all_now found.items) text.now) }
+    ensures lines { IfOk result (λ found.
+        line_parts.AreLines (pieces.all_now found.items) text.now) }
     ensures fault { IfErr result pieces.TellsMemory }
 {
     let mut found = Vec::new(alloc);

@@ -8,22 +8,29 @@ ghost use Rattle.sip_text.specs.declared.separator.Place.TheVariants as place;
 
 /// A text is cut where reading from left to right cuts it, and nowhere else.
 pub fn one_cut()
-    ensures cut { (at : Separator) (text : List ℕ) → MatchOption (separators.cut_from at place.Plain text) (separators.IsWhole at text) (λ parts. separators.IsCut at parts text) }
-    ensures only { (at : Separator) (text : List ℕ) (parts : List ℕ × List ℕ) → separators.IsCut at parts text → separators.cut_from at place.Plain text ≡ Some parts }
+    ensures cut { (at : Separator) (text : List ℕ)
+        → MatchOption (separators.cut_from at place.Plain text) (separators.IsWhole at text)
+        (λ parts. separators.IsCut at parts text) }
+    ensures only { (at : Separator) (text : List ℕ) (parts : List ℕ × List ℕ)
+        → separators.IsCut at parts text → separators.cut_from at place.Plain text ≡ Some parts }
 {}
 
 /// A text is split into its pieces in one way.
 pub fn one_split()
-    ensures split { (at : Separator) (text : List ℕ) → separators.IsSplit at (separators.split_from at place.Plain text) text }
-    ensures only { (at : Separator) (text : List ℕ) (pieces others : List (List ℕ)) → separators.IsSplit at pieces text → separators.IsSplit at others text → pieces ≡ others }
+    ensures split { (at : Separator) (text : List ℕ)
+        → separators.IsSplit at (separators.split_from at place.Plain text) text }
+    ensures only { (at : Separator) (text : List ℕ) (pieces others : List (List ℕ))
+        → separators.IsSplit at pieces text → separators.IsSplit at others text → pieces ≡ others }
 {}
 
 /// A text is one list of parameters at most.
 pub fn one_list_of_parameters()
-    ensures { (text : List ℕ) (ps qs : List (List ℕ × Option (List ℕ))) → AreParameters ps text → AreParameters qs text → ps ≡ qs }
+    ensures { (text : List ℕ) (ps qs : List (List ℕ × Option (List ℕ))) → AreParameters ps text
+        → AreParameters qs text → ps ≡ qs }
 {}
 
-/// A quoted string is a quote, bytes that are neither quote nor backslash or stand behind a backslash, and a quote.
+/// A quoted string is a quote, bytes that are neither quote nor backslash or stand behind a
+/// backslash, and a quote.
 pub fn quoted_strings()
     ensures { (text : List ℕ) → IsTrue (is_quoted text) ↔ IsQuoted text }
 {}

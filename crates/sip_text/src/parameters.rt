@@ -18,20 +18,24 @@ use crate::token::is_token;
 use crate::trim::trimmed;
 use std::alloc::{AllocError, Global};
 
-/// A parameter as it stands in a text: its name, and its value where it has one, a quoted string with its quotes.
+/// A parameter as it stands in a text: its name, and its value where it has one, a quoted string
+/// with its quotes.
 #[derive(Clone, Copy)]
 pub struct ParameterText<'a> {
     pub name: &'a [u8],
     pub value: Option<&'a [u8]>,
 }
 
-/// The parameters of a text, each of which begins with `;`. None where the text is empty or white space.
+/// The parameters of a text, each of which begins with `;`. None where the text is empty or white
+/// space.
 ///
 /// # Errors
 ///
-/// OpenQuote where a quoted string has no end, otherwise NotAToken where a piece isn't a parameter; NoMemory.
+/// OpenQuote where a quoted string has no end, otherwise NotAToken where a piece isn't a parameter;
+/// NoMemory.
 pub fn params(alloc: Global, text: &[u8]) -> Result<Vec<ParameterText<'_>>, TextFault>
-    ensures parameters { IfOk result (λ found. pieces.AreClosedParameters (map pieces.parameter_now found.items) text.now) }
+    ensures parameters { IfOk result
+        (λ found. pieces.AreClosedParameters (map pieces.parameter_now found.items) text.now) }
     ensures fault { IfErr result (λ fault. pieces.TellsParameters fault text.now) }
 {
     if has_open_quote(text) {
@@ -44,7 +48,8 @@ pub fn params(alloc: Global, text: &[u8]) -> Result<Vec<ParameterText<'_>>, Text
 }
 
 fn parameters_in(alloc: Global, text: &[u8]) -> Result<Option<Vec<ParameterText<'_>>>, AllocError>
-    ensures { IfOk result (λ found. option_map (λ v. map pieces.parameter_now v.items) found ≡ parameter.parameters_from parameter.parameter_from text.now) }
+    ensures { IfOk result (λ found. option_map (λ v. map pieces.parameter_now v.items) found
+        ≡ parameter.parameters_from parameter.parameter_from text.now) }
 {
     let Some((before, behind)) = Separator::Byte(b';').cut(text) else {
         return Ok(if is_blanks(text) {
@@ -60,7 +65,8 @@ fn parameters_in(alloc: Global, text: &[u8]) -> Result<Option<Vec<ParameterText<
 }
 
 fn each_parameter(alloc: Global, text: &[u8]) -> Result<Option<Vec<ParameterText<'_>>>, AllocError>
-    ensures { IfOk result (λ found. option_map (λ v. map pieces.parameter_now v.items) found ≡ split (separator.Byte 59) parameter.parameter_from text.now) }
+    ensures { IfOk result (λ found. option_map (λ v. map pieces.parameter_now v.items) found
+        ≡ split (separator.Byte 59) parameter.parameter_from text.now) }
 {
     let mut parameters = Vec::new(alloc);
     let mut rest = text;
@@ -82,7 +88,8 @@ fn each_parameter(alloc: Global, text: &[u8]) -> Result<Option<Vec<ParameterText
 pub fn parameter_in(text: &[u8]) -> Option<ParameterText<'_>>
     ensures exact { option_map pieces.parameter_now result ≡ parameter.parameter_from text.now }
     ensures name { IfSome result (λ p. IsTrue (is_token p.name.now)) }
-    ensures value { IfSome result (λ p. IfSome p.value (λ v. IsTrue (parameter.is_parameter_value v.now))) }
+    ensures value { IfSome result (λ p.
+        IfSome p.value (λ v. IsTrue (parameter.is_parameter_value v.now))) }
 {
     match Separator::Byte(b'=').cut(text) {
         None => Some(ParameterText {

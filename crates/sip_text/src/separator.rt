@@ -38,7 +38,8 @@ impl Separator {
     /// The parts before and after the first separator that counts, or None where there is none.
     pub fn cut(self, text: &[u8]) -> Option<(&[u8], &[u8])>
         ensures exact { both_now result ≡ separators.cut_from self place.Plain text.now }
-        ensures length { IfSome result (λ p. length p.0.now + length p.1.now + 1 ≡ length text.now) }
+        ensures length { IfSome result
+            (λ p. length p.0.now + length p.1.now + 1 ≡ length text.now) }
     {
         let first = self.first_in(text)?;
         let front = &text[..first];
@@ -61,7 +62,8 @@ impl Separator {
 
     /// Whether a quote or a bracket may hide separators.
     fn opens_in(self, front: &[u8]) -> bool
-        ensures { OnFalse result (Nowhere (λ k. separators.opens self (slice_index front.now k) ≡ true) 0 (length front.now)) }
+        ensures { OnFalse result (Nowhere
+            (λ k. separators.opens self (slice_index front.now k) ≡ true) 0 (length front.now)) }
     {
         match self {
             Separator::Byte(_) => memchr2(b'"', b'<', front).is_some(),
@@ -72,7 +74,8 @@ impl Separator {
 
     fn cut_by_steps(self, text: &[u8]) -> Option<(&[u8], &[u8])>
         ensures exact { both_now result ≡ separators.cut_from self place.Plain text.now }
-        ensures length { IfSome result (λ p. length p.0.now + length p.1.now + 1 ≡ length text.now) }
+        ensures length { IfSome result
+            (λ p. length p.0.now + length p.1.now + 1 ≡ length text.now) }
     {
         let mut place = Place::Plain;
         for (index, byte) in text.iter().enumerate() {

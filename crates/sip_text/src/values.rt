@@ -12,7 +12,8 @@ use crate::separator::Separator;
 use crate::trim::trimmed;
 use std::alloc::{AllocError, Global};
 
-/// The values between the commas outside quoted strings and angle brackets, without the white space round them.
+/// The values between the commas outside quoted strings and angle brackets, without the white space
+/// round them.
 ///
 /// # Errors
 ///
@@ -28,7 +29,8 @@ pub fn split_values(alloc: Global, text: &[u8]) -> Result<Vec<&[u8]>, TextFault>
 }
 
 fn values_in(alloc: Global, text: &[u8]) -> Result<Vec<&[u8]>, AllocError>
-    ensures { IfOk result (λ found. pieces.all_now found.items ≡ map trims.trimmed (separators.split_from (separator.Byte 44) place.Plain text.now)) }
+    ensures { IfOk result (λ found. pieces.all_now found.items
+        ≡ map trims.trimmed (separators.split_from (separator.Byte 44) place.Plain text.now)) }
 {
     let mut values = Vec::new(alloc);
     let mut rest = text;

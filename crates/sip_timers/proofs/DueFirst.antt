@@ -5,7 +5,8 @@ use Rattle.std.proofs.lemmas.Grind.{common_steps}
 use Rattle.sip_timers.specs.Queue.{is_due}
 use Rattle.sip_timers.specs.Earlier.{earlier}
 
-earlier_is_due : (now : ℕ) (a b : Option ℕ) → is_due now (earlier a b) ≡ (is_due now a || is_due now b)
+earlier_is_due : (now : ℕ) (a b : Option ℕ)
+    → is_due now (earlier a b) ≡ (is_due now a || is_due now b)
 earlier_is_due now None b = refl
 earlier_is_due now (Some a) None = sym (or_false (nat_le a now))
   where
@@ -15,7 +16,8 @@ earlier_is_due now (Some a) None = sym (or_false (nat_le a now))
 earlier_is_due now (Some a) (Some b) = grind (arith, common_steps)
 
 -- where the earlier isn't due, neither is
-pub neither_due : (now : ℕ) (a b : Option ℕ) → is_due now (earlier a b) ≡ false → (is_due now a ≡ false) × (is_due now b ≡ false)
+pub neither_due : (now : ℕ) (a b : Option ℕ) → is_due now (earlier a b) ≡ false
+    → (is_due now a ≡ false) × (is_due now b ≡ false)
 neither_due now a b calm = parts (is_due now a) (is_due now b) (sym (earlier_is_due now a b) ∙ calm)
   where
     parts : (x y : Bool) → (x || y) ≡ false → (x ≡ false) × (y ≡ false)

@@ -38,7 +38,8 @@ tied_pair a b o =
     rw (lt, apart))
     (λ ge. by_bool (a == b) (λ same. rw (ge, same)) (λ apart. rw (ge, apart)))
 
-pub by_ordering : {G : Type 0} (o : Ordering) → (o ≡ Less → G) → (o ≡ Equal → G) → (o ≡ Greater → G) → G
+pub by_ordering : {G : Type 0} (o : Ordering) → (o ≡ Less → G) → (o ≡ Equal → G) → (o ≡ Greater → G)
+    → G
 by_ordering Less less equal greater = less refl
 by_ordering Equal less equal greater = equal refl
 by_ordering Greater less equal greater = greater refl
@@ -53,91 +54,126 @@ moment_from at (Some due) e = ap (λ (m : ℕ). Some m) (sym (eqb-true at due e)
 -- ---- how an edit of the index or of the entries looks at a key
 
 -- the index after a pair is put in or taken out
-abbrev pub Puts : {K : Type 0} → (K → K → Ordering) → List (ℕ × K) → List (ℕ × K) → ℕ → K → Bool → Type 0
-Puts {K} cmp dues rest due key put = (p : ℕ × K) → is_due_at cmp rest p.0 p.1 ≡ cond (is_eq (due_cmp cmp (due, key) p)) put (is_due_at cmp dues p.0 p.1)
+abbrev pub Puts : {K : Type 0} → (K → K → Ordering) → List (ℕ × K) → List (ℕ × K) → ℕ → K → Bool
+    → Type 0
+Puts {K} cmp dues rest due key put =
+    (p : ℕ × K) → is_due_at cmp rest p.0 p.1
+    ≡ cond (is_eq (due_cmp cmp (due, key) p)) put (is_due_at cmp dues p.0 p.1)
 
 -- the entries after a key's moment is put in or taken out
-abbrev pub Arms : {K : Type 0} → (K → K → Ordering) → List (K × ℕ) → List (K × ℕ) → K → Option ℕ → Type 0
-Arms {K} cmp entries left key armed = (q : K) → moment cmp left q ≡ cond (is_at (cmp key) q) armed (moment cmp entries q)
+abbrev pub Arms : {K : Type 0} → (K → K → Ordering) → List (K × ℕ) → List (K × ℕ) → K → Option ℕ
+    → Type 0
+Arms {K} cmp entries left key armed =
+    (q : K) → moment cmp left q ≡ cond (is_at (cmp key) q) armed (moment cmp entries q)
 
 module _ {K : Type 0} {cmp : K → K → Ordering} (total : IsTotalOrder cmp) where
   -- equal keys have one moment
-  pub moment_tied : (entries : List (K × ℕ)) (key q : K) → is_at (cmp key) q ≡ true → moment cmp entries q ≡ moment cmp entries key
+  pub moment_tied : (entries : List (K × ℕ)) (key q : K) → is_at (cmp key) q ≡ true
+      → moment cmp entries q ≡ moment cmp entries key
   moment_tied entries key q tied =
       let equal : cmp key q ≡ Equal = equal_from_is_eq (cmp key q) tied in
-      let same : moment cmp entries key ≡ moment cmp entries q = λ i. lookup (λ z. is_eq (total.congr key q z equal i)) entries in
+      let same : moment cmp entries key ≡ moment cmp entries q =
+      λ i. lookup (λ z. is_eq (total.congr key q z equal i)) entries in
       sym same
 
-  put_apart : (dues rest : List (ℕ × K)) (due : ℕ) (key : K) (put : Bool) → Puts cmp dues rest due key put → (at : ℕ) (q : K) → is_at (cmp key) q ≡ false → is_due_at cmp rest at q ≡ is_due_at cmp dues at q
+  put_apart : (dues rest : List (ℕ × K)) (due : ℕ) (key : K) (put : Bool)
+      → Puts cmp dues rest due key put → (at : ℕ) (q : K) → is_at (cmp key) q ≡ false
+      → is_due_at cmp rest at q ≡ is_due_at cmp dues at q
   put_apart dues rest due key put puts at q apart =
       puts (at, q) ∙ ap (λ b. cond b put (is_due_at cmp dues at q)) (tied_pair due at (cmp key q))
       ∙ by_bool (due == at) (λ same. rw (same, apart)) (λ other. rw other)
 
-  put_tied : (dues rest : List (ℕ × K)) (due : ℕ) (key : K) (put : Bool) → Puts cmp dues rest due key put → (at : ℕ) (q : K) → is_at (cmp key) q ≡ true → is_due_at cmp rest at q ≡ cond (due == at) put (is_due_at cmp dues at q)
+  put_tied : (dues rest : List (ℕ × K)) (due : ℕ) (key : K) (put : Bool)
+      → Puts cmp dues rest due key put → (at : ℕ) (q : K) → is_at (cmp key) q ≡ true
+      → is_due_at cmp rest at q ≡ cond (due == at) put (is_due_at cmp dues at q)
   put_tied dues rest due key put puts at q tied =
       puts (at, q) ∙ ap (λ b. cond b put (is_due_at cmp dues at q)) (tied_pair due at (cmp key q))
       ∙ by_bool (due == at) (λ same. rw (same, tied)) (λ other. rw other)
 
   -- ---- an unarmed key is armed, and its pair put in
-  module _ (entries left : List (K × ℕ)) (dues rest : List (ℕ × K)) (key : K) (due : ℕ) (index : IsIndexOf cmp entries dues) where
-    not_there : moment cmp entries key ≡ None → (at : ℕ) (q : K) → is_at (cmp key) q ≡ true → is_due_at cmp dues at q ≡ false
-    not_there absent at q tied = index at q ∙ ap (is_moment at) (moment_tied entries key q tied ∙ absent)
+  module _ (entries left : List (K × ℕ)) (dues rest : List (ℕ × K)) (key : K) (due : ℕ)
+      (index : IsIndexOf cmp entries dues) where
+    not_there : moment cmp entries key ≡ None → (at : ℕ) (q : K) → is_at (cmp key) q ≡ true
+        → is_due_at cmp dues at q ≡ false
+    not_there absent at q tied =
+        index at q ∙ ap (is_moment at) (moment_tied entries key q tied ∙ absent)
 
-    pub index_added : moment cmp entries key ≡ None → Puts cmp dues rest due key true → Arms cmp entries left key (Some due) → IsIndexOf cmp left rest
+    pub index_added : moment cmp entries key ≡ None → Puts cmp dues rest due key true
+        → Arms cmp entries left key (Some due) → IsIndexOf cmp left rest
     index_added absent puts arms = λ at q.
         by_bool (is_at (cmp key) q)
         (λ tied.
         let had : is_due_at cmp dues at q ≡ false = not_there absent at q tied in
-        let armed : moment cmp left q ≡ Some due = arms q ∙ ap (λ b. cond b (Some due) (moment cmp entries q)) tied in
+        let armed : moment cmp left q ≡ Some due =
+        arms q ∙ ap (λ b. cond b (Some due) (moment cmp entries q)) tied in
         let has : is_due_at cmp rest at q ≡ (due == at) =
-        put_tied dues rest due key true puts at q tied ∙ by_bool (due == at) (λ same. rw (same)) (λ other. rw (other, had)) in
+        put_tied dues rest due key true puts at q tied
+        ∙ by_bool (due == at) (λ same. rw (same)) (λ other. rw (other, had)) in
         has ∙ nat_eq_equiv.symm due at ∙ sym (ap (is_moment at) armed))
         (λ apart.
         put_apart dues rest due key true puts at q apart ∙ index at q
-        ∙ sym (ap (is_moment at) (arms q ∙ ap (λ b. cond b (Some due) (moment cmp entries q)) apart)))
+        ∙ sym (ap (is_moment at) (arms q
+        ∙ ap (λ b. cond b (Some due) (moment cmp entries q)) apart)))
 
     -- the pair that was put in is taken out again
-    pub index_undone : (between : List (ℕ × K)) → moment cmp entries key ≡ None → Puts cmp dues between due key true → Puts cmp between rest due key false → left ≡ entries → IsIndexOf cmp left rest
-    index_undone between absent puts takes unchanged = subst (λ (es : List (K × ℕ)). IsIndexOf cmp es rest) (sym unchanged) (λ at q.
+    pub index_undone : (between : List (ℕ × K)) → moment cmp entries key ≡ None
+        → Puts cmp dues between due key true → Puts cmp between rest due key false → left ≡ entries
+        → IsIndexOf cmp left rest
+    index_undone between absent puts takes unchanged =
+        subst (λ (es : List (K × ℕ)). IsIndexOf cmp es rest) (sym unchanged) (λ at q.
         by_bool (is_at (cmp key) q)
         (λ tied.
         let had : is_due_at cmp dues at q ≡ false = not_there absent at q tied in
         let now_not : is_due_at cmp rest at q ≡ false =
-        put_tied between rest due key false takes at q tied ∙ ap (cond (due == at) false) (put_tied dues between due key true puts at q tied)
+        put_tied between rest due key false takes at q tied
+        ∙ ap (cond (due == at) false) (put_tied dues between due key true puts at q tied)
         ∙ by_bool (due == at) (λ same. rw (same)) (λ other. rw (other, had)) in
         now_not ∙ sym had ∙ index at q)
         (λ apart.
-        put_apart between rest due key false takes at q apart ∙ put_apart dues between due key true puts at q apart ∙ index at q))
+        put_apart between rest due key false takes at q apart
+        ∙ put_apart dues between due key true puts at q apart ∙ index at q))
 
     -- an armed key gets another moment
-    pub index_moved : (between : List (ℕ × K)) (former : ℕ) → moment cmp entries key ≡ Some former → (former ≡ due → ⊥)
-        → Puts cmp dues between due key true → Puts cmp between rest former key false → Arms cmp entries left key (Some due) → IsIndexOf cmp left rest
+    pub index_moved : (between : List (ℕ × K)) (former : ℕ) → moment cmp entries key ≡ Some former
+        → (former ≡ due → ⊥)
+        → Puts cmp dues between due key true → Puts cmp between rest former key false
+        → Arms cmp entries left key (Some due) → IsIndexOf cmp left rest
     index_moved between former armed other puts takes arms = λ at q.
         by_bool (is_at (cmp key) q)
         (λ tied.
-        let had : is_due_at cmp dues at q ≡ (at == former) = index at q ∙ ap (is_moment at) (moment_tied entries key q tied ∙ armed) in
-        let after : moment cmp left q ≡ Some due = arms q ∙ ap (λ b. cond b (Some due) (moment cmp entries q)) tied in
+        let had : is_due_at cmp dues at q ≡ (at == former) =
+        index at q ∙ ap (is_moment at) (moment_tied entries key q tied ∙ armed) in
+        let after : moment cmp left q ≡ Some due =
+        arms q ∙ ap (λ b. cond b (Some due) (moment cmp entries q)) tied in
         let has : is_due_at cmp rest at q ≡ (due == at) =
-        put_tied between rest former key false takes at q tied ∙ ap (cond (former == at) false) (put_tied dues between due key true puts at q tied ∙ ap (cond (due == at) true) had)
+        put_tied between rest former key false takes at q tied
+        ∙ ap (cond (former == at) false)
+        (put_tied dues between due key true puts at q tied ∙ ap (cond (due == at) true) had)
         ∙ by_bool (former == at)
         (λ same.
-        let apart : (due == at) ≡ false = ne_eqb due at (λ e. other (eqb-true former at same ∙ sym e)) in
+        let apart : (due == at) ≡ false =
+        ne_eqb due at (λ e. other (eqb-true former at same ∙ sym e)) in
         rw (same, apart))
         (λ differ.
         let apart : (at == former) ≡ false = nat_eq_equiv.symm at former ∙ differ in
         rw (differ, apart) (by_bool (due == at) (λ e. rw e) (λ e. rw e))) in
         has ∙ nat_eq_equiv.symm due at ∙ sym (ap (is_moment at) after))
         (λ apart.
-        put_apart between rest former key false takes at q apart ∙ put_apart dues between due key true puts at q apart ∙ index at q
-        ∙ sym (ap (is_moment at) (arms q ∙ ap (λ b. cond b (Some due) (moment cmp entries q)) apart)))
+        put_apart between rest former key false takes at q apart
+        ∙ put_apart dues between due key true puts at q apart ∙ index at q
+        ∙ sym (ap (is_moment at) (arms q
+        ∙ ap (λ b. cond b (Some due) (moment cmp entries q)) apart)))
 
     -- an armed key leaves
-    pub index_removed : moment cmp entries key ≡ Some due → Puts cmp dues rest due key false → Arms cmp entries left key None → IsIndexOf cmp left rest
+    pub index_removed : moment cmp entries key ≡ Some due → Puts cmp dues rest due key false
+        → Arms cmp entries left key None → IsIndexOf cmp left rest
     index_removed armed takes arms = λ at q.
         by_bool (is_at (cmp key) q)
         (λ tied.
-        let had : is_due_at cmp dues at q ≡ (at == due) = index at q ∙ ap (is_moment at) (moment_tied entries key q tied ∙ armed) in
-        let after : moment cmp left q ≡ None = arms q ∙ ap (λ b. cond b None (moment cmp entries q)) tied in
+        let had : is_due_at cmp dues at q ≡ (at == due) =
+        index at q ∙ ap (is_moment at) (moment_tied entries key q tied ∙ armed) in
+        let after : moment cmp left q ≡ None =
+        arms q ∙ ap (λ b. cond b None (moment cmp entries q)) tied in
         let has : is_due_at cmp rest at q ≡ false =
         put_tied dues rest due key false takes at q tied ∙ ap (cond (due == at) false) had
         ∙ by_bool (due == at) (λ same. rw same) (λ differ.
@@ -149,18 +185,23 @@ module _ {K : Type 0} {cmp : K → K → Ordering} (total : IsTotalOrder cmp) wh
         ∙ sym (ap (is_moment at) (arms q ∙ ap (λ b. cond b None (moment cmp entries q)) apart)))
 
     -- the same where the key is removed by an equal one
-    pub index_removed_by : (asked : K) → cmp asked key ≡ Equal → moment cmp entries asked ≡ Some due → Puts cmp dues rest due key false → Arms cmp entries left asked None → IsIndexOf cmp left rest
+    pub index_removed_by : (asked : K) → cmp asked key ≡ Equal → moment cmp entries asked ≡ Some due
+        → Puts cmp dues rest due key false → Arms cmp entries left asked None
+        → IsIndexOf cmp left rest
     index_removed_by asked equal armed takes arms =
         index_removed (moment_tied entries asked key (ap is_eq equal) ∙ armed) takes
-        (λ q. arms q ∙ ap (λ o. cond (is_eq o) None (moment cmp entries q)) (total.congr asked key q equal))
+        (λ q. arms q ∙ ap (λ o. cond (is_eq o) None (moment cmp entries q))
+        (total.congr asked key q equal))
 
   -- ---- the first of the index
   module _ (entries : List (K × ℕ)) (dues : List (ℕ × K)) (index : IsIndexOf cmp entries dues) where
     -- a pair in the index is an armed key at its moment
-    pub armed_at : (due : ℕ) (key : K) → is_due_at cmp dues due key ≡ true → moment cmp entries key ≡ Some due
+    pub armed_at : (due : ℕ) (key : K) → is_due_at cmp dues due key ≡ true
+        → moment cmp entries key ≡ Some due
     armed_at due key there = moment_from due (moment cmp entries key) (sym (index due key) ∙ there)
 
-    pub there_at : (due : ℕ) (key : K) → moment cmp entries key ≡ Some due → is_due_at cmp dues due key ≡ true
+    pub there_at : (due : ℕ) (key : K) → moment cmp entries key ≡ Some due
+        → is_due_at cmp dues due key ≡ true
     there_at due key armed = index due key ∙ ap (is_moment due) armed ∙ eq-eqb due due refl
 
 -- ---- the order of the index
@@ -175,24 +216,35 @@ at_most a b o below =
 
 module _ {K : Type 0} {cmp : K → K → Ordering} (total : IsTotalOrder cmp) where
   -- the first of the index has the earliest moment
-  pub earliest : (entries : List (K × ℕ)) (dues : List (ℕ × K)) → IsIndexOf cmp entries dues → IsStrictlySortedBy cmp (keys_of entries) → (first : ℕ × K) → is_due_at cmp dues first.0 first.1 ≡ true
-      → ((p : ℕ × K) → is_due_at cmp dues p.0 p.1 ≡ true → is_gt (due_cmp cmp first p) ≡ false) → reduce min (values_of entries) ≡ Some first.0
+  pub earliest : (entries : List (K × ℕ)) (dues : List (ℕ × K)) → IsIndexOf cmp entries dues
+      → IsStrictlySortedBy cmp (keys_of entries) → (first : ℕ × K)
+      → is_due_at cmp dues first.0 first.1 ≡ true
+      → ((p : ℕ × K) → is_due_at cmp dues p.0 p.1 ≡ true → is_gt (due_cmp cmp first p) ≡ false)
+      → reduce min (values_of entries) ≡ Some first.0
   earliest [] dues index sorted first there least =
-      let armed : moment cmp [] first.1 ≡ Some first.0 = armed_at total [] dues index first.0 first.1 there in cc
+      let armed : moment cmp [] first.1 ≡ Some first.0 =
+      armed_at total [] dues index first.0 first.1 there in cc
   earliest (e ∷ es) dues index sorted first there least =
       let lowest : ℕ = fold min e.1 (values_of es) in
-      let found : (q : K) × (moment cmp (e ∷ es) q ≡ Some lowest) = of_a_key total (e ∷ es) sorted in
-      let low : first.0 ≤ lowest = at_most first.0 lowest (cmp first.1 found.0) (least (lowest, found.0) (there_at total (e ∷ es) dues index lowest found.0 found.1)) in
-      let armed : moment cmp (e ∷ es) first.1 ≡ Some first.0 = armed_at total (e ∷ es) dues index first.0 first.1 there in
-      let high : lowest ≤ first.0 = subst (λ (o : Option ℕ). IfSome o (λ other. lowest ≤ other)) armed (none_before cmp (e ∷ es) first.1) in
+      let found : (q : K) × (moment cmp (e ∷ es) q ≡ Some lowest) =
+      of_a_key total (e ∷ es) sorted in
+      let low : first.0 ≤ lowest = at_most first.0 lowest (cmp first.1 found.0)
+      (least (lowest, found.0) (there_at total (e ∷ es) dues index lowest found.0 found.1)) in
+      let armed : moment cmp (e ∷ es) first.1 ≡ Some first.0 =
+      armed_at total (e ∷ es) dues index first.0 first.1 there in
+      let high : lowest ≤ first.0 = subst
+      (λ (o : Option ℕ). IfSome o (λ other. lowest ≤ other)) armed
+      (none_before cmp (e ∷ es) first.1) in
       let same : lowest ≡ first.0 = omega arith in
       ap (λ (m : ℕ). Some m) same
 
   -- an empty index is that of no entries
-  pub none_earliest : (entries : List (K × ℕ)) (dues : List (ℕ × K)) → IsIndexOf cmp entries dues → length dues ≡ 0 → reduce min (values_of entries) ≡ None
+  pub none_earliest : (entries : List (K × ℕ)) (dues : List (ℕ × K)) → IsIndexOf cmp entries dues
+      → length dues ≡ 0 → reduce min (values_of entries) ≡ None
   none_earliest [] dues index empty = refl
   none_earliest (e ∷ es) [] index empty =
-      let armed : moment cmp (e ∷ es) e.0 ≡ Some e.1 = ap (λ b. cond b (Some e.1) (moment cmp es e.0)) (ap is_eq (tied_itself total e.0)) in
+      let armed : moment cmp (e ∷ es) e.0 ≡ Some e.1 =
+      ap (λ b. cond b (Some e.1) (moment cmp es e.0)) (ap is_eq (tied_itself total e.0)) in
       absurd (false≢true (there_at total (e ∷ es) [] index e.1 e.0 armed))
   none_earliest (e ∷ es) (d ∷ ds) index empty = absurd (omega arith)
 
@@ -203,7 +255,8 @@ abbrev pub due_count : {K : Type 0} → ℕ → List (ℕ × K) → ℕ
 due_count now dues = length (take_while (λ due. nat_le due.0 now) dues)
 
 module _ {K : Type 0} (now : ℕ) (d : ℕ × K) (ds : List (ℕ × K)) where
-  count_cons : due_count now (d ∷ ds) ≡ length (cond (nat_le d.0 now) (d ∷ take_while (λ due. nat_le due.0 now) ds) [])
+  count_cons : due_count now (d ∷ ds)
+      ≡ length (cond (nat_le d.0 now) (d ∷ take_while (λ due. nat_le due.0 now) ds) [])
   count_cons = ap length (take_while-cons (λ due. nat_le due.0 now) d ds)
 
   pub first_due : 0 < due_count now (d ∷ ds) → d.0 ≤ now
@@ -211,67 +264,91 @@ module _ {K : Type 0} (now : ℕ) (d : ℕ × K) (ds : List (ℕ × K)) where
       by_bool (nat_le d.0 now)
       (λ due. leb-true d.0 now due)
       (λ later.
-      let none : due_count now (d ∷ ds) ≡ 0 = count_cons ∙ ap (λ b. length (cond b (d ∷ take_while (λ due. nat_le due.0 now) ds) [])) later in
+      let none : due_count now (d ∷ ds) ≡ 0 =
+      count_cons ∙ ap (λ b. length (cond b (d ∷ take_while (λ due. nat_le due.0 now) ds) []))
+      later in
       absurd (omega arith))
 
   pub rest_due : 0 < due_count now (d ∷ ds) → due_count now (d ∷ ds) ≡ suc (due_count now ds)
   rest_due some =
       by_bool (nat_le d.0 now)
-      (λ due. count_cons ∙ ap (λ b. length (cond b (d ∷ take_while (λ due. nat_le due.0 now) ds) [])) due)
+      (λ due. count_cons ∙ ap (λ b. length
+      (cond b (d ∷ take_while (λ due. nat_le due.0 now) ds) [])) due)
       (λ later.
-      let none : due_count now (d ∷ ds) ≡ 0 = count_cons ∙ ap (λ b. length (cond b (d ∷ take_while (λ due. nat_le due.0 now) ds) [])) later in
+      let none : due_count now (d ∷ ds) ≡ 0 =
+      count_cons ∙ ap (λ b. length (cond b (d ∷ take_while (λ due. nat_le due.0 now) ds) []))
+      later in
       absurd (omega arith))
 
   none_at_first : due_count now (d ∷ ds) ≡ 0 → now < d.0
   none_at_first none =
       by_bool (nat_le d.0 now)
       (λ due.
-      let some : due_count now (d ∷ ds) ≡ suc (due_count now ds) = count_cons ∙ ap (λ b. length (cond b (d ∷ take_while (λ due. nat_le due.0 now) ds) [])) due in
+      let some : due_count now (d ∷ ds) ≡ suc (due_count now ds) =
+      count_cons ∙ ap (λ b. length (cond b (d ∷ take_while (λ due. nat_le due.0 now) ds) []))
+      due in
       absurd (omega arith))
       (λ later. leb-false d.0 now later)
 
 module _ {K : Type 0} (cmp : K → K → Ordering) where
   -- pairs that are all later have no earlier moment
-  all_later : (now : ℕ) (ds : List (ℕ × K)) → AllByRecursion (λ d. now < d.0) ds → (at : ℕ) (q : K) → is_due_at cmp ds at q ≡ true → now < at
+  all_later : (now : ℕ) (ds : List (ℕ × K)) → AllByRecursion (λ d. now < d.0) ds → (at : ℕ) (q : K)
+      → is_due_at cmp ds at q ≡ true → now < at
   all_later now [] every at q there = absurd (false≢true there)
   all_later now (d ∷ ds) every at q there =
-      elim (or_cases (is_eq (ordering_then (nat_cmp at d.0) (cmp q d.1))) (is_due_at cmp ds at q) there) as (λ _. now < at) [
+      elim (or_cases (is_eq (ordering_then (nat_cmp at d.0) (cmp q d.1)))
+      (is_due_at cmp ds at q) there) as (λ _. now < at) [
         | inl here ↦
-            let same : at ≡ d.0 = eqb-true at d.0 (and_parts (at == d.0) (is_eq (cmp q d.1)) (sym (tied_pair at d.0 (cmp q d.1)) ∙ here)).0 in
+            let same : at ≡ d.0 = eqb-true at d.0
+            (and_parts (at == d.0) (is_eq (cmp q d.1))
+            (sym (tied_pair at d.0 (cmp q d.1)) ∙ here)).0 in
             let after : now < d.0 = every.0 in omega arith
         | inr among ↦ all_later now ds every.1 at q among
       ]
 
-  above_first : (now : ℕ) (d : ℕ × K) → now < d.0 → (ds : List (ℕ × K)) → AllByRecursion (λ y. due_cmp cmp d y ≡ Less) ds → AllByRecursion (λ y. now < y.0) ds
+  above_first : (now : ℕ) (d : ℕ × K) → now < d.0 → (ds : List (ℕ × K))
+      → AllByRecursion (λ y. due_cmp cmp d y ≡ Less) ds → AllByRecursion (λ y. now < y.0) ds
   above_first now d after [] above = tt
   above_first now d after (y ∷ ys) above =
       let more : d.0 ≤ y.0 = at_most d.0 y.0 (cmp d.1 y.1) (ap is_gt above.0) in
       (omega arith, above_first now d after ys above.1)
 
   -- where nothing is due at the front, nothing is due
-  pub none_due : (now : ℕ) (dues : List (ℕ × K)) → IsStrictlySortedBy (due_cmp cmp) dues → due_count now dues ≡ 0 → (at : ℕ) (q : K) → is_due_at cmp dues at q ≡ true → now < at
+  pub none_due : (now : ℕ) (dues : List (ℕ × K)) → IsStrictlySortedBy (due_cmp cmp) dues
+      → due_count now dues ≡ 0 → (at : ℕ) (q : K) → is_due_at cmp dues at q ≡ true → now < at
   none_due now [] sorted none at q there = absurd (false≢true there)
   none_due now (d ∷ ds) sorted none at q there =
       let after : now < d.0 = none_at_first now d ds none in
-      all_later now (d ∷ ds) (after, above_first now d after ds (sorted_head (due_cmp cmp) d ds sorted)) at q there
+      all_later now (d ∷ ds) (
+        after,
+        above_first now d after ds (sorted_head (due_cmp cmp) d ds sorted),
+      ) at q there
 
 -- an armed key that gets the moment that it has
-pub insert_same : {K : Type 0} {cmp : K → K → Ordering} → IsTotalOrder cmp → (es : List (K × ℕ)) → IsStrictlySortedBy cmp (keys_of es) → (key : K) (due : ℕ) → moment cmp es key ≡ Some due → es ≡ insert_entry cmp es key due
+pub insert_same : {K : Type 0} {cmp : K → K → Ordering} → IsTotalOrder cmp → (es : List (K × ℕ))
+    → IsStrictlySortedBy cmp (keys_of es) → (key : K) (due : ℕ) → moment cmp es key ≡ Some due
+    → es ≡ insert_entry cmp es key due
 insert_same total [] sorted key due armed = let none : None ≡ Some due = armed in cc
 insert_same {K} {cmp} total (e ∷ es) sorted key due armed =
     by_ordering (cmp key e.0)
     (λ less.
-    let none : moment cmp (e ∷ es) key ≡ None = lookup-none (is_at (cmp key)) (e ∷ es) (none_below_head total key e es sorted less) in
+    let none : moment cmp (e ∷ es) key ≡ None =
+    lookup-none (is_at (cmp key)) (e ∷ es) (none_below_head total key e es sorted less) in
     let some : None ≡ Some due = sym none ∙ armed in
     absurd (none_some due some))
     (λ equal.
-    let here : Some e.1 ≡ Some due = sym (ap (λ o. cond (is_eq o) (Some e.1) (moment cmp es key)) equal) ∙ armed in
+    let here : Some e.1 ≡ Some due =
+    sym (ap (λ o. cond (is_eq o) (Some e.1) (moment cmp es key)) equal) ∙ armed in
     let same : e.1 ≡ due = same_Some e.1 due here in
-    sym (ap (λ o. match_ordering o ((key, due) ∷ e ∷ es) ((e.0, due) ∷ es) (e ∷ insert_entry cmp es key due)) equal ∙ ap (λ (m : ℕ). (e.0, m) ∷ es) (sym same)))
+    sym (ap (λ o. match_ordering o ((key, due) ∷ e ∷ es) ((e.0, due) ∷ es)
+    (e ∷ insert_entry cmp es key due)) equal ∙ ap (λ (m : ℕ). (e.0, m) ∷ es) (sym same)))
     (λ greater.
-    let after : moment cmp es key ≡ Some due = sym (ap (λ o. cond (is_eq o) (Some e.1) (moment cmp es key)) greater) ∙ armed in
-    ap (λ rest. e ∷ rest) (insert_same total es (sorted_tail cmp e.0 (keys_of es) sorted) key due after)
-    ∙ sym (ap (λ o. match_ordering o ((key, due) ∷ e ∷ es) ((e.0, due) ∷ es) (e ∷ insert_entry cmp es key due)) greater))
+    let after : moment cmp es key ≡ Some due =
+    sym (ap (λ o. cond (is_eq o) (Some e.1) (moment cmp es key)) greater) ∙ armed in
+    ap (λ rest. e ∷ rest) (insert_same total es
+    (sorted_tail cmp e.0 (keys_of es) sorted) key due after)
+    ∙ sym (ap (λ o. match_ordering o ((key, due) ∷ e ∷ es) ((e.0, due) ∷ es)
+    (e ∷ insert_entry cmp es key due)) greater))
 
 pub empty_from_none : (count : ℕ) → (0 < count → false ≡ true) → count ≡ 0
 empty_from_none zero some = refl

@@ -7,13 +7,15 @@ use Rattle.std.specs.List.{list_any}
 use Rattle.std.specs.declared.cmp.Ordering.{Ordering}
 use Rattle.sip_timers.specs.Queue.{moment}
 
--- moments beside keys are in the order of the moments, and those of one moment in the order of the keys
+-- moments beside keys are in the order of the moments, and those of one moment in the order of the
+-- keys
 abbrev pub due_cmp : {K : Type 0} → (K → K → Ordering) → ℕ × K → ℕ × K → Ordering
 due_cmp cmp a b = ordering_then (nat_cmp a.0 b.0) (cmp a.1 b.1)
 
 -- whether the index has the key at the moment
 abbrev pub is_due_at : {K : Type 0} → (K → K → Ordering) → List (ℕ × K) → ℕ → K → Bool
-is_due_at cmp dues at key = list_any (λ due. is_eq (ordering_then (nat_cmp at due.0) (cmp key due.1))) dues
+is_due_at cmp dues at key =
+    list_any (λ due. is_eq (ordering_then (nat_cmp at due.0) (cmp key due.1))) dues
 
 -- whether there is a moment and it is this one
 abbrev pub is_moment : ℕ → Option ℕ → Bool
@@ -22,10 +24,12 @@ is_moment at (Some due) = at == due
 
 -- the index has each armed key at its moment, and nothing else
 abbrev pub IsIndexOf : {K : Type 0} → (K → K → Ordering) → List (K × ℕ) → List (ℕ × K) → Type 0
-IsIndexOf {K} cmp entries dues = (at : ℕ) (key : K) → is_due_at cmp dues at key ≡ is_moment at (moment cmp entries key)
+IsIndexOf {K} cmp entries dues =
+    (at : ℕ) (key : K) → is_due_at cmp dues at key ≡ is_moment at (moment cmp entries key)
 
 -- the first of the index leaves it and the queue, which gives its own key
-abbrev pub TakesFirst : {K : Type 0} → (K → K → Ordering) → List (K × ℕ) → List (ℕ × K) → K → List (K × ℕ) → List (ℕ × K) → Type 0
+abbrev pub TakesFirst : {K : Type 0} → (K → K → Ordering) → List (K × ℕ) → List (ℕ × K) → K
+    → List (K × ℕ) → List (ℕ × K) → Type 0
 TakesFirst {K} cmp entries dues key left rest = (due : ℕ × K)
     × (dues ≡ due ∷ rest)
     × (lookup_key (is_at (cmp due.1)) entries ≡ Some key)

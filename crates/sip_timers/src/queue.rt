@@ -126,7 +126,8 @@ impl<K: Ord + Clone + Drop> Queue<K> {
         ensures earliest { result ≡ reduce min (values_of self.now) }
 
         // By look-ups: no key is due before it, and it is the moment of one.
-        ensures none_before { IfSome result (λ due. (q : K) → IfSome (moment K.cmp self.now q) (λ other. due ≤ other)) }
+        ensures none_before { IfSome result
+            (λ due. (q : K) → IfSome (moment K.cmp self.now q) (λ other. due ≤ other)) }
         ensures of_a_key { IfSome result (λ due. (q : K) × (moment K.cmp self.now q ≡ Some due)) }
         ensures none_armed { IfNone result ((q : K) → moment K.cmp self.now q ≡ None) }
     {

@@ -53,11 +53,14 @@ or_none : (a b : Bool) → a ≡ false → b ≡ false → (a || b) ≡ false
 or_none true b no_a no_b = no_a
 or_none false b no_a no_b = no_b
 
-sends_none : (id : Id) (key : Key) (life : Life) (o : Option (List ℕ)) → list_any (carries id) (option_to_list (option_map (send_out key life.to) o)) ≡ false
+sends_none : (id : Id) (key : Key) (life : Life) (o : Option (List ℕ))
+    → list_any (carries id) (option_to_list (option_map (send_out key life.to) o)) ≡ false
 sends_none id key life None = refl
 sends_none id key life (Some bytes) = refl
 
-handed_other : (id : Id) (key : Key) (life : Life) (handed : Handed) (arrived : Option (Message × Addr)) → same_id id life.id ≡ false → list_any (carries id) (option_to_list (handed_out key life handed arrived)) ≡ false
+handed_other : (id : Id) (key : Key) (life : Life) (handed : Handed)
+    (arrived : Option (Message × Addr)) → same_id id life.id ≡ false
+    → list_any (carries id) (option_to_list (handed_out key life handed arrived)) ≡ false
 unfolding handed_out
 handed_other id key life up.Nothing arrived other = refl
 handed_other id key life up.Message None other = refl
@@ -66,34 +69,44 @@ handed_other id key life up.Timeout arrived other = or_none _ false other refl
 handed_other id key life up.Failed arrived other = or_none _ false other refl
 handed_other id key life up.NoTransaction arrived other = refl
 
-said_other : (id : Id) (key : Key) (life : Life) (step : Step) (made : Option (List ℕ)) (arrived : Option (Message × Addr))
-    → list_any (carries id) (option_to_list (handed_out key life step.handed arrived)) ≡ false → list_any (carries id) (outputs_of key life step made arrived) ≡ false
+said_other : (id : Id) (key : Key) (life : Life) (step : Step) (made : Option (List ℕ))
+    (arrived : Option (Message × Addr))
+    → list_any (carries id) (option_to_list (handed_out key life step.handed arrived)) ≡ false
+    → list_any (carries id) (outputs_of key life step made arrived) ≡ false
 unfolding outputs_of
 said_other id key life step made arrived handed =
-    list_any-append (carries id) (option_to_list (handed_out key life step.handed arrived)) (option_to_list (option_map (send_out key life.to) (sent_bytes life.last step.sent made)))
+    list_any-append (carries id) (option_to_list (handed_out key life step.handed arrived))
+    (option_to_list (option_map (send_out key life.to) (sent_bytes life.last step.sent made)))
     ∙ or_none _ _ handed (sends_none id key life (sent_bytes life.last step.sent made))
 
 id-last_of : (bytes : Option (List ℕ)) (life : Life) → (last_of bytes life).id ≡ life.id
 id-last_of None life = refl
 id-last_of (Some bytes) life = refl
 
-entered_other : (id : Id) (next : Next) (life : Life) → same_id id life.id ≡ false → OtherLife id (entered next life)
+entered_other : (id : Id) (next : Next) (life : Life) → same_id id life.id ≡ false
+    → OtherLife id (entered next life)
 entered_other id Same life other = other
 entered_other id Ended life other = tt
 entered_other id (Become state) life other = other
 
-life_other : (id : Id) (life : Life) (step : Step) (now : ℕ) (bytes : Option (List ℕ)) → same_id id life.id ≡ false → OtherLife id (life_after life step now bytes)
+life_other : (id : Id) (life : Life) (step : Step) (now : ℕ) (bytes : Option (List ℕ))
+    → same_id id life.id ≡ false → OtherLife id (life_after life step now bytes)
 unfolding life_after
-life_other id life step now bytes other = entered_other id step.next _ (ap (same_id id) (id-last_of bytes life) ∙ other)
+life_other id life step now bytes other =
+    entered_other id step.next _ (ap (same_id id) (id-last_of bytes life) ∙ other)
 
-acted_other : (id : Id) (key : Key) (now : ℕ) (input : Input) (life : Life) (step : Step) → same_id id life.id ≡ false → Other id (acted_if key now input (Some life) step)
+acted_other : (id : Id) (key : Key) (now : ℕ) (input : Input) (life : Life) (step : Step)
+    → same_id id life.id ≡ false → Other id (acted_if key now input (Some life) step)
 acted_other id key now input life step other = record {
   life = life_other id life step now _ other;
-  said = said_other id key life step _ (arrived_in input) (handed_other id key life step.handed (arrived_in input) other);
+  said = said_other id key life step _ (arrived_in input)
+      (handed_other id key life step.handed (arrived_in input) other);
 }
 
 -- a response without a life: nothing is handed up, and nothing begins
-not_handed : (id : Id) (key : Key) (life : Life) (handed : Handed) (arrived : Option (Message × Addr)) → not (is_message handed || is_report handed) ≡ true → list_any (carries id) (option_to_list (handed_out key life handed arrived)) ≡ false
+not_handed : (id : Id) (key : Key) (life : Life) (handed : Handed)
+    (arrived : Option (Message × Addr)) → not (is_message handed || is_report handed) ≡ true
+    → list_any (carries id) (option_to_list (handed_out key life handed arrived)) ≡ false
 unfolding handed_out
 not_handed id key life up.Nothing arrived quiet = refl
 not_handed id key life up.Message arrived quiet = absurd (false≢true quiet)
@@ -101,100 +114,152 @@ not_handed id key life up.Timeout arrived quiet = absurd (false≢true quiet)
 not_handed id key life up.Failed arrived quiet = absurd (false≢true quiet)
 not_handed id key life up.NoTransaction arrived quiet = refl
 
-response_other : (id : Id) (key : Key) (now : ℕ) (input : Input) (life : Life) (step : Step) → (is_ended step.next && not (is_message step.handed || is_report step.handed)) ≡ true → Other id (acted_if key now input (Some life) step)
+response_other : (id : Id) (key : Key) (now : ℕ) (input : Input) (life : Life) (step : Step)
+    → (is_ended step.next && not (is_message step.handed || is_report step.handed)) ≡ true
+    → Other id (acted_if key now input (Some life) step)
 response_other id key now input life step quiet = record {
-  life = subst (OtherLife id) (sym (life_after-ended life step now _ (and-left (is_ended step.next) _ quiet))) tt;
-  said = said_other id key life step _ (arrived_in input) (not_handed id key life step.handed (arrived_in input) (and-right (is_ended step.next) _ quiet));
+  life = subst (OtherLife id) (sym
+      (life_after-ended life step now _ (and-left (is_ended step.next) _ quiet))) tt;
+  said = said_other id key life step _ (arrived_in input)
+      (not_handed id key life step.handed (arrived_in input)
+      (and-right (is_ended step.next) _ quiet));
 }
 
 -- a message that came without a life
-receive_other : (id : Id) (key : Key) (now : ℕ) (i : Id) (message : Message) (reply_to : Addr) (line : StartLine) (step : Step) (life : Life) → life.id ≡ i → message.start ≡ line → OtherName id (arrival_id line i)
-    → response_needs_life None (arrival_of line message.cseq.method) step ≡ true → Other id (acted_if key now (Receive i message reply_to) (Some life) step)
-receive_other id key now i message reply_to (start.Request uri) step life named is other passed = acted_other id key now (Receive i message reply_to) life step (ap (same_id id) named ∙ other)
-receive_other id key now i message reply_to (start.Response status reason) step life named is other passed = response_other id key now (Receive i message reply_to) life step passed
+receive_other : (id : Id) (key : Key) (now : ℕ) (i : Id) (message : Message) (reply_to : Addr)
+    (line : StartLine) (step : Step) (life : Life) → life.id ≡ i → message.start ≡ line
+    → OtherName id (arrival_id line i)
+    → response_needs_life None (arrival_of line message.cseq.method) step ≡ true
+    → Other id (acted_if key now (Receive i message reply_to) (Some life) step)
+receive_other id key now i message reply_to (start.Request uri) step life named is other passed =
+    acted_other id key now (Receive i message reply_to) life step (ap (same_id id) named ∙ other)
+receive_other id key now i message reply_to
+    (start.Response status reason) step life named is other passed =
+    response_other id key now (Receive i message reply_to) life step passed
 
-begun_other : (id : Id) (key : Key) (now : ℕ) (input : Input) (step : Step) (trigger : Trigger) → trigger_of None now input ≡ Some trigger → response_needs_life None trigger step ≡ true → OtherName id (naming_id input)
+begun_other : (id : Id) (key : Key) (now : ℕ) (input : Input) (step : Step) (trigger : Trigger)
+    → trigger_of None now input ≡ Some trigger → response_needs_life None trigger step ≡ true
+    → OtherName id (naming_id input)
     → Other id (acted_if key now input (begun (role_of key) input) step)
 unfolding begun
 begun_other id key now Tick step trigger triggered passed other = record { life = tt; said = refl }
-begun_other id key now (Answer i message) step trigger triggered passed other = record { life = tt; said = refl }
-begun_other id key now (Failed i) step trigger triggered passed other = record { life = tt; said = refl }
-begun_other id key now (Start i call_id message to) step trigger triggered passed other = acted_other id key now (Start i call_id message to) _ step other
+begun_other id key now (Answer i message) step trigger triggered passed other =
+    record { life = tt; said = refl }
+begun_other id key now (Failed i) step trigger triggered passed other =
+    record { life = tt; said = refl }
+begun_other id key now (Start i call_id message to) step trigger triggered passed other =
+    acted_other id key now (Start i call_id message to) _ step other
 begun_other id key now (Receive i message reply_to) step trigger triggered passed other =
     let same : trigger ≡ arrival_of message.start message.cseq.method = cc in
-    receive_other id key now i message reply_to message.start step _ refl refl other (subst (λ t. response_needs_life None t step ≡ true) same passed)
+    receive_other id key now i message reply_to message.start step _ refl refl other
+    (subst (λ t. response_needs_life None t step ≡ true) same passed)
 
 -- one input
-input_other : (id : Id) (key : Key) (held : Option Life) (timed : Timed) → OtherLife id held → OtherName id (naming_id timed.input) → Other id (stepped key held timed)
+input_other : (id : Id) (key : Key) (held : Option Life) (timed : Timed) → OtherLife id held
+    → OtherName id (naming_id timed.input) → Other id (stepped key held timed)
 input_other id key (Some life) timed other named =
-    by_step (Other id) key (Some life) timed (record { life = other; said = refl }) (λ step row. acted_other id key timed.moment timed.input life step other)
+    by_step (Other id) key (Some life) timed (record { life = other; said = refl })
+    (λ step row. acted_other id key timed.moment timed.input life step other)
 input_other id key None timed other named =
     by_step (Other id) key None timed (record { life = tt; said = refl })
-    (λ step row. begun_other id key timed.moment timed.input step row.trigger row.triggered (row_passes response_needs_life (rows_of (role_of key)) (responses_in_tables (role_of key)) None row.trigger step row.row) named)
+    (λ step row. begun_other id key timed.moment timed.input step row.trigger row.triggered
+    (row_passes response_needs_life (rows_of (role_of key))
+    (responses_in_tables (role_of key)) None row.trigger step row.row) named)
 
 -- all later inputs
-later_other : (id : Id) (key : Key) (held : Option Life) (inputs : List Timed) → OtherLife id held → AllByRecursion (λ timed. OtherName id (naming_id timed.input)) inputs
+later_other : (id : Id) (key : Key) (held : Option Life) (inputs : List Timed) → OtherLife id held
+    → AllByRecursion (λ timed. OtherName id (naming_id timed.input)) inputs
     → list_any (carries id) (outputs_from transaction_machine key held inputs) ≡ false
 later_other id key held [] other named = refl
 later_other id key held (timed ∷ inputs) other named =
     let one = input_other id key held timed other named.0 in
-    list_any-append (carries id) (stepped key held timed).1 (outputs_from transaction_machine key (stepped key held timed).0 inputs)
+    list_any-append (carries id) (stepped key held timed).1
+    (outputs_from transaction_machine key (stepped key held timed).0 inputs)
     ∙ or_none _ _ one.said (later_other id key (stepped key held timed).0 inputs one.life named.1)
 
 -- ---- distinct names
 abbrev names : List Timed → List Id
 names inputs = filter_map (λ timed. naming_id timed.input) inputs
 
-distinct_later : (xs : List Id) (id : Id) (ys : List Id) → IsDistinct same_id (xs ++ id ∷ ys) → AllByRecursion (λ y. same_id id y ≡ false) ys
+distinct_later : (xs : List Id) (id : Id) (ys : List Id) → IsDistinct same_id (xs ++ id ∷ ys)
+    → AllByRecursion (λ y. same_id id y ≡ false) ys
 distinct_later [] id ys distinct = IsDistinct-head same_id id ys distinct
-distinct_later (x ∷ xs) id ys distinct = distinct_later xs id ys (IsDistinct-tail same_id x (xs ++ id ∷ ys) distinct)
+distinct_later (x ∷ xs) id ys distinct =
+    distinct_later xs id ys (IsDistinct-tail same_id x (xs ++ id ∷ ys) distinct)
 
-all_right : {X : Type 0} (P : X → Type 0) (xs ys : List X) → AllByRecursion P (xs ++ ys) → AllByRecursion P ys
+all_right : {X : Type 0} (P : X → Type 0) (xs ys : List X) → AllByRecursion P (xs ++ ys)
+    → AllByRecursion P ys
 all_right P [] ys all = all
 all_right P (x ∷ xs) ys all = all_right P xs ys all.1
 
 -- a name that comes first, if there is one
-named_first : (id : Id) (name : Option Id) (later : List Id) → AllByRecursion (λ n. same_id id n ≡ false) (cons_option name later) → OtherName id name × AllByRecursion (λ n. same_id id n ≡ false) later
+named_first : (id : Id) (name : Option Id) (later : List Id)
+    → AllByRecursion (λ n. same_id id n ≡ false) (cons_option name later)
+    → OtherName id name × AllByRecursion (λ n. same_id id n ≡ false) later
 named_first id None later all = (tt, all)
 named_first id (Some name) later all = (all.0, all.1)
 
-named_apart : (id : Id) (inputs : List Timed) → AllByRecursion (λ name. same_id id name ≡ false) (names inputs) → AllByRecursion (λ timed. OtherName id (naming_id timed.input)) inputs
+named_apart : (id : Id) (inputs : List Timed)
+    → AllByRecursion (λ name. same_id id name ≡ false) (names inputs)
+    → AllByRecursion (λ timed. OtherName id (naming_id timed.input)) inputs
 named_apart id [] all = tt
 named_apart id (timed ∷ inputs) all =
     let parts = named_first id (naming_id timed.input) (names inputs) all in
     (parts.0, named_apart id inputs parts.1)
 
 -- the first input of a life names it
-receive_names : (key : Key) (now : ℕ) (i : Id) (message : Message) (reply_to : Addr) (line : StartLine) (step : Step) (life : Life) → response_needs_life None (arrival_of line message.cseq.method) step ≡ true
-    → IsSome (acted_if key now (Receive i message reply_to) (Some life) step).0 → arrival_id line i ≡ Some i
+receive_names : (key : Key) (now : ℕ) (i : Id) (message : Message) (reply_to : Addr)
+    (line : StartLine) (step : Step) (life : Life)
+    → response_needs_life None (arrival_of line message.cseq.method) step ≡ true
+    → IsSome (acted_if key now (Receive i message reply_to) (Some life) step).0
+    → arrival_id line i ≡ Some i
 receive_names key now i message reply_to (start.Request uri) step life passed goes_on = refl
 receive_names key now i message reply_to (start.Response status reason) step life passed goes_on =
-    absurd (false≢true (sym (ap is_some (life_after-ended life step now _ (and-left (is_ended step.next) _ passed))) ∙ goes_on))
+    absurd (false≢true (sym (ap is_some
+    (life_after-ended life step now _ (and-left (is_ended step.next) _ passed))) ∙ goes_on))
 
-begun_names : (key : Key) (now : ℕ) (input : Input) (step : Step) (trigger : Trigger) → trigger_of None now input ≡ Some trigger → response_needs_life None trigger step ≡ true
-    → IsSome (acted_if key now input (begun (role_of key) input) step).0 → naming_id input ≡ id_of input
+begun_names : (key : Key) (now : ℕ) (input : Input) (step : Step) (trigger : Trigger)
+    → trigger_of None now input ≡ Some trigger → response_needs_life None trigger step ≡ true
+    → IsSome (acted_if key now input (begun (role_of key) input) step).0
+    → naming_id input ≡ id_of input
 unfolding begun
 begun_names key now Tick step trigger triggered passed goes_on = refl
-begun_names key now (Answer i message) step trigger triggered passed goes_on = absurd (false≢true goes_on)
+begun_names key now (Answer i message) step trigger triggered passed goes_on =
+    absurd (false≢true goes_on)
 begun_names key now (Failed i) step trigger triggered passed goes_on = absurd (false≢true goes_on)
 begun_names key now (Start i call_id message to) step trigger triggered passed goes_on = refl
 begun_names key now (Receive i message reply_to) step trigger triggered passed goes_on =
     let same : trigger ≡ arrival_of message.start message.cseq.method = cc in
-    receive_names key now i message reply_to message.start step _ (subst (λ t. response_needs_life None t step ≡ true) same passed) goes_on
+    receive_names key now i message reply_to message.start step _
+    (subst (λ t. response_needs_life None t step ≡ true) same passed) goes_on
 
-first_names : (key : Key) (first : Timed) → IsSome (stepped key None first).0 → naming_id first.input ≡ id_of first.input
+first_names : (key : Key) (first : Timed) → IsSome (stepped key None first).0
+    → naming_id first.input ≡ id_of first.input
 first_names key first =
-    by_step (λ after. IsSome after.0 → naming_id first.input ≡ id_of first.input) key None first (λ some. absurd (false≢true some))
-    (λ step row. begun_names key first.moment first.input step row.trigger row.triggered (row_passes response_needs_life (rows_of (role_of key)) (responses_in_tables (role_of key)) None row.trigger step row.row))
+    by_step (λ after. IsSome after.0 → naming_id first.input ≡ id_of first.input) key None first
+    (λ some. absurd (false≢true some))
+    (λ step row. begun_names key first.moment first.input step row.trigger row.triggered
+    (row_passes response_needs_life (rows_of (role_of key))
+    (responses_in_tables (role_of key)) None row.trigger step row.row))
 
 pub nothing_after_the_end : NothingAfterTheEnd
 nothing_after_the_end key before first rest after id life ended named distinct =
     let goes_on : IsSome (stepped key None first).0 =
-    subst (λ s. IsSome (stepped key s first).0) life.none_before (subst IsSome (state_after-push transaction_machine key before first) life.begins) in
+    subst (λ s. IsSome (stepped key s first).0) life.none_before
+    (subst IsSome (state_after-push transaction_machine key before first) life.begins) in
     let name : naming_id first.input ≡ Some id = first_names key first goes_on ∙ named in
-    let parts : names (before ++ first ∷ rest ++ after) ≡ (names before ++ cons_option (naming_id first.input) (names rest)) ++ names after =
-    filter_map-append (λ timed. naming_id timed.input) (before ++ first ∷ rest) after ∙ ap (λ l. l ++ names after) (filter_map-append (λ timed. naming_id timed.input) before (first ∷ rest)) in
-    let with_name : names (before ++ first ∷ rest ++ after) ≡ names before ++ id ∷ (names rest ++ names after) =
-    parts ∙ ap (λ n. (names before ++ cons_option n (names rest)) ++ names after) name ∙ append_assoc (names before) (id ∷ names rest) (names after) in
-    let later : AllByRecursion (λ y. same_id id y ≡ false) (names rest ++ names after) = distinct_later (names before) id (names rest ++ names after) (subst (IsDistinct same_id) with_name distinct) in
-    later_other id key None after tt (named_apart id after (all_right (λ y. same_id id y ≡ false) (names rest) (names after) later))
+    let parts : names (before ++ first ∷ rest ++ after)
+    ≡ (names before ++ cons_option (naming_id first.input) (names rest)) ++ names after =
+    filter_map-append (λ timed. naming_id timed.input) (before ++ first ∷ rest) after
+    ∙ ap (λ l. l ++ names after) (filter_map-append (λ timed. naming_id timed.input) before
+    (first ∷ rest)) in
+    let with_name : names (before ++ first ∷ rest ++ after) ≡ names before
+    ++ id ∷ (names rest ++ names after) =
+    parts ∙ ap (λ n. (names before ++ cons_option n (names rest)) ++ names after) name
+    ∙ append_assoc (names before) (id ∷ names rest) (names after) in
+    let later : AllByRecursion (λ y. same_id id y ≡ false) (names rest ++ names after) =
+    distinct_later (names before) id (names rest ++ names after)
+    (subst (IsDistinct same_id) with_name distinct) in
+    later_other id key None after tt
+    (named_apart id after (all_right (λ y. same_id id y ≡ false) (names rest)
+    (names after) later))

@@ -57,7 +57,8 @@ use Rattle.sip_transactions.proofs.LawSteps.{by_step}
 
 -- ---- firings take time
 
--- the least interval of a client's repeats, and the least time that so many firings take after the first
+-- the least interval of a client's repeats, and the least time that so many firings take after the
+-- first
 abbrev least : Role → ℕ → ℕ
 least InviteClient j = 500 * 2 ^ j
 least Client j = min (500 * 2 ^ j) 4000
@@ -78,7 +79,8 @@ taken-zero role = refl
 
 taken-more : (role : Role) (j k : ℕ) → taken role j ≤ taken role (k + j)
 taken-more role j zero = let e : zero + j ≡ j = omega arith in rw e (omega arith)
-taken-more role j (suc k) = let e : suc k + j ≡ suc (k + j) = omega arith in rw (e, taken-suc role (k + j)) (omega (arith, taken-more role j k))
+taken-more role j (suc k) = let e : suc k + j ≡ suc (k + j) = omega arith in
+    rw (e, taken-suc role (k + j)) (omega (arith, taken-more role j k))
 
 -- a client's role
 abbrev is_client : Role → Bool
@@ -94,13 +96,17 @@ taken-most Client client = lit≤ tt
 taken-most InviteServer client = absurd (false≢true client)
 taken-most Server client = absurd (false≢true client)
 
-few_fired : (role : Role) → is_client role ≡ true → (j : ℕ) → taken role j < 31500 → j < most_repeats role
-few_fired role client j few = elim (dec_le (most_repeats role) j) [ yes above ↦ absurd (too_many above) | no below ↦ omega arith ]
+few_fired : (role : Role) → is_client role ≡ true → (j : ℕ) → taken role j < 31500
+    → j < most_repeats role
+few_fired role client j few = elim
+    (dec_le (most_repeats role) j) [ yes above ↦ absurd (too_many above) | no below ↦ omega arith ]
   where
     too_many : most_repeats role ≤ j → ⊥
     too_many above =
         let e : (j - most_repeats role) + most_repeats role ≡ j = omega arith in
-        let grown : taken role (most_repeats role) ≤ taken role j = subst (λ n. taken role (most_repeats role) ≤ taken role n) e (taken-more role (most_repeats role) (j - most_repeats role)) in
+        let grown : taken role (most_repeats role) ≤ taken role j =
+        subst (λ n. taken role (most_repeats role) ≤ taken role n) e
+        (taken-more role (most_repeats role) (j - most_repeats role)) in
         omega (arith, taken-most role client)
 
 -- a repeat has an end, and the firings so far took their time
@@ -126,11 +132,16 @@ paces role due = false
 
 -- what a firing leaves
 record Fired (role : Role) (dues : Dues) (due : Due) (now : ℕ) : Type 0 where
-  fewer : 1 + left role (rearmed due now dues).repeat (rearmed due now dues).fired ≤ left role dues.repeat dues.fired
-  paced : Paced role (rearmed due now dues).repeat (rearmed due now dues).fired (rearmed due now dues).ending
+  fewer : 1 + left role (rearmed due now dues).repeat (rearmed due now dues).fired
+      ≤ left role dues.repeat dues.fired
+  paced : Paced role (rearmed due now dues).repeat (rearmed due now dues).fired
+      (rearmed due now dues).ending
 
-fired_at : (role : Role) → is_client role ≡ true → (pace : Pace) (now fired : ℕ) (repeat ending : Option ℕ) → least role (fired + 1) ≤ interval pace (fired + 1)
-    → is_due now repeat ≡ true → is_due now ending ≡ false → Paced role repeat fired ending → Fired role (record { repeat = repeat; fired = fired; ending = ending }) (Again pace) now
+fired_at : (role : Role) → is_client role ≡ true
+    → (pace : Pace) (now fired : ℕ) (repeat ending : Option ℕ)
+    → least role (fired + 1) ≤ interval pace (fired + 1)
+    → is_due now repeat ≡ true → is_due now ending ≡ false → Paced role repeat fired ending
+    → Fired role (record { repeat = repeat; fired = fired; ending = ending }) (Again pace) now
 unfolding Paced
 fired_at role client pace now fired None ending enough due before paced = absurd (false≢true due)
 fired_at role client pace now fired (Some d) None enough due before paced = absurd paced
@@ -139,10 +150,12 @@ fired_at role client pace now fired (Some d) (Some e) enough due before paced =
     let now_e : now < e = leb-false e now before in
     let few : fired < most_repeats role = few_fired role client fired (omega arith) in
     let one : suc fired ≡ fired + 1 = omega arith in
-    let more : taken role (fired + 1) ≡ taken role fired + least role (fired + 1) = subst (λ n. taken role n ≡ taken role fired + least role n) one (taken-suc role fired) in
+    let more : taken role (fired + 1) ≡ taken role fired + least role (fired + 1) =
+    subst (λ n. taken role n ≡ taken role fired + least role n) one (taken-suc role fired) in
     record { fewer = omega arith; paced = omega arith }
 
-least_interval : (role : Role) (pace : Pace) (j : ℕ) → paces role (Again pace) ≡ true → least role j ≤ interval pace j
+least_interval : (role : Role) (pace : Pace) (j : ℕ) → paces role (Again pace) ≡ true
+    → least role j ≤ interval pace j
 least_interval InviteClient Doubled j fit = omega arith
 least_interval InviteClient Capped j fit = absurd (false≢true fit)
 least_interval InviteClient Even j fit = absurd (false≢true fit)
@@ -164,7 +177,8 @@ record Left (role : Role) (dues after : Dues) : Type 0 where
   fewer : left role after.repeat after.fired ≤ left role dues.repeat dues.fired
   paced : Paced role after.repeat after.fired after.ending
 
-plain_left : (role : Role) (due : Due) (now : ℕ) (dues : Dues) → is_plain due ≡ true → Paced role dues.repeat dues.fired dues.ending → Left role dues (rearmed due now dues)
+plain_left : (role : Role) (due : Due) (now : ℕ) (dues : Dues) → is_plain due ≡ true
+    → Paced role dues.repeat dues.fired dues.ending → Left role dues (rearmed due now dues)
 unfolding Paced
 plain_left role Keep now dues plain paced = record { fewer = omega arith; paced = paced }
 plain_left role Clear now dues plain paced = record { fewer = omega arith; paced = tt }
@@ -177,7 +191,8 @@ plain_left role (Again pace) now dues plain paced = absurd (false≢true plain)
 -- a message's text, by its start line and its method
 abbrev text_by : StartLine → List ℕ → Message → List ℕ
 text_by line method m =
-    start_text line method ++ flat_map via_line m.vias ++ number_line (codes "Max-Forwards") m.max_forwards
+    start_text line method ++ flat_map via_line m.vias
+    ++ number_line (codes "Max-Forwards") m.max_forwards
     ++ identity_text m ++ routes_text m ++ extensions_text m ++ content_text m
 
 -- texts that differ
@@ -192,7 +207,8 @@ text-is : (m : Message) → written m ≡ text_by m.start m.cseq.method m
 unfolding written head_text
 text-is m = refl
 
-invite_first : (uri : List ℕ) (m : Message) → first_of (text_by (start.Request uri) (codes "INVITE") m) ≡ Some 73
+invite_first : (uri : List ℕ) (m : Message)
+    → first_of (text_by (start.Request uri) (codes "INVITE") m) ≡ Some 73
 unfolding start_text first_of
 invite_first uri m = refl
 
@@ -206,27 +222,34 @@ unfolding start_text first_of
 ack_first (start.Request uri) m same = false≢true (ap is_i same)
 ack_first (start.Response status reason) m same = false≢true (ap is_i same)
 
-ack-text : (request response : Message) → written (ack_of request response) ≡ text_by request.start (codes "ACK") (ack_of request response)
+ack-text : (request response : Message)
+    → written (ack_of request response)
+    ≡ text_by request.start (codes "ACK") (ack_of request response)
 unfolding bare
 ack-text request response = text-is (ack_of request response)
 
-by_line : (line : StartLine) (m : Message) → is_request_line line ≡ true → first_of (text_by line (codes "INVITE") m) ≡ Some 73
+by_line : (line : StartLine) (m : Message) → is_request_line line ≡ true
+    → first_of (text_by line (codes "INVITE") m) ≡ Some 73
 by_line (start.Request uri) m request = invite_first uri m
 by_line (start.Response status reason) m request = absurd (false≢true request)
 
 -- the text of an INVITE
-request_first : (m : Message) → is_request_message m ≡ true → m.cseq.method ≡ codes "INVITE" → first_of (written m) ≡ Some 73
+request_first : (m : Message) → is_request_message m ≡ true → m.cseq.method ≡ codes "INVITE"
+    → first_of (written m) ≡ Some 73
 request_first m request invite =
-    ap first_of (text-is m ∙ ap (λ method. text_by m.start method m) invite) ∙ by_line m.start m request
+    ap first_of (text-is m ∙ ap (λ method. text_by m.start method m) invite)
+    ∙ by_line m.start m request
 
 not_true : (b : Bool) → (b ≡ true → ⊥) → b ≡ false
 not_true true no_way = absurd (no_way refl)
 not_true false no_way = refl
 
-ack_apart : (request response : Message) (text : List ℕ) → first_of text ≡ Some 73 → bytes_eq (written (ack_of request response)) text ≡ false
+ack_apart : (request response : Message) (text : List ℕ) → first_of text ≡ Some 73
+    → bytes_eq (written (ack_of request response)) text ≡ false
 ack_apart request response text invite =
     not_true _ (λ same. ack_first request.start (ack_of request response)
-    (ap first_of (sym (ack-text request response) ∙ (bytes_eq-Decides (written (ack_of request response)) text).0 same) ∙ invite))
+    (ap first_of (sym (ack-text request response)
+    ∙ (bytes_eq-Decides (written (ack_of request response)) text).0 same) ∙ invite))
 
 -- ---- one row at a life
 
@@ -278,14 +301,18 @@ abbrev comes_as_response : Trigger → Bool
 comes_as_response (on.Response class) = true
 comes_as_response trigger = false
 
--- what a row of a client sends to a held life: nothing; the latest, since its repeat is due or as an ACK; or a new ACK
+-- what a row of a client sends to a held life: nothing; the latest, since its repeat is due or as
+-- an ACK; or a new ACK
 abbrev sends_well : Role → State → Trigger → Next → Sent → Due → Bool
 sends_well role state trigger next send.Nothing due = is_plain due && enters_no_ack role next
 sends_well role state trigger next send.Given due = false
-sends_well role state trigger next send.Latest (Again pace) = is_repeat trigger && (paces role (Again pace) && is_same next)
-sends_well role state trigger next send.Latest due = is_acked role state && (is_keep due && is_same next)
+sends_well role state trigger next send.Latest (Again pace) =
+    is_repeat trigger && (paces role (Again pace) && is_same next)
+sends_well role state trigger next send.Latest due =
+    is_acked role state && (is_keep due && is_same next)
 sends_well role state trigger next send.Trying due = false
-sends_well role state trigger next send.Ack due = keeps_request role && (is_plain due && comes_as_response trigger)
+sends_well role state trigger next send.Ack due =
+    keeps_request role && (is_plain due && comes_as_response trigger)
 
 -- and a row of no life: the request, with both due moments, where it is started
 abbrev starts_well : Role → Trigger → Next → Sent → Due → Bool
@@ -295,16 +322,20 @@ starts_well role trigger next sent due = true
 
 abbrev client_row : Role → Option State → Trigger → Step → Bool
 client_row role None trigger step = starts_well role trigger step.next step.sent step.due
-client_row role (Some state) trigger step = sends_well role state trigger step.next step.sent step.due
+client_row role (Some state) trigger step =
+    sends_well role state trigger step.next step.sent step.due
 
-client_tables : (role : Role) → is_client role ≡ true → table_passes (client_row role) (rows_of role) ≡ true
+client_tables : (role : Role) → is_client role ≡ true
+    → table_passes (client_row role) (rows_of role) ≡ true
 client_tables InviteClient client = refl
 client_tables Client client = refl
 client_tables InviteServer client = absurd (false≢true client)
 client_tables Server client = absurd (false≢true client)
 
 -- only what is sent counts
-none_sent : (text : List ℕ) (key : Key) (life : Life) (handed : Handed) (arrived : Option (Message × Addr)) → sends_of text (option_to_list (handed_out key life handed arrived)) ≡ 0
+none_sent : (text : List ℕ) (key : Key) (life : Life) (handed : Handed)
+    (arrived : Option (Message × Addr))
+    → sends_of text (option_to_list (handed_out key life handed arrived)) ≡ 0
 unfolding handed_out
 none_sent text key life up.Nothing arrived = refl
 none_sent text key life up.Message None = refl
@@ -314,24 +345,31 @@ none_sent text key life up.Failed arrived = refl
 none_sent text key life up.NoTransaction arrived = refl
 
 abbrev sends : Key → Life → Sent → Option (List ℕ) → List Out
-sends key life sent made = option_to_list (option_map (send_out key life.to) (sent_bytes life.last sent made))
+sends key life sent made =
+    option_to_list (option_map (send_out key life.to) (sent_bytes life.last sent made))
 
-sends-outputs : (text : List ℕ) (key : Key) (life : Life) (step : Step) (made : Option (List ℕ)) (arrived : Option (Message × Addr))
-    → sends_of text (outputs_of key life step made arrived) ≡ sends_of text (sends key life step.sent made)
+sends-outputs : (text : List ℕ) (key : Key) (life : Life) (step : Step) (made : Option (List ℕ))
+    (arrived : Option (Message × Addr))
+    → sends_of text (outputs_of key life step made arrived)
+    ≡ sends_of text (sends key life step.sent made)
 unfolding outputs_of
 sends-outputs text key life step made arrived =
-    sum_by-append (λ o. cond (is_send_of text o) 1 0) (option_to_list (handed_out key life step.handed arrived)) (sends key life step.sent made)
-    ∙ ap (λ n. n + sends_of text (sends key life step.sent made)) (none_sent text key life step.handed arrived) ∙ zero-add _
+    sum_by-append (λ o. cond (is_send_of text o) 1 0)
+    (option_to_list (handed_out key life step.handed arrived)) (sends key life step.sent made)
+    ∙ ap (λ n. n + sends_of text (sends key life step.sent made))
+    (none_sent text key life step.handed arrived) ∙ zero-add _
 
 one_or_none : (b : Bool) → 0 + cond {A = ℕ} b 1 0 ≤ 1
 one_or_none true = omega arith
 one_or_none false = omega arith
 
-one_send : (text : List ℕ) (key : Key) (to : Addr) (o : Option (List ℕ)) → sends_of text (option_to_list (option_map (send_out key to) o)) ≤ 1
+one_send : (text : List ℕ) (key : Key) (to : Addr) (o : Option (List ℕ))
+    → sends_of text (option_to_list (option_map (send_out key to) o)) ≤ 1
 one_send text key to None = omega arith
 one_send text key to (Some bytes) = one_or_none (bytes_eq bytes text)
 
-no_send : (text : List ℕ) (key : Key) (to : Addr) (o : Option (List ℕ)) → Apart text o → sends_of text (option_to_list (option_map (send_out key to) o)) ≡ 0
+no_send : (text : List ℕ) (key : Key) (to : Addr) (o : Option (List ℕ)) → Apart text o
+    → sends_of text (option_to_list (option_map (send_out key to) o)) ≡ 0
 unfolding Apart
 no_send text key to None apart = refl
 no_send text key to (Some bytes) apart = ap (λ b. 0 + cond {A = ℕ} b 1 0) apart
@@ -347,62 +385,97 @@ latest-made request None = refl
 latest-made request (Some m) = refl
 
 -- the state after a row
-none_entered : (role : Role) (text : List ℕ) (next : Next) (life : Life) (room : ℕ) (outs : List Out) → enters_no_ack role next ≡ true → Fit role text life
-    → left role life.timers.repeat life.timers.fired ≤ room → sends_of text outs ≡ 0 → Few role text room (entered next life, outs)
+none_entered : (role : Role) (text : List ℕ) (next : Next) (life : Life) (room : ℕ)
+    (outs : List Out) → enters_no_ack role next ≡ true → Fit role text life
+    → left role life.timers.repeat life.timers.fired ≤ room → sends_of text outs ≡ 0
+    → Few role text room (entered next life, outs)
 unfolding FitAfter
-none_entered role text Same life room outs ok fit fewer silent = record { few = omega arith; fit = fit }
-none_entered role text Ended life room outs ok fit fewer silent = record { few = omega arith; fit = tt }
+none_entered role text Same life room outs ok fit fewer silent =
+    record { few = omega arith; fit = fit }
+none_entered role text Ended life room outs ok fit fewer silent =
+    record { few = omega arith; fit = tt }
 none_entered role text (Become state) life room outs ok fit fewer silent = record {
   few = omega arith;
-  fit = record { paced = fit.paced; apart = λ acked. absurd (false≢true (sym (ap not acked) ∙ ok)); keeps = fit.keeps };
+  fit = record {
+    paced = fit.paced;
+    apart = λ acked. absurd (false≢true (sym (ap not acked) ∙ ok));
+    keeps = fit.keeps;
+  };
 }
 
-acked_entered : (role : Role) (text : List ℕ) (next : Next) (life : Life) (room : ℕ) (outs : List Out) → Apart text life.last → Fit role text life
-    → left role life.timers.repeat life.timers.fired ≤ room → sends_of text outs ≡ 0 → Few role text room (entered next life, outs)
+acked_entered : (role : Role) (text : List ℕ) (next : Next) (life : Life) (room : ℕ)
+    (outs : List Out) → Apart text life.last → Fit role text life
+    → left role life.timers.repeat life.timers.fired ≤ room → sends_of text outs ≡ 0
+    → Few role text room (entered next life, outs)
 unfolding FitAfter
-acked_entered role text Same life room outs apart fit fewer silent = record { few = omega arith; fit = fit }
-acked_entered role text Ended life room outs apart fit fewer silent = record { few = omega arith; fit = tt }
+acked_entered role text Same life room outs apart fit fewer silent =
+    record { few = omega arith; fit = fit }
+acked_entered role text Ended life room outs apart fit fewer silent =
+    record { few = omega arith; fit = tt }
 acked_entered role text (Become state) life room outs apart fit fewer silent = record {
   few = omega arith;
   fit = record { paced = fit.paced; apart = λ acked. apart; keeps = fit.keeps };
 }
 
 -- the triggers
-tick_repeat : (e r : Bool) (trigger : Trigger) → cond e (Some on.EndingDue) (cond r (Some on.RepeatDue) None) ≡ Some trigger → is_repeat trigger ≡ true → (r ≡ true) × (e ≡ false)
-tick_repeat true r trigger is repeat = let same : on.EndingDue ≡ trigger = cc in absurd (false≢true (ap is_repeat same ∙ repeat))
+tick_repeat : (e r : Bool) (trigger : Trigger)
+    → cond e (Some on.EndingDue) (cond r (Some on.RepeatDue) None) ≡ Some trigger
+    → is_repeat trigger ≡ true → (r ≡ true) × (e ≡ false)
+tick_repeat true r trigger is repeat =
+    let same : on.EndingDue ≡ trigger = cc in absurd (false≢true (ap is_repeat same ∙ repeat))
 tick_repeat false true trigger is repeat = (refl, refl)
 tick_repeat false false trigger is repeat = cc
 
-tick_response : (e r : Bool) (trigger : Trigger) → cond e (Some on.EndingDue) (cond r (Some on.RepeatDue) None) ≡ Some trigger → comes_as_response trigger ≡ true → ⊥
-tick_response true r trigger is response = let same : on.EndingDue ≡ trigger = cc in false≢true (ap comes_as_response same ∙ response)
-tick_response false true trigger is response = let same : on.RepeatDue ≡ trigger = cc in false≢true (ap comes_as_response same ∙ response)
+tick_response : (e r : Bool) (trigger : Trigger)
+    → cond e (Some on.EndingDue) (cond r (Some on.RepeatDue) None) ≡ Some trigger
+    → comes_as_response trigger ≡ true → ⊥
+tick_response true r trigger is response =
+    let same : on.EndingDue ≡ trigger = cc in false≢true (ap comes_as_response same ∙ response)
+tick_response false true trigger is response =
+    let same : on.RepeatDue ≡ trigger = cc in false≢true (ap comes_as_response same ∙ response)
 tick_response false false trigger is response = cc
 
-arrival_no_repeat : (line : StartLine) (method : List ℕ) → is_repeat (arrival_of line method) ≡ false
+arrival_no_repeat : (line : StartLine) (method : List ℕ)
+    → is_repeat (arrival_of line method) ≡ false
 arrival_no_repeat (start.Request uri) method =
-    by_test (is_method method (codes "ACK")) (λ ack. ap (λ b. is_repeat (cond b on.Ack on.Request)) ack) (λ other. ap (λ b. is_repeat (cond b on.Ack on.Request)) other)
+    by_test (is_method method (codes "ACK"))
+    (λ ack. ap (λ b. is_repeat (cond b on.Ack on.Request)) ack)
+    (λ other. ap (λ b. is_repeat (cond b on.Ack on.Request)) other)
 arrival_no_repeat (start.Response status reason) method = refl
 
-answer_no_repeat : (line : StartLine) (trigger : Trigger) → answer_of line ≡ Some trigger → is_repeat trigger ≡ true → ⊥
+answer_no_repeat : (line : StartLine) (trigger : Trigger) → answer_of line ≡ Some trigger
+    → is_repeat trigger ≡ true → ⊥
 answer_no_repeat (start.Request uri) trigger is repeat = cc
-answer_no_repeat (start.Response status reason) trigger is repeat = let same : on.Answer (class_of status) ≡ trigger = cc in false≢true (ap is_repeat same ∙ repeat)
+answer_no_repeat (start.Response status reason) trigger is repeat =
+    let same : on.Answer (class_of status) ≡ trigger = cc in false≢true (ap is_repeat same ∙ repeat)
 
-repeat_due : (life : Life) (now : ℕ) (input : Input) (trigger : Trigger) → trigger_of (Some life) now input ≡ Some trigger → is_repeat trigger ≡ true
+repeat_due : (life : Life) (now : ℕ) (input : Input) (trigger : Trigger)
+    → trigger_of (Some life) now input ≡ Some trigger → is_repeat trigger ≡ true
     → (is_due now life.timers.repeat ≡ true) × (is_due now life.timers.ending ≡ false)
-repeat_due life now Tick trigger is repeat = tick_repeat (is_due now life.timers.ending) (is_due now life.timers.repeat) trigger is repeat
+repeat_due life now Tick trigger is repeat =
+    tick_repeat (is_due now life.timers.ending) (is_due now life.timers.repeat) trigger is repeat
 repeat_due life now (Receive id message reply_to) trigger is repeat =
     let same : arrival_of message.start message.cseq.method ≡ trigger = cc in
-    absurd (false≢true (sym (arrival_no_repeat message.start message.cseq.method) ∙ ap is_repeat same ∙ repeat))
-repeat_due life now (Start id call_id message to) trigger is repeat = let same : on.Start ≡ trigger = cc in absurd (false≢true (ap is_repeat same ∙ repeat))
-repeat_due life now (Answer id message) trigger is repeat = absurd (answer_no_repeat message.start trigger is repeat)
-repeat_due life now (Failed id) trigger is repeat = let same : on.Failed ≡ trigger = cc in absurd (false≢true (ap is_repeat same ∙ repeat))
+    absurd (false≢true (sym (arrival_no_repeat message.start message.cseq.method)
+    ∙ ap is_repeat same ∙ repeat))
+repeat_due life now (Start id call_id message to) trigger is repeat =
+    let same : on.Start ≡ trigger = cc in absurd (false≢true (ap is_repeat same ∙ repeat))
+repeat_due life now (Answer id message) trigger is repeat =
+    absurd (answer_no_repeat message.start trigger is repeat)
+repeat_due life now (Failed id) trigger is repeat =
+    let same : on.Failed ≡ trigger = cc in absurd (false≢true (ap is_repeat same ∙ repeat))
 
-response_message : (life : Life) (now : ℕ) (input : Input) (trigger : Trigger) → trigger_of (Some life) now input ≡ Some trigger → comes_as_response trigger ≡ true → IsSome (message_in input)
-response_message life now Tick trigger is response = absurd (tick_response (is_due now life.timers.ending) (is_due now life.timers.repeat) trigger is response)
+response_message : (life : Life) (now : ℕ) (input : Input) (trigger : Trigger)
+    → trigger_of (Some life) now input ≡ Some trigger → comes_as_response trigger ≡ true
+    → IsSome (message_in input)
+response_message life now Tick trigger is response =
+    absurd (tick_response (is_due now life.timers.ending)
+    (is_due now life.timers.repeat) trigger is response)
 response_message life now (Receive id message reply_to) trigger is response = refl
 response_message life now (Start id call_id message to) trigger is response = refl
 response_message life now (Answer id message) trigger is response = refl
-response_message life now (Failed id) trigger is response = let same : on.Failed ≡ trigger = cc in absurd (false≢true (ap comes_as_response same ∙ response))
+response_message life now (Failed id) trigger is response = let same : on.Failed ≡ trigger = cc in
+    absurd (false≢true (ap comes_as_response same ∙ response))
 
 -- an ACK that is made isn't the INVITE
 record IsApart (text : List ℕ) (made : Option (List ℕ)) : Type 0 where
@@ -410,80 +483,147 @@ record IsApart (text : List ℕ) (made : Option (List ℕ)) : Type 0 where
   is : made ≡ Some bytes
   apart : bytes_eq bytes text ≡ false
 
-ack_made : (text : List ℕ) → first_of text ≡ Some 73 → (request message : Option Message) → IsSome request → IsSome message → IsApart text (made_bytes request send.Ack message)
+ack_made : (text : List ℕ) → first_of text ≡ Some 73 → (request message : Option Message)
+    → IsSome request → IsSome message → IsApart text (made_bytes request send.Ack message)
 unfolding made_of
 ack_made text invite None message one other = absurd (false≢true one)
 ack_made text invite (Some request) None one other = absurd (false≢true other)
-ack_made text invite (Some request) (Some message) one other = record { bytes = written (ack_of request message); is = refl; apart = ack_apart request message text invite }
+ack_made text invite (Some request) (Some message) one other =
+    record {
+      bytes = written (ack_of request message);
+      is = refl;
+      apart = ack_apart request message text invite;
+    }
 
-module _ (role : Role) (client : is_client role ≡ true) (key : Key) (text : List ℕ) (invite : keeps_request role ≡ true → first_of text ≡ Some 73) where
+module _ (role : Role) (client : is_client role ≡ true) (key : Key) (text : List ℕ)
+    (invite : keeps_request role ≡ true → first_of text ≡ Some 73) where
   abbrev room : Life → ℕ
   room life = left role life.timers.repeat life.timers.fired
 
-  armed_fit : (due : Due) (now : ℕ) (life : Life) → Fit role text life → Left role life.timers (rearmed due now life.timers) → Fit role text (armed due now life)
+  armed_fit : (due : Due) (now : ℕ) (life : Life) → Fit role text life
+      → Left role life.timers (rearmed due now life.timers) → Fit role text (armed due now life)
   armed_fit due now life fit l = record { paced = l.paced; apart = fit.apart; keeps = fit.keeps }
 
   -- the request is sent again
-  repeated : (life : Life) (now : ℕ) (handed : Handed) (pace : Pace) (arrived : Option (Message × Addr)) → Fit role text life → Fired role life.timers (Again pace) now
-      → Few role text (room life) (Some (armed (Again pace) now life), outputs_of key life (record { next = Same; handed = handed; sent = send.Latest; due = Again pace }) None arrived)
+  repeated : (life : Life) (now : ℕ) (handed : Handed) (pace : Pace)
+      (arrived : Option (Message × Addr)) → Fit role text life
+      → Fired role life.timers (Again pace) now
+      → Few role text (room life) (
+        Some (armed (Again pace) now life),
+        outputs_of key life (record {
+          next = Same;
+          handed = handed;
+          sent = send.Latest;
+          due = Again pace;
+        }) None arrived,
+      )
   unfolding FitAfter
   repeated life now handed pace arrived fit f =
-      let said = sends-outputs text key life (record { next = Same; handed = handed; sent = send.Latest; due = Again pace }) None arrived in
+      let said = sends-outputs text key life
+      (record { next = Same; handed = handed; sent = send.Latest; due = Again pace }) None
+      arrived in
       let one = one_send text key life.to life.last in
       let fewer = f.fewer in
-      record { few = omega (arith, said, one, fewer); fit = record { paced = f.paced; apart = fit.apart; keeps = fit.keeps } }
+      record {
+        few = omega (arith, said, one, fewer);
+        fit = record { paced = f.paced; apart = fit.apart; keeps = fit.keeps };
+      }
 
-  row_few : (life : Life) (now : ℕ) (input : Input) (trigger : Trigger) → trigger_of (Some life) now input ≡ Some trigger → Fit role text life
-      → (next : Next) (handed : Handed) (sent : Sent) (due : Due) → sends_well role life.state trigger next sent due ≡ true
-      → Few role text (room life) (acted_if key now input (Some life) (record { next = next; handed = handed; sent = sent; due = due }))
+  row_few : (life : Life) (now : ℕ) (input : Input) (trigger : Trigger)
+      → trigger_of (Some life) now input ≡ Some trigger → Fit role text life
+      → (next : Next) (handed : Handed) (sent : Sent) (due : Due)
+      → sends_well role life.state trigger next sent due ≡ true
+      → Few role text (room life) (acted_if key now input (Some life)
+      (record { next = next; handed = handed; sent = sent; due = due }))
   unfolding life_after Apart
   row_few life now input trigger is fit next handed send.Given due ok = absurd (false≢true ok)
   row_few life now input trigger is fit next handed send.Trying due ok = absurd (false≢true ok)
   row_few life now input trigger is fit next handed send.Nothing due ok =
       let step : Step = record { next = next; handed = handed; sent = send.Nothing; due = due } in
       let l = plain_left role due now life.timers (and-left (is_plain due) _ ok) fit.paced in
-      subst (λ made. Few role text (room life) (entered next (armed due now (last_of made life)), outputs_of key life step made (arrived_in input))) (sym (none-made life.request (message_in input)))
-      (none_entered role text next (armed due now life) (room life) (outputs_of key life step None (arrived_in input)) (and-right (is_plain due) _ ok) (armed_fit due now life fit l) l.fewer
+      subst (λ made. Few role text (room life) (
+        entered next (armed due now (last_of made life)),
+        outputs_of key life step made (arrived_in input),
+      ))
+      (sym (none-made life.request (message_in input)))
+      (none_entered role text next (armed due now life) (room life)
+      (outputs_of key life step None (arrived_in input)) (and-right (is_plain due) _ ok)
+      (armed_fit due now life fit l) l.fewer
       (sends-outputs text key life step None (arrived_in input)))
   row_few life now input trigger is fit next handed send.Ack due ok =
       let step : Step = record { next = next; handed = handed; sent = send.Ack; due = due } in
       let keeping = and-left (keeps_request role) _ ok in
       let rest = and-right (keeps_request role) _ ok in
       let l = plain_left role due now life.timers (and-left (is_plain due) _ rest) fit.paced in
-      let m = ack_made text (invite keeping) life.request (message_in input) (fit.keeps keeping) (response_message life now input trigger is (and-right (is_plain due) _ rest)) in
+      let m = ack_made text (invite keeping) life.request (message_in input) (fit.keeps keeping)
+      (response_message life now input trigger is (and-right (is_plain due) _ rest)) in
       let acked : Life = record life { last = Some m.bytes } in
-      subst (λ made. Few role text (room life) (entered next (armed due now (last_of made life)), outputs_of key life step made (arrived_in input))) (sym m.is)
-      (acked_entered role text next (armed due now acked) (room life) (outputs_of key life step (Some m.bytes) (arrived_in input)) m.apart
+      subst (λ made. Few role text (room life) (
+        entered next (armed due now (last_of made life)),
+        outputs_of key life step made (arrived_in input),
+      )) (sym m.is)
+      (acked_entered role text next (armed due now acked) (room life)
+      (outputs_of key life step (Some m.bytes) (arrived_in input)) m.apart
       (record { paced = l.paced; apart = λ at_ack. m.apart; keeps = fit.keeps }) l.fewer
-      (sends-outputs text key life step (Some m.bytes) (arrived_in input) ∙ no_send text key life.to (Some m.bytes) m.apart))
+      (sends-outputs text key life step (Some m.bytes) (arrived_in input)
+      ∙ no_send text key life.to (Some m.bytes) m.apart))
   row_few life now input trigger is fit Same handed send.Latest Keep ok =
       let step : Step = record { next = Same; handed = handed; sent = send.Latest; due = Keep } in
-      subst (λ made. Few role text (room life) (entered Same (armed Keep now (last_of made life)), outputs_of key life step made (arrived_in input))) (sym (latest-made life.request (message_in input)))
-      (none_entered role text Same (armed Keep now life) (room life) (outputs_of key life step None (arrived_in input)) refl fit (omega arith)
-      (sends-outputs text key life step None (arrived_in input) ∙ no_send text key life.to life.last (fit.apart (and-left (is_acked role life.state) _ ok))))
-  row_few life now input trigger is fit Ended handed send.Latest Keep ok = absurd (false≢true (and-right (is_acked role life.state) _ ok))
-  row_few life now input trigger is fit (Become state) handed send.Latest Keep ok = absurd (false≢true (and-right (is_acked role life.state) _ ok))
-  row_few life now input trigger is fit next handed send.Latest Clear ok = absurd (false≢true (and-right (is_acked role life.state) _ ok))
-  row_few life now input trigger is fit next handed send.Latest (Ending after) ok = absurd (false≢true (and-right (is_acked role life.state) _ ok))
-  row_few life now input trigger is fit next handed send.Latest Both ok = absurd (false≢true (and-right (is_acked role life.state) _ ok))
-  row_few life now input trigger is fit Ended handed send.Latest (Again pace) ok = absurd (false≢true (and-right (paces role (Again pace)) _ (and-right (is_repeat trigger) _ ok)))
-  row_few life now input trigger is fit (Become state) handed send.Latest (Again pace) ok = absurd (false≢true (and-right (paces role (Again pace)) _ (and-right (is_repeat trigger) _ ok)))
+      subst (λ made. Few role text (room life) (
+        entered Same (armed Keep now (last_of made life)),
+        outputs_of key life step made (arrived_in input),
+      ))
+      (sym (latest-made life.request (message_in input)))
+      (none_entered role text Same (armed Keep now life) (room life)
+      (outputs_of key life step None (arrived_in input)) refl fit (omega arith)
+      (sends-outputs text key life step None (arrived_in input)
+      ∙ no_send text key life.to life.last
+      (fit.apart (and-left (is_acked role life.state) _ ok))))
+  row_few life now input trigger is fit Ended handed send.Latest Keep ok =
+      absurd (false≢true (and-right (is_acked role life.state) _ ok))
+  row_few life now input trigger is fit (Become state) handed send.Latest Keep ok =
+      absurd (false≢true (and-right (is_acked role life.state) _ ok))
+  row_few life now input trigger is fit next handed send.Latest Clear ok =
+      absurd (false≢true (and-right (is_acked role life.state) _ ok))
+  row_few life now input trigger is fit next handed send.Latest (Ending after) ok =
+      absurd (false≢true (and-right (is_acked role life.state) _ ok))
+  row_few life now input trigger is fit next handed send.Latest Both ok =
+      absurd (false≢true (and-right (is_acked role life.state) _ ok))
+  row_few life now input trigger is fit Ended handed send.Latest (Again pace) ok =
+      absurd (false≢true (and-right (paces role (Again pace)) _
+      (and-right (is_repeat trigger) _ ok)))
+  row_few life now input trigger is fit (Become state) handed send.Latest (Again pace) ok =
+      absurd (false≢true (and-right (paces role (Again pace)) _
+      (and-right (is_repeat trigger) _ ok)))
   row_few life now input trigger is fit Same handed send.Latest (Again pace) ok =
-      let step : Step = record { next = Same; handed = handed; sent = send.Latest; due = Again pace } in
+      let step : Step =
+      record { next = Same; handed = handed; sent = send.Latest; due = Again pace } in
       let due_now = repeat_due life now input trigger is (and-left (is_repeat trigger) _ ok) in
       let f = fired_at role client pace now life.timers.fired life.timers.repeat life.timers.ending
-      (least_interval role pace (life.timers.fired + 1) (and-left (paces role (Again pace)) _ (and-right (is_repeat trigger) _ ok))) due_now.0 due_now.1 fit.paced in
-      subst (λ made. Few role text (room life) (entered Same (armed (Again pace) now (last_of made life)), outputs_of key life step made (arrived_in input))) (sym (latest-made life.request (message_in input)))
+      (least_interval role pace (life.timers.fired + 1)
+      (and-left (paces role (Again pace)) _ (and-right (is_repeat trigger) _ ok))) due_now.0
+      due_now.1 fit.paced in
+      subst (λ made. Few role text (room life) (
+        entered Same (armed (Again pace) now (last_of made life)),
+        outputs_of key life step made (arrived_in input),
+      ))
+      (sym (latest-made life.request (message_in input)))
       (repeated life now handed pace (arrived_in input) fit f)
 
-  input_few : (life : Life) (timed : Timed) → role_of key ≡ role → Fit role text life → Few role text (room life) (stepped key (Some life) timed)
+  input_few : (life : Life) (timed : Timed) → role_of key ≡ role → Fit role text life
+      → Few role text (room life) (stepped key (Some life) timed)
   unfolding FitAfter
   input_few life timed own fit =
-      by_step (Few role text (room life)) key (Some life) timed (record { few = omega arith; fit = fit })
-      (λ step row. row_few life timed.moment timed.input row.trigger row.triggered fit step.next step.handed step.sent step.due
-      (row_passes (client_row role) (rows_of role) (client_tables role client) (Some life.state) row.trigger step (subst (λ r. row_of (rows_of r) (Some life.state) row.trigger ≡ Some step) own row.row)))
+      by_step (Few role text (room life)) key (Some life) timed
+      (record { few = omega arith; fit = fit })
+      (λ step row. row_few life timed.moment timed.input row.trigger row.triggered fit step.next
+      step.handed step.sent step.due
+      (row_passes (client_row role) (rows_of role) (client_tables role client)
+      (Some life.state) row.trigger step
+      (subst (λ r. row_of (rows_of r) (Some life.state) row.trigger ≡ Some step) own row.row)))
 
-  rest_few : (state : Option Life) (inputs : List Timed) → role_of key ≡ role → IsWithinLife transaction_machine key state inputs → FitAfter role text state
+  rest_few : (state : Option Life) (inputs : List Timed) → role_of key ≡ role
+      → IsWithinLife transaction_machine key state inputs → FitAfter role text state
       → sends_of text (outputs_from transaction_machine key state inputs) ≤ budget role state
   unfolding FitAfter
   rest_few state [] own within fit = omega arith
@@ -491,27 +631,40 @@ module _ (role : Role) (client : is_client role ≡ true) (key : Key) (text : Li
   rest_few (Some life) (timed ∷ inputs) own within fit =
       let one = input_few life timed own fit in
       let later = rest_few (stepped key (Some life) timed).0 inputs own within.1 one.fit in
-      let both = sum_by-append (λ o. cond (is_send_of text o) 1 0) (stepped key (Some life) timed).1 (outputs_from transaction_machine key (stepped key (Some life) timed).0 inputs) in
+      let both = sum_by-append (λ o. cond (is_send_of text o) 1 0) (stepped key (Some life) timed).1
+      (outputs_from transaction_machine key (stepped key (Some life) timed).0 inputs) in
       let few = one.few in
       omega (arith, later, both, few)
 
   -- the start
-  start_few : (now : ℕ) (id : Id) (call_id : List ℕ) (request : Message) (to : Addr) (next : Next) (handed : Handed) (sent : Sent) (due : Due) → starts_well role on.Start next sent due ≡ true
-      → Few role text (1 + most_repeats role) (acted_if key now (Start id call_id request to) (begun role (Start id call_id request to)) (record { next = next; handed = handed; sent = sent; due = due }))
+  start_few : (now : ℕ) (id : Id) (call_id : List ℕ) (request : Message) (to : Addr) (next : Next)
+      (handed : Handed) (sent : Sent) (due : Due) → starts_well role on.Start next sent due ≡ true
+      → Few role text (1 + most_repeats role)
+      (acted_if key now (Start id call_id request to) (begun role (Start id call_id request to))
+      (record { next = next; handed = handed; sent = sent; due = due }))
   unfolding begun life_after made_of FitAfter Paced
   start_few now id call_id request to Same handed sent due ok = absurd (false≢true ok)
   start_few now id call_id request to Ended handed sent due ok = absurd (false≢true ok)
-  start_few now id call_id request to (Become state) handed send.Nothing due ok = absurd (false≢true ok)
-  start_few now id call_id request to (Become state) handed send.Latest due ok = absurd (false≢true ok)
-  start_few now id call_id request to (Become state) handed send.Trying due ok = absurd (false≢true ok)
+  start_few now id call_id request to (Become state) handed send.Nothing due ok =
+      absurd (false≢true ok)
+  start_few now id call_id request to (Become state) handed send.Latest due ok =
+      absurd (false≢true ok)
+  start_few now id call_id request to (Become state) handed send.Trying due ok =
+      absurd (false≢true ok)
   start_few now id call_id request to (Become state) handed send.Ack due ok = absurd (false≢true ok)
-  start_few now id call_id request to (Become state) handed send.Given Keep ok = absurd (false≢true ok)
-  start_few now id call_id request to (Become state) handed send.Given Clear ok = absurd (false≢true ok)
-  start_few now id call_id request to (Become state) handed send.Given (Ending after) ok = absurd (false≢true ok)
-  start_few now id call_id request to (Become state) handed send.Given (Again pace) ok = absurd (false≢true ok)
+  start_few now id call_id request to (Become state) handed send.Given Keep ok =
+      absurd (false≢true ok)
+  start_few now id call_id request to (Become state) handed send.Given Clear ok =
+      absurd (false≢true ok)
+  start_few now id call_id request to (Become state) handed send.Given (Ending after) ok =
+      absurd (false≢true ok)
+  start_few now id call_id request to (Become state) handed send.Given (Again pace) ok =
+      absurd (false≢true ok)
   start_few now id call_id request to (Become state) handed send.Given Both ok =
       let life : Life = life_by id call_id to (cond (keeps_request role) (Some request) None) in
-      let said = sends-outputs text key life (record { next = Become state; handed = handed; sent = send.Given; due = Both }) (Some (written request)) None in
+      let said = sends-outputs text key life
+      (record { next = Become state; handed = handed; sent = send.Given; due = Both })
+      (Some (written request)) None in
       let one = one_send text key to (Some (written request)) in
       let none = taken-zero role in
       record {
@@ -525,20 +678,29 @@ module _ (role : Role) (client : is_client role ≡ true) (key : Key) (text : Li
 
 -- ---- the law
 
-start_row : (role : Role) → is_client role ≡ true → (trigger : Trigger) (step : Step) → Some on.Start ≡ Some trigger → row_of (rows_of role) None trigger ≡ Some step → starts_well role on.Start step.next step.sent step.due ≡ true
+start_row : (role : Role) → is_client role ≡ true → (trigger : Trigger) (step : Step)
+    → Some on.Start ≡ Some trigger → row_of (rows_of role) None trigger ≡ Some step
+    → starts_well role on.Start step.next step.sent step.due ≡ true
 start_row role client trigger step is row =
     let same : on.Start ≡ trigger = cc in
-    subst (λ t. starts_well role t step.next step.sent step.due ≡ true) (sym same) (row_passes (client_row role) (rows_of role) (client_tables role client) None trigger step row)
+    subst (λ t. starts_well role t step.next step.sent step.due ≡ true) (sym same)
+    (row_passes (client_row role) (rows_of role)
+    (client_tables role client) None trigger step row)
 
 role_client : (branch method : List ℕ) → is_client (role_of (key.Client branch method)) ≡ true
 role_client branch method =
-    by_test (is_method method (codes "INVITE")) (λ hit. ap (λ b. is_client (cond b InviteClient Client)) hit) (λ miss. ap (λ b. is_client (cond b InviteClient Client)) miss)
+    by_test (is_method method (codes "INVITE"))
+    (λ hit. ap (λ b. is_client (cond b InviteClient Client)) hit)
+    (λ miss. ap (λ b. is_client (cond b InviteClient Client)) miss)
 
-invite_method : (branch method : List ℕ) → keeps_request (role_of (key.Client branch method)) ≡ true → method ≡ codes "INVITE"
+invite_method : (branch method : List ℕ) → keeps_request (role_of (key.Client branch method)) ≡ true
+    → method ≡ codes "INVITE"
 invite_method branch method keeping =
     by_test (is_method method (codes "INVITE"))
-    (λ hit. (slice_eq-Decides Decides-eqb method (codes "INVITE") (is_method method (codes "INVITE")) refl).0 hit)
-    (λ miss. absurd (false≢true (sym (ap (λ b. keeps_request (cond b InviteClient Client)) miss) ∙ keeping)))
+    (λ hit. (slice_eq-Decides Decides-eqb method (codes "INVITE")
+    (is_method method (codes "INVITE")) refl).0 hit)
+    (λ miss. absurd (false≢true (sym (ap (λ b. keeps_request (cond b InviteClient Client)) miss)
+    ∙ keeping)))
 
 pub few_sends : FewSends
 unfolding FitAfter
@@ -547,14 +709,21 @@ few_sends branch method before now id call_id request to rest life line same =
     let role = role_of k in
     let client = role_client branch method in
     let text = written request in
-    let invite : keeps_request role ≡ true → first_of text ≡ Some 73 = λ keeping. request_first request line (same ∙ invite_method branch method keeping) in
+    let invite : keeps_request role ≡ true → first_of text ≡ Some 73 =
+    λ keeping. request_first request line (same ∙ invite_method branch method keeping) in
     let first : Timed = record { moment = now; input = Start id call_id request to } in
     let one : Few role text (1 + most_repeats role) (stepped k None first) =
-    by_step (Few role text (1 + most_repeats role)) k None first (record { few = omega arith; fit = tt })
-    (λ step row. start_few role client k text invite now id call_id request to step.next step.handed step.sent step.due (start_row role client row.trigger step row.triggered row.row)) in
+    by_step (Few role text (1 + most_repeats role)) k None first
+    (record { few = omega arith; fit = tt })
+    (λ step row. start_few role client k text invite now id call_id request to step.next step.handed
+    step.sent step.due (start_row role client row.trigger step row.triggered row.row)) in
     let within : IsWithinLife transaction_machine k (stepped k None first).0 rest =
-    subst (λ s. IsWithinLife transaction_machine k (stepped k s first).0 rest) life.none_before (subst (λ s. IsWithinLife transaction_machine k s rest) (state_after-push transaction_machine k before first) life.within) in
-    let later = rest_few role client k text invite (stepped k None first).0 rest refl within one.fit in
-    let both = sum_by-append (λ o. cond (is_send_of text o) 1 0) (stepped k None first).1 (outputs_from transaction_machine k (stepped k None first).0 rest) in
+    subst (λ s. IsWithinLife transaction_machine k (stepped k s first).0 rest) life.none_before
+    (subst (λ s. IsWithinLife transaction_machine k s rest)
+    (state_after-push transaction_machine k before first) life.within) in
+    let later = rest_few role client k text invite
+    (stepped k None first).0 rest refl within one.fit in
+    let both = sum_by-append (λ o. cond (is_send_of text o) 1 0) (stepped k None first).1
+    (outputs_from transaction_machine k (stepped k None first).0 rest) in
     let few = one.few in
     omega (arith, later, both, few)

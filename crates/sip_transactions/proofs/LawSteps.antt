@@ -39,23 +39,33 @@ use Rattle.sip_transactions.proofs.RowFacts.{by_test, table_passes, row_passes}
 pub record RowFor (key : Key) (held : Option Life) (timed : Timed) (step : Step) : Type 0 where
   pub trigger : Trigger
   pub triggered : trigger_of held timed.moment timed.input ≡ Some trigger
-  pub row : row_of (rows_of (role_of key)) (option_map (λ life. life.state) held) trigger ≡ Some step
+  pub row : row_of (rows_of (role_of key)) (option_map (λ life. life.state) held) trigger
+      ≡ Some step
 
-row_for : (key : Key) (held : Option Life) (timed : Timed) (step : Step) → step_for key held timed.moment timed.input ≡ Some step → RowFor key held timed step
+row_for : (key : Key) (held : Option Life) (timed : Timed) (step : Step)
+    → step_for key held timed.moment timed.input ≡ Some step → RowFor key held timed step
 unfolding step_for
 row_for key held timed step found =
-    option_and_then_some {P = RowFor key held timed step} (row_of (rows_of (role_of key)) (option_map (λ life. life.state) held)) (trigger_of held timed.moment timed.input) step found
+    option_and_then_some {P = RowFor key held timed step}
+    (row_of (rows_of (role_of key)) (option_map (λ life. life.state) held))
+    (trigger_of held timed.moment timed.input) step found
     (λ trigger is row. record { trigger = trigger; triggered = is; row = row })
 
-by_option : {T : Type 0} (G : Option T → Type 0) (o : Option T) → (o ≡ None → G None) → ((x : T) → o ≡ Some x → G (Some x)) → G o
+by_option : {T : Type 0} (G : Option T → Type 0) (o : Option T) → (o ≡ None → G None)
+    → ((x : T) → o ≡ Some x → G (Some x)) → G o
 by_option G None none some = none refl
 by_option G (Some x) none some = some x refl
 
 -- an input does nothing, or what its row says
-pub by_step : (G : Option Life × List Out → Type 0) (key : Key) (held : Option Life) (timed : Timed) → G (held, []) → ((step : Step) → RowFor key held timed step → G (acted_if key timed.moment timed.input (life_of (role_of key) held timed.input) step)) → G (stepped key held timed)
+pub by_step : (G : Option Life × List Out → Type 0) (key : Key) (held : Option Life) (timed : Timed)
+    → G (held, []) → ((step : Step) → RowFor key held timed step
+    → G (acted_if key timed.moment timed.input (life_of (role_of key) held timed.input) step))
+    → G (stepped key held timed)
 unfolding stepped
 by_step G key held timed nothing acts =
-    by_option (λ o. G (stepped_by key held timed.moment timed.input o)) (step_for key held timed.moment timed.input) (λ none. nothing) (λ step found. acts step (row_for key held timed step found))
+    by_option (λ o. G (stepped_by key held timed.moment timed.input o))
+    (step_for key held timed.moment timed.input) (λ none. nothing)
+    (λ step found. acts step (row_for key held timed step found))
 
 -- ---- tests of the tables
 abbrev pub is_request : Trigger → Bool
@@ -121,7 +131,8 @@ orders_report_nothing s t step = not (is_order t) || not (is_told step.handed)
 
 -- what begins a life of a server is a request, and is handed up
 abbrev pub begins_by_request : Option State → Trigger → Step → Bool
-begins_by_request s t step = not (is_none s) || (is_ended step.next || (is_message step.handed && is_request t))
+begins_by_request s t step =
+    not (is_none s) || (is_ended step.next || (is_message step.handed && is_request t))
 
 -- a request to a life isn't handed up
 abbrev pub later_not_handed_up : Option State → Trigger → Step → Bool
@@ -129,7 +140,9 @@ later_not_handed_up s t step = is_none s || not (is_message step.handed && is_re
 
 -- a response begins no life, and is handed up only to a life
 abbrev pub response_needs_life : Option State → Trigger → Step → Bool
-response_needs_life s t step = not (is_none s && is_response t) || (is_ended step.next && not (is_message step.handed || is_report step.handed))
+response_needs_life s t step =
+    not (is_none s && is_response t)
+    || (is_ended step.next && not (is_message step.handed || is_report step.handed))
 
 orders_in_tables : (role : Role) → table_passes orders_report_nothing (rows_of role) ≡ true
 orders_in_tables InviteClient = refl
@@ -150,7 +163,8 @@ responses_in_tables InviteServer = refl
 responses_in_tables Server = refl
 
 -- of a server's key
-pub server_tables : (key : Key) → IsServer key → table_passes begins_by_request (rows_of (role_of key)) ≡ true
+pub server_tables : (key : Key) → IsServer key
+    → table_passes begins_by_request (rows_of (role_of key)) ≡ true
 server_tables (key.Client branch method) none = absurd none
 server_tables (key.Server branch sent_by method) server =
     by_test (is_method method (codes "INVITE"))
@@ -163,23 +177,31 @@ not-is_true false e = refl
 
 -- ---- what a row says
 -- it is nothing, where what it hands up and what it sends are nothing that counts
-counts_none : (life : Life) (key : Key) (o : Option (List ℕ)) → requests_in (option_to_list (option_map (send_out key life.to) o)) ≡ 0
+counts_none : (life : Life) (key : Key) (o : Option (List ℕ))
+    → requests_in (option_to_list (option_map (send_out key life.to) o)) ≡ 0
 counts_none life key None = refl
 counts_none life key (Some bytes) = refl
 
-pub requests-outputs : (key : Key) (life : Life) (step : Step) (made : Option (List ℕ)) (arrived : Option (Message × Addr))
-    → requests_in (outputs_of key life step made arrived) ≡ requests_in (option_to_list (handed_out key life step.handed arrived))
+pub requests-outputs : (key : Key) (life : Life) (step : Step) (made : Option (List ℕ))
+    (arrived : Option (Message × Addr))
+    → requests_in (outputs_of key life step made arrived)
+    ≡ requests_in (option_to_list (handed_out key life step.handed arrived))
 unfolding outputs_of
 requests-outputs key life step made arrived =
-    sum_by-append (λ o. cond (is_request_up o) 1 0) (option_to_list (handed_out key life step.handed arrived)) (option_to_list (option_map (send_out key life.to) (sent_bytes life.last step.sent made)))
-    ∙ ap (λ n. requests_in (option_to_list (handed_out key life step.handed arrived)) + n) (counts_none life key (sent_bytes life.last step.sent made)) ∙ add-zero _
+    sum_by-append (λ o. cond (is_request_up o) 1 0)
+    (option_to_list (handed_out key life step.handed arrived))
+    (option_to_list (option_map (send_out key life.to) (sent_bytes life.last step.sent made)))
+    ∙ ap (λ n. requests_in (option_to_list (handed_out key life step.handed arrived)) + n)
+    (counts_none life key (sent_bytes life.last step.sent made)) ∙ add-zero _
 
 -- ---- a command only sends
-sends_only : (key : Key) (life : Life) (o : Option (List ℕ)) → AllByRecursion IsSend (option_to_list (option_map (send_out key life.to) o))
+sends_only : (key : Key) (life : Life) (o : Option (List ℕ))
+    → AllByRecursion IsSend (option_to_list (option_map (send_out key life.to) o))
 sends_only key life None = tt
 sends_only key life (Some bytes) = (tt, tt)
 
-order_handed : (key : Key) (life : Life) (handed : Handed) → not (is_told handed) ≡ true → handed_out key life handed None ≡ None
+order_handed : (key : Key) (life : Life) (handed : Handed) → not (is_told handed) ≡ true
+    → handed_out key life handed None ≡ None
 unfolding handed_out
 order_handed key life up.Nothing quiet = refl
 order_handed key life up.Message quiet = refl
@@ -188,40 +210,61 @@ order_handed key life up.Failed quiet = absurd (false≢true quiet)
 order_handed key life up.NoTransaction quiet = absurd (false≢true quiet)
 
 -- nothing came by a command
-arrived-order : (id : Id) (command : Command) (now : ℕ) → arrived_in (order id command now).input ≡ None
+arrived-order : (id : Id) (command : Command) (now : ℕ)
+    → arrived_in (order id command now).input ≡ None
 arrived-order id (command.Start k call_id message to) now = refl
 arrived-order id (command.Answer k message) now = refl
 
-order_outputs : (key : Key) (life : Life) (step : Step) (made : Option (List ℕ)) → not (is_told step.handed) ≡ true → AllByRecursion IsSend (outputs_of key life step made None)
+order_outputs : (key : Key) (life : Life) (step : Step) (made : Option (List ℕ))
+    → not (is_told step.handed) ≡ true → AllByRecursion IsSend (outputs_of key life step made None)
 unfolding outputs_of
 order_outputs key life step made quiet =
-    subst (λ o. AllByRecursion IsSend (option_to_list o ++ option_to_list (option_map (send_out key life.to) (sent_bytes life.last step.sent made)))) (sym (order_handed key life step.handed quiet))
+    subst (λ o. AllByRecursion IsSend
+    (option_to_list o ++ option_to_list
+    (option_map (send_out key life.to) (sent_bytes life.last step.sent made))))
+    (sym (order_handed key life step.handed quiet))
     (sends_only key life (sent_bytes life.last step.sent made))
 
-answer_is_order : (line : StartLine) (trigger : Trigger) → answer_of line ≡ Some trigger → is_order trigger ≡ true
+answer_is_order : (line : StartLine) (trigger : Trigger) → answer_of line ≡ Some trigger
+    → is_order trigger ≡ true
 answer_is_order (start.Request uri) trigger e = cc
-answer_is_order (start.Response status reason) trigger e = let same : on.Answer (class_of status) ≡ trigger = cc in subst (λ t. is_order t ≡ true) same refl
+answer_is_order (start.Response status reason) trigger e =
+    let same : on.Answer (class_of status) ≡ trigger =
+    cc in subst (λ t. is_order t ≡ true) same refl
 
-is_order_trigger : (held : Option Life) (id : Id) (command : Command) (now : ℕ) (trigger : Trigger) → trigger_of held now (order id command now).input ≡ Some trigger → is_order trigger ≡ true
-is_order_trigger held id (command.Start k call_id message to) now trigger e = let same : on.Start ≡ trigger = cc in subst (λ t. is_order t ≡ true) same refl
-is_order_trigger held id (command.Answer k message) now trigger e = answer_is_order message.start trigger e
+is_order_trigger : (held : Option Life) (id : Id) (command : Command) (now : ℕ) (trigger : Trigger)
+    → trigger_of held now (order id command now).input ≡ Some trigger → is_order trigger ≡ true
+is_order_trigger held id (command.Start k call_id message to) now trigger e =
+    let same : on.Start ≡ trigger = cc in subst (λ t. is_order t ≡ true) same refl
+is_order_trigger held id (command.Answer k message) now trigger e =
+    answer_is_order message.start trigger e
 
 moment-order : (id : Id) (command : Command) (now : ℕ) → (order id command now).moment ≡ now
 moment-order id (command.Start k call_id message to) now = refl
 moment-order id (command.Answer k message) now = refl
 
-orders_send : (key : Key) (life : Option Life) (step : Step) (id : Id) (command : Command) (now moment : ℕ) → not (is_told step.handed) ≡ true
+orders_send : (key : Key) (life : Option Life) (step : Step) (id : Id) (command : Command)
+    (now moment : ℕ) → not (is_told step.handed) ≡ true
     → AllByRecursion IsSend (acted_if key moment (order id command now).input life step).1
 orders_send key None step id command now moment quiet = tt
 orders_send key (Some life) step id command now moment quiet =
-    subst (λ a. AllByRecursion IsSend (outputs_of key life step (made_bytes life.request step.sent (message_in (order id command now).input)) a)) (sym (arrived-order id command now))
+    subst (λ a. AllByRecursion IsSend
+    (outputs_of key life step (made_bytes life.request step.sent
+    (message_in (order id command now).input)) a)) (sym (arrived-order id command now))
     (order_outputs key life step _ quiet)
 
 pub commands_only_send : CommandsOnlySend
 commands_only_send key held id command now =
     by_step (λ after. AllByRecursion IsSend after.1) key held (order id command now) tt
     (λ step row.
-    let ordered : is_order row.trigger ≡ true = is_order_trigger held id command now row.trigger (subst (λ m. trigger_of held m (order id command now).input ≡ Some row.trigger) (moment-order id command now) row.triggered) in
-    let passed : orders_report_nothing (option_map (λ life. life.state) held) row.trigger step ≡ true = row_passes orders_report_nothing (rows_of (role_of key)) (orders_in_tables (role_of key)) _ row.trigger step row.row in
-    let quiet : not (is_told step.handed) ≡ true = sym (ap (λ b. not b || not (is_told step.handed)) ordered) ∙ passed in
-    orders_send key (life_of (role_of key) held (order id command now).input) step id command now (order id command now).moment quiet)
+    let ordered : is_order row.trigger ≡ true =
+    is_order_trigger held id command now row.trigger
+    (subst (λ m. trigger_of held m (order id command now).input ≡ Some row.trigger)
+    (moment-order id command now) row.triggered) in
+    let passed : orders_report_nothing (option_map (λ life. life.state) held) row.trigger step
+    ≡ true = row_passes orders_report_nothing (rows_of (role_of key))
+    (orders_in_tables (role_of key)) _ row.trigger step row.row in
+    let quiet : not (is_told step.handed) ≡ true =
+    sym (ap (λ b. not b || not (is_told step.handed)) ordered) ∙ passed in
+    orders_send key (life_of (role_of key) held (order id command now).input) step id command now
+    (order id command now).moment quiet)

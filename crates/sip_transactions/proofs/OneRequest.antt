@@ -37,7 +37,8 @@ entered-ended Same life ended = absurd (false≢true ended)
 entered-ended Ended life ended = refl
 entered-ended (Become state) life ended = absurd (false≢true ended)
 
-pub life_after-ended : (life : Life) (step : Step) (now : ℕ) (bytes : Option (List ℕ)) → is_ended step.next ≡ true → life_after life step now bytes ≡ None
+pub life_after-ended : (life : Life) (step : Step) (now : ℕ) (bytes : Option (List ℕ))
+    → is_ended step.next ≡ true → life_after life step now bytes ≡ None
 unfolding life_after
 life_after-ended life step now bytes ended = entered-ended step.next _ ended
 
@@ -45,21 +46,31 @@ none_is_none : {T : Type 0} (o : Option T) → o ≡ None → IsSome o → ⊥
 none_is_none o none some = false≢true (sym (ap is_some none) ∙ some)
 
 -- a request that came is handed up as one
-up_request : (key : Key) (life : Life) (handed : Handed) (message : Message) (reply_to : Addr) (line : StartLine) → message.start ≡ line → is_message handed ≡ true → is_request (arrival_of line message.cseq.method) ≡ true
+up_request : (key : Key) (life : Life) (handed : Handed) (message : Message) (reply_to : Addr)
+    (line : StartLine) → message.start ≡ line → is_message handed ≡ true
+    → is_request (arrival_of line message.cseq.method) ≡ true
     → requests_in (option_to_list (handed_out key life handed (Some (message, reply_to)))) ≡ 1
 unfolding handed_out
 up_request key life up.Nothing message reply_to line is handed request = absurd (false≢true handed)
 up_request key life up.Message message reply_to (start.Request uri) is handed request =
     by_test (is_method message.cseq.method (codes "ACK"))
     (λ ack. absurd (not_both _ request (ap (λ b. is_request (cond b on.Ack on.Request)) ack)))
-    (λ other. ap (λ l. requests_in (option_to_list (Some (up_out key life (kind_of l message reply_to))))) is ∙ ap (λ b. requests_in (option_to_list (Some (up_out key life (cond b (kind.Ack message) (kind.Request message reply_to)))))) other)
-up_request key life up.Message message reply_to (start.Response status reason) is handed request = absurd (false≢true request)
+    (λ other. ap (λ l. requests_in
+    (option_to_list (Some (up_out key life (kind_of l message reply_to))))) is
+    ∙ ap (λ b. requests_in (option_to_list
+    (Some (up_out key life (cond b (kind.Ack message) (kind.Request message reply_to))))))
+    other)
+up_request key life up.Message message reply_to (start.Response status reason) is handed request =
+    absurd (false≢true request)
 up_request key life up.Timeout message reply_to line is handed request = absurd (false≢true handed)
 up_request key life up.Failed message reply_to line is handed request = absurd (false≢true handed)
-up_request key life up.NoTransaction message reply_to line is handed request = absurd (false≢true handed)
+up_request key life up.NoTransaction message reply_to line is handed request =
+    absurd (false≢true handed)
 
 -- what goes on isn't ended, so it was begun by a request
-begun_by_request : (life : Life) (step : Step) (now : ℕ) (bytes : Option (List ℕ)) (trigger : Trigger) → (is_ended step.next || (is_message step.handed && is_request trigger)) ≡ true → IsSome (life_after life step now bytes)
+begun_by_request : (life : Life) (step : Step) (now : ℕ) (bytes : Option (List ℕ))
+    (trigger : Trigger) → (is_ended step.next || (is_message step.handed && is_request trigger))
+    ≡ true → IsSome (life_after life step now bytes)
     → (is_message step.handed && is_request trigger) ≡ true
 begun_by_request life step now bytes trigger passed goes_on =
     elim (or_cases (is_ended step.next) (is_message step.handed && is_request trigger) passed) [
@@ -68,38 +79,58 @@ begun_by_request life step now bytes trigger passed goes_on =
     ]
 
 -- the first input of a life
-begins_once : (key : Key) (now : ℕ) (input : Input) (step : Step) (trigger : Trigger) → trigger_of None now input ≡ Some trigger → (is_ended step.next || (is_message step.handed && is_request trigger)) ≡ true
-    → IsSome (acted_if key now input (begun (role_of key) input) step).0 → requests_in (acted_if key now input (begun (role_of key) input) step).1 ≡ 1
+begins_once : (key : Key) (now : ℕ) (input : Input) (step : Step) (trigger : Trigger)
+    → trigger_of None now input ≡ Some trigger
+    → (is_ended step.next || (is_message step.handed && is_request trigger)) ≡ true
+    → IsSome (acted_if key now input (begun (role_of key) input) step).0
+    → requests_in (acted_if key now input (begun (role_of key) input) step).1 ≡ 1
 unfolding begun
 begins_once key now Tick step trigger triggered passed goes_on = absurd (false≢true goes_on)
-begins_once key now (Answer id message) step trigger triggered passed goes_on = absurd (false≢true goes_on)
+begins_once key now (Answer id message) step trigger triggered passed goes_on =
+    absurd (false≢true goes_on)
 begins_once key now (Failed id) step trigger triggered passed goes_on = absurd (false≢true goes_on)
 begins_once key now (Start id call_id message to) step trigger triggered passed goes_on =
     let same : on.Start ≡ trigger = cc in
-    let request : (is_message step.handed && is_request trigger) ≡ true = begun_by_request _ step now _ trigger passed goes_on in
-    absurd (false≢true (ap is_request same ∙ and-right (is_message step.handed) (is_request trigger) request))
+    let request : (is_message step.handed && is_request trigger) ≡ true =
+    begun_by_request _ step now _ trigger passed goes_on in
+    absurd (false≢true (ap is_request same
+    ∙ and-right (is_message step.handed) (is_request trigger) request))
 begins_once key now (Receive id message reply_to) step trigger triggered passed goes_on =
     let same : arrival_of message.start message.cseq.method ≡ trigger = cc in
-    let request : (is_message step.handed && is_request trigger) ≡ true = begun_by_request _ step now _ trigger passed goes_on in
+    let request : (is_message step.handed && is_request trigger) ≡ true =
+    begun_by_request _ step now _ trigger passed goes_on in
     requests-outputs key _ step _ _
-    ∙ up_request key _ step.handed message reply_to message.start refl (and-left (is_message step.handed) (is_request trigger) request) (ap is_request same ∙ and-right (is_message step.handed) (is_request trigger) request)
+    ∙ up_request key _ step.handed message reply_to message.start refl
+    (and-left (is_message step.handed) (is_request trigger) request)
+    (ap is_request same ∙ and-right (is_message step.handed) (is_request trigger) request)
 
-pub first_once : (key : Key) → IsServer key → (first : Timed) → IsSome (stepped key None first).0 → requests_in (stepped key None first).1 ≡ 1
+pub first_once : (key : Key) → IsServer key → (first : Timed) → IsSome (stepped key None first).0
+    → requests_in (stepped key None first).1 ≡ 1
 first_once key server first =
-    by_step (λ after. IsSome after.0 → requests_in after.1 ≡ 1) key None first (λ some. absurd (false≢true some))
-    (λ step row. begins_once key first.moment first.input step row.trigger row.triggered (row_passes begins_by_request (rows_of (role_of key)) (server_tables key server) None row.trigger step row.row))
+    by_step (λ after. IsSome after.0 → requests_in after.1 ≡ 1) key None first
+    (λ some. absurd (false≢true some))
+    (λ step row. begins_once key first.moment first.input step row.trigger row.triggered
+    (row_passes begins_by_request (rows_of (role_of key))
+    (server_tables key server) None row.trigger step row.row))
 
 -- a later input
-later_receive : (key : Key) (life : Life) (message : Message) (reply_to : Addr) (line : StartLine) → message.start ≡ line → not (is_request (arrival_of line message.cseq.method)) ≡ true
-    → requests_in (option_to_list (Some (up_out key life (kind_of message.start message reply_to)))) ≡ 0
-later_receive key life message reply_to (start.Response status reason) is other = ap (λ l. requests_in (option_to_list (Some (up_out key life (kind_of l message reply_to))))) is
+later_receive : (key : Key) (life : Life) (message : Message) (reply_to : Addr) (line : StartLine)
+    → message.start ≡ line → not (is_request (arrival_of line message.cseq.method)) ≡ true
+    → requests_in (option_to_list (Some (up_out key life (kind_of message.start message reply_to))))
+    ≡ 0
+later_receive key life message reply_to (start.Response status reason) is other =
+    ap (λ l. requests_in (option_to_list (Some (up_out key life (kind_of l message reply_to))))) is
 later_receive key life message reply_to (start.Request uri) is other =
     ap (λ l. requests_in (option_to_list (Some (up_out key life (kind_of l message reply_to))))) is
     ∙ by_test (is_method message.cseq.method (codes "ACK"))
-    (λ ack. ap (λ b. requests_in (option_to_list (Some (up_out key life (cond b (kind.Ack message) (kind.Request message reply_to)))))) ack)
-    (λ plain. absurd (false≢true (sym (ap (λ b. not (is_request (cond b on.Ack on.Request))) plain) ∙ other)))
+    (λ ack. ap (λ b. requests_in (option_to_list
+    (Some (up_out key life (cond b (kind.Ack message) (kind.Request message reply_to)))))) ack)
+    (λ plain. absurd (false≢true (sym (ap (λ b. not (is_request (cond b on.Ack on.Request))) plain)
+    ∙ other)))
 
-pub later_once : (key : Key) (life : Life) (handed : Handed) (now : ℕ) (input : Input) (trigger : Trigger) → trigger_of (Some life) now input ≡ Some trigger → not (is_message handed && is_request trigger) ≡ true
+pub later_once : (key : Key) (life : Life) (handed : Handed) (now : ℕ) (input : Input)
+    (trigger : Trigger) → trigger_of (Some life) now input ≡ Some trigger
+    → not (is_message handed && is_request trigger) ≡ true
     → requests_in (option_to_list (handed_out key life handed (arrived_in input))) ≡ 0
 unfolding handed_out
 later_once key life up.Nothing now input trigger triggered passed = refl
@@ -112,26 +143,36 @@ later_once key life up.Message now (Answer id message) trigger triggered passed 
 later_once key life up.Message now (Failed id) trigger triggered passed = refl
 later_once key life up.Message now (Receive id message reply_to) trigger triggered passed =
     let same : arrival_of message.start message.cseq.method ≡ trigger = cc in
-    later_receive key life message reply_to message.start refl (ap (λ t. not (is_request t)) same ∙ passed)
+    later_receive key life message reply_to message.start refl
+    (ap (λ t. not (is_request t)) same ∙ passed)
 
-pub held_silent : (key : Key) (life : Life) (timed : Timed) → requests_in (stepped key (Some life) timed).1 ≡ 0
+pub held_silent : (key : Key) (life : Life) (timed : Timed)
+    → requests_in (stepped key (Some life) timed).1 ≡ 0
 held_silent key life timed =
     by_step (λ after. requests_in after.1 ≡ 0) key (Some life) timed refl
     (λ step row. requests-outputs key life step _ _
-    ∙ later_once key life step.handed timed.moment timed.input row.trigger row.triggered (row_passes later_not_handed_up (rows_of (role_of key)) (later_in_tables (role_of key)) (Some life.state) row.trigger step row.row))
+    ∙ later_once key life step.handed timed.moment timed.input row.trigger row.triggered
+    (row_passes later_not_handed_up (rows_of (role_of key)) (later_in_tables (role_of key))
+    (Some life.state) row.trigger step row.row))
 
-rest_silent : (key : Key) (state : Option Life) (inputs : List Timed) → IsWithinLife transaction_machine key state inputs → requests_in (outputs_from transaction_machine key state inputs) ≡ 0
+rest_silent : (key : Key) (state : Option Life) (inputs : List Timed)
+    → IsWithinLife transaction_machine key state inputs
+    → requests_in (outputs_from transaction_machine key state inputs) ≡ 0
 rest_silent key state [] within = refl
 rest_silent key None (timed ∷ inputs) within = absurd (false≢true within.0)
 rest_silent key (Some life) (timed ∷ inputs) within =
-    sum_by-append (λ o. cond (is_request_up o) 1 0) (stepped key (Some life) timed).1 (outputs_from transaction_machine key (stepped key (Some life) timed).0 inputs)
-    ∙ ap (λ n. n + requests_in (outputs_from transaction_machine key (stepped key (Some life) timed).0 inputs)) (held_silent key life timed) ∙ zero-add _
+    sum_by-append (λ o. cond (is_request_up o) 1 0) (stepped key (Some life) timed).1
+    (outputs_from transaction_machine key (stepped key (Some life) timed).0 inputs)
+    ∙ ap (λ n. n + requests_in (outputs_from transaction_machine key
+    (stepped key (Some life) timed).0 inputs)) (held_silent key life timed) ∙ zero-add _
     ∙ rest_silent key (stepped key (Some life) timed).0 inputs within.1
 
 pub one_request_up : OneRequestUp
 one_request_up key server before first rest life =
     let goes_on : IsSome (stepped key None first).0 =
-    subst (λ s. IsSome (stepped key s first).0) life.none_before (subst IsSome (state_after-push transaction_machine key before first) life.begins) in (
-      subst (λ s. requests_in (stepped key s first).1 ≡ 1) (sym life.none_before) (first_once key server first goes_on),
+    subst (λ s. IsSome (stepped key s first).0) life.none_before
+    (subst IsSome (state_after-push transaction_machine key before first) life.begins) in (
+      subst (λ s. requests_in (stepped key s first).1 ≡ 1) (sym life.none_before)
+          (first_once key server first goes_on),
       rest_silent key (state_after transaction_machine key (before ++ first ∷ [])) rest life.within,
     )

@@ -12,16 +12,22 @@ use Rattle.sip_transactions.specs.declared.step.Sent.TheVariants as send
 use Rattle.sip_transactions.specs.Life.{life_after, entered, armed, last_of}
 use Rattle.sip_transactions.specs.Output.{made_bytes, made_of, outputs_of, handed_out}
 
-pub passed_next : (life : Life) (step : Step) (now : ℕ) (made : Option (List ℕ)) → step.next ≡ next.Ended → life_after life step now made ≡ None
+pub passed_next : (life : Life) (step : Step) (now : ℕ) (made : Option (List ℕ))
+    → step.next ≡ next.Ended → life_after life step now made ≡ None
 unfolding life_after
-passed_next life step now made ended = ap (λ n. entered n (armed step.due now (last_of made life))) ended
+passed_next life step now made ended =
+    ap (λ n. entered n (armed step.due now (last_of made life))) ended
 
-none_made : (request : Option Message) (message : Message) → made_bytes request send.Nothing (Some message) ≡ None
+none_made : (request : Option Message) (message : Message)
+    → made_bytes request send.Nothing (Some message) ≡ None
 unfolding made_of
 none_made request message = refl
 
-pub passed_adds : (key : Key) (life : Life) (step : Step) (message : Message) (reply_to : Addr) → step.sent ≡ send.Nothing
-    → outputs_of key life step (made_bytes None step.sent (Some message)) (Some (message, reply_to)) ≡ option_to_list (handed_out key life step.handed (Some (message, reply_to)))
+pub passed_adds : (key : Key) (life : Life) (step : Step) (message : Message) (reply_to : Addr)
+    → step.sent ≡ send.Nothing
+    → outputs_of key life step (made_bytes None step.sent (Some message)) (Some (message, reply_to))
+    ≡ option_to_list (handed_out key life step.handed (Some (message, reply_to)))
 unfolding outputs_of
 passed_adds key life step message reply_to silent =
-    rw (silent, none_made None message) (append-nil (option_to_list (handed_out key life step.handed (Some (message, reply_to)))))
+    rw (silent, none_made None message)
+    (append-nil (option_to_list (handed_out key life step.handed (Some (message, reply_to)))))

@@ -45,12 +45,16 @@ not_both b on_true on_false = false≢true (sym on_false ∙ on_true)
 
 -- ---- a test of each state, trigger and step of a table
 abbrev all_states : List (Option State)
-all_states = None ∷ Some Calling ∷ Some Trying ∷ Some Proceeding ∷ Some Completed ∷ Some Accepted ∷ Some Confirmed ∷ []
+all_states = None ∷ Some Calling ∷ Some Trying ∷ Some Proceeding ∷ Some Completed ∷ Some Accepted
+    ∷ Some Confirmed ∷ []
 
 abbrev all_triggers : List Trigger
 all_triggers =
-    on.Start ∷ on.RepeatDue ∷ on.EndingDue ∷ on.Failed ∷ on.Request ∷ on.Ack ∷ on.Response class.Trying ∷ on.Response class.Provisional ∷ on.Response class.Success ∷ on.Response class.Failure
-    ∷ on.Answer class.Trying ∷ on.Answer class.Provisional ∷ on.Answer class.Success ∷ on.Answer class.Failure ∷ []
+    on.Start ∷ on.RepeatDue ∷ on.EndingDue ∷ on.Failed ∷ on.Request ∷ on.Ack
+    ∷ on.Response class.Trying ∷ on.Response class.Provisional ∷ on.Response class.Success
+    ∷ on.Response class.Failure
+    ∷ on.Answer class.Trying ∷ on.Answer class.Provisional ∷ on.Answer class.Success
+    ∷ on.Answer class.Failure ∷ []
 
 state_listed : (s : Option State) → slice_get all_states (state_place s) ≡ Some s
 state_listed None = refl
@@ -77,12 +81,14 @@ trigger_listed (on.Answer class.Provisional) = refl
 trigger_listed (on.Answer class.Success) = refl
 trigger_listed (on.Answer class.Failure) = refl
 
-passes_at : {X : Type 0} (test : X → Bool) (xs : List X) (i : ℕ) (x : X) → list_all test xs ≡ true → slice_get xs i ≡ Some x → test x ≡ true
+passes_at : {X : Type 0} (test : X → Bool) (xs : List X) (i : ℕ) (x : X) → list_all test xs ≡ true
+    → slice_get xs i ≡ Some x → test x ≡ true
 passes_at test [] i x all at = cc
 passes_at test (y ∷ ys) zero x all at =
     let same : y ≡ x = cc in
     subst (λ z. test z ≡ true) same (and-left (test y) (list_all test ys) all)
-passes_at test (y ∷ ys) (suc i) x all at = passes_at test ys i x (and-right (test y) (list_all test ys) all) at
+passes_at test (y ∷ ys) (suc i) x all at =
+    passes_at test ys i x (and-right (test y) (list_all test ys) all) at
 
 abbrev step_passes : (Step → Bool) → Option Step → Bool
 step_passes test None = true
@@ -90,13 +96,19 @@ step_passes test (Some step) = test step
 
 -- each row of a table passes the test
 abbrev pub table_passes : (Option State → Trigger → Step → Bool) → List Row → Bool
-table_passes test rows = list_all (λ s. list_all (λ t. step_passes (test s t) (row_of rows s t)) all_triggers) all_states
+table_passes test rows =
+    list_all (λ s. list_all (λ t. step_passes (test s t) (row_of rows s t)) all_triggers) all_states
 
-pub row_passes : (test : Option State → Trigger → Step → Bool) (rows : List Row) → table_passes test rows ≡ true → (s : Option State) (t : Trigger) (step : Step) → row_of rows s t ≡ Some step → test s t step ≡ true
+pub row_passes : (test : Option State → Trigger → Step → Bool) (rows : List Row)
+    → table_passes test rows ≡ true → (s : Option State) (t : Trigger) (step : Step)
+    → row_of rows s t ≡ Some step → test s t step ≡ true
 row_passes test rows all s t step found =
     let at_state : list_all (λ u. step_passes (test s u) (row_of rows s u)) all_triggers ≡ true =
-    passes_at (λ r. list_all (λ u. step_passes (test r u) (row_of rows r u)) all_triggers) all_states (state_place s) s all (state_listed s) in
-    let at_trigger : step_passes (test s t) (row_of rows s t) ≡ true = passes_at (λ u. step_passes (test s u) (row_of rows s u)) all_triggers (trigger_place t) t at_state (trigger_listed t) in
+    passes_at (λ r. list_all (λ u. step_passes (test r u) (row_of rows r u)) all_triggers)
+    all_states (state_place s) s all (state_listed s) in
+    let at_trigger : step_passes (test s t) (row_of rows s t) ≡ true =
+    passes_at (λ u. step_passes (test s u) (row_of rows s u)) all_triggers
+    (trigger_place t) t at_state (trigger_listed t) in
     sym (ap (step_passes (test s t)) found) ∙ at_trigger
 
 -- ---- lists by places
@@ -105,12 +117,16 @@ module _ {X : Type 0} (place : X → ℕ) where
   abbrev pub share : List X → List X → Bool
   share xs ys = list_any (λ x. list_any (λ y. place y == place x) ys) xs
 
-  pub shared : (n : ℕ) (xs ys : List X) → list_any (λ x. place x == n) xs ≡ true → list_any (λ y. place y == n) ys ≡ true → share xs ys ≡ true
+  pub shared : (n : ℕ) (xs ys : List X) → list_any (λ x. place x == n) xs ≡ true
+      → list_any (λ y. place y == n) ys ≡ true → share xs ys ≡ true
   shared n [] ys one other = absurd (false≢true one)
   shared n (x ∷ xs) ys one other =
       elim (or_cases (place x == n) (list_any (λ x. place x == n) xs) one) [
-        | inl here ↦ or-left _ (share xs ys) (subst (λ m. list_any (λ y. place y == m) ys ≡ true) (sym (eqb-true (place x) n here)) other)
-        | inr later ↦ or-right (list_any (λ y. place y == place x) ys) (share xs ys) (shared n xs ys later other)
+        | inl here ↦ or-left _ (share xs ys)
+            (subst (λ m. list_any (λ y. place y == m) ys ≡ true)
+            (sym (eqb-true (place x) n here)) other)
+        | inr later ↦ or-right (list_any (λ y. place y == place x) ys) (share xs ys)
+            (shared n xs ys later other)
       ]
 
 -- two rows that fit no state and trigger together
@@ -129,28 +145,45 @@ both_true : (a b : Bool) → a ≡ true → b ≡ true → (a && b) ≡ true
 both_true true b on_a on_b = on_b
 both_true false b on_a on_b = on_a
 
-count-cons : (p : Row → Bool) (r : Row) (rows : List Row) → count_by p (r ∷ rows) ≡ cond (p r) 1 0 + count_by p rows
+count-cons : (p : Row → Bool) (r : Row) (rows : List Row)
+    → count_by p (r ∷ rows) ≡ cond (p r) 1 0 + count_by p rows
 count-cons p r rows = sum_by-cons (λ x. cond (p x) 1 0) r rows
 
-none_fits : (state : Option State) (trigger : Trigger) (r : Row) (rows : List Row) → fits r state trigger ≡ true → list_all (apart r) rows ≡ true → count_by (λ row. fits row state trigger) rows ≡ 0
+none_fits : (state : Option State) (trigger : Trigger) (r : Row) (rows : List Row)
+    → fits r state trigger ≡ true → list_all (apart r) rows ≡ true
+    → count_by (λ row. fits row state trigger) rows ≡ 0
 none_fits state trigger r [] here all = refl
 none_fits state trigger r (s ∷ rows) here all =
     by_test (fits s state trigger)
-    (λ hit. absurd (not_true (share state_place r.from s.from && share trigger_place r.on s.on) (and-left (apart r s) (list_all (apart r) rows) all)
+    (λ hit. absurd (not_true (share state_place r.from s.from && share trigger_place r.on s.on)
+    (and-left (apart r s) (list_all (apart r) rows) all)
     (both_true _ _
-    (shared state_place (state_place state) r.from s.from (and-left _ (list_any (λ on. trigger_place on == trigger_place trigger) r.on) here) (and-left _ (list_any (λ on. trigger_place on == trigger_place trigger) s.on) hit))
-    (shared trigger_place (trigger_place trigger) r.on s.on (and-right (list_any (λ from. state_place from == state_place state) r.from) _ here) (and-right (list_any (λ from. state_place from == state_place state) s.from) _ hit)))))
-    (λ miss. count-cons (λ row. fits row state trigger) s rows ∙ ap (λ b. cond b 1 0 + count_by (λ row. fits row state trigger) rows) miss ∙ zero-add _ ∙ none_fits state trigger r rows here (and-right (apart r s) (list_all (apart r) rows) all))
+    (shared state_place (state_place state) r.from s.from
+    (and-left _ (list_any (λ on. trigger_place on == trigger_place trigger) r.on) here)
+    (and-left _ (list_any (λ on. trigger_place on == trigger_place trigger) s.on) hit))
+    (shared trigger_place (trigger_place trigger) r.on s.on
+    (and-right (list_any (λ from. state_place from == state_place state) r.from) _ here)
+    (and-right (list_any (λ from. state_place from == state_place state) s.from) _ hit)))))
+    (λ miss. count-cons (λ row. fits row state trigger) s rows
+    ∙ ap (λ b. cond b 1 0 + count_by (λ row. fits row state trigger) rows) miss ∙ zero-add _
+    ∙ none_fits state trigger r rows here (and-right (apart r s) (list_all (apart r) rows) all))
 
-at_most_one_of : (state : Option State) (trigger : Trigger) (rows : List Row) → all_apart rows ≡ true → count_by (λ row. fits row state trigger) rows ≤ 1
+at_most_one_of : (state : Option State) (trigger : Trigger) (rows : List Row)
+    → all_apart rows ≡ true → count_by (λ row. fits row state trigger) rows ≤ 1
 at_most_one_of state trigger [] all = omega arith
 at_most_one_of state trigger (r ∷ rows) all =
-    let parts : count_by (λ row. fits row state trigger) (r ∷ rows) ≡ cond (fits r state trigger) 1 0 + count_by (λ row. fits row state trigger) rows = count-cons (λ row. fits row state trigger) r rows in
+    let parts : count_by (λ row. fits row state trigger) (r ∷ rows)
+    ≡ cond (fits r state trigger) 1 0 + count_by (λ row. fits row state trigger) rows =
+    count-cons (λ row. fits row state trigger) r rows in
     by_test (fits r state trigger)
-    (λ hit. let none : count_by (λ row. fits row state trigger) rows ≡ 0 = none_fits state trigger r rows hit (and-left (list_all (apart r) rows) (all_apart rows) all) in
+    (λ hit. let none : count_by (λ row. fits row state trigger) rows
+    ≡ 0 = none_fits state trigger r rows hit
+    (and-left (list_all (apart r) rows) (all_apart rows) all) in
     let here : cond {A = ℕ} (fits r state trigger) 1 0 ≡ 1 = ap (λ b. cond {A = ℕ} b 1 0) hit in
     omega arith)
-    (λ miss. let more : count_by (λ row. fits row state trigger) rows ≤ 1 = at_most_one_of state trigger rows (and-right (list_all (apart r) rows) (all_apart rows) all) in
+    (λ miss. let more : count_by (λ row. fits row state trigger) rows
+    ≤ 1 = at_most_one_of state trigger rows
+    (and-right (list_all (apart r) rows) (all_apart rows) all) in
     let here : cond {A = ℕ} (fits r state trigger) 1 0 ≡ 0 = ap (λ b. cond {A = ℕ} b 1 0) miss in
     omega arith)
 

@@ -1,7 +1,8 @@
 -- The due moments of a transaction, as its timers keep them.
 use Rattle.std.specs.Prelude.{ℕ, zero, suc, ◌+◌, ◌*◌, ◌^◌, min, Bool, true, false, nat_le, Option, None, Some}
 
--- at most one moment to send again, how often it has fired since it was first set, and at most one moment to end
+-- at most one moment to send again, how often it has fired since it was first set, and at most one
+-- moment to end
 pub record Dues : Type 0 where
   pub repeat : Option ℕ
   pub fired : ℕ

@@ -8,7 +8,8 @@ use Rattle.sip_transactions.specs.Life.{stepped, step_for}
 use Rattle.sip_transactions.specs.Input.{due_of}
 use Rattle.sip_transactions.specs.Machine.{transaction_machine, tick_at, life_due}
 
-nothing_due : (now : ℕ) (ending repeat : Option ℕ) → is_due now ending ≡ false → is_due now repeat ≡ false → due_of now ending repeat ≡ None
+nothing_due : (now : ℕ) (ending repeat : Option ℕ) → is_due now ending ≡ false
+    → is_due now repeat ≡ false → due_of now ending repeat ≡ None
 nothing_due now ending repeat no_end no_repeat = rw no_end (rw no_repeat refl)
 
 pub ticks_are_idle : (now : ℕ) → IsIdle transaction_machine life_due now (tick_at now)

@@ -24,12 +24,15 @@ is_method method name = pointwise nat_eq method name
 
 -- the table of a key
 abbrev pub role_of : Key → Role
-role_of (key.Client branch method) = if is_method method (codes "INVITE") then role.InviteClient else role.Client
-role_of (key.Server branch sent_by method) = if is_method method (codes "INVITE") then role.InviteServer else role.Server
+role_of (key.Client branch method) =
+    if is_method method (codes "INVITE") then role.InviteClient else role.Client
+role_of (key.Server branch sent_by method) =
+    if is_method method (codes "INVITE") then role.InviteServer else role.Server
 
 -- the class of a status code
 abbrev pub class_of : ℕ → Class
-class_of code = if code == 100 then Trying else if nat_lt code 200 then Provisional else if nat_lt code 300 then Success else Failure
+class_of code = if code == 100 then Trying else if nat_lt code 200 then Provisional
+    else if nat_lt code 300 then Success else Failure
 
 -- the message that came or that the user gave
 abbrev pub message_in : Input → Option Message
@@ -49,7 +52,8 @@ arrived_in (Failed id) = None
 
 -- a message that came, by its start line and its method
 abbrev pub arrival_of : StartLine → List ℕ → Trigger
-arrival_of (start.Request uri) method = if is_method method (codes "ACK") then on.Ack else on.Request
+arrival_of (start.Request uri) method =
+    if is_method method (codes "ACK") then on.Ack else on.Request
 arrival_of (start.Response status reason) method = on.Response (class_of status)
 
 -- a message that the user answers with
@@ -57,9 +61,11 @@ abbrev pub answer_of : StartLine → Option Trigger
 answer_of (start.Request uri) = None
 answer_of (start.Response status reason) = Some (on.Answer (class_of status))
 
--- what a tick is: the ending moment if it has come, otherwise the repeating moment if it has come, otherwise nothing
+-- what a tick is: the ending moment if it has come, otherwise the repeating moment if it has come,
+-- otherwise nothing
 abbrev pub due_of : ℕ → Option ℕ → Option ℕ → Option Trigger
-due_of now ending repeat = if is_due now ending then Some on.EndingDue else if is_due now repeat then Some on.RepeatDue else None
+due_of now ending repeat = if is_due now ending then Some on.EndingDue else if is_due now repeat
+    then Some on.RepeatDue else None
 
 abbrev pub tick_of : ℕ → Option Life → Option Trigger
 tick_of now None = None
@@ -68,7 +74,8 @@ tick_of now (Some life) = due_of now life.timers.ending life.timers.repeat
 -- what an input at a moment is to a transaction
 abbrev pub trigger_of : Option Life → ℕ → Input → Option Trigger
 trigger_of held now Tick = tick_of now held
-trigger_of held now (Receive id message reply_to) = Some (arrival_of message.start message.cseq.method)
+trigger_of held now (Receive id message reply_to) =
+    Some (arrival_of message.start message.cseq.method)
 trigger_of held now (Start id call_id message to) = Some on.Start
 trigger_of held now (Answer id message) = answer_of message.start
 trigger_of held now (Failed id) = Some on.Failed

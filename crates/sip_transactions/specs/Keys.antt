@@ -30,14 +30,22 @@ parts a b e =
     let p = then_equal _ _ m.0 in
     let h = then_equal _ _ p.0 in
     let s = then_equal _ _ h.0 in
-    record { side = exact_unsigned _ _ s.0; branch = exact_bytes _ _ s.1; host = exact_bytes _ _ h.1; port = exact_unsigned _ _ p.1; method = exact_bytes _ _ m.1 }
+    record {
+      side = exact_unsigned _ _ s.0;
+      branch = exact_bytes _ _ s.1;
+      host = exact_bytes _ _ h.1;
+      port = exact_unsigned _ _ p.1;
+      method = exact_bytes _ _ m.1;
+    }
 
 by_parts : (a b : Key) → SameParts a b → a ≡ b
-by_parts (Client branch method) (Client branch' method') same = let b = same.branch in let m = same.method in cc
+by_parts (Client branch method) (Client branch' method') same =
+    let b = same.branch in let m = same.method in cc
 by_parts (Client branch method) (Server branch' sent_by' method') same = let s = same.side in cc
 by_parts (Server branch sent_by method) (Client branch' method') same = let s = same.side in cc
 by_parts (Server branch sent_by method) (Server branch' sent_by' method') same =
-    let b = same.branch in let m = same.method in let s = same_sent_by sent_by sent_by' same.host same.port in cc
+    let b = same.branch in let m =
+    same.method in let s = same_sent_by sent_by sent_by' same.host same.port in cc
 
 pub exact_keys : CmpEqualImpliesEq key_cmp
 exact_keys a b e = by_parts a b (parts a b e)

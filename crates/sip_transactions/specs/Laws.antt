@@ -32,7 +32,8 @@ use Rattle.sip_transactions.specs.Shard.{order}
 
 -- of each table at most one row fits a state and a trigger
 abbrev pub AtMostOneRow : Type 0
-AtMostOneRow = (role : Role) (state : Option State) (trigger : Trigger) → count_by (λ row. fits row state trigger) (rows_of role) ≤ 1
+AtMostOneRow = (role : Role) (state : Option State) (trigger : Trigger)
+    → count_by (λ row. fits row state trigger) (rows_of role) ≤ 1
 
 -- neither handed up nor dropped
 abbrev pub IsSend : Out → Type 0
@@ -42,7 +43,8 @@ IsSend (out.Dropped place reason) = ⊥
 
 -- a command hands nothing up and drops nothing
 abbrev pub CommandsOnlySend : Type 0
-CommandsOnlySend = (key : Key) (held : Option Life) (id : Id) (command : Command) (now : ℕ) → AllByRecursion IsSend (adds transaction_machine key held (order id command now))
+CommandsOnlySend = (key : Key) (held : Option Life) (id : Id) (command : Command) (now : ℕ)
+    → AllByRecursion IsSend (adds transaction_machine key held (order id command now))
 
 abbrev pub IsServer : Key → Type 0
 IsServer (key.Client branch method) = ⊥
@@ -66,9 +68,13 @@ requests_in outs = count_by is_request_up outs
 
 -- a life of a server key hands its request up once, by its first input
 abbrev pub OneRequestUp : Type 0
-OneRequestUp = (key : Key) → IsServer key → (before : List Timed) (first : Timed) (rest : List Timed) → IsLife transaction_machine key before first rest
-    → (requests_in (adds transaction_machine key (state_after transaction_machine key before) first) ≡ 1)
-    × (requests_in (outputs_from transaction_machine key (state_after transaction_machine key (before ++ first ∷ [])) rest) ≡ 0)
+OneRequestUp = (key : Key) → IsServer key
+    → (before : List Timed) (first : Timed) (rest : List Timed)
+    → IsLife transaction_machine key before first rest
+    → (requests_in (adds transaction_machine key (state_after transaction_machine key before) first)
+    ≡ 1)
+    × (requests_in (outputs_from transaction_machine key
+    (state_after transaction_machine key (before ++ first ∷ [])) rest) ≡ 0)
 
 -- the id of an input, where it has one
 abbrev pub id_of : Input → Option Id
@@ -101,15 +107,19 @@ carries id (out.Dropped place reason) = false
 
 -- where ids differ, nothing is handed up under a life's id after the life has ended
 abbrev pub NothingAfterTheEnd : Type 0
-NothingAfterTheEnd = (key : Key) (before : List Timed) (first : Timed) (rest after : List Timed) (id : Id) → IsLife transaction_machine key before first rest
-    → state_after transaction_machine key (before ++ first ∷ rest) ≡ None → id_of first.input ≡ Some id
-    → IsDistinct same_id (filter_map (λ timed. naming_id timed.input) (before ++ first ∷ rest ++ after))
+NothingAfterTheEnd = (key : Key) (before : List Timed) (first : Timed) (rest after : List Timed)
+    (id : Id) → IsLife transaction_machine key before first rest
+    → state_after transaction_machine key (before ++ first ∷ rest) ≡ None
+    → id_of first.input ≡ Some id
+    → IsDistinct same_id (filter_map (λ timed. naming_id timed.input)
+    (before ++ first ∷ rest ++ after))
     → list_any (carries id) (outputs_from transaction_machine key None after) ≡ false
 
 -- ---- how often a client sends its request
 
--- A life of a client of an INVITE sends it at most 7 times: timer A fires at most 6 times before timer B does. Another sends its
--- request at most 11 times: timer E fires at most 10 times before timer F does (RFC 3261, sections 17.1.1.2 and 17.1.2.2).
+-- A life of a client of an INVITE sends it at most 7 times: timer A fires at most 6 times before
+-- timer B does. Another sends its request at most 11 times: timer E fires at most 10 times before
+-- timer F does (RFC 3261, sections 17.1.1.2 and 17.1.2.2).
 abbrev pub most_repeats : Role → ℕ
 most_repeats InviteClient = 6
 most_repeats Client = 10
@@ -125,10 +135,14 @@ is_send_of bytes (out.Dropped place reason) = false
 abbrev pub sends_of : List ℕ → List Out → ℕ
 sends_of bytes outs = count_by (is_send_of bytes) outs
 
--- a life that is begun by a start with a request of its key's method sends that request so often at most
+-- a life that is begun by a start with a request of its key's method sends that request so often at
+-- most
 abbrev pub FewSends : Type 0
-FewSends = (branch method : List ℕ) (before : List Timed) (now : ℕ) (id : Id) (call_id : List ℕ) (request : Message) (to : Addr) (rest : List Timed)
-    → IsLife transaction_machine (key.Client branch method) before (record { moment = now; input = Start id call_id request to }) rest
+FewSends = (branch method : List ℕ) (before : List Timed) (now : ℕ) (id : Id) (call_id : List ℕ)
+    (request : Message) (to : Addr) (rest : List Timed)
+    → IsLife transaction_machine (key.Client branch method) before
+    (record { moment = now; input = Start id call_id request to }) rest
     → is_request_message request ≡ true → request.cseq.method ≡ method
-    → sends_of (written request) (outputs_from transaction_machine (key.Client branch method) None ((record { moment = now; input = Start id call_id request to }) ∷ rest))
+    → sends_of (written request) (outputs_from transaction_machine (key.Client branch method) None
+    ((record { moment = now; input = Start id call_id request to }) ∷ rest))
     ≤ 1 + most_repeats (role_of (key.Client branch method))

@@ -25,12 +25,15 @@ use Rattle.sip_transactions.specs.Input.{is_method}
 
 -- a message that came, as it is handed up
 abbrev pub kind_of : StartLine → Message → Addr → Kind
-kind_of (start.Request uri) message reply_to = if is_method message.cseq.method (codes "ACK") then kind.Ack message else kind.Request message reply_to
+kind_of (start.Request uri) message reply_to =
+    if is_method message.cseq.method (codes "ACK") then kind.Ack message
+    else kind.Request message reply_to
 kind_of (start.Response status reason) message reply_to = kind.Response message
 
 -- under the id and the Call-ID of the life
 abbrev pub up_out : Key → Life → Kind → Out
-up_out key life kind = out.Up (record { key = key; id = life.id; call_id = life.call_id; kind = kind })
+up_out key life kind =
+    out.Up (record { key = key; id = life.id; call_id = life.call_id; kind = kind })
 
 abbrev pub arrived_out : Key → Life → Message × Addr → Out
 arrived_out key life arrived = up_out key life (kind_of arrived.0.start arrived.0 arrived.1)
@@ -49,7 +52,8 @@ handed_out key life up.NoTransaction arrived = Some (out.Dropped life.id.place r
 abbrev pub trying_of : Message → Message
 trying_of request = response_of request 100 (codes "Trying") (codes "")
 
--- the message that a row makes of a message that came or that the user gave, and of the request that the life keeps
+-- the message that a row makes of a message that came or that the user gave, and of the request
+-- that the life keeps
 unfoldable pub made_of : Option Message → Sent → Message → Option Message
 made_of request send.Nothing message = None
 made_of request send.Given message = Some message
@@ -59,7 +63,8 @@ made_of request send.Ack message = option_map (λ request. ack_of request messag
 
 -- its bytes
 abbrev pub made_bytes : Option Message → Sent → Option Message → Option (List ℕ)
-made_bytes request sent message = option_map written (option_and_then (made_of request sent) message)
+made_bytes request sent message =
+    option_map written (option_and_then (made_of request sent) message)
 
 -- the bytes that a row sends: what it made, or what was sent last
 abbrev pub sent_bytes : Option (List ℕ) → Sent → Option (List ℕ) → Option (List ℕ)
@@ -76,4 +81,5 @@ send_out key to bytes = out.Send key to bytes
 
 unfoldable pub outputs_of : Key → Life → Step → Option (List ℕ) → Option (Message × Addr) → List Out
 outputs_of key life step made arrived =
-    option_to_list (handed_out key life step.handed arrived) ++ option_to_list (option_map (send_out key life.to) (sent_bytes life.last step.sent made))
+    option_to_list (handed_out key life step.handed arrived)
+    ++ option_to_list (option_map (send_out key life.to) (sent_bytes life.last step.sent made))

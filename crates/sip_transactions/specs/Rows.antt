@@ -23,7 +23,8 @@ use Rattle.sip_transactions.specs.declared.step.Due.{Due}
 use Rattle.sip_transactions.specs.declared.step.Due.TheVariants.{Keep, Clear, Ending, Both, Again}
 use Rattle.sip_transactions.specs.declared.step.Pace.TheVariants.{Doubled, Capped, Even}
 
--- the states in which a row stands, `None` for no state; the triggers that it is for; and what it does
+-- the states in which a row stands, `None` for no state; the triggers that it is for; and what it
+-- does
 pub record Row : Type 0 where
   pub from : List (Option State)
   pub on : List Trigger
@@ -85,8 +86,10 @@ invite_client_rows =
     ∷ row (at Calling) (on EndingDue) Ended up.Timeout send.Nothing Clear  -- !B
     ∷ row (at Calling) (on Failed) Ended up.Failed send.Nothing Clear
     ∷ row (either Calling Proceeding) provisional (Become Proceeding) up.Message send.Nothing Clear
-    ∷ row (either Calling Proceeding) success (Become Accepted) up.Message send.Nothing (Ending LIFETIME)  -- +M
-    ∷ row (either Calling Proceeding) failure (Become Completed) up.Message send.Ack (Ending LIFETIME)  -- +D
+    ∷ row (either Calling Proceeding) success (Become Accepted) up.Message send.Nothing
+    (Ending LIFETIME)  -- +M
+    ∷ row (either Calling Proceeding) failure (Become Completed) up.Message send.Ack
+    (Ending LIFETIME)  -- +D
     ∷ row (at Completed) failure Same up.Nothing send.Latest Keep
     ∷ row (at Completed) (on Failed) Ended up.Failed send.Nothing Clear
     ∷ row (at Accepted) success Same up.Message send.Nothing Keep
@@ -104,7 +107,8 @@ client_rows =
     ∷ row (either Trying Proceeding) (on EndingDue) Ended up.Timeout send.Nothing Clear  -- !F
     ∷ row (either Trying Proceeding) (on Failed) Ended up.Failed send.Nothing Clear
     ∷ row (either Trying Proceeding) provisional (Become Proceeding) up.Message send.Nothing Keep
-    ∷ row (either Trying Proceeding) (success ++ failure) (Become Completed) up.Message send.Nothing (Ending T4)  -- +K
+    ∷ row (either Trying Proceeding) (success ++ failure) (Become Completed) up.Message send.Nothing
+    (Ending T4)  -- +K
     ∷ row (at Completed) (on EndingDue) Ended up.Nothing send.Nothing Clear  -- !K
     ∷ row fresh any_response Ended up.NoTransaction send.Nothing Clear
     ∷ []
@@ -116,7 +120,8 @@ invite_server_rows =
     row fresh (on Request) (Become Proceeding) up.Message send.Trying Clear
     ∷ row (at Proceeding) (on Request) Same up.Nothing send.Latest Keep
     ∷ row (at Proceeding) answer_1xx Same up.Nothing send.Given Keep
-    ∷ row (at Proceeding) answer_2xx (Become Accepted) up.Nothing send.Given (Ending LIFETIME)  -- +L
+    ∷ row (at Proceeding) answer_2xx (Become Accepted) up.Nothing send.Given
+    (Ending LIFETIME)  -- +L
     ∷ row (at Proceeding) answer_failure (Become Completed) up.Nothing send.Given Both  -- +G +H
     ∷ row (at Completed) (on Request) Same up.Nothing send.Latest Keep
     ∷ row (at Completed) (on RepeatDue) Same up.Nothing send.Latest (Again Capped)  -- !G +G
@@ -125,7 +130,8 @@ invite_server_rows =
     ∷ row (at Accepted) (on Ack) Same up.Message send.Nothing Keep
     ∷ row (at Accepted) answer_2xx Same up.Nothing send.Given Keep
     ∷ row (either Confirmed Accepted) (on EndingDue) Ended up.Nothing send.Nothing Clear  -- !I !L
-    ∷ row (either Proceeding Completed ++ either Accepted Confirmed) (on Failed) Same up.Failed send.Nothing Keep
+    ∷ row (either Proceeding Completed ++ either Accepted Confirmed)
+    (on Failed) Same up.Failed send.Nothing Keep
     ∷ row fresh (on Ack) Ended up.Message send.Nothing Clear
     ∷ []
 
@@ -135,7 +141,8 @@ abbrev pub server_rows : List Row
 server_rows =
     row fresh (on Request) (Become Trying) up.Message send.Nothing Clear
     ∷ row (either Trying Proceeding) answer_1xx (Become Proceeding) up.Nothing send.Given Clear
-    ∷ row (either Trying Proceeding) (answer_2xx ++ answer_failure) (Become Completed) up.Nothing send.Given (Ending LIFETIME)  -- +J
+    ∷ row (either Trying Proceeding) (answer_2xx ++ answer_failure)
+    (Become Completed) up.Nothing send.Given (Ending LIFETIME)  -- +J
     ∷ row (either Proceeding Completed) (on Request) Same up.Nothing send.Latest Keep
     ∷ row (at Completed) (on EndingDue) Ended up.Nothing send.Nothing Clear  -- !J
     ∷ row (at Trying ++ either Proceeding Completed) (on Failed) Same up.Failed send.Nothing Keep
@@ -179,7 +186,8 @@ trigger_place (Answer c) = 10 + class_place c
 -- the row is for this state and this trigger
 abbrev pub fits : Row → Option State → Trigger → Bool
 fits row state trigger =
-    list_any (λ from. state_place from == state_place state) row.from && list_any (λ on. trigger_place on == trigger_place trigger) row.on
+    list_any (λ from. state_place from == state_place state) row.from
+    && list_any (λ on. trigger_place on == trigger_place trigger) row.on
 
 -- what the first row that fits does; no row, no change and no output
 abbrev pub row_of : List Row → Option State → Trigger → Option Step

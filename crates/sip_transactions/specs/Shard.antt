@@ -39,5 +39,6 @@ command_key (command.Start key call_id message to) = key
 command_key (command.Answer key message) = key
 
 abbrev pub order : Id → Command → ℕ → Timed
-order id (command.Start key call_id message to) now = record { moment = now; input = Start id call_id message to }
+order id (command.Start key call_id message to) now =
+    record { moment = now; input = Start id call_id message to }
 order id (command.Answer key message) now = record { moment = now; input = Answer id message }

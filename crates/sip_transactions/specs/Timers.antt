@@ -28,8 +28,14 @@ abbrev pub rearmed : Due → ℕ → Dues → Dues
 rearmed Keep now dues = dues
 rearmed Clear now dues = no_dues
 rearmed (Ending after) now dues = record { repeat = None; fired = 0; ending = Some (now + after) }
-rearmed Both now dues = record { repeat = Some (now + T1); fired = 0; ending = Some (now + LIFETIME) }
-rearmed (Again pace) now dues = record { repeat = Some (now + interval pace (dues.fired + 1)); fired = dues.fired + 1; ending = dues.ending }
+rearmed Both now dues =
+    record { repeat = Some (now + T1); fired = 0; ending = Some (now + LIFETIME) }
+rearmed (Again pace) now dues =
+    record {
+      repeat = Some (now + interval pace (dues.fired + 1));
+      fired = dues.fired + 1;
+      ending = dues.ending;
+    }
 
 -- a repeat fires only when it is due, and before the end is
 abbrev pub IsTimely : Due → ℕ → Dues → Type 0

@@ -23,7 +23,8 @@ pub enum Command {
 impl Command {
     ghost use Rattle.sip_transactions.specs.Shard.{command_key, order};
 
-    /// The key of its transaction, and what it is to that one: an input of this id at the moment `now`, in ms.
+    /// The key of its transaction, and what it is to that one: an input of this id at the moment
+    /// `now`, in ms.
     pub fn addressed(self, id: Id, now: u64) -> (Key, Timed)
         ensures { result ≡ (command_key self, order id self now) }
     {

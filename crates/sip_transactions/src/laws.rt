@@ -17,12 +17,14 @@ pub fn one_request_up()
     ensures { OneRequestUp }
 {}
 
-/// Where the ids of requests and starts differ, nothing is handed up under the id of a life that has ended.
+/// Where the ids of requests and starts differ, nothing is handed up under the id of a life that
+/// has ended.
 pub fn nothing_after_the_end()
     ensures { NothingAfterTheEnd }
 {}
 
-/// A life of a client sends its request a few times at most: that of an INVITE 7 times, another 11 times.
+/// A life of a client sends its request a few times at most: that of an INVITE 7 times, another 11
+/// times.
 pub fn few_sends()
     ensures { FewSends }
 {}

@@ -60,7 +60,8 @@ fn act(
     requires bound { now ≤ 2 ^ 62 }
     requires timely { IsTimely step.due now life.timers }
     ensures next { IfOk result (λ after. after.0 ≡ life_after life step now made) }
-    ensures adds { IfOk result (λ after. after.1.items ≡ outputs_of key.now life step made arrived) }
+    ensures adds { IfOk result (λ after. after.1.items
+        ≡ outputs_of key.now life step made arrived) }
 {
     let outputs = said(alloc, key, &life, step, made.as_ref(), arrived)?;
     Ok((life.after(step, now, made), outputs))
@@ -145,8 +146,10 @@ fn arrive(
 ) -> Result<After, AllocError>
     requires bound { now ≤ 2 ^ 62 }
     requires timely { RepeatsInTime step.due now None }
-    ensures next { IfOk result (λ after. after.0 ≡ (acted_at_arrival key.now now id message reply_to step).0) }
-    ensures adds { IfOk result (λ after. after.1.items ≡ (acted_at_arrival key.now now id message reply_to step).1) }
+    ensures next { IfOk result (λ after. after.0
+        ≡ (acted_at_arrival key.now now id message reply_to step).0) }
+    ensures adds { IfOk result (λ after. after.1.items
+        ≡ (acted_at_arrival key.now now id message reply_to step).1) }
 {
     match (step.next, step.sent) {
         (Next::Ended, Sent::Nothing) => pass(alloc, key, id, message, reply_to, step),
@@ -166,8 +169,10 @@ fn pass(
 ) -> Result<After, AllocError>
     requires ended { step.next ≡ Next.Ended }
     requires silent { step.sent ≡ Sent.Nothing }
-    ensures next { (now : ℕ) → IfOk result (λ after. after.0 ≡ (acted_at_arrival key.now now id message reply_to step).0) }
-    ensures adds { (now : ℕ) → IfOk result (λ after. after.1.items ≡ (acted_at_arrival key.now now id message reply_to step).1) }
+    ensures next { (now : ℕ) → IfOk result
+        (λ after. after.0 ≡ (acted_at_arrival key.now now id message reply_to step).0) }
+    ensures adds { (now : ℕ) → IfOk result
+        (λ after. after.1.items ≡ (acted_at_arrival key.now now id message reply_to step).1) }
 {
     let outputs = passed_on(alloc, key, id, message, reply_to, step.handed)?;
     Ok((None, outputs))
@@ -184,8 +189,10 @@ fn begin_by_message(
 ) -> Result<After, AllocError>
     requires bound { now ≤ 2 ^ 62 }
     requires timely { RepeatsInTime step.due now None }
-    ensures next { IfOk result (λ after. after.0 ≡ (acted_at_arrival key.now now id message reply_to step).0) }
-    ensures adds { IfOk result (λ after. after.1.items ≡ (acted_at_arrival key.now now id message reply_to step).1) }
+    ensures next { IfOk result (λ after. after.0
+        ≡ (acted_at_arrival key.now now id message reply_to step).0) }
+    ensures adds { IfOk result (λ after. after.1.items
+        ≡ (acted_at_arrival key.now now id message reply_to step).1) }
 {
     let made = made_bytes(alloc, None, step.sent, Some(&message))?;
     let life = Life::new(id, message.call_id.clone()?, reply_to, None);

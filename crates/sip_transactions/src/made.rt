@@ -22,7 +22,8 @@ pub(crate) fn made_bytes(
     sent: Sent,
     message: Option<&Message>,
 ) -> Result<Option<Text>, AllocError>
-    ensures { let bytes = made_bytes (option_copied request.entry) sent (option_copied message.entry) in
+    ensures { let bytes = made_bytes (option_copied request.entry) sent
+        (option_copied message.entry) in
         IfOk result (λ made. made ≡ bytes) }
 {
     let Some(message) = message else {

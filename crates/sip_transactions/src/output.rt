@@ -18,7 +18,8 @@ pub enum Kind {
     Failed,
 }
 
-/// Something handed up, under the id and the Call-ID of the input that began the transaction's life.
+/// Something handed up, under the id and the Call-ID of the input that began the transaction's
+/// life.
 #[derive(Drop)]
 pub struct Up {
     pub key: Key,

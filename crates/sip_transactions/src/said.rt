@@ -13,7 +13,8 @@ use sip_message::{Addr, CallId, Id, Key, Message, StartLine};
 use sip_text::Text;
 use std::alloc::{AllocError, Global};
 
-/// What a row at a life says of a message that came, if one did, where it made a message of these bytes.
+/// What a row at a life says of a message that came, if one did, where it made a message of these
+/// bytes.
 #[tactic(auto, unfolding(crate::specs::Output::outputs_of))]
 pub(crate) fn said(
     alloc: Global,
@@ -36,7 +37,8 @@ pub(crate) fn said(
     Ok(outputs)
 }
 
-/// What is said of a message where no life begins: it is handed up under its own id, or dropped, or neither.
+/// What is said of a message where no life begins: it is handed up under its own id, or dropped, or
+/// neither.
 pub(crate) fn passed_on(
     alloc: Global,
     key: &Key,

@@ -20,8 +20,8 @@ use std::marker::Model;
 
 /// The transactions of some keys.
 ///
-/// After a call answered [`ShardFault::NoMemory`] the shard is broken: it holds nothing, and every call that can
-/// fail answers [`ShardFault::Broken`].
+/// After a call answered [`ShardFault::NoMemory`] the shard is broken: it holds nothing, and every
+/// call that can fail answers [`ShardFault::Broken`].
 #[derive(Drop)]
 pub struct Shard {
     alloc: Global,
@@ -54,7 +54,8 @@ impl Shard {
     /// How many transactions are held.
     pub fn live(&self) -> usize
         ensures entries { result ≡ length (entries_of self.now.held) }
-        ensures counts { (keys : List Key) → Covers key_cmp keys (life_at self.now) → result ≡ count_by (λ key. is_some (life_at self.now key)) keys }
+        ensures counts { (keys : List Key) → Covers key_cmp keys (life_at self.now)
+            → result ≡ count_by (λ key. is_some (life_at self.now key)) keys }
     {
         self.table.live()
     }
@@ -66,21 +67,26 @@ impl Shard {
         self.table.state(key).map(|life| life.state)
     }
 
-    /// Lets every transaction see the moment, in milliseconds, in key order: at most one timer of each fires.
+    /// Lets every transaction see the moment, in milliseconds, in key order: at most one timer of
+    /// each fires.
     pub fn tick(&mut self, now: u64) -> Result<Vec<Out>, ShardFault>
         requires { now ≤ 2 ^ 62 }
         ensures local { self.new.local ≡ self.old.local }
         ensures broken { self.old.held ≡ None → result ≡ Err ShardFault.Broken }
         ensures only_broken { result ≡ Err ShardFault.Broken → self.old.held ≡ None }
         ensures err { OnErr result (self.new.held ≡ None) }
-        ensures step { IfOk result (λ outs. StepsAll key_cmp transaction_machine self.old.held self.new.held (tick_at now) outs.items) }
-        ensures histories { IfOk result (λ outs. AddsInputs key_cmp transaction_machine self.old.held self.new.held (tick_at now) outs.items) }
+        ensures step { IfOk result (λ outs.
+            StepsAll key_cmp transaction_machine self.old.held self.new.held
+            (tick_at now) outs.items) }
+        ensures histories { IfOk result
+            (λ outs. AddsInputs key_cmp transaction_machine self.old.held self.new.held
+            (tick_at now) outs.items) }
     {
         self.table.tick(&Transactions, now)
     }
 
-    /// Takes a message that came: a request that is stamped with its source, with the address of its answers, or a
-    /// response.
+    /// Takes a message that came: a request that is stamped with its source, with the address of
+    /// its answers, or a response.
     pub fn receive(
         &mut self,
         id: Id,
@@ -96,11 +102,14 @@ impl Shard {
 
         // A response to another sender is dropped, and is no input.
         ensures stray { is_stray self.old.local message ≡ true
-            → IfOk result (λ outs. (outs.items ≡ Out.Dropped id.place DropReason.NotOurs ∷ []) × (self.new ≡ self.old)) }
+            → IfOk result (λ outs. (outs.items ≡ Out.Dropped id.place DropReason.NotOurs ∷ [])
+            × (self.new ≡ self.old)) }
         ensures step { is_stray self.old.local message ≡ false
-            → IfOk result (λ outs. StepsKey key_cmp transaction_machine self.old.held self.new.held (key_of_message message) (receipt id message reply_to now) outs.items) }
+            → IfOk result (λ outs. StepsKey key_cmp transaction_machine self.old.held self.new.held
+            (key_of_message message) (receipt id message reply_to now) outs.items) }
         ensures histories { is_stray self.old.local message ≡ false
-            → IfOk result (λ outs. AddsInput key_cmp transaction_machine self.old.held self.new.held (key_of_message message) (receipt id message reply_to now) outs.items) }
+            → IfOk result (λ outs. AddsInput key_cmp transaction_machine self.old.held self.new.held
+            (key_of_message message) (receipt id message reply_to now) outs.items) }
     {
         if is_stray(self.local, &message) {
             return self.table.check(not_ours(self.alloc, id));
@@ -115,15 +124,20 @@ impl Shard {
             .handle(&Transactions, key, Timed { moment: now, input })
     }
 
-    /// Does what the user asks of a transaction. The id is that of the request that is started or answered.
+    /// Does what the user asks of a transaction. The id is that of the request that is started or
+    /// answered.
     pub fn command(&mut self, id: Id, command: Command, now: u64) -> Result<Vec<Out>, ShardFault>
         requires { now ≤ 2 ^ 62 }
         ensures local { self.new.local ≡ self.old.local }
         ensures broken { self.old.held ≡ None → result ≡ Err ShardFault.Broken }
         ensures only_broken { result ≡ Err ShardFault.Broken → self.old.held ≡ None }
         ensures err { OnErr result (self.new.held ≡ None) }
-        ensures step { IfOk result (λ outs. StepsKey key_cmp transaction_machine self.old.held self.new.held (command_key command) (order id command now) outs.items) }
-        ensures histories { IfOk result (λ outs. AddsInput key_cmp transaction_machine self.old.held self.new.held (command_key command) (order id command now) outs.items) }
+        ensures step { IfOk result (λ outs.
+            StepsKey key_cmp transaction_machine self.old.held self.new.held (command_key command)
+            (order id command now) outs.items) }
+        ensures histories { IfOk result
+            (λ outs. AddsInput key_cmp transaction_machine self.old.held self.new.held
+            (command_key command) (order id command now) outs.items) }
     {
         let (key, input) = command.addressed(id, now);
         self.table.handle(&Transactions, key, input)
@@ -136,8 +150,12 @@ impl Shard {
         ensures broken { self.old.held ≡ None → result ≡ Err ShardFault.Broken }
         ensures only_broken { result ≡ Err ShardFault.Broken → self.old.held ≡ None }
         ensures err { OnErr result (self.new.held ≡ None) }
-        ensures step { IfOk result (λ outs. StepsKey key_cmp transaction_machine self.old.held self.new.held key.now (failure id now) outs.items) }
-        ensures histories { IfOk result (λ outs. AddsInput key_cmp transaction_machine self.old.held self.new.held key.now (failure id now) outs.items) }
+        ensures step { IfOk result (λ outs.
+            StepsKey key_cmp transaction_machine self.old.held self.new.held key.now
+            (failure id now) outs.items) }
+        ensures histories { IfOk result
+            (λ outs. AddsInput key_cmp transaction_machine self.old.held self.new.held key.now
+            (failure id now) outs.items) }
     {
         let key = self.table.check(key.clone())?;
         let input = Input::Failed { id };

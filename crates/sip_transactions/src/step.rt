@@ -83,7 +83,12 @@ pub struct Step {
 impl Step {
     /// The transaction enters a state.
     pub fn enter(state: State, handed: Handed, sent: Sent, due: Due) -> Step
-        ensures { result ≡ record { next = Next.Become state; handed = handed; sent = sent; due = due } }
+        ensures { result ≡ record {
+          next = Next.Become state;
+          handed = handed;
+          sent = sent;
+          due = due;
+        } }
     {
         Step {
             next: Next::Become(state),
@@ -95,7 +100,12 @@ impl Step {
 
     /// The state and both due moments stay.
     pub fn stay(handed: Handed, sent: Sent) -> Step
-        ensures { result ≡ record { next = Next.Same; handed = handed; sent = sent; due = Due.Keep } }
+        ensures { result ≡ record {
+          next = Next.Same;
+          handed = handed;
+          sent = sent;
+          due = Due.Keep;
+        } }
     {
         Step {
             next: Next::Same,

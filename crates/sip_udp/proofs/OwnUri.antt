@@ -11,7 +11,10 @@ uri_digit : PassesDigits is_uri_byte
 unfolding is_uri_byte
 uri_digit b h = ap not (none_of is_ascii_digit (codes " \t\r\n<>\"") b refl h)
 
-pub own_uri : (ip : List ℕ) → slice_index ip 0 < 256 → slice_index ip 1 < 256 → slice_index ip 2 < 256 → slice_index ip 3 < 256 → IsTrue (is_uri (codes "sip:ua@" ++ ip_text ip))
+pub own_uri : (ip : List ℕ) → slice_index ip 0 < 256 → slice_index ip 1 < 256
+    → slice_index ip 2 < 256 → slice_index ip 3 < 256
+    → IsTrue (is_uri (codes "sip:ua@" ++ ip_text ip))
 unfolding is_uri is_uri_byte
 own_uri ip p q r s =
-    list_all-append is_uri_byte (codes "sip:ua@") (ip_text ip) ∙ both_true _ _ refl (ip_passes is_uri_byte uri_digit refl ip p q r s)
+    list_all-append is_uri_byte (codes "sip:ua@") (ip_text ip)
+    ∙ both_true _ _ refl (ip_passes is_uri_byte uri_digit refl ip p q r s)

@@ -16,7 +16,8 @@ nothing_asked : (now : Option (List Asked)) → Asks now now []
 nothing_asked None = tt
 nothing_asked (Some before) = ap Some (sym (append-nil before))
 
-asked_more : (a b c : Option (List Asked)) (xs ys : List Asked) → Asks a b xs → Asks b c ys → Asks a c (xs ++ ys)
+asked_more : (a b c : Option (List Asked)) (xs ys : List Asked) → Asks a b xs → Asks b c ys
+    → Asks a c (xs ++ ys)
 asked_more None b c xs ys p q = tt
 asked_more (Some before) b c xs ys p q =
     let at : c ≡ Some ((before ++ xs) ++ ys) = subst (λ x. Asks x c ys) p q in
@@ -24,7 +25,8 @@ asked_more (Some before) b c xs ys p q =
 
 -- after some of the outputs were dealt with: these are left, with their failures, and there is room
 -- for all of those
-pub record SoFar (old now : Option (List Asked)) (outputs left : List Output) (failures : List (Option Event)) (failed : List Event) (capacity : ℕ) : Type 0 where
+pub record SoFar (old now : Option (List Asked)) (outputs left : List Output)
+    (failures : List (Option Event)) (failed : List Event) (capacity : ℕ) : Type 0 where
   pub done : List Output
   pub split : outputs ≡ done ++ left
   pub ready : failures ≡ map prepared left
@@ -34,21 +36,39 @@ pub record SoFar (old now : Option (List Asked)) (outputs left : List Output) (f
 pub nothing_sent : (now : Option (List Asked)) → SendsAll now now [] []
 nothing_sent now = record { answered = []; each = refl; asked = nothing_asked now; told = refl }
 
-pub one_more : (old now next : Option (List Asked)) (done : List Output) (failed : List Event) (output : Output) (is_sent : Bool)
-    → SendsAll old now done failed → Asks now next (calls_for (output, is_sent)) → SendsAll old next (done ++ output ∷ []) (failed ++ failures_of (output, is_sent))
+pub one_more : (old now next : Option (List Asked)) (done : List Output) (failed : List Event)
+    (output : Output) (is_sent : Bool)
+    → SendsAll old now done failed → Asks now next (calls_for (output, is_sent))
+    → SendsAll old next (done ++ output ∷ []) (failed ++ failures_of (output, is_sent))
 one_more old now next done failed output is_sent s asks =
     let last : List (Output × Bool) = (output, is_sent) ∷ [] in
     record {
       answered = s.answered ++ last;
       each = map-append (λ one. one.0) s.answered last ∙ ap (λ xs. xs ++ output ∷ []) s.each;
-      asked = rw (flat_map-append calls_for s.answered last, append-nil (calls_for (output, is_sent))) (asked_more old now next (flat_map calls_for s.answered) (calls_for (output, is_sent)) s.asked asks);
-      told = ap (λ xs. xs ++ failures_of (output, is_sent)) s.told ∙ sym (flat_map-append failures_of s.answered last ∙ ap (λ xs. flat_map failures_of s.answered ++ xs) (append-nil (failures_of (output, is_sent))));
+      asked = rw (
+        flat_map-append calls_for s.answered last,
+        append-nil (calls_for (output, is_sent)),
+      )
+          (asked_more old now next (flat_map calls_for s.answered)
+          (calls_for (output, is_sent)) s.asked asks);
+      told = ap (λ xs. xs ++ failures_of (output, is_sent)) s.told
+          ∙ sym (flat_map-append failures_of s.answered last
+          ∙ ap (λ xs. flat_map failures_of s.answered ++ xs)
+          (append-nil (failures_of (output, is_sent))));
     }
 
-pub begun : (now : Option (List Asked)) (outputs : List Output) (failures : List (Option Event)) (failed : List Event) (capacity : ℕ)
-    → failures ≡ map prepared outputs → failed ≡ [] → length outputs ≤ capacity → SoFar now now outputs outputs failures failed capacity
+pub begun : (now : Option (List Asked)) (outputs : List Output) (failures : List (Option Event))
+    (failed : List Event) (capacity : ℕ)
+    → failures ≡ map prepared outputs → failed ≡ [] → length outputs ≤ capacity
+    → SoFar now now outputs outputs failures failed capacity
 begun now outputs failures failed capacity ready none room =
-    record { done = []; split = refl; ready = ready; sent = rw none (nothing_sent now); room = let e : length failed ≡ 0 = ap length none in omega arith }
+    record {
+      done = [];
+      split = refl;
+      ready = ready;
+      sent = rw none (nothing_sent now);
+      room = let e : length failed ≡ 0 = ap length none in omega arith;
+    }
 
 tail_of : {A : Type 0} (x y : A) (xs ys : List A) → x ∷ xs ≡ y ∷ ys → xs ≡ ys
 tail_of x y xs ys e = cc
@@ -65,22 +85,30 @@ few (output.Dropped place reason) is_sent = omega arith
 few (output.Notice notice) is_sent = omega arith
 
 -- what comes first of what is left was sent
-pub goes_on : (old now next : Option (List Asked)) (outputs left rest : List Output) (failures more : List (Option Event)) (failed after : List Event) (capacity : ℕ) (output : Output) (failure : Option Event) (is_sent : Bool)
-    → SoFar old now outputs left failures failed capacity → left ≡ output ∷ rest → failures ≡ failure ∷ more
+pub goes_on : (old now next : Option (List Asked)) (outputs left rest : List Output)
+    (failures more : List (Option Event)) (failed after : List Event) (capacity : ℕ)
+    (output : Output) (failure : Option Event) (is_sent : Bool)
+    → SoFar old now outputs left failures failed capacity → left ≡ output ∷ rest
+    → failures ≡ failure ∷ more
     → Asks now next (calls_for (output, is_sent)) → after ≡ failed ++ failures_of (output, is_sent)
     → SoFar old next outputs rest more after capacity
-goes_on old now next outputs left rest failures more failed after capacity output failure is_sent s cut first asks told =
+goes_on old now next outputs left rest failures more failed after capacity output failure is_sent s
+    cut first asks told =
     record {
       done = s.done ++ output ∷ [];
       split = s.split ∙ ap (λ xs. s.done ++ xs) cut ∙ sym (append_assoc s.done (output ∷ []) rest);
       ready = tail_of _ _ _ _ (sym first ∙ s.ready ∙ ap (map prepared) cut);
       sent = rw told (one_more old now next s.done failed output is_sent s.sent asks);
       room =
-          let r = s.room in let l = few output is_sent in let d : length left ≡ suc (length rest) = ap length cut in
-          let e : length after ≡ length failed + length (failures_of (output, is_sent)) = ap length told ∙ length-append failed (failures_of (output, is_sent)) in omega arith;
+          let r = s.room in let l =
+          few output is_sent in let d : length left ≡ suc (length rest) = ap length cut in
+          let e : length after ≡ length failed + length (failures_of (output, is_sent)) =
+          ap length told ∙ length-append failed (failures_of (output, is_sent)) in omega arith;
     }
 
-pub all_sent : (old now : Option (List Asked)) (outputs left : List Output) (failures : List (Option Event)) (failed : List Event) (capacity : ℕ)
-    → SoFar old now outputs left failures failed capacity → left ≡ [] → SendsAll old now outputs failed
+pub all_sent : (old now : Option (List Asked)) (outputs left : List Output)
+    (failures : List (Option Event)) (failed : List Event) (capacity : ℕ)
+    → SoFar old now outputs left failures failed capacity → left ≡ []
+    → SendsAll old now outputs failed
 all_sent old now outputs left failures failed capacity s none =
     rw (s.split ∙ ap (λ xs. s.done ++ xs) none ∙ append-nil s.done) s.sent

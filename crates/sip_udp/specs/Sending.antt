@@ -16,7 +16,8 @@ Asks old new calls = IfSome old (λ before. new ≡ Some (before ++ calls))
 
 -- a Send is asked for once, and nothing else is
 abbrev pub calls_for : Output × Bool → List Asked
-calls_for (output.Send key to bytes, is_sent) = record { to = to; bytes = bytes; is_sent = is_sent } ∷ []
+calls_for (output.Send key to bytes, is_sent) =
+    record { to = to; bytes = bytes; is_sent = is_sent } ∷ []
 calls_for (output.Dropped place reason, is_sent) = []
 calls_for (output.Notice notice, is_sent) = []
 
@@ -33,7 +34,8 @@ failures_of (output.Notice notice, is_sent) = []
 
 -- the outlet gave each of the outputs an answer: it was asked for each Send, in order, and these
 -- are the failures
-pub record SendsAll (old new : Option (List Asked)) (outputs : List Output) (failed : List Event) : Type 0 where
+pub record SendsAll (old new : Option (List Asked)) (outputs : List Output)
+    (failed : List Event) : Type 0 where
   pub answered : List (Output × Bool)
   pub each : map (λ one. one.0) answered ≡ outputs
   pub asked : Asks old new (flat_map calls_for answered)

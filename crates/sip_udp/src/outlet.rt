@@ -23,7 +23,8 @@ pub trait Outlet {
 
     /// Sends a datagram, and says whether it could.
     fn send(&mut self, to: Addr, bytes: &[u8]) -> bool
-        ensures { Asks (asked self.old) (asked self.new) (record { to = to; bytes = bytes.now; is_sent = result } ∷ []) };
+        ensures { Asks (asked self.old) (asked self.new)
+            (record { to = to; bytes = bytes.now; is_sent = result } ∷ []) };
 }
 
 /// A socket tells nothing of what it was asked.

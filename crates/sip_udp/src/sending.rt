@@ -21,7 +21,8 @@ pub fn send_all<O: Outlet>(
     outlet: &mut O,
     outputs: &[Output],
 ) -> Result<Vec<Event>, AllocError>
-    ensures sends { IfOk result (λ failed. SendsAll (O.asked outlet.old) (O.asked outlet.new) outputs.now failed.items) }
+    ensures sends { IfOk result (λ failed.
+        SendsAll (O.asked outlet.old) (O.asked outlet.new) outputs.now failed.items) }
     ensures unasked { OnErr result (outlet.new ≡ outlet.old) }
 {
     let failures = prepared(alloc, outputs)?;
@@ -66,7 +67,8 @@ fn send_one<O: Outlet>(
 )
     requires failure { failure ≡ spec.prepared output.now }
     requires room { vec_len failed.old < vec_capacity failed.old }
-    ensures sends { (is_sent : Bool) × Asks (O.asked outlet.old) (O.asked outlet.new) (calls_for (output.now, is_sent))
+    ensures sends { (is_sent : Bool)
+        × Asks (O.asked outlet.old) (O.asked outlet.new) (calls_for (output.now, is_sent))
         × (failed.new.items ≡ failed.old.items ++ failures_of (output.now, is_sent)) }
     ensures room { vec_capacity failed.new ≡ vec_capacity failed.old }
 {

@@ -46,14 +46,19 @@ bracketed_reads : Reads (List ℕ) address.Target address.bracketed_from address
 bracketed_reads = cut_reads (Byte 62) (both_reads uri_reads all_reads) never_reads
 
 bare_reads : Reads (List ℕ) address.Target address.bare_from address.Bare
-bare_reads = cut_reads (Byte 59) (both_reads uri_reads many_reads) (told_reads address.without_parameters uri_reads)
+bare_reads = cut_reads (Byte 59) (both_reads uri_reads many_reads)
+    (told_reads address.without_parameters uri_reads)
 
-address_reads : (is_display : List ℕ → Bool) → Reads (List ℕ) (List ℕ × address.Target) (address.address_from is_display) (address.Address is_display)
+address_reads : (is_display : List ℕ → Bool)
+    → Reads (List ℕ) (List ℕ × address.Target) (address.address_from is_display)
+    (address.Address is_display)
 address_reads is_display =
-    cut_reads (Byte 60) (both_reads (of_reads trimmed (passing_reads is_display)) bracketed_reads) (told_reads address.without_display bare_reads)
+    cut_reads (Byte 60) (both_reads (of_reads trimmed (passing_reads is_display)) bracketed_reads)
+    (told_reads address.without_display bare_reads)
 
 pub party_reads : Reads (List ℕ) Party address.party_from address.IsPartyText
-party_reads = told_reads address.party_of (checked_reads address.has_address_tag (address_reads is_party_display))
+party_reads = told_reads address.party_of
+    (checked_reads address.has_address_tag (address_reads is_party_display))
 
 name_addr_reads : Reads (List ℕ) NameAddr address.name_addr_from address.IsNameAddr
 name_addr_reads = told_reads address.name_addr_of (address_reads is_display_text)
@@ -70,19 +75,24 @@ port_reads : Reads (List ℕ) Numeral via.port_from via.IsPortText
 port_reads = of_reads trimmed (numeral_reads (2 ^ 16))
 
 sent_by_reads : Reads (List ℕ) via.SentBy via.sent_by_from via.IsSentBy
-sent_by_reads = cut_reads Colon (told_reads via.with_port (both_reads host_reads port_reads)) (told_reads via.without_port host_reads)
+sent_by_reads = cut_reads Colon (told_reads via.with_port (both_reads host_reads port_reads))
+    (told_reads via.without_port host_reads)
 
 end_reads : Reads (List ℕ) (via.SentBy × List Parameter) via.end_from via.IsEnd
-end_reads = cut_reads (Byte 59) (both_reads sent_by_reads many_reads) (told_reads via.without_parameters sent_by_reads)
+end_reads = cut_reads (Byte 59) (both_reads sent_by_reads many_reads)
+    (told_reads via.without_parameters sent_by_reads)
 
 hop_reads : Reads (List ℕ) ViaDraft via.hop_from via.IsHop
-hop_reads = cut_reads Blank (told_reads via.via_of (both_reads (passing_reads is_token) (of_reads trimmed end_reads))) never_reads
+hop_reads = cut_reads Blank (told_reads via.via_of
+    (both_reads (passing_reads is_token) (of_reads trimmed end_reads))) never_reads
 
 behind_protocol_reads : Reads (List ℕ) ViaDraft via.behind_protocol_from via.IsBehindProtocol
-behind_protocol_reads = cut_reads (Byte 47) (behind_reads (via.is_like (codes "2.0")) (of_reads trimmed hop_reads)) never_reads
+behind_protocol_reads = cut_reads (Byte 47)
+    (behind_reads (via.is_like (codes "2.0")) (of_reads trimmed hop_reads)) never_reads
 
 via_reads : Reads (List ℕ) ViaDraft via.via_from via.IsVia
-via_reads = of_reads trimmed (cut_reads (Byte 47) (behind_reads (via.is_like (codes "SIP")) behind_protocol_reads) never_reads)
+via_reads = of_reads trimmed (cut_reads (Byte 47)
+    (behind_reads (via.is_like (codes "SIP")) behind_protocol_reads) never_reads)
 
 pub vias_reads : Reads (List ℕ) (List ViaDraft) via.vias_from via.AreVias
 vias_reads = split_reads (Byte 44) via_reads
@@ -99,7 +109,9 @@ pub call_id_reads : Reads (List ℕ) (List ℕ) sequence.call_id_from sequence.I
 call_id_reads = passing_reads is_word
 
 pub cseq_reads : Reads (List ℕ) CSeqDraft sequence.cseq_from sequence.IsCSeqText
-cseq_reads = cut_reads Blank (told_reads sequence.cseq_of (both_reads (numeral_reads (2 ^ 32)) token_reads)) never_reads
+cseq_reads = cut_reads Blank (told_reads sequence.cseq_of
+    (both_reads (numeral_reads (2 ^ 32)) token_reads)) never_reads
 
 pub rack_reads : Reads (List ℕ) RAckDraft sequence.rack_from sequence.IsRAckText
-rack_reads = cut_reads Blank (told_reads sequence.rack_of (both_reads (numeral_reads (2 ^ 32)) (of_reads trimmed cseq_reads))) never_reads
+rack_reads = cut_reads Blank (told_reads sequence.rack_of
+    (both_reads (numeral_reads (2 ^ 32)) (of_reads trimmed cseq_reads))) never_reads

@@ -1,4 +1,5 @@
--- Addresses: From and To, Contact, Route and Record-Route (RFC 3261, sections 20.10, 20.20, 20.30, 20.34 and 20.39).
+-- Addresses: From and To, Contact, Route and Record-Route (RFC 3261, sections 20.10, 20.20, 20.30,
+-- 20.34 and 20.39).
 use Rattle.std.specs.Prelude.{ℕ, Bool, List, [], Option}
 use Rattle.sip_text.specs.Forms.{Passing, passing, Never, never, Of, reading_of, Checked, checked, Told, told, Both, both, OnCut, on_cut, Split, split}
 use Rattle.sip_text.specs.Trimmed.{trimmed}
@@ -36,10 +37,12 @@ without_parameters uri = (uri, [])
 
 -- A URI alone, and parameters. All that stands behind the first semicolon belongs to the header.
 abbrev pub Bare : Target → List ℕ → Type 0
-Bare target text = OnCut (Byte 59) (Both UriText ManyParameters) (Told without_parameters UriText) target text
+Bare target text =
+    OnCut (Byte 59) (Both UriText ManyParameters) (Told without_parameters UriText) target text
 
 abbrev pub bare_from : List ℕ → Option Target
-bare_from text = on_cut (Byte 59) (both uri_from many_parameters) (told without_parameters uri_from) text
+bare_from text =
+    on_cut (Byte 59) (both uri_from many_parameters) (told without_parameters uri_from) text
 
 abbrev pub Display : (List ℕ → Bool) → List ℕ → List ℕ → Type 0
 Display is_display display text = Of (Passing is_display) trimmed display text
@@ -57,7 +60,8 @@ Address is_display address text =
 
 abbrev pub address_from : (List ℕ → Bool) → List ℕ → Option (List ℕ × Target)
 address_from is_display text =
-    on_cut (Byte 60) (both (display_from is_display) bracketed_from) (told without_display bare_from) text
+    on_cut (Byte 60) (both (display_from is_display) bracketed_from)
+    (told without_display bare_from) text
 
 -- ---- From and To
 
@@ -69,7 +73,8 @@ abbrev pub has_address_tag : List ℕ × Target → Bool
 has_address_tag address = has_good_tag address.1.1
 
 abbrev pub IsPartyText : Party → List ℕ → Type 0
-IsPartyText party text = Told party_of (Checked has_address_tag (Address is_party_display)) party text
+IsPartyText party text =
+    Told party_of (Checked has_address_tag (Address is_party_display)) party text
 
 abbrev pub party_from : List ℕ → Option Party
 party_from text = told party_of (checked has_address_tag (address_from is_party_display)) text

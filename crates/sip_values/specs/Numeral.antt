@@ -10,7 +10,8 @@ use Rattle.sip_values.specs.declared.numeral.Numeral.TheVariants.{Number, NotANu
 -- the number of a word of digits that is below the limit
 abbrev pub numeral : ℕ → List ℕ → Numeral
 numeral limit word =
-    if is_digits word && nat_lt (digits_value 10 word) limit then Number (digits_value 10 word) else NotANumber
+    if is_digits word && nat_lt (digits_value 10 word) limit then Number (digits_value 10 word)
+    else NotANumber
 
 -- a word without white space, and the number that it stands for, if any
 abbrev pub IsNumeral : ℕ → Numeral → List ℕ → Type 0

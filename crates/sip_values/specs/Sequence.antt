@@ -1,4 +1,5 @@
--- CSeq and RAck, with words in the place of their numbers (RFC 3261, section 20.16; RFC 3262, section 7.2), and tokens.
+-- CSeq and RAck, with words in the place of their numbers (RFC 3261, section 20.16; RFC 3262,
+-- section 7.2), and tokens.
 use Rattle.std.specs.Prelude.{ℕ, ◌^◌, List, Option}
 use Rattle.sip_text.specs.Forms.{Passing, passing, Never, never, Of, reading_of, Told, told, Both, both, OnCut, on_cut, OrEmpty, or_empty, Split, split}
 use Rattle.sip_text.specs.Token.{is_token}
@@ -39,7 +40,8 @@ abbrev pub cseq_of : Numeral × List ℕ → CSeqDraft
 cseq_of parts = record { number = parts.0; method = parts.1 }
 
 abbrev pub IsCSeqText : CSeqDraft → List ℕ → Type 0
-IsCSeqText cseq text = OnCut Blank (Told cseq_of (Both (IsNumeral (2 ^ 32)) IsTokenText)) Never cseq text
+IsCSeqText cseq text =
+    OnCut Blank (Told cseq_of (Both (IsNumeral (2 ^ 32)) IsTokenText)) Never cseq text
 
 abbrev pub cseq_from : List ℕ → Option CSeqDraft
 cseq_from text = on_cut Blank (told cseq_of (both (numeral_from (2 ^ 32)) token_from)) never text
@@ -48,7 +50,9 @@ abbrev pub rack_of : Numeral × CSeqDraft → RAckDraft
 rack_of parts = record { rseq = parts.0; cseq = parts.1.number; method = parts.1.method }
 
 abbrev pub IsRAckText : RAckDraft → List ℕ → Type 0
-IsRAckText rack text = OnCut Blank (Told rack_of (Both (IsNumeral (2 ^ 32)) (Of IsCSeqText trimmed))) Never rack text
+IsRAckText rack text =
+    OnCut Blank (Told rack_of (Both (IsNumeral (2 ^ 32)) (Of IsCSeqText trimmed))) Never rack text
 
 abbrev pub rack_from : List ℕ → Option RAckDraft
-rack_from text = on_cut Blank (told rack_of (both (numeral_from (2 ^ 32)) (reading_of cseq_from trimmed))) never text
+rack_from text = on_cut Blank (told rack_of
+    (both (numeral_from (2 ^ 32)) (reading_of cseq_from trimmed))) never text

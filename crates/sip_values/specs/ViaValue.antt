@@ -38,32 +38,43 @@ without_port host = (host, None)
 
 -- a host, a colon outside brackets and a port, or a host alone
 abbrev pub IsSentBy : SentBy → List ℕ → Type 0
-IsSentBy sent_by text = OnCut Colon (Told with_port (Both IsHostText IsPortText)) (Told without_port IsHostText) sent_by text
+IsSentBy sent_by text = OnCut Colon (Told with_port (Both IsHostText IsPortText))
+    (Told without_port IsHostText) sent_by text
 
 abbrev pub sent_by_from : List ℕ → Option SentBy
-sent_by_from text = on_cut Colon (told with_port (both host_from port_from)) (told without_port host_from) text
+sent_by_from text =
+    on_cut Colon (told with_port (both host_from port_from)) (told without_port host_from) text
 
 abbrev pub without_parameters : SentBy → SentBy × List Parameter
 without_parameters sent_by = (sent_by, [])
 
 -- the same, and parameters
 abbrev pub IsEnd : SentBy × List Parameter → List ℕ → Type 0
-IsEnd end text = OnCut (Byte 59) (Both IsSentBy ManyParameters) (Told without_parameters IsSentBy) end text
+IsEnd end text =
+    OnCut (Byte 59) (Both IsSentBy ManyParameters) (Told without_parameters IsSentBy) end text
 
 abbrev pub end_from : List ℕ → Option (SentBy × List Parameter)
-end_from text = on_cut (Byte 59) (both sent_by_from many_parameters) (told without_parameters sent_by_from) text
+end_from text = on_cut (Byte 59) (both sent_by_from many_parameters)
+    (told without_parameters sent_by_from) text
 
 -- ---- the protocol and the transport
 
 abbrev pub via_of : List ℕ × (SentBy × List Parameter) → ViaDraft
-via_of parts = record { transport = parts.0; host = parts.1.0.0; port = parts.1.0.1; parameters = parts.1.1 }
+via_of parts = record {
+  transport = parts.0;
+  host = parts.1.0.0;
+  port = parts.1.0.1;
+  parameters = parts.1.1;
+}
 
 -- the transport, white space, and what stands behind it
 abbrev pub IsHop : ViaDraft → List ℕ → Type 0
-IsHop via text = OnCut Blank (Told via_of (Both (Passing is_token) (Of IsEnd trimmed))) Never via text
+IsHop via text =
+    OnCut Blank (Told via_of (Both (Passing is_token) (Of IsEnd trimmed))) Never via text
 
 abbrev pub hop_from : List ℕ → Option ViaDraft
-hop_from text = on_cut Blank (told via_of (both (passing is_token) (reading_of end_from trimmed))) never text
+hop_from text = on_cut Blank (told via_of (both (passing is_token) (reading_of end_from trimmed)))
+    never text
 
 -- this word, in any case of its letters, with white space round it
 abbrev pub is_like : List ℕ → List ℕ → Bool
@@ -71,17 +82,21 @@ is_like word text = str_eq_ignore_ascii_case (trimmed text) word
 
 -- `2.0`, a slash, and a hop
 abbrev pub IsBehindProtocol : ViaDraft → List ℕ → Type 0
-IsBehindProtocol via text = OnCut (Byte 47) (Behind (is_like (codes "2.0")) (Of IsHop trimmed)) Never via text
+IsBehindProtocol via text =
+    OnCut (Byte 47) (Behind (is_like (codes "2.0")) (Of IsHop trimmed)) Never via text
 
 abbrev pub behind_protocol_from : List ℕ → Option ViaDraft
-behind_protocol_from text = on_cut (Byte 47) (behind (is_like (codes "2.0")) (reading_of hop_from trimmed)) never text
+behind_protocol_from text =
+    on_cut (Byte 47) (behind (is_like (codes "2.0")) (reading_of hop_from trimmed)) never text
 
 -- `SIP`, a slash, and that
 abbrev pub IsVia : ViaDraft → List ℕ → Type 0
-IsVia via text = Of (OnCut (Byte 47) (Behind (is_like (codes "SIP")) IsBehindProtocol) Never) trimmed via text
+IsVia via text =
+    Of (OnCut (Byte 47) (Behind (is_like (codes "SIP")) IsBehindProtocol) Never) trimmed via text
 
 abbrev pub via_from : List ℕ → Option ViaDraft
-via_from text = reading_of (on_cut (Byte 47) (behind (is_like (codes "SIP")) behind_protocol_from) never) trimmed text
+via_from text = reading_of (on_cut (Byte 47)
+    (behind (is_like (codes "SIP")) behind_protocol_from) never) trimmed text
 
 -- ---- several, split at commas outside quotes and angle brackets
 

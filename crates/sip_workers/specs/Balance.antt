@@ -1,4 +1,5 @@
--- The rule of the deque: what was put in is, in some order, what it holds and what was taken from it.
+-- The rule of the deque: what was put in is, in some order, what it holds and what was taken from
+-- it.
 -- It relates what the passes know, and names no value of a run.
 use Rattle.std.specs.Prelude.{◌≡◌, ℕ, ◌+◌, List, [], ◌∷◌, ◌++◌}
 use Rattle.std.specs.List.{flat_map, AllByRecursion}

@@ -19,7 +19,9 @@ module _ {J D : Type 0} (gives : J → D → Type 0) where
 
 -- the dones in the order of their numbers, each once
 abbrev pub IsGathered : {D : Type 0} → List (ℕ × D) → List D → Type 0
-IsGathered {D} dones gathered = (sorted : List (ℕ × D)) × IsPermutation dones sorted × IsStrictlyIncreasing (map (λ d. d.0) sorted) × (gathered ≡ map (λ d. d.1) sorted)
+IsGathered {D} dones gathered =
+    (sorted : List (ℕ × D)) × IsPermutation dones sorted
+    × IsStrictlyIncreasing (map (λ d. d.0) sorted) × (gathered ≡ map (λ d. d.1) sorted)
 
 -- the pieces are numbered from 0 on, in their order
 abbrev pub IsNumbered : {J : Type 0} → List (Piece J) → Type 0

@@ -28,11 +28,14 @@ module _ {J : Type 0} where
   -- a thief at this deque
   abbrev pub IsThiefOf : OwnerOf J → Seat J → Type 0
   IsThiefOf deque (begun.Owner owner) = ⊥
-  IsThiefOf deque (begun.Thief thief pass) = (stealer_deque thief ≡ worker_deque deque) × IsPassOf (worker_deque deque) pass × (view pass ≡ log 1 [] [])
+  IsThiefOf deque (begun.Thief thief pass) =
+      (stealer_deque thief ≡ worker_deque deque) × IsPassOf (worker_deque deque) pass
+      × (view pass ≡ log 1 [] [])
 
   -- the owner of this deque, into which it has put pieces
   abbrev pub IsOwnerOf : OwnerOf J → ℕ → List (Piece J) → Seat J → Type 0
-  IsOwnerOf deque parts put (begun.Owner owner) = (worker_deque owner ≡ worker_deque deque) × (worker_view owner ≡ log parts put [])
+  IsOwnerOf deque parts put (begun.Owner owner) =
+      (worker_deque owner ≡ worker_deque deque) × (worker_view owner ≡ log parts put [])
   IsOwnerOf deque parts put (begun.Thief thief pass) = ⊥
 
   -- thieves, and then the owner; each thief has one part of the 64, and the owner has the others
@@ -50,22 +53,28 @@ module _ {J D : Type 0} (gives : J → D → Type 0) where
   -- a thief's pass of this deque comes back, with the dones of what it took
   abbrev pub IsThiefsResult : OwnerOf J → Result (Served J D) NoMemory → Type 0
   IsThiefsResult deque (Ok (ended.Owner owner dones)) = ⊥
-  IsThiefsResult deque (Ok (ended.Thief pass dones)) = IsPassOf (worker_deque deque) pass × ((view pass).parts ≡ 1) × ((view pass).put ≡ []) × Ran gives (view pass).taken dones.items
+  IsThiefsResult deque (Ok (ended.Thief pass dones)) =
+      IsPassOf (worker_deque deque) pass × ((view pass).parts ≡ 1) × ((view pass).put ≡ [])
+      × Ran gives (view pass).taken dones.items
   IsThiefsResult deque (Err e) = ⊤
 
   -- the owner comes back, with the dones of what it took
   abbrev pub IsOwnersResult : OwnerOf J → ℕ → List (Piece J) → Result (Served J D) NoMemory → Type 0
-  IsOwnersResult deque parts put (Ok (ended.Owner owner dones)) = (worker_deque owner ≡ worker_deque deque) × ((worker_view owner).parts ≡ parts) × ((worker_view owner).put ≡ put) × Ran gives (worker_view owner).taken dones.items
+  IsOwnersResult deque parts put (Ok (ended.Owner owner dones)) =
+      (worker_deque owner ≡ worker_deque deque) × ((worker_view owner).parts ≡ parts)
+      × ((worker_view owner).put ≡ put) × Ran gives (worker_view owner).taken dones.items
   IsOwnersResult deque parts put (Ok (ended.Thief pass dones)) = ⊥
   IsOwnersResult deque parts put (Err e) = ⊤
 
   -- what a seat gives back
   pub record Serves (seat : Seat J) (result : Result (Served J D) NoMemory) : Type 0 where
     pub thief : (deque : OwnerOf J) → IsThiefOf deque seat → IsThiefsResult deque result
-    pub owner : (deque : OwnerOf J) (parts : ℕ) (put : List (Piece J)) → IsOwnerOf deque parts put seat → IsOwnersResult deque parts put result
+    pub owner : (deque : OwnerOf J) (parts : ℕ) (put : List (Piece J))
+        → IsOwnerOf deque parts put seat → IsOwnersResult deque parts put result
 
   -- what the seats give back, of a deque into which these pieces were put
-  pub record AreResults (put : List (Piece J)) (results : List (Result (Served J D) NoMemory)) : Type 0 where
+  pub record AreResults (put : List (Piece J))
+      (results : List (Result (Served J D) NoMemory)) : Type 0 where
     pub count : ℕ
     pub seats : List (Seat J)
     pub are_seats : AreSeats put count seats

@@ -6,7 +6,8 @@ use crossbeam_deque::{Pass, Stealer, Worker};
 use std::alloc::Global;
 use std::collections::LinkedList;
 
-// What a pass has put into the deque and taken from it, and its parts of the right to know the whole. No value of it is made.
+// What a pass has put into the deque and taken from it, and its parts of the right to know the
+// whole. No value of it is made.
 pub struct Log<J> {
     pub parts: u64,
     pub put: LinkedList<Piece<J>>,
@@ -69,7 +70,8 @@ impl<J> Outcome<Piece<J>, Log<J>> for Pops {
     ghost use Rattle.std.specs.List.Sorted.{IsPermutation};
     ghost use Rattle.sip_workers.specs.Balance.{log};
 
-    ghost then = { λ v xs w. (w ≡ log v.parts v.put (v.taken ++ xs)) × (v.parts ≡ 64 → length (v.taken ++ xs) ≤ length v.put) };
+    ghost then = { λ v xs w. (w ≡ log v.parts v.put (v.taken ++ xs))
+        × (v.parts ≡ 64 → length (v.taken ++ xs) ≤ length v.put) };
 
     ghost empty = { λ v. v.parts ≡ 64 → IsPermutation v.put v.taken };
 }

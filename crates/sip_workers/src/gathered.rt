@@ -25,12 +25,13 @@ fn without_numbers<D: Drop>(alloc: Global, dones: Vec<(usize, D)>) -> Result<Vec
     Ok(dones.into_iter().map(|done| done.1).collect(alloc)?)
 }
 
-/// Laws: where the pieces are numbered from 0 on, their numbers differ, and what is gathered of their dones has a done of
-/// each piece at its place.
+/// Laws: where the pieces are numbered from 0 on, their numbers differ, and what is gathered of
+/// their dones has a done of each piece at its place.
 pub fn dones_in_order<J: Job>()
     ensures differ { (pieces : List (Piece J)) → IsNumbered pieces
         → IsDistinct nat_eq (map (λ p. p.shard) pieces) }
-    ensures in_order { (pieces : List (Piece J)) (dones : List (ℕ × J.Done)) (gathered : List J.Done)
+    ensures in_order { (pieces : List (Piece J)) (dones : List (ℕ × J.Done))
+        (gathered : List J.Done)
         → IsNumbered pieces → AllRan J.gives pieces dones → IsGathered dones gathered
         → AllZip (λ piece done. J.gives piece.job done) pieces gathered }
 {}

@@ -1,4 +1,5 @@
-//! Pieces of work on several threads: an owner that takes from a deque, and thieves that steal from it.
+//! Pieces of work on several threads: an owner that takes from a deque, and thieves that steal from
+//! it.
 #![tactic(auto)]
 
 mod deque;

@@ -13,7 +13,8 @@ use std::alloc::Global;
 use std::thread;
 use std::thread::Threads;
 
-/// Runs each piece once, on up to `workers` threads, and gives each done with its piece's shard number, in any order.
+/// Runs each piece once, on up to `workers` threads, and gives each done with its piece's shard
+/// number, in any order.
 ///
 /// `gate` is told of each piece as it begins.
 ///

@@ -16,7 +16,8 @@ ArePlaced place [] = Unit {0}
 ArePlaced place (a ∷ rest) = ((a.0).place ≡ place) × ArePlaced (suc place) rest
 
 -- the parts of so many shards, and what waits, are those of these arrivals
-pub record IsArrived (owner : Key → ℕ) (shards now : ℕ) (arrivals : List (Id × Arrival)) (parts : List (List (Item Key Timed))) (waiting : List (Id × Waiting)) : Type 0 where
+pub record IsArrived (owner : Key → ℕ) (shards now : ℕ) (arrivals : List (Id × Arrival))
+    (parts : List (List (Item Key Timed))) (waiting : List (Id × Waiting)) : Type 0 where
   pub placed : ArePlaced 1 arrivals
   pub parts_are : parts ≡ cut_by owner zero shards (first_phase now arrivals).items
   pub waiting_are : waiting ≡ all_waiting arrivals

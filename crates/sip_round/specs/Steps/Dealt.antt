@@ -7,15 +7,25 @@ use Rattle.sip_model.specs.Table.{Held}
 use Rattle.sip_model.specs.Phase.{Phase, by_place, told_next}
 use Rattle.sip_model.specs.Shards.{HoldFrom}
 
--- the tables of all shards before and after a phase, and what was said in it: they are as many as before, and whatever phases they held, each its own part, they hold this one more, and what was said is what all keys say
-pub record DealsAll {K S I O : Type 0} (cmp : K → K → Ordering) (machine : Machine K S I O) (tick : ℕ → I) (owner : K → ℕ) (old new : List (Held K S)) (phase : Phase K I) (ticks : List (K × List O)) (items : List (ℕ × List O)) : Type 0 where
+-- the tables of all shards before and after a phase, and what was said in it: they are as many as
+-- before, and whatever phases they held, each its own part, they hold this one more, and what was
+-- said is what all keys say
+pub record DealsAll {K S I O : Type 0} (cmp : K → K → Ordering) (machine : Machine K S I O)
+    (tick : ℕ → I) (owner : K → ℕ) (old new : List (Held K S)) (phase : Phase K I)
+    (ticks : List (K × List O)) (items : List (ℕ × List O)) : Type 0 where
   pub count : length new ≡ length old
-  pub stands : (phases : List (Phase K I)) → HoldFrom cmp machine tick owner zero old phases → HoldFrom cmp machine tick owner zero new (phases ++ phase ∷ [])
-  pub ticks_told : (phases : List (Phase K I)) → HoldFrom cmp machine tick owner zero old phases → ticks ≡ (told_next cmp machine tick phases phase).ticks
-  pub items_told : (phases : List (Phase K I)) → HoldFrom cmp machine tick owner zero old phases → items ≡ map by_place (told_next cmp machine tick phases phase).items
+  pub stands : (phases : List (Phase K I)) → HoldFrom cmp machine tick owner zero old phases
+      → HoldFrom cmp machine tick owner zero new (phases ++ phase ∷ [])
+  pub ticks_told : (phases : List (Phase K I)) → HoldFrom cmp machine tick owner zero old phases
+      → ticks ≡ (told_next cmp machine tick phases phase).ticks
+  pub items_told : (phases : List (Phase K I)) → HoldFrom cmp machine tick owner zero old phases
+      → items ≡ map by_place (told_next cmp machine tick phases phase).items
 
--- the dones of all shards, none of which met want of memory, taken apart: their tables in order, and all that was said, shard by shard
-pub record IsApart {D E T X Y : Type 0} (table : D → T) (ticks : D → List X) (items : D → List Y) (dones : List (Result D E)) (tables : List T) (all_ticks : List X) (all_items : List Y) : Type 0 where
+-- the dones of all shards, none of which met want of memory, taken apart: their tables in order,
+-- and all that was said, shard by shard
+pub record IsApart {D E T X Y : Type 0} (table : D → T) (ticks : D → List X) (items : D → List Y)
+    (dones : List (Result D E)) (tables : List T) (all_ticks : List X)
+    (all_items : List Y) : Type 0 where
   pub dealt : List D
   pub all_ok : dones ≡ map Ok dealt
   pub tables_are : tables ≡ map table dealt

@@ -1,4 +1,5 @@
--- What each of the three phases does to the shards and gives, whatever phases they were led through before.
+-- What each of the three phases does to the shards and gives, whatever phases they were led through
+-- before.
 use Rattle.std.specs.Prelude.{◌≡◌, ℕ, zero, List, [], ◌∷◌, ◌++◌, length}
 use Rattle.std.specs.List.{flat_map}
 use Rattle.sip_message.specs.declared.id.Id.{Id}
@@ -30,32 +31,51 @@ module _ (owner : Key → ℕ) (old new : List (Held Key Life)) where
   abbrev pub HoldLives : List (Held Key Life) → List (Phase Key Timed) → Type 0
   HoldLives tables past = HoldFrom key_cmp transaction_machine tick_at owner zero tables past
 
-  pub record LedFirst (number now : ℕ) (arrivals : List (Id × Arrival)) (outputs : List Output) (items : List (Id × Item)) : Type 0 where
+  pub record LedFirst (number now : ℕ) (arrivals : List (Id × Arrival)) (outputs : List Output)
+      (items : List (Id × Item)) : Type 0 where
     pub count : length new ≡ length old
-    pub stands : (past : List (Phase Key Timed)) → HoldLives old past → HoldLives new (past ++ first_phase now arrivals ∷ [])
-    pub sent : (past : List (Phase Key Timed)) → HoldLives old past → outputs ≡ sent_first (said_by_transactions past (first_phase now arrivals)) arrivals
-    pub raised : (past : List (Phase Key Timed)) → HoldLives old past → items ≡ items_first number (said_by_transactions past (first_phase now arrivals)) arrivals
+    pub stands : (past : List (Phase Key Timed)) → HoldLives old past
+        → HoldLives new (past ++ first_phase now arrivals ∷ [])
+    pub sent : (past : List (Phase Key Timed)) → HoldLives old past
+        → outputs ≡ sent_first (said_by_transactions past (first_phase now arrivals)) arrivals
+    pub raised : (past : List (Phase Key Timed)) → HoldLives old past
+        → items ≡ items_first number (said_by_transactions past (first_phase now arrivals)) arrivals
 
-  pub record LedThird (now : ℕ) (commands : List (Id × Command)) (before outputs : List Output) : Type 0 where
+  pub record LedThird (now : ℕ) (commands : List (Id × Command))
+      (before outputs : List Output) : Type 0 where
     pub count : length new ≡ length old
-    pub stands : (past : List (Phase Key Timed)) → HoldLives old past → HoldLives new (past ++ third_phase now commands ∷ [])
-    pub sent : (past : List (Phase Key Timed)) → HoldLives old past → outputs ≡ before ++ flat_map sent_of (all_said (said_by_transactions past (third_phase now commands)))
+    pub stands : (past : List (Phase Key Timed)) → HoldLives old past
+        → HoldLives new (past ++ third_phase now commands ∷ [])
+    pub sent : (past : List (Phase Key Timed)) → HoldLives old past
+        → outputs ≡ before ++ flat_map sent_of
+        (all_said (said_by_transactions past (third_phase now commands)))
 
 module _ (shared : Calls) (owner : List ℕ → ℕ) (old new : List (Held (List ℕ) Call)) where
   abbrev pub HoldAll : List (Held (List ℕ) Call) → List (Phase (List ℕ) CallInput) → Type 0
   HoldAll tables past = HoldFrom call_cmp (call_machine shared) tick_input owner zero tables past
 
-  pub record LedSecond (now : ℕ) (items : List (Id × Item)) (before outputs : List Output) (commands : List (Id × Command)) : Type 0 where
+  pub record LedSecond (now : ℕ) (items : List (Id × Item)) (before outputs : List Output)
+      (commands : List (Id × Command)) : Type 0 where
     pub count : length new ≡ length old
-    pub stands : (past : List (Phase (List ℕ) CallInput)) → HoldAll old past → HoldAll new (past ++ second_phase now items ∷ [])
-    pub shown : (past : List (Phase (List ℕ) CallInput)) → HoldAll old past → outputs ≡ before ++ flat_map shown_of (all_said (said_by_calls shared past (second_phase now items)))
-    pub commanded : (past : List (Phase (List ℕ) CallInput)) → HoldAll old past → commands ≡ flat_map command_of (all_said (said_by_calls shared past (second_phase now items)))
+    pub stands : (past : List (Phase (List ℕ) CallInput)) → HoldAll old past
+        → HoldAll new (past ++ second_phase now items ∷ [])
+    pub shown : (past : List (Phase (List ℕ) CallInput)) → HoldAll old past
+        → outputs ≡ before ++ flat_map shown_of
+        (all_said (said_by_calls shared past (second_phase now items)))
+    pub commanded : (past : List (Phase (List ℕ) CallInput)) → HoldAll old past
+        → commands ≡ flat_map command_of
+        (all_said (said_by_calls shared past (second_phase now items)))
 
--- a round of this number leads the shards, and answers: whatever past they held, they hold it with the phases of this round, and the outputs are its answer
-pub record Deals (shared : Calls) (shard_of : List ℕ → ℕ → ℕ) (number : ℕ) (round : Round) (old new : ShardTables) (outputs : List Output) : Type 0 where
-  pub transactions : (config : Config) (past : Past) → shared ≡ calls_of config → HoldTransactions shard_of old past.transactions → HoldCalls shared shard_of old past.calls
+-- a round of this number leads the shards, and answers: whatever past they held, they hold it with
+-- the phases of this round, and the outputs are its answer
+pub record Deals (shared : Calls) (shard_of : List ℕ → ℕ → ℕ) (number : ℕ) (round : Round)
+    (old new : ShardTables) (outputs : List Output) : Type 0 where
+  pub transactions : (config : Config) (past : Past) → shared ≡ calls_of config
+      → HoldTransactions shard_of old past.transactions → HoldCalls shared shard_of old past.calls
       → HoldTransactions shard_of new (past_after config number past round).transactions
-  pub calls : (config : Config) (past : Past) → shared ≡ calls_of config → HoldTransactions shard_of old past.transactions → HoldCalls shared shard_of old past.calls
+  pub calls : (config : Config) (past : Past) → shared ≡ calls_of config
+      → HoldTransactions shard_of old past.transactions → HoldCalls shared shard_of old past.calls
       → HoldCalls shared shard_of new (past_after config number past round).calls
-  pub answered : (config : Config) (past : Past) → shared ≡ calls_of config → HoldTransactions shard_of old past.transactions → HoldCalls shared shard_of old past.calls
+  pub answered : (config : Config) (past : Past) → shared ≡ calls_of config
+      → HoldTransactions shard_of old past.transactions → HoldCalls shared shard_of old past.calls
       → outputs ≡ answer config number past round

@@ -1,4 +1,5 @@
--- Steps of the first phase: what waits for the answers of the transactions, and how these are woven in.
+-- Steps of the first phase: what waits for the answers of the transactions, and how these are woven
+-- in.
 use Rattle.std.specs.Prelude.{ℕ, List, [], ◌∷◌, map}
 use Rattle.sip_message.specs.declared.id.Id.{Id}
 use Rattle.sip_transactions.specs.declared.output.Out.{Out}
@@ -38,6 +39,8 @@ items_waiting id (waiting.Dropped why) = []
 items_waiting id (waiting.User command) = (id, item.User command) ∷ []
 
 -- for each id what comes of it, and the user's command
-abbrev pub woven : List (Id × Waiting) → List (ℕ × List Out) → List (Id × List Out × List (Id × Item))
+abbrev pub woven : List (Id × Waiting) → List (ℕ × List Out)
+    → List (Id × List Out × List (Id × Item))
 woven [] said = []
-woven (w ∷ ws) said = (w.0, outs_next w.0 w.1 said, items_waiting w.0 w.1) ∷ woven ws (said_rest w.1 said)
+woven (w ∷ ws) said =
+    (w.0, outs_next w.0 w.1 said, items_waiting w.0 w.1) ∷ woven ws (said_rest w.1 said)

@@ -1,4 +1,5 @@
-//! What the lines of an output file say that no run of an event file gives yet, and faults of event files that no stored case has.
+//! What the lines of an output file say that no run of an event file gives yet, and faults of event
+//! files that no stored case has.
 
 use sip_files::{EventsFault, write_outputs};
 use sip_message::{CallId, Id};

@@ -1,4 +1,5 @@
-//! Rounds over shards and workers: the same bytes however names are cut, pieces are dealt and keys are moved.
+//! Rounds over shards and workers: the same bytes however names are cut, pieces are dealt and keys
+//! are moved.
 
 ghost use Rattle.std.specs.Prelude.{◌<◌, ◌≤◌};
 
@@ -209,12 +210,7 @@ fn the_same_bytes_each_time(rt: HostRuntime) -> Result<(), Fail> {
 }
 
 // How many pieces of a round without events, in two shards, waited for the other in vain.
-fn alone<T: Threads + Sync>(
-    rt: &T,
-    alloc: Global,
-    workers: usize,
-    looks: u32,
-) -> Result<u64, Fail>
+fn alone<T: Threads + Sync>(rt: &T, alloc: Global, workers: usize, looks: u32) -> Result<u64, Fail>
     requires some { 0 < workers }
     requires most { workers ≤ 64 }
 {

@@ -8,8 +8,9 @@ use sip_model::{Item, ShardFault, StateMachine, Table, by_label};
 use std::alloc::{AllocError, Global};
 use std::test::Fail;
 
-// A machine of one alarm for each key, whose state is the moment at which it rings. A tick from that moment on ends it; any
-// other number than 0 sets it anew, and 0 ends it. It says the moment that it had.
+// A machine of one alarm for each key, whose state is the moment at which it rings. A tick from
+// that moment on ends it; any other number than 0 sets it anew, and 0 ends it. It says the moment
+// that it had.
 struct Alarms;
 
 impl StateMachine for Alarms {

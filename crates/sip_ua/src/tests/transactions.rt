@@ -56,7 +56,8 @@ enum Happening {
     Failed,
 }
 
-// What a shard says, without its texts. Up to `Failed` it is handed up under the id of the event at a place.
+// What a shard says, without its texts. Up to `Failed` it is handed up under the id of the event at
+// a place.
 #[derive(Clone, Copy, Debug, PartialEq, Eq)]
 enum Said {
     Request(u32),
@@ -64,7 +65,8 @@ enum Said {
     Response(u32),
     Timeout(u32),
     Failed(u32),
-    // A response of this status, 0 for a request, 1 for an ACK; and the place whose event named the address.
+    // A response of this status, 0 for a request, 1 for an ACK; and the place whose event named the
+    // address.
     Sent(u16, u32),
     Dropped(u32, DropReason),
 }
@@ -188,7 +190,8 @@ fn give(
     Ok(outs)
 }
 
-// A transaction as the standard has it: what it sent last, its next repeat with the interval before it, and its end.
+// A transaction as the standard has it: what it sent last, its next repeat with the interval before
+// it, and its end.
 #[derive(Clone, Copy)]
 struct Plain {
     state: State,
@@ -460,7 +463,8 @@ fn next_line(now: u32, random: u32) -> Line {
     (now, machine, happening_of(machine, choice))
 }
 
-// Whether a shard says to the last of these lines, and holds after it, what the folds of its transactions say.
+// Whether a shard says to the last of these lines, and holds after it, what the folds of its
+// transactions say.
 fn is_as_folded(
     rt: &impl Abort,
     alloc: Global,

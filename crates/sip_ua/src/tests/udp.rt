@@ -77,7 +77,8 @@ fn asked_text(alloc: Global, asked: &[Asked]) -> Result<Vec<u8>, Fail> {
     Ok(text)
 }
 
-// Each Send is asked for once, in order, also after one that fails; a failure without a key is told to nobody.
+// Each Send is asked for once, in order, also after one that fails; a failure without a key is told
+// to nobody.
 #[test]
 fn an_outlet_that_fails_each_of_its_sends(rt: HostRuntime) -> Result<(), Fail> {
     let alloc = rt.alloc();
@@ -138,7 +139,8 @@ fn one_line(alloc: Global) -> Result<(Desk<Event>, Poster<Event>), NoMemory> {
     Ok((desk, line))
 }
 
-// How many datagrams come before the listener gives up, where so many receives fail before the first.
+// How many datagrams come before the listener gives up, where so many receives fail before the
+// first.
 fn heard_after(rt: &impl Abort, alloc: Global, failures_left: u32) -> Result<usize, Fail> {
     let (mut desk, line) = one_line(alloc)?;
     let gives = 2;

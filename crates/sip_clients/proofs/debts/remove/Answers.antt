@@ -4,4 +4,5 @@ use Rattle.sip_clients.specs.Debts.{is_same}
 use Rattle.sip_clients.proofs.debts.remove.Goals as goal
 
 pub returns : goal.returns
-returns c = filter_same _ (λ other. not (is_same c.args.debt other)) _ (λ x b f call. search rules) _ _ c.retain.ensures.filtered
+returns c = filter_same _ (λ other. not (is_same c.args.debt other)) _
+    (λ x b f call. search rules) _ _ c.retain.ensures.filtered

@@ -10,16 +10,22 @@ use Rattle.sip_clients.specs.Event.{branch_of}
 use Rattle.sip_clients.specs.Service.{numbered, service_by, with_rack}
 use Rattle.sip_clients.proofs.service.request.Goals as goal
 
-sent_by : (found : Option DialogFault) (sending : Sending) → found ≡ None → Sent sending ≡ service_by found sending
+sent_by : (found : Option DialogFault) (sending : Sending) → found ≡ None
+    → Sent sending ≡ service_by found sending
 sent_by found sending none i = service_by (sym none i) sending
 
 pub returns-in-Ok-clause-service : goal.returns-in-Ok-clause-service
 returns-in-Ok-clause-service c =
     let held = c.args.held.now in
-    let made : c.in-Ok.message ≡ request_in held.dialog c.args.method (held.dialog.local_cseq + 1) c.args.body (branch_of c.args.event) c.args.event.local =
-    c.in-Ok.ensures.made ∙ ap (λ branch. request_in held.dialog c.args.method (held.dialog.local_cseq + 1) c.args.body branch c.args.event.local) c.in_ok-branch.ensures in
+    let made : c.in-Ok.message ≡ request_in held.dialog c.args.method
+    (held.dialog.local_cseq + 1) c.args.body (branch_of c.args.event) c.args.event.local =
+    c.in-Ok.ensures.made ∙ ap (λ branch.
+    request_in held.dialog c.args.method
+    (held.dialog.local_cseq + 1) c.args.body branch c.args.event.local)
+    c.in_ok-branch.ensures in
     let message = c.with_rack.ensures ∙ ap (with_rack c.args.rack) made in
-    (λ i. Sent record { message = message i; to = c.hop-to.ensures i; born = held.born }) ∙ sent_by _ _ c.in-Ok.ensures.open
+    (λ i. Sent record { message = message i; to = c.hop-to.ensures i; born = held.born })
+    ∙ sent_by _ _ c.in-Ok.ensures.open
 
 pub returns-in-Err-clause-service : goal.returns-in-Err-clause-service
 returns-in-Err-clause-service c = c.refused_by.ensures.service _ _ c.in-Err.ensures.fault
@@ -27,5 +33,7 @@ returns-in-Err-clause-service c = c.refused_by.ensures.service _ _ c.in-Err.ensu
 pub returns-in-Err-clause-held : goal.returns-in-Err-clause-held
 returns-in-Err-clause-held c =
     let held = c.args.held.now in
-    let P : Dialog → Type 0 = λ dialog. OnOk c.refused_by.result (record held { dialog = dialog } ≡ numbered (request_fault held.dialog c.args.method) held) in
+    let P : Dialog → Type 0 = λ dialog.
+    OnOk c.refused_by.result (record held { dialog = dialog }
+    ≡ numbered (request_fault held.dialog c.args.method) held) in
     subst P (sym c.in-Err.ensures.err) (c.refused_by.ensures.held _ held c.in-Err.ensures.fault)

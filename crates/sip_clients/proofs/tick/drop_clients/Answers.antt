@@ -5,4 +5,5 @@ use Rattle.sip_clients.proofs.tick.drop_clients.Goals as goal
 
 pub returns : goal.returns
 returns c =
-    filter-RetainsPairs _ (λ entry. not (is_over c.args.now entry.1)) _ (λ k v b w g call. search rules) _ _ c.retain.ensures.filtered
+    filter-RetainsPairs _ (λ entry. not (is_over c.args.now entry.1)) _
+    (λ k v b w g call. search rules) _ _ c.retain.ensures.filtered

@@ -5,4 +5,6 @@ use Rattle.sip_clients.specs.Tick.{notices_of}
 use Rattle.sip_clients.proofs.tick.over_notices.Given as goal
 
 abbrev pub invariant-loop-client : goal.invariant-loop-client
-invariant-loop-client l = l.outs.items ≡ flat_map (notices_of l.now l.dialogs.entries) (take l.client-index (values_of l.clients.entries))
+invariant-loop-client l = l.outs.items
+    ≡ flat_map (notices_of l.now l.dialogs.entries)
+    (take l.client-index (values_of l.clients.entries))

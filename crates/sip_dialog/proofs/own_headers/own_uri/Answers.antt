@@ -5,5 +5,8 @@ use Rattle.sip_dialog.proofs.own_headers.own_uri.Goals as goal
 
 pub from_text-requires : goal.from_text-requires
 from_text-requires c =
-    let e : c.extend_from_slice-3.new.self ≡ ((codes "sip:" ++ ip_text c.args.local.ip) ++ codes ":") ++ decimal c.args.local.port = search rules in
-    rw e (own_uri c.args.local.ip c.args.local.port (omega arith) (omega arith) (omega arith) (omega arith) (omega arith))
+    let e : c.extend_from_slice-3.new.self
+    ≡ ((codes "sip:" ++ ip_text c.args.local.ip) ++ codes ":") ++ decimal c.args.local.port =
+    search rules in
+    rw e (own_uri c.args.local.ip c.args.local.port (omega arith) (omega arith) (omega arith)
+    (omega arith) (omega arith))

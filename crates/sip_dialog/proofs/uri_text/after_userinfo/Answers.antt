@@ -4,7 +4,8 @@ use Rattle.sip_dialog.proofs.uri_text.after_userinfo.Goals as goal
 
 pub returns-in-Some : goal.returns-in-Some
 returns-in-Some c =
-    at_the_last c.args.uri.now c.in-Some.place c.in-Some.ensures.0.high c.in-Some.ensures.0.after c.in-Some.ensures.1
+    at_the_last c.args.uri.now c.in-Some.place c.in-Some.ensures.0.high c.in-Some.ensures.0.after
+    c.in-Some.ensures.1
 
 pub returns-in-None : goal.returns-in-None
 returns-in-None c = c.after_scheme.ensures ∙ sym (without_at_sign c.args.uri.now c.in-None.ensures)

@@ -7,5 +7,6 @@ use Rattle.sip_dialog.proofs.uri_text.any_is_lr.Goals as goal
 pub returns : goal.returns
 returns c =
     any_from_yields_List is_lr _ _ c.any.result c.any.ensures.ran
-    (YieldsList-from_slice_split _ _ c.args.parameters.now c.split.ensures.rest c.split.ensures.done c.split.ensures.closure (λ x r q k. search (rules, tests)))
+    (YieldsList-from_slice_split _ _ c.args.parameters.now c.split.ensures.rest c.split.ensures.done
+    c.split.ensures.closure (λ x r q k. search (rules, tests)))
     (λ x r q k. search (rules, tests))

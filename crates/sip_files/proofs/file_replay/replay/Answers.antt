@@ -4,7 +4,8 @@ use Rattle.sip_files.specs.declared.file_replay.ReplayFault.TheVariants as repla
 use Rattle.sip_files.proofs.file_replay.replay.Goals as goal
 
 -- a writer that nobody touched is as it was
-untouched : {T W : Type 0} (result : Result T ReplayFault) (writer : W) → IfErr result (λ fault. fault ≢ replay_fault.Output → writer ≡ writer)
+untouched : {T W : Type 0} (result : Result T ReplayFault) (writer : W)
+    → IfErr result (λ fault. fault ≢ replay_fault.Output → writer ≡ writer)
 untouched (Ok value) writer = tt
 untouched (Err fault) writer = λ _. refl
 

@@ -7,4 +7,5 @@ use Rattle.sip_files.proofs.file_replay.with_moments.Goals as goal
 pub returns : goal.returns
 returns c =
     let left = c.loop-outputs.outputs-iterator in
-    all_beside _ _ _ _ _ (into_iter_items left) _ c.loop-outputs.invariant (nil_from_length (into_iter_items left) (sym left.rest.ok.0 ∙ c.in-None.ensures.steps.0))
+    all_beside _ _ _ _ _ (into_iter_items left) _ c.loop-outputs.invariant
+    (nil_from_length (into_iter_items left) (sym left.rest.ok.0 ∙ c.in-None.ensures.steps.0))

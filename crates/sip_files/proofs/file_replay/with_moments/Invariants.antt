@@ -4,4 +4,6 @@ use Rattle.sip_files.proofs.file_replay.with_moments.Given as goal
 
 abbrev pub invariant-loop-outputs : goal.invariant-loop-outputs
 invariant-loop-outputs l =
-    BesideSoFar (λ round. round.moment) (λ outputs. outputs.items) l.fn.rounds l.left l.fn.answers.items (into_iter_items l.outputs-iterator) l.made.items
+    BesideSoFar (λ round. round.moment)
+    (λ outputs. outputs.items) l.fn.rounds l.left l.fn.answers.items
+    (into_iter_items l.outputs-iterator) l.made.items

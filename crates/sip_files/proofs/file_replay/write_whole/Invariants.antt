@@ -3,7 +3,8 @@ use Rattle.sip_files.proofs.Streams.{WrittenSoFar}
 use Rattle.sip_files.proofs.file_replay.write_whole.Given as goal
 
 abbrev pub invariant-loop-left : goal.invariant-loop-left
-invariant-loop-left g l = WrittenSoFar (g.W.Write.contents l.fn.writer) (g.W.Write.contents l.writer) l.fn.bytes l.left
+invariant-loop-left g l =
+    WrittenSoFar (g.W.Write.contents l.fn.writer) (g.W.Write.contents l.writer) l.fn.bytes l.left
 
 -- each write takes at least one byte
 abbrev pub decreases-loop-left : goal.decreases-loop-left

@@ -4,4 +4,7 @@ use Rattle.sip_files.proofs.numbers.value_of.Given as goal
 
 abbrev pub invariant-loop-digit : goal.invariant-loop-digit
 invariant-loop-digit l =
-    record { so_far : l.value ≡ digits_value 10 (take l.digit-index l.digits); small : l.value ≤ l.most }
+    record {
+      so_far : l.value ≡ digits_value 10 (take l.digit-index l.digits);
+      small : l.value ≤ l.most;
+    }

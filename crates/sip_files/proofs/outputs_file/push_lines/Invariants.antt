@@ -4,4 +4,5 @@ use Rattle.sip_files.specs.Outputs.{output_line}
 use Rattle.sip_files.proofs.outputs_file.push_lines.Given as goal
 
 abbrev pub invariant-loop-output : goal.invariant-loop-output
-invariant-loop-output l = l.file.items ≡ l.fn.file.items ++ flat_map output_line (take l.output-index l.outputs)
+invariant-loop-output l =
+    l.file.items ≡ l.fn.file.items ++ flat_map output_line (take l.output-index l.outputs)

@@ -3,4 +3,11 @@ use Rattle.sip_files.proofs.outputs_file.push_refused.Goals as goal
 
 pub returns : goal.returns
 returns c =
-    rw (← append_assoc, ← append_assoc, ← c.in_ok-push_form.ensures, ← c.in_ok-push_number.ensures, ← c.number.ensures, ← c.from.ensures) c.push_number-2.ensures
+    rw (
+      ← append_assoc,
+      ← append_assoc,
+      ← c.in_ok-push_form.ensures,
+      ← c.in_ok-push_number.ensures,
+      ← c.number.ensures,
+      ← c.from.ensures,
+    ) c.push_number-2.ensures

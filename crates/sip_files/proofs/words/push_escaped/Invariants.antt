@@ -5,4 +5,5 @@ use Rattle.sip_files.proofs.words.push_escaped.Given as goal
 
 -- the bytes so far are spelled
 abbrev pub invariant-loop-byte : goal.invariant-loop-byte
-invariant-loop-byte l = l.line.items ≡ l.fn.line.items ++ word.spelled_bytes (itself_in l.form) (take l.byte-index l.text)
+invariant-loop-byte l = l.line.items ≡ l.fn.line.items
+    ++ word.spelled_bytes (itself_in l.form) (take l.byte-index l.text)

@@ -3,7 +3,8 @@ use Rattle.std.specs.Result.{OnOk, is_ok}
 use Rattle.sip_files.specs.Word.{spelled_word}
 use Rattle.sip_files.proofs.words.push_word.Goals as goal
 
-pushed : {A E : Type 0} (r : Result A E) (line more old : List ℕ) → line ≡ cond (is_ok r) more old → OnOk r (line ≡ more)
+pushed : {A E : Type 0} (r : Result A E) (line more old : List ℕ) → line ≡ cond (is_ok r) more old
+    → OnOk r (line ≡ more)
 pushed (Ok x) line more old e = e
 pushed (Err x) line more old e = tt
 
@@ -12,4 +13,5 @@ unfolding spelled_word
 returns-then-eq c =
     let some = sym c.is_empty.ensures ∙ c.if-is_empty.false in
     let hyphen = rw c.as_slice.ensures at (sym c.eq.ensures ∙ c.if-eq.true) in
-    rw (some, hyphen) (pushed c.extend_from_slice-then-eq.result _ _ _ c.extend_from_slice-then-eq.ensures.items)
+    rw (some, hyphen) (pushed c.extend_from_slice-then-eq.result _ _ _
+    c.extend_from_slice-then-eq.ensures.items)

@@ -6,7 +6,8 @@ use Rattle.sip_files.proofs.words.read_escaped.Given as goal
 
 -- what was read before and what is left give what the whole field gives
 abbrev pub invariant-loop-left : goal.invariant-loop-left
-invariant-loop-left l = onto l.bytes.items (bytes_at (itself_in l.form) l.left) ≡ bytes_at (itself_in l.form) l.field
+invariant-loop-left l =
+    onto l.bytes.items (bytes_at (itself_in l.form) l.left) ≡ bytes_at (itself_in l.form) l.field
 
 abbrev pub decreases-loop-left : goal.decreases-loop-left
 decreases-loop-left l = length l.left

@@ -7,13 +7,19 @@ use Rattle.sip_headers.proofs.folding.whole_line.Goals.{in-Some+then-not-begins_
 pub loop-more-preserved : goal.loop-more-preserved
 loop-more-preserved c =
     record {
-      same = rw c.in_ok-joined.ensures (goes_on (whole_now c.loop-more.whole) c.loop-more.rest.now c.in-Some.more.now c.in-Some.after.now _ (sym c.in-Some.ensures.parts) (sym c.begins_blank.ensures ∙ c.if-not-begins_blank.false) c.loop-more.invariant.same);
+      same = rw c.in_ok-joined.ensures
+          (goes_on (whole_now c.loop-more.whole) c.loop-more.rest.now c.in-Some.more.now
+          c.in-Some.after.now _ (sym c.in-Some.ensures.parts)
+          (sym c.begins_blank.ensures ∙ c.if-not-begins_blank.false) c.loop-more.invariant.same);
       shorter = omega (arith, c.in-Some.ensures.shorter);
     }
 
 pub returns-clause-whole : goal.returns-clause-whole
 returns-clause-whole c =
     sym c.loop-more.invariant.same ∙ elim c.match-next_line.branch [
-      | in-Some+then-not-begins_blank w ↦ ends_here (whole_now c.loop-more.whole) c.loop-more.rest.now w.in-Some.more.now w.in-Some.after.now (sym w.in-Some.ensures.parts) (sym w.begins_blank.ensures ∙ w.if-not-begins_blank.true)
-      | in_default w ↦ ends_unended (whole_now c.loop-more.whole) c.loop-more.rest.now (sym w.in_default.ensures.parts)
+      | in-Some+then-not-begins_blank w ↦ ends_here
+          (whole_now c.loop-more.whole) c.loop-more.rest.now w.in-Some.more.now w.in-Some.after.now
+          (sym w.in-Some.ensures.parts) (sym w.begins_blank.ensures ∙ w.if-not-begins_blank.true)
+      | in_default w ↦ ends_unended (whole_now c.loop-more.whole) c.loop-more.rest.now
+          (sym w.in_default.ensures.parts)
     ]

@@ -5,7 +5,8 @@ use Rattle.sip_headers.proofs.folding.whole_line.Given as goal
 
 abbrev pub invariant-loop-more : goal.invariant-loop-more
 invariant-loop-more l = record {
-  same : onto_section (whole_now l.whole) (section_at l.rest) ≡ onto_section l.line (section_at l.text);
+  same : onto_section (whole_now l.whole) (section_at l.rest)
+      ≡ onto_section l.line (section_at l.text);
   shorter : length l.rest ≤ length l.text;
 }
 

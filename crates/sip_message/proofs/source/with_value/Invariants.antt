@@ -3,7 +3,8 @@ use Rattle.sip_message.specs.Source.{with_value}
 use Rattle.sip_message.proofs.source.with_value.Given as goal
 
 abbrev pub invariant-loop-rest : goal.invariant-loop-rest
-invariant-loop-rest l = l.made.items ++ with_value l.name l.value l.rest ≡ with_value l.name l.value l.parameters
+invariant-loop-rest l =
+    l.made.items ++ with_value l.name l.value l.rest ≡ with_value l.name l.value l.parameters
 
 abbrev pub decreases-loop-rest : goal.decreases-loop-rest
 decreases-loop-rest l = length l.rest

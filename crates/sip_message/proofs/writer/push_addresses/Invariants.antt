@@ -4,4 +4,5 @@ use Rattle.sip_message.specs.Written as written
 use Rattle.sip_message.proofs.writer.push_addresses.Given as goal
 
 abbrev pub invariant-loop-address : goal.invariant-loop-address
-invariant-loop-address l = l.out.items ≡ l.fn.out.items ++ flat_map (written.address_line l.name) (take l.address-index l.addresses)
+invariant-loop-address l = l.out.items ≡ l.fn.out.items
+    ++ flat_map (written.address_line l.name) (take l.address-index l.addresses)

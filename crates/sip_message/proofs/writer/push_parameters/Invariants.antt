@@ -4,4 +4,5 @@ use Rattle.sip_message.specs.Written as written
 use Rattle.sip_message.proofs.writer.push_parameters.Given as goal
 
 abbrev pub invariant-loop-parameter : goal.invariant-loop-parameter
-invariant-loop-parameter l = l.out.items ≡ l.fn.out.items ++ flat_map written.parameter_text (take l.parameter-index l.parameters)
+invariant-loop-parameter l = l.out.items ≡ l.fn.out.items
+    ++ flat_map written.parameter_text (take l.parameter-index l.parameters)

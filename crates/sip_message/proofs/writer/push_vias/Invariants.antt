@@ -4,4 +4,5 @@ use Rattle.sip_message.specs.Written as written
 use Rattle.sip_message.proofs.writer.push_vias.Given as goal
 
 abbrev pub invariant-loop-via : goal.invariant-loop-via
-invariant-loop-via l = l.out.items ≡ l.fn.out.items ++ flat_map written.via_line (take l.via-index l.vias)
+invariant-loop-via l =
+    l.out.items ≡ l.fn.out.items ++ flat_map written.via_line (take l.via-index l.vias)

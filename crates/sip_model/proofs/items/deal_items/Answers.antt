@@ -16,9 +16,17 @@ loop-place-preserved g c =
     let old = get cmp c.args.states.now in
     let rest = into_iter_items c.next.new.self in
     let item = c.in-Some.field-0 in
-    let left : ItemsLeft cmp machine due (λ input. IsTrue (admits input)) old c.args.items.items (item ∷ rest) (get cmp c.loop-place.states) c.loop-place.dues (groups c.loop-place.told.items) =
-    subst (λ items. ItemsLeft cmp machine due (λ input. IsTrue (admits input)) old c.args.items.items items (get cmp c.loop-place.states) c.loop-place.dues (groups c.loop-place.told.items))
+    let left : ItemsLeft cmp machine due (λ input. IsTrue (admits input)) old c.args.items.items
+    (item ∷ rest) (get cmp c.loop-place.states) c.loop-place.dues
+    (groups c.loop-place.told.items) =
+    subst (λ items. ItemsLeft cmp machine due
+    (λ input. IsTrue (admits input)) old c.args.items.items items
+    (get cmp c.loop-place.states) c.loop-place.dues (groups c.loop-place.told.items))
     c.in-Some.ensures.steps.0 c.loop-place.invariant in
-    let more = items_left_more machine due (λ input. IsTrue (admits input)) old c.args.items.items rest item (get cmp c.loop-place.states) (get cmp c.step_key.new.states) c.loop-place.dues c.step_key.new.dues
-    (groups c.loop-place.told.items) c.in_ok-outputs.outputs.items left c.in_ok-outputs.ensures.states c.in_ok-outputs.ensures.dues c.in_ok-outputs.ensures.added in
+    let more = items_left_more machine due
+    (λ input. IsTrue (admits input)) old c.args.items.items rest item
+    (get cmp c.loop-place.states) (get cmp c.step_key.new.states) c.loop-place.dues
+    c.step_key.new.dues
+    (groups c.loop-place.told.items) c.in_ok-outputs.outputs.items left
+    c.in_ok-outputs.ensures.states c.in_ok-outputs.ensures.dues c.in_ok-outputs.ensures.added in
     rw (c.in_ok-push.ensures.items, map-append) more

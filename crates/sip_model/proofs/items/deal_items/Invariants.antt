@@ -7,5 +7,7 @@ use Rattle.sip_model.proofs.items.deal_items.Given as goal
 
 abbrev pub invariant-loop-place : goal.invariant-loop-place
 invariant-loop-place g l =
-    ItemsLeft g.M.Key.Ord.cmp (g.M.StateMachine.machine l.machine) g.M.StateMachine.due (λ input. IsTrue (g.M.StateMachine.admits input)) (get g.M.Key.Ord.cmp l.fn.states)
-    l.fn.items.items (into_iter_items l.place-iterator) (get g.M.Key.Ord.cmp l.states) l.dues (groups l.told.items)
+    ItemsLeft g.M.Key.Ord.cmp (g.M.StateMachine.machine l.machine) g.M.StateMachine.due
+    (λ input. IsTrue (g.M.StateMachine.admits input)) (get g.M.Key.Ord.cmp l.fn.states)
+    l.fn.items.items (into_iter_items l.place-iterator) (get g.M.Key.Ord.cmp l.states) l.dues
+    (groups l.told.items)

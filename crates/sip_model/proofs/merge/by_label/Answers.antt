@@ -7,6 +7,7 @@ use Rattle.sip_model.proofs.merge.by_label.Goals as goal
 pub returns : goal.returns
 returns g c = λ all rises same.
     merged g.met.L.Ord.total c.args.told.items c.sort_unstable_by.new.self.items all
-    (c.sort_unstable_by.ensures.sorted (λ one other. is_lt (g.L.Ord.cmp one.0 other.0)) (ranks_by g.met.L.Ord.total (λ group. group.0))
+    (c.sort_unstable_by.ensures.sorted (λ one other. is_lt (g.L.Ord.cmp one.0 other.0))
+    (ranks_by g.met.L.Ord.total (λ group. group.0))
     (compares _ _ _ (λ a r after called. search rules)))
     c.sort_unstable_by.ensures.permutation rises same

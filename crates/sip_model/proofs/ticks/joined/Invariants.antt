@@ -4,4 +4,6 @@ use Rattle.std.specs.Vec.Iter.{into_iter_items}
 use Rattle.sip_model.proofs.ticks.joined.Given as goal
 
 abbrev pub invariant-loop-said : goal.invariant-loop-said
-invariant-loop-said g l = l.outputs.items ++ flat_map (λ group. group.1.items) (into_iter_items l.said-iterator) ≡ flat_map (λ group. group.1.items) l.fn.told.items
+invariant-loop-said g l = l.outputs.items
+    ++ flat_map (λ group. group.1.items) (into_iter_items l.said-iterator)
+    ≡ flat_map (λ group. group.1.items) l.fn.told.items

@@ -7,5 +7,7 @@ use Rattle.sip_model.proofs.ticks.tick_due.Given as goal
 
 abbrev pub invariant-loop-key : goal.invariant-loop-key
 invariant-loop-key g l =
-    TickLeft g.M.Key.Ord.cmp (g.M.StateMachine.machine l.machine) g.M.StateMachine.due (g.M.StateMachine.tick l.now) (get g.M.Key.Ord.cmp l.fn.states)
-    (due_keys l.now l.fn.dues) (into_iter_items l.key-iterator) (get g.M.Key.Ord.cmp l.states) l.dues (groups l.told.items)
+    TickLeft g.M.Key.Ord.cmp (g.M.StateMachine.machine l.machine) g.M.StateMachine.due
+    (g.M.StateMachine.tick l.now) (get g.M.Key.Ord.cmp l.fn.states)
+    (due_keys l.now l.fn.dues) (into_iter_items l.key-iterator)
+    (get g.M.Key.Ord.cmp l.states) l.dues (groups l.told.items)

@@ -5,4 +5,5 @@ use Rattle.sip_text.specs.Token.{is_token}
 use Rattle.sip_reader.proofs.rules.tokens_keep.Given as goal
 
 abbrev pub invariant-loop-token : goal.invariant-loop-token
-invariant-loop-token l = AllByRecursion (λ token. IsTrue (is_token token)) (take l.token-index l.tokens)
+invariant-loop-token l =
+    AllByRecursion (λ token. IsTrue (is_token token)) (take l.token-index l.tokens)

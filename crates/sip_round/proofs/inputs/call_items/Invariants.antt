@@ -4,4 +4,6 @@ use Rattle.sip_round.specs.Phases.{call_items}
 use Rattle.sip_round.proofs.inputs.call_items.Given as goal
 
 abbrev pub invariant-loop-id : goal.invariant-loop-id
-invariant-loop-id l = l.made.items ++ call_items l.now (length l.made.items) (into_iter_items l.id-iterator) ≡ call_items l.now 0 l.fn.items.items
+invariant-loop-id l = l.made.items
+    ++ call_items l.now (length l.made.items) (into_iter_items l.id-iterator)
+    ≡ call_items l.now 0 l.fn.items.items

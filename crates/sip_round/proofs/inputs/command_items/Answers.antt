@@ -9,7 +9,16 @@ pub loop-id-preserved : goal.loop-id-preserved
 loop-id-preserved c =
     let made = c.loop-id.made.items in
     let left = into_iter_items c.next.new.self in
-    piled made c.push.new.self.items (command_items c.args.now 0 c.args.commands.items) _ (record { place = length made; key = command_key c.in-Some.command; input = order c.in-Some.id c.in-Some.command c.args.now })
+    piled made c.push.new.self.items (command_items c.args.now 0 c.args.commands.items) _
+    (record {
+      place = length made;
+      key = command_key c.in-Some.command;
+      input = order c.in-Some.id c.in-Some.command c.args.now;
+    })
     (λ n. command_items c.args.now n left) c.in_ok-push.ensures.items
-    (same_item _ (length made) _ (command_key c.in-Some.command) _ (order c.in-Some.id c.in-Some.command c.args.now) (omega (arith, c.len-place.ensures, c.loop-id.made.ok)) (ap (λ both. both.0) c.addressed-key.ensures) (ap (λ both. both.1) c.addressed-key.ensures))
-    (ap (λ commands. made ++ command_items c.args.now (length made) commands) (sym c.in-Some.ensures.steps.0) ∙ c.loop-id.invariant)
+    (same_item _ (length made) _ (command_key c.in-Some.command) _
+    (order c.in-Some.id c.in-Some.command c.args.now)
+    (omega (arith, c.len-place.ensures, c.loop-id.made.ok))
+    (ap (λ both. both.0) c.addressed-key.ensures) (ap (λ both. both.1) c.addressed-key.ensures))
+    (ap (λ commands. made ++ command_items c.args.now (length made) commands)
+    (sym c.in-Some.ensures.steps.0) ∙ c.loop-id.invariant)

@@ -10,7 +10,9 @@ returns c = λ rounds call_id invite life.
     let differ = events_differ config call_id rounds in
     record {
       said_in_order = c.laws_of_phases.ensures.each_key_alone (past_of config rounds).calls call_id;
-      shown_in_order = c.provisionals_shown_in_order.ensures.in_order (calls_of config) inputs differ invite life;
-      consecutive = c.provisionals_shown_in_order.ensures.consecutive (calls_of config) inputs differ invite life;
+      shown_in_order = c.provisionals_shown_in_order.ensures.in_order
+          (calls_of config) inputs differ invite life;
+      consecutive = c.provisionals_shown_in_order.ensures.consecutive
+          (calls_of config) inputs differ invite life;
       once = c.provisionals_shown_in_order.ensures.once (calls_of config) inputs differ invite life;
     }

@@ -6,5 +6,7 @@ use Rattle.sip_round.proofs.outs.part.Given as goal
 
 abbrev pub invariant-loop-out : goal.invariant-loop-out
 invariant-loop-out l =
-    (l.outputs.items ++ flat_map sent_of (into_iter_items l.out-iterator) ≡ l.fn.outputs.items ++ flat_map sent_of l.fn.outs.items)
-    × (l.items.items ++ flat_map (raised_of l.id) (into_iter_items l.out-iterator) ≡ l.fn.items.items ++ flat_map (raised_of l.id) l.fn.outs.items)
+    (l.outputs.items ++ flat_map sent_of (into_iter_items l.out-iterator) ≡ l.fn.outputs.items
+    ++ flat_map sent_of l.fn.outs.items)
+    × (l.items.items ++ flat_map (raised_of l.id) (into_iter_items l.out-iterator)
+    ≡ l.fn.items.items ++ flat_map (raised_of l.id) l.fn.outs.items)

@@ -6,5 +6,7 @@ use Rattle.sip_round.proofs.outs.part_calls.Given as goal
 
 abbrev pub invariant-loop-out : goal.invariant-loop-out
 invariant-loop-out l =
-    (l.outputs.items ++ flat_map shown_of (into_iter_items l.out-iterator) ≡ l.fn.outputs.items ++ flat_map shown_of l.fn.outs.items)
-    × (l.commands.items ++ flat_map command_of (into_iter_items l.out-iterator) ≡ l.fn.commands.items ++ flat_map command_of l.fn.outs.items)
+    (l.outputs.items ++ flat_map shown_of (into_iter_items l.out-iterator) ≡ l.fn.outputs.items
+    ++ flat_map shown_of l.fn.outs.items)
+    × (l.commands.items ++ flat_map command_of (into_iter_items l.out-iterator)
+    ≡ l.fn.commands.items ++ flat_map command_of l.fn.outs.items)

@@ -5,4 +5,6 @@ use Rattle.sip_round.specs.Outputs.{sent_of}
 use Rattle.sip_round.proofs.outs.send_all.Given as goal
 
 abbrev pub invariant-loop-out : goal.invariant-loop-out
-invariant-loop-out l = l.outputs.items ++ flat_map sent_of (into_iter_items l.out-iterator) ≡ l.fn.outputs.items ++ flat_map sent_of l.fn.outs.items
+invariant-loop-out l = l.outputs.items
+    ++ flat_map sent_of (into_iter_items l.out-iterator) ≡ l.fn.outputs.items
+    ++ flat_map sent_of l.fn.outs.items

@@ -6,4 +6,5 @@ use Rattle.sip_round.proofs.parts.parts_of.Given as goal
 
 abbrev pub invariant-loop-item : goal.invariant-loop-item
 invariant-loop-item g l =
-    PartsLeft (owner_of (g.C.Cut.shard_of l.cut) g.K.Named.name l.shards) l.shards l.fn.items.items (into_iter_items l.item-iterator) (map (λ part. part.items) l.parts.items)
+    PartsLeft (owner_of (g.C.Cut.shard_of l.cut) g.K.Named.name l.shards) l.shards l.fn.items.items
+    (into_iter_items l.item-iterator) (map (λ part. part.items) l.parts.items)

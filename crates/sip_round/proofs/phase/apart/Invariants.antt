@@ -5,5 +5,7 @@ use Rattle.sip_round.proofs.phase.apart.Given as goal
 
 abbrev pub invariant-loop-done : goal.invariant-loop-done
 invariant-loop-done g l =
-    DonesLeft (λ dealt. dealt.table) (λ dealt. groups dealt.replies.ticks.items) (λ dealt. groups dealt.replies.items.items)
-    l.fn.dones.items (into_iter_items l.done-iterator) l.tables.items (groups l.ticks.items) (groups l.items.items)
+    DonesLeft (λ dealt. dealt.table) (λ dealt. groups dealt.replies.ticks.items)
+    (λ dealt. groups dealt.replies.items.items)
+    l.fn.dones.items (into_iter_items l.done-iterator) l.tables.items (groups l.ticks.items)
+    (groups l.items.items)

@@ -6,7 +6,10 @@ use Rattle.sip_round.proofs.phase.pieces_of.Given as goal
 
 abbrev pub invariant-loop-table : goal.invariant-loop-table
 invariant-loop-table g l =
-    PiecesLeft (λ piece. piece.job.table) (λ piece. piece.job.items.items) (λ piece. (piece.job.machine ≡ l.machine) × (piece.job.moment ≡ l.moment))
-    l.fn.tables.items (into_iter_items l.table-iterator) (map (λ part. part.items) l.fn.parts.items) (map (λ part. part.items) (into_iter_items l.left)) l.pieces.items
+    PiecesLeft (λ piece. piece.job.table) (λ piece. piece.job.items.items)
+    (λ piece. (piece.job.machine ≡ l.machine) × (piece.job.moment ≡ l.moment))
+    l.fn.tables.items (into_iter_items l.table-iterator) (map (λ part. part.items) l.fn.parts.items)
+    (map (λ part. part.items) (into_iter_items l.left)) l.pieces.items
     × IsNumbered l.pieces.items
-    × All (λ part. All (λ item. IsTrue (g.M.StateMachine.admits item.input)) part.items) (into_iter_items l.left)
+    × All (λ part. All (λ item. IsTrue (g.M.StateMachine.admits item.input)) part.items)
+    (into_iter_items l.left)

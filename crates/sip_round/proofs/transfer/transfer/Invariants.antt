@@ -6,4 +6,7 @@ use Rattle.sip_round.proofs.transfer.transfer.Given as goal
 
 abbrev pub invariant-loop-table : goal.invariant-loop-table
 invariant-loop-table g l =
-    TransferLeft g.M.Key.Ord.cmp (g.M.StateMachine.machine l.machine) g.M.StateMachine.tick (owner_of (g.C.Cut.shard_of l.cut) g.M.Key.Named.name (length l.fn.others.items)) (length l.fn.others.items) l.fn.tables.items (into_iter_items l.table-iterator) l.moved.items
+    TransferLeft g.M.Key.Ord.cmp (g.M.StateMachine.machine l.machine) g.M.StateMachine.tick
+    (owner_of (g.C.Cut.shard_of l.cut) g.M.Key.Named.name (length l.fn.others.items))
+    (length l.fn.others.items) l.fn.tables.items
+    (into_iter_items l.table-iterator) l.moved.items

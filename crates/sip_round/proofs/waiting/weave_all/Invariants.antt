@@ -8,7 +8,11 @@ use Rattle.sip_round.proofs.waiting.weave_all.Given as goal
 
 abbrev pub invariant-loop-id : goal.invariant-loop-id
 invariant-loop-id l =
-    (l.outputs.items ++ flat_map (λ w. flat_map sent_of w.1) (woven (into_iter_items l.id-iterator) (groups (into_iter_items l.said)))
-    ≡ l.fn.outputs.items ++ flat_map (λ w. flat_map sent_of w.1) (woven l.fn.waiting.items (groups l.fn.said.items)))
-    × (l.items.items ++ flat_map (λ w. flat_map (raised_of w.0) w.1 ++ w.2) (woven (into_iter_items l.id-iterator) (groups (into_iter_items l.said)))
-    ≡ l.fn.items.items ++ flat_map (λ w. flat_map (raised_of w.0) w.1 ++ w.2) (woven l.fn.waiting.items (groups l.fn.said.items)))
+    (l.outputs.items ++ flat_map (λ w. flat_map sent_of w.1)
+    (woven (into_iter_items l.id-iterator) (groups (into_iter_items l.said)))
+    ≡ l.fn.outputs.items ++ flat_map (λ w. flat_map sent_of w.1)
+    (woven l.fn.waiting.items (groups l.fn.said.items)))
+    × (l.items.items ++ flat_map (λ w. flat_map (raised_of w.0) w.1 ++ w.2)
+    (woven (into_iter_items l.id-iterator) (groups (into_iter_items l.said)))
+    ≡ l.fn.items.items ++ flat_map (λ w. flat_map (raised_of w.0) w.1 ++ w.2)
+    (woven l.fn.waiting.items (groups l.fn.said.items)))

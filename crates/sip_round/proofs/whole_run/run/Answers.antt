@@ -5,60 +5,84 @@ use Rattle.sip_round.proofs.SoFar.{at_start, one_more, ends, fine_where_ok}
 use Rattle.sip_round.proofs.whole_run.run.Goals as goal
 
 pub loop-index-init : goal.loop-index-init
-loop-index-init g c = at_start g.C.Cut.shard_of c.args.config c.args.rounds.now c.in-Ok.agent c.new-made.result.items c.in-Ok.ensures c.new-made.ensures.items
+loop-index-init g c = at_start g.C.Cut.shard_of c.args.config c.args.rounds.now c.in-Ok.agent
+    c.new-made.result.items c.in-Ok.ensures c.new-made.ensures.items
 
 pub loop-index-preserved : goal.loop-index-preserved
 loop-index-preserved g c =
-    one_more g.C.Cut.shard_of c.args.config c.args.rounds.now c.loop-index.index c.index-rounds-index.result c.loop-index.agent c.run_round.new.self c.loop-index.made.items c.push.new.self.items c.in-Ok-run_round.outputs
-    c.loop-index.invariant c.loop-index-test.true c.index-rounds-index.is (fine_where_ok g.C.Cut.shard_of _ _ c.run_round.result c.in-Ok-run_round.outputs c.in-Ok-run_round.is c.run_round.ensures.refused) c.in-Ok-run_round.ensures.answers c.in-Ok-push.ensures.items
+    one_more g.C.Cut.shard_of c.args.config c.args.rounds.now c.loop-index.index
+    c.index-rounds-index.result c.loop-index.agent c.run_round.new.self c.loop-index.made.items
+    c.push.new.self.items c.in-Ok-run_round.outputs
+    c.loop-index.invariant c.loop-index-test.true c.index-rounds-index.is
+    (fine_where_ok g.C.Cut.shard_of _ _ c.run_round.result c.in-Ok-run_round.outputs
+    c.in-Ok-run_round.is c.run_round.ensures.refused) c.in-Ok-run_round.ensures.answers
+    c.in-Ok-push.ensures.items
 
 pub returns-in-Err-clause-refused : goal.returns-in-Err-clause-refused
 returns-in-Err-clause-refused g c =
-    ends g.C.Cut.shard_of _ c.args.config c.args.rounds.now c.loop-index.index c.index-rounds-index.result c.loop-index.agent c.loop-index.made.items c.run_round.result c.in-Err.fault
-    c.loop-index.invariant c.loop-index-test.true c.index-rounds-index.is c.run_round.ensures.refused c.run_round.ensures.memory c.in-Err.is
+    ends g.C.Cut.shard_of _ c.args.config c.args.rounds.now c.loop-index.index
+    c.index-rounds-index.result c.loop-index.agent c.loop-index.made.items c.run_round.result
+    c.in-Err.fault
+    c.loop-index.invariant c.loop-index-test.true c.index-rounds-index.is
+    c.run_round.ensures.refused c.run_round.ensures.memory c.in-Err.is
 
 pub returns-clause-answers : goal.returns-clause-answers
 returns-clause-answers g c =
-    let over : length c.args.rounds.now ≤ c.loop-index.index = omega (arith, c.loop-index-test.false) in
-    c.loop-index.invariant.answered ∙ ap (answers c.args.config) (take_all c.loop-index.index c.args.rounds.now over)
+    let over : length c.args.rounds.now ≤ c.loop-index.index =
+    omega (arith, c.loop-index-test.false) in
+    c.loop-index.invariant.answered
+    ∙ ap (answers c.args.config) (take_all c.loop-index.index c.args.rounds.now over)
 
 pub returns-clause-unrefused : goal.returns-clause-unrefused
 returns-clause-unrefused g c =
-    let over : length c.args.rounds.now ≤ c.loop-index.index = omega (arith, c.loop-index-test.false) in
-    ap (refused c.args.config) (sym (take_all c.loop-index.index c.args.rounds.now over)) ∙ c.loop-index.invariant.unrefused
+    let over : length c.args.rounds.now ≤ c.loop-index.index =
+    omega (arith, c.loop-index-test.false) in
+    ap (refused c.args.config) (sym (take_all c.loop-index.index c.args.rounds.now over))
+    ∙ c.loop-index.invariant.unrefused
 
 pub returns-in_default-clause-each_request_once : goal.returns-in_default-clause-each_request_once
-returns-in_default-clause-each_request_once g c = c.one_request_in_each_life.ensures c.args.config c.args.rounds.now
+returns-in_default-clause-each_request_once g c =
+    c.one_request_in_each_life.ensures c.args.config c.args.rounds.now
 
 pub returns-in_default-clause-provisionals_in_order : goal.returns-in_default-clause-provisionals_in_order
-returns-in_default-clause-provisionals_in_order g c = c.provisionals_in_each_life.ensures c.args.rounds.now
+returns-in_default-clause-provisionals_in_order g c =
+    c.provisionals_in_each_life.ensures c.args.rounds.now
 
 pub returns-in-Err-clause-each_request_once : goal.returns-in-Err-clause-each_request_once
-returns-in-Err-clause-each_request_once g c = c.one_request_in_each_life.ensures c.args.config c.args.rounds.now
+returns-in-Err-clause-each_request_once g c =
+    c.one_request_in_each_life.ensures c.args.config c.args.rounds.now
 
 pub returns-in-Err-clause-provisionals_in_order : goal.returns-in-Err-clause-provisionals_in_order
-returns-in-Err-clause-provisionals_in_order g c = c.provisionals_in_each_life.ensures c.args.rounds.now
+returns-in-Err-clause-provisionals_in_order g c =
+    c.provisionals_in_each_life.ensures c.args.rounds.now
 
 pub returns-in_default-push-clause-each_request_once : goal.returns-in_default-push-clause-each_request_once
-returns-in_default-push-clause-each_request_once g c = c.one_request_in_each_life.ensures c.args.config c.args.rounds.now
+returns-in_default-push-clause-each_request_once g c =
+    c.one_request_in_each_life.ensures c.args.config c.args.rounds.now
 
 pub returns-in_default-push-clause-provisionals_in_order : goal.returns-in_default-push-clause-provisionals_in_order
-returns-in_default-push-clause-provisionals_in_order g c = c.provisionals_in_each_life.ensures c.args.rounds.now
+returns-in_default-push-clause-provisionals_in_order g c =
+    c.provisionals_in_each_life.ensures c.args.rounds.now
 
 pub returns-clause-each_request_once : goal.returns-clause-each_request_once
-returns-clause-each_request_once g c = c.one_request_in_each_life.ensures c.args.config c.args.rounds.now
+returns-clause-each_request_once g c =
+    c.one_request_in_each_life.ensures c.args.config c.args.rounds.now
 
 pub returns-clause-provisionals_in_order : goal.returns-clause-provisionals_in_order
 returns-clause-provisionals_in_order g c = c.provisionals_in_each_life.ensures c.args.rounds.now
 
 pub returns-in_default-clause-nothing_after_the_end : goal.returns-in_default-clause-nothing_after_the_end
-returns-in_default-clause-nothing_after_the_end g c = c.nothing_after_each_end.ensures c.args.config c.args.rounds.now
+returns-in_default-clause-nothing_after_the_end g c =
+    c.nothing_after_each_end.ensures c.args.config c.args.rounds.now
 
 pub returns-in-Err-clause-nothing_after_the_end : goal.returns-in-Err-clause-nothing_after_the_end
-returns-in-Err-clause-nothing_after_the_end g c = c.nothing_after_each_end.ensures c.args.config c.args.rounds.now
+returns-in-Err-clause-nothing_after_the_end g c =
+    c.nothing_after_each_end.ensures c.args.config c.args.rounds.now
 
 pub returns-in_default-push-clause-nothing_after_the_end : goal.returns-in_default-push-clause-nothing_after_the_end
-returns-in_default-push-clause-nothing_after_the_end g c = c.nothing_after_each_end.ensures c.args.config c.args.rounds.now
+returns-in_default-push-clause-nothing_after_the_end g c =
+    c.nothing_after_each_end.ensures c.args.config c.args.rounds.now
 
 pub returns-clause-nothing_after_the_end : goal.returns-clause-nothing_after_the_end
-returns-clause-nothing_after_the_end g c = c.nothing_after_each_end.ensures c.args.config c.args.rounds.now
+returns-clause-nothing_after_the_end g c =
+    c.nothing_after_each_end.ensures c.args.config c.args.rounds.now

@@ -3,5 +3,10 @@ use Rattle.sip_text.proofs.folding.trim_break.Goals as goal
 
 pub returns : goal.returns
 returns c =
-    rw (c.truncate.ensures.items, c.trimmed_end-kept.ensures, c.without_carriage_return.ensures, c.as_slice.ensures.value)
+    rw (
+      c.truncate.ensures.items,
+      c.trimmed_end-kept.ensures,
+      c.without_carriage_return.ensures,
+      c.as_slice.ensures.value,
+    )
     (kept_front c.args.line.now.items)

@@ -15,16 +15,26 @@ loop-line-smaller-then-begins_blank c =
 pub loop-line-preserved-then-begins_blank : goal.loop-line-preserved-then-begins_blank
 loop-line-preserved-then-begins_blank c =
     let whole = c.loop-line.whole.items in
-    rw (c.in_ok-push.ensures.items, c.trim_break.ensures, c.in_ok-extend_from_slice.ensures.items, c.trimmed_start-rest.ensures)
-    (goes_on whole c.loop-line.rest.now c.in-Some.line.now c.in-Some.after.now (sym c.in-Some.ensures.parts) (sym c.begins_blank.ensures ∙ c.if-begins_blank.true) ∙ c.loop-line.invariant)
+    rw (
+      c.in_ok-push.ensures.items,
+      c.trim_break.ensures,
+      c.in_ok-extend_from_slice.ensures.items,
+      c.trimmed_start-rest.ensures,
+    )
+    (goes_on whole c.loop-line.rest.now c.in-Some.line.now c.in-Some.after.now
+    (sym c.in-Some.ensures.parts) (sym c.begins_blank.ensures ∙ c.if-begins_blank.true)
+    ∙ c.loop-line.invariant)
 
 pub loop-line-preserved : goal.loop-line-preserved
 loop-line-preserved c =
     let whole = c.loop-line.whole.items in
     rw (c.in_ok-push-2.ensures.items, c.in_ok-extend_from_slice.ensures.items)
-    (begins_anew whole c.loop-line.rest.now c.in-Some.line.now c.in-Some.after.now (sym c.in-Some.ensures.parts) (sym c.begins_blank.ensures ∙ c.if-begins_blank.false) ∙ c.loop-line.invariant)
+    (begins_anew whole c.loop-line.rest.now c.in-Some.line.now c.in-Some.after.now
+    (sym c.in-Some.ensures.parts) (sym c.begins_blank.ensures ∙ c.if-begins_blank.false)
+    ∙ c.loop-line.invariant)
 
 pub returns : goal.returns
 returns c =
     rw c.in_ok-extend_from_slice-2.ensures.items
-    (last_line c.loop-line.whole.items c.loop-line.rest.now (sym c.in_default.ensures.parts) ∙ c.loop-line.invariant)
+    (last_line c.loop-line.whole.items c.loop-line.rest.now (sym c.in_default.ensures.parts)
+    ∙ c.loop-line.invariant)

@@ -7,4 +7,5 @@ pub returns-clause-split : goal.returns-clause-split
 returns-clause-split c at text = splits at Plain text
 
 pub returns-clause-only : goal.returns-clause-only
-returns-clause-only c at text pieces others one two = sym (split_again at Plain text pieces one) ∙ split_again at Plain text others two
+returns-clause-only c at text pieces others one two =
+    sym (split_again at Plain text pieces one) ∙ split_again at Plain text others two

@@ -11,5 +11,6 @@ loop-byte-preserved c =
 pub returns-then-value-from : goal.returns-then-value-from
 returns-then-value-from c =
     let step = one_more c.args.text.now c.loop-byte.byte-index c.requires c.loop-byte-test.true in
-    let below = digits_value-take-le 10 c.args.text.now (c.loop-byte.byte-index + 1) (omega arith) in
+    let below = digits_value-take-le 10 c.args.text.now (c.loop-byte.byte-index + 1)
+    (omega arith) in
     λ fits. omega (arith, step, below)

@@ -10,11 +10,13 @@ returns-in-Some-clause-parameters c =
       closed = sym c.has_open_quote.ensures ∙ c.if-has_open_quote.false;
       parameters_are =
           let reads = parameters_reads parameter_reads in
-          reads.takes c.args.text.now (map parameter_now c.in-Some.parameters.items) (sym (rw c.in-Some.is at c.in_ok-parameters.ensures));
+          reads.takes c.args.text.now (map parameter_now c.in-Some.parameters.items)
+          (sym (rw c.in-Some.is at c.in_ok-parameters.ensures));
     }
 
 pub returns-in-None-clause-fault : goal.returns-in-None-clause-fault
 returns-in-None-clause-fault c = (
   sym c.has_open_quote.ensures ∙ c.if-has_open_quote.false,
-  λ ps are. not_read (parameters_reads parameter_reads) c.args.text.now (sym (rw c.in-None.is at c.in_ok-parameters.ensures)) ps are,
+  λ ps are. not_read (parameters_reads parameter_reads) c.args.text.now
+      (sym (rw c.in-None.is at c.in_ok-parameters.ensures)) ps are,
 )

@@ -17,6 +17,7 @@ returns-clause-values c =
       values_are = (
         pieces,
         splits (Byte 44) Plain text,
-        subst (λ (values : List (List ℕ)). AllZip IsTrimmed values pieces) (sym c.in_ok-values_in.ensures) (all_trimmed pieces),
+        subst (λ (values : List (List ℕ)). AllZip IsTrimmed values pieces)
+            (sym c.in_ok-values_in.ensures) (all_trimmed pieces),
       );
     }

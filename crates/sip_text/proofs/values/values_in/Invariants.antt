@@ -8,7 +8,8 @@ use Rattle.sip_text.proofs.values.values_in.Given as goal
 
 abbrev pub invariant-loop-value : goal.invariant-loop-value
 invariant-loop-value l =
-    all_now l.values.items ++ map trimmed (split_from (Byte 44) Plain l.rest) ≡ map trimmed (split_from (Byte 44) Plain l.text)
+    all_now l.values.items ++ map trimmed (split_from (Byte 44) Plain l.rest)
+    ≡ map trimmed (split_from (Byte 44) Plain l.text)
 
 abbrev pub decreases-loop-value : goal.decreases-loop-value
 decreases-loop-value l = length l.rest

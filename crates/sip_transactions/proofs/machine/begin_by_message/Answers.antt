@@ -5,5 +5,6 @@ use Rattle.sip_transactions.proofs.machine.begin_by_message.Goals as goal
 pub returns-clause-adds : goal.returns-clause-adds
 returns-clause-adds c =
     let life : c.new-life.result ≡ life_by c.args.id c.args.message.call_id c.args.reply_to None =
-    c.new-life.ensures ∙ ap (λ call_id. life_by c.args.id call_id c.args.reply_to None) c.in_ok-clone.ensures.cases in
+    c.new-life.ensures ∙ ap (λ call_id. life_by c.args.id call_id c.args.reply_to None)
+    c.in_ok-clone.ensures.cases in
     rw (← c.in_ok-made.ensures, ← life) c.act.ensures.adds

@@ -5,4 +5,5 @@ use Rattle.sip_udp.proofs.sending.send_all.Given as goal
 
 abbrev pub invariant-loop-failure : goal.invariant-loop-failure
 invariant-loop-failure g l =
-    SoFar (g.O.Outlet.asked l.initial.outlet) (g.O.Outlet.asked l.outlet) l.outputs l.left (into_iter_items l.failure-iterator) l.failed.items (vec_capacity l.failed)
+    SoFar (g.O.Outlet.asked l.initial.outlet) (g.O.Outlet.asked l.outlet) l.outputs l.left
+    (into_iter_items l.failure-iterator) l.failed.items (vec_capacity l.failed)

@@ -5,5 +5,6 @@ use Rattle.sip_udp.proofs.talk.own_uri.Goals as goal
 
 pub from_text-requires : goal.from_text-requires
 from_text-requires c =
-    let e : c.extend_from_slice.new.self ≡ codes "sip:ua@" ++ ip_text c.args.local.ip = search rules in
+    let e : c.extend_from_slice.new.self ≡ codes "sip:ua@" ++ ip_text c.args.local.ip =
+    search rules in
     rw e (own_uri c.args.local.ip (omega arith) (omega arith) (omega arith) (omega arith))

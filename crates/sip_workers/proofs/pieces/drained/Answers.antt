@@ -18,10 +18,19 @@ loop-piece-preserved g c =
     let took = c.in-Some.ensures.rule.0 in (
       ap (λ v. v.parts) took ∙ c.loop-piece.invariant.0,
       ap (λ v. v.put) took ∙ c.loop-piece.invariant.1,
-      ran_more g.J.Job.gives (worker_view c.loop-piece.owner) (worker_view c.pop_as.new.self) c.in-Some.piece c.run_piece.result c.loop-piece.dones.items c.push.new.self.items took c.in_ok-push.ensures.items c.run_piece.ensures c.loop-piece.invariant.2,
+      ran_more g.J.Job.gives (worker_view c.loop-piece.owner)
+          (worker_view c.pop_as.new.self) c.in-Some.piece c.run_piece.result
+          c.loop-piece.dones.items c.push.new.self.items took c.in_ok-push.ensures.items
+          c.run_piece.ensures c.loop-piece.invariant.2,
     )
 
 pub loop-piece-smaller : goal.loop-piece-smaller
 loop-piece-smaller g c =
     let took = c.in-Some.ensures.rule.0 in
-    omega (arith, ap (λ v. length v.put) took, ap (λ v. length v.taken) took, length-append (worker_view c.loop-piece.owner).taken (c.in-Some.piece ∷ []), c.in-Some.ensures.rule.1 c.loop-piece.invariant.0)
+    omega (
+      arith,
+      ap (λ v. length v.put) took,
+      ap (λ v. length v.taken) took,
+      length-append (worker_view c.loop-piece.owner).taken (c.in-Some.piece ∷ []),
+      c.in-Some.ensures.rule.1 c.loop-piece.invariant.0,
+    )

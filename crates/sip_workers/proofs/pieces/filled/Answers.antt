@@ -6,4 +6,5 @@ pub fifo_as-requires : goal.fifo_as-requires
 fifo_as-requires g c = begins
 
 pub push_as-requires-clause-pushes : goal.push_as-requires-clause-pushes
-push_as-requires-clause-pushes g c = let p = ap (λ v. v.parts) c.loop-piece.invariant.2 in puts _ _ _ (omega arith)
+push_as-requires-clause-pushes g c =
+    let p = ap (λ v. v.parts) c.loop-piece.invariant.2 in puts _ _ _ (omega arith)

@@ -21,7 +21,11 @@ returns g c =
       counted = c.loop.invariant.4 ∙ count;
       few = omega arith;
       all_thieves = c.loop.invariant.5;
-      owner = (c.loop.invariant.0, log_is (worker_view c.loop.owner) _ _ _ (omega arith) c.loop.invariant.2 (c.loop.invariant.3 ∙ c.requires.nothing));
+      owner = (
+        c.loop.invariant.0,
+        log_is (worker_view c.loop.owner) _ _ _
+            (omega arith) c.loop.invariant.2 (c.loop.invariant.3 ∙ c.requires.nothing),
+      );
     }
 
 pub loop-preserved : goal.loop-preserved
@@ -35,7 +39,18 @@ loop-preserved g c =
       omega (arith, ap (λ v. v.parts) split, c.loop.invariant.1, c.loop-test.true, c.requires.few),
       ap (λ v. v.put) split ∙ c.loop.invariant.2,
       ap (λ v. v.taken) split ∙ c.loop.invariant.3,
-      ap length c.in_ok-push.ensures.items ∙ omega (arith, length-append c.loop.seats.items (Thief thief pass ∷ []), c.loop.invariant.4),
-      subst (λ seats. AllByRecursion (IsThiefOf c.args.owner) seats) (sym c.in_ok-push.ensures.items)
-          (both_hold (IsThiefOf c.args.owner) c.loop.seats.items (Thief thief pass) c.loop.invariant.5 (deque, subst (λ d. IsPassOf d pass) c.loop.invariant.0 c.another-pass.ensures.same.2, c.another-pass.ensures.rule.1)),
+      ap length c.in_ok-push.ensures.items
+          ∙ omega (
+            arith,
+            length-append c.loop.seats.items (Thief thief pass ∷ []),
+            c.loop.invariant.4,
+          ),
+      subst (λ seats. AllByRecursion (IsThiefOf c.args.owner) seats)
+          (sym c.in_ok-push.ensures.items)
+          (both_hold (IsThiefOf c.args.owner) c.loop.seats.items
+          (Thief thief pass) c.loop.invariant.5 (
+            deque,
+            subst (λ d. IsPassOf d pass) c.loop.invariant.0 c.another-pass.ensures.same.2,
+            c.another-pass.ensures.rule.1,
+          )),
     )

@@ -6,5 +6,6 @@ use Rattle.sip_workers.proofs.pieces.served.Goals as goal
 pub returns : goal.returns
 returns g c =
     let each = c.in_ok-results.ensures.each in
-    zip_at (Serves g.J.Job.gives) c.args.seats.items c.in_ok-results.results.items (omega (arith, c.in_ok-results.ensures.len, c.in_ok-results.results.ok, c.args.seats.ok))
+    zip_at (Serves g.J.Job.gives) c.args.seats.items c.in_ok-results.results.items
+    (omega (arith, c.in_ok-results.ensures.len, c.in_ok-results.results.ok, c.args.seats.ok))
     (λ i d below. let one = (each i d below).1 in (one.job, one.job_is, one.call.met))

@@ -21,19 +21,28 @@ loop-preserved g c =
       c.in-Some.ensures.same.0.0 ∙ c.loop.invariant.0,
       ap (λ v. v.parts) took ∙ c.loop.invariant.1,
       ap (λ v. v.put) took ∙ c.loop.invariant.2,
-      ran_more g.J.Job.gives (worker_view c.loop.owner) (worker_view c.pop_as.new.self) c.in-Some.piece c.run_piece.result c.loop.dones.items c.push.new.self.items took c.in_ok-push.ensures.items c.run_piece.ensures c.loop.invariant.3,
+      ran_more g.J.Job.gives (worker_view c.loop.owner)
+          (worker_view c.pop_as.new.self) c.in-Some.piece c.run_piece.result c.loop.dones.items
+          c.push.new.self.items took c.in_ok-push.ensures.items c.run_piece.ensures
+          c.loop.invariant.3,
     )
 
 pub returns : goal.returns
 returns g c =
-    let alike : (worker_deque c.loop-test.owner ≡ worker_deque c.loop.owner) × (worker_view c.loop-test.owner ≡ worker_view c.loop.owner) =
+    let alike : (worker_deque c.loop-test.owner ≡ worker_deque c.loop.owner)
+    × (worker_view c.loop-test.owner ≡ worker_view c.loop.owner) =
     elim c.loop-test.branch [
       | else-loop-test w ↦ (ap worker_deque w.owner-is, ap worker_view w.owner-is)
-      | then-loop-test+in_default w ↦ (ap worker_deque w.owner-is ∙ w.in_default.ensures.same.0.0, ap worker_view w.owner-is ∙ w.in_default.ensures.rule.0)
+      | then-loop-test+in_default w ↦ (
+        ap worker_deque w.owner-is
+            ∙ w.in_default.ensures.same.0.0,
+        ap worker_view w.owner-is ∙ w.in_default.ensures.rule.0,
+      )
     ] in
     record {
       same = alike.0 ∙ c.loop.invariant.0;
       parts = ap (λ v. v.parts) alike.1 ∙ c.loop.invariant.1;
       put = ap (λ v. v.put) alike.1 ∙ c.loop.invariant.2;
-      ran = subst (λ v. Ran g.J.Job.gives v.taken c.loop.dones.items) (sym alike.1) c.loop.invariant.3;
+      ran = subst (λ v. Ran g.J.Job.gives v.taken c.loop.dones.items)
+          (sym alike.1) c.loop.invariant.3;
     }

@@ -15,5 +15,6 @@ pub unwrap-requires : goal.unwrap-requires
 unfolding branch_of
 unwrap-requires c =
     let event = c.args.self.now in
-    let rule : IsTrue (has_cookie c.in_ok-branch_token.field-0) = rw c.in_ok-branch_token.ensures (branch_has_cookie (name_of event.seed event.id 0)) in
+    let rule : IsTrue (has_cookie c.in_ok-branch_token.field-0) =
+    rw c.in_ok-branch_token.ensures (branch_has_cookie (name_of event.seed event.id 0)) in
     some_if c.new.result _ _ c.new.ensures rule

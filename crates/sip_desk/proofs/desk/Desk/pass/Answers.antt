@@ -19,17 +19,30 @@ loop-line-init g c = (
 
 pub loop-line-preserved : goal.loop-line-preserved
 loop-line-preserved g c =
-    let kept : KeepsLines c.args.self.now c.take_one.new.self = keeps_then c.args.self.now c.loop-line.self c.take_one.new.self c.loop-line.invariant.1 c.take_one.ensures.same in
-    let gathered : Gathers c.args.self.now c.loop-line.self c.args.events.now.items c.loop-line.events.items = c.loop-line.invariant.0 in
-    let free : vec_len c.loop-line.events < c.args.max = omega (arith, c.loop-line.invariant.3, c.len.ensures, c.if-len-max.false) in
-    elim c.match-take_one.branch as (λ _. Gathers c.args.self.now c.take_one.new.self c.args.events.now.items c.match-take_one.events.items
-    × KeepsLines c.args.self.now c.take_one.new.self × (vec_capacity c.match-take_one.events ≡ c.args.max) × (vec_len c.match-take_one.events ≤ c.args.max)
+    let kept : KeepsLines c.args.self.now c.take_one.new.self =
+    keeps_then c.args.self.now c.loop-line.self c.take_one.new.self c.loop-line.invariant.1
+    c.take_one.ensures.same in
+    let gathered : Gathers c.args.self.now c.loop-line.self c.args.events.now.items
+    c.loop-line.events.items = c.loop-line.invariant.0 in
+    let free : vec_len c.loop-line.events < c.args.max =
+    omega (arith, c.loop-line.invariant.3, c.len.ensures, c.if-len-max.false) in
+    elim c.match-take_one.branch as (λ _.
+    Gathers c.args.self.now c.take_one.new.self c.args.events.now.items
+    c.match-take_one.events.items
+    × KeepsLines c.args.self.now c.take_one.new.self
+    × (vec_capacity c.match-take_one.events ≡ c.args.max)
+    × (vec_len c.match-take_one.events ≤ c.args.max)
     × (c.len-before.result ≤ vec_len c.match-take_one.events)
-    × (vec_len c.match-take_one.events ≤ c.len-before.result → (j : ℕ) → j < c.loop-line.line + 1 → seen c.take_one.new.self j ≡ [])) [
+    × (vec_len c.match-take_one.events ≤ c.len-before.result → (j : ℕ) → j < c.loop-line.line + 1
+    → seen c.take_one.new.self j ≡ [])) [
       | in-Some w ↦
-          let room : vec_capacity c.match-take_one.events ≡ c.args.max = rw w.events-is (w.push_reserved.ensures.capacity ∙ c.loop-line.invariant.2) in
-          let longer : vec_len c.match-take_one.events ≡ vec_len c.loop-line.events + 1 = rw w.events-is w.push_reserved.ensures.len in (
-            gathers_one c.args.self.now c.loop-line.self c.take_one.new.self c.args.events.now.items c.loop-line.events.items c.match-take_one.events.items c.loop-line.line w.in-Some.event
+          let room : vec_capacity c.match-take_one.events ≡ c.args.max =
+          rw w.events-is (w.push_reserved.ensures.capacity ∙ c.loop-line.invariant.2) in
+          let longer : vec_len c.match-take_one.events ≡ vec_len c.loop-line.events + 1 =
+          rw w.events-is w.push_reserved.ensures.len in (
+            gathers_one c.args.self.now c.loop-line.self c.take_one.new.self c.args.events.now.items
+                c.loop-line.events.items c.match-take_one.events.items c.loop-line.line
+                w.in-Some.event
                 gathered w.in-Some.ensures.some (rw w.events-is w.push_reserved.ensures.items),
             kept,
             room,
@@ -39,22 +52,33 @@ loop-line-preserved g c =
           )
       | in_default w ↦ (
         rw w.events-is
-            (gathers_none c.args.self.now c.loop-line.self c.take_one.new.self c.args.events.now.items c.loop-line.events.items gathered w.in_default.ensures.none),
+            (gathers_none c.args.self.now c.loop-line.self c.take_one.new.self
+            c.args.events.now.items c.loop-line.events.items gathered
+            w.in_default.ensures.none),
         kept,
         rw w.events-is c.loop-line.invariant.2,
         rw w.events-is c.loop-line.invariant.3,
         rw w.events-is c.loop-line.invariant.4,
-        rw w.events-is (λ few. dry_more c.loop-line.self c.take_one.new.self c.loop-line.line (c.loop-line.invariant.5 few) c.take_one.ensures.others w.in_default.ensures.dry),
+        rw w.events-is (λ few. dry_more c.loop-line.self c.take_one.new.self c.loop-line.line
+            (c.loop-line.invariant.5 few) c.take_one.ensures.others w.in_default.ensures.dry),
       )
     ]
 
 pub returns-clause-dry : goal.returns-clause-dry
 returns-clause-dry g c = λ took_none some_room.
-    let few : vec_len c.loop-line.events ≤ c.len-before.result = omega (arith, ltb-false c.len-before.result c.len-2.result took_none, c.len-2.ensures) in
+    let few : vec_len c.loop-line.events ≤ c.len-before.result =
+    omega (arith, ltb-false c.len-before.result c.len-2.result took_none, c.len-2.ensures) in
     elim c.loop-line-test.branch as (λ _. IsDry c.loop-line.self) [
       | else-loop-line-test w ↦
           let all : line_count c.loop-line.self ≤ c.loop-line.line =
-          omega (arith, c.loop-line.invariant.1.count, c.len-line-end.ensures, c.args.self.now.lines.ok.0, w.loop-line-test.false) in
+          omega (
+            arith,
+            c.loop-line.invariant.1.count,
+            c.len-line-end.ensures,
+            c.args.self.now.lines.ok.0,
+            w.loop-line-test.false,
+          ) in
           dry_all c.loop-line.self c.loop-line.line all (c.loop-line.invariant.5 few)
-      | then-loop-line-test+then-len-max w ↦ absurd (omega (arith, w.len.ensures, w.if-len-max.true))
+      | then-loop-line-test+then-len-max w ↦ absurd
+          (omega (arith, w.len.ensures, w.if-len-max.true))
     ]

@@ -4,4 +4,5 @@ use Rattle.sip_headers.proofs.draft.Draft.fault.Goals as goal
 
 pub returns-in-None-repeated-clause-complete : goal.returns-in-None-repeated-clause-complete
 returns-in-None-repeated-clause-complete c =
-    complete_of c.args.self.now (sym c.has_bad_header.ensures ∙ c.if-has_bad_header.false) (sym c.in-None.ensures) (sym c.in-None-repeated.ensures)
+    complete_of c.args.self.now (sym c.has_bad_header.ensures ∙ c.if-has_bad_header.false)
+    (sym c.in-None.ensures) (sym c.in-None-repeated.ensures)

@@ -12,11 +12,20 @@ returns-clause-step g c =
     let tick = g.M.StateMachine.tick in
     let same : c.args.self.now ≡ Some c.apart-states.result.0.entries = search rules in
     let phase : Phase _ _ = record { moment = c.args.moment; items = c.args.items.items } in
-    let step : DealsPhase cmp machine tick (Some c.apart-states.result.0.entries) (Some c.deal_items.new.states.entries) phase (groups c.in_ok-ticks.ticks.items) (groups c.in_ok-items.items.items) =
-    deals_phase cmp machine tick c.apart-states.result.0.entries c.tick_if.new.states.entries c.deal_items.new.states.entries phase (groups c.in_ok-ticks.ticks.items) (groups c.in_ok-items.items.items)
-    c.in_ok-ticks.ensures.states c.in_ok-items.ensures.states c.in_ok-ticks.ensures.told c.in_ok-items.ensures.told in
-    subst (λ (old : Held _ _). DealsPhase cmp machine tick old (Some c.deal_items.new.states.entries) phase (groups c.in_ok-ticks.ticks.items) (groups c.in_ok-items.items.items)) (sym same) step
+    let step : DealsPhase cmp machine tick (Some c.apart-states.result.0.entries)
+    (Some c.deal_items.new.states.entries) phase (groups c.in_ok-ticks.ticks.items)
+    (groups c.in_ok-items.items.items) =
+    deals_phase cmp machine tick c.apart-states.result.0.entries c.tick_if.new.states.entries
+    c.deal_items.new.states.entries phase (groups c.in_ok-ticks.ticks.items)
+    (groups c.in_ok-items.items.items)
+    c.in_ok-ticks.ensures.states c.in_ok-items.ensures.states c.in_ok-ticks.ensures.told
+    c.in_ok-items.ensures.told in
+    subst (λ (old : Held _ _). DealsPhase cmp machine tick old
+    (Some c.deal_items.new.states.entries) phase (groups c.in_ok-ticks.ticks.items)
+    (groups c.in_ok-items.items.items)) (sym same) step
 
 pub returns-clause-phases : goal.returns-clause-phases
 returns-clause-phases g c =
-    adds_phase g.met.M.Key.Ord.total g.met.M.StateMachine.exact (g.M.StateMachine.machine c.args.machine.now) g.M.StateMachine.due g.M.StateMachine.tick (g.met.M.StateMachine.idle c.args.machine.now) _ _ _ _ _ (returns-clause-step g c)
+    adds_phase g.met.M.Key.Ord.total g.met.M.StateMachine.exact
+    (g.M.StateMachine.machine c.args.machine.now) g.M.StateMachine.due g.M.StateMachine.tick
+    (g.met.M.StateMachine.idle c.args.machine.now) _ _ _ _ _ (returns-clause-step g c)

@@ -5,5 +5,8 @@ use Rattle.sip_model.proofs.table.Table.handle.Goals as goal
 
 pub returns-clause-histories : goal.returns-clause-histories
 returns-clause-histories g c =
-    let step : StepsKey g.M.Key.Ord.cmp (g.M.StateMachine.machine c.args.machine.now) c.args.self.now (Some c.step_key.new.states.entries) c.args.key c.args.input c.in_ok-outputs.outputs.items = search rules in
+    let step : StepsKey g.M.Key.Ord.cmp
+    (g.M.StateMachine.machine c.args.machine.now) c.args.self.now
+    (Some c.step_key.new.states.entries) c.args.key c.args.input c.in_ok-outputs.outputs.items =
+    search rules in
     adds_input g.met.M.StateMachine.exact g.met.M.Key.Ord.total _ _ _ _ _ step

@@ -10,13 +10,18 @@ returns-clause-step g c =
     let machine = g.M.StateMachine.machine c.args.machine.now in
     let input = g.M.StateMachine.tick c.args.now in
     let same : c.args.self.now ≡ Some c.apart-states.result.0.entries = search rules in
-    let step : StepsAll cmp machine (Some c.apart-states.result.0.entries) (Some c.tick_due.new.states.entries) input c.in_ok-outputs.outputs.items = record {
+    let step : StepsAll cmp machine (Some c.apart-states.result.0.entries)
+    (Some c.tick_due.new.states.entries) input c.in_ok-outputs.outputs.items = record {
       sound = refl;
       states = c.in_ok-told.ensures.states;
-      added = λ keys covers. joined_told machine (state_at cmp (Some c.apart-states.result.0.entries)) input keys c.in_ok-told.told.items c.in_ok-outputs.outputs.items
-          (c.in_ok-told.ensures.told keys (record { ordered = covers.ordered; each = covers.each })) c.in_ok-outputs.ensures;
+      added = λ keys covers. joined_told machine
+          (state_at cmp (Some c.apart-states.result.0.entries)) input keys c.in_ok-told.told.items
+          c.in_ok-outputs.outputs.items
+          (c.in_ok-told.ensures.told keys (record { ordered = covers.ordered; each = covers.each }))
+          c.in_ok-outputs.ensures;
     } in
-    subst (λ (old : Held _ _). StepsAll cmp machine old (Some c.tick_due.new.states.entries) input c.in_ok-outputs.outputs.items) (sym same) step
+    subst (λ (old : Held _ _). StepsAll cmp machine old
+    (Some c.tick_due.new.states.entries) input c.in_ok-outputs.outputs.items) (sym same) step
 
 pub returns-clause-histories : goal.returns-clause-histories
 returns-clause-histories g c = adds_inputs _ _ _ _ (returns-clause-step g c)

@@ -6,7 +6,17 @@ pub returns-in-Ok-deal-clause-answers : goal.returns-in-Ok-deal-clause-answers
 returns-in-Ok-deal-clause-answers g c = λ config rounds stands.
     let inside = c.self.inside in
     stands_longer g.C.Cut.shard_of c.args.self.now
-    (record { calls = inside.calls; cut = inside.cut; next_round = inside.next_round + 1; last_moment = c.args.round.now.moment; shards = inside.shards }) config rounds c.args.round.now c.in-Ok-deal.outputs.items
-    (λ shards sound. let led = c.in-Ok-deal.ensures.deals shards sound in (led.0, ap (λ a. a.shards) c.self.view_is ∙ led.1, led.2))
-    (ap (λ a. a.calls) c.self.view_is ∙ c.in-Ok-deal.ensures.calls) (ap (λ a. a.cut) c.self.view_is ∙ c.in-Ok-deal.ensures.cut)
-    (ap (λ a. a.next_round + 1) c.self.view_is ∙ ap (λ n. n + 1) c.in-Ok-deal.ensures.number) refl stands
+    (record {
+      calls = inside.calls;
+      cut = inside.cut;
+      next_round = inside.next_round + 1;
+      last_moment = c.args.round.now.moment;
+      shards =
+          inside.shards;
+    }) config rounds c.args.round.now c.in-Ok-deal.outputs.items
+    (λ shards sound. let led = c.in-Ok-deal.ensures.deals shards sound in
+    (led.0, ap (λ a. a.shards) c.self.view_is ∙ led.1, led.2))
+    (ap (λ a. a.calls) c.self.view_is ∙ c.in-Ok-deal.ensures.calls)
+    (ap (λ a. a.cut) c.self.view_is ∙ c.in-Ok-deal.ensures.cut)
+    (ap (λ a. a.next_round + 1) c.self.view_is ∙ ap (λ n. n + 1) c.in-Ok-deal.ensures.number) refl
+    stands

@@ -11,12 +11,18 @@ use Rattle.sip_round.proofs.phases.Ground.third_phase.Goals as goal
 
 pub deal_phase-requires-clause-items : goal.deal_phase-requires-clause-items
 deal_phase-requires-clause-items g c = λ lives outlives.
-    parts_admit (λ part. part.items) (λ item. IsTrue (nat_le item.input.moment (2 ^ 62))) (owner_of (g.C.Cut.shard_of c.args.self.now.cut.now) branch_in c.len.result) 0 c.len.result c.in_ok-items.items.items c.in_ok-parts.parts.items c.in_ok-parts.ensures
-    (subst (AllByRecursion (λ item. IsTrue (nat_le item.input.moment (2 ^ 62)))) (sym c.in_ok-items.ensures) (commands_admitted c.args.now 0 c.args.commands.items (in_bounds c.args.now c.requires.moment)))
+    parts_admit (λ part. part.items) (λ item. IsTrue (nat_le item.input.moment (2 ^ 62)))
+    (owner_of (g.C.Cut.shard_of c.args.self.now.cut.now) branch_in c.len.result) 0 c.len.result
+    c.in_ok-items.items.items c.in_ok-parts.parts.items c.in_ok-parts.ensures
+    (subst (AllByRecursion (λ item. IsTrue (nat_le item.input.moment (2 ^ 62))))
+    (sym c.in_ok-items.ensures) (commands_admitted c.args.now 0 c.args.commands.items
+    (in_bounds c.args.now c.requires.moment)))
 
 pub deal_phase-requires-clause-count : goal.deal_phase-requires-clause-count
 deal_phase-requires-clause-count g c = λ lives outlives.
-    let counted = parts_counted (λ part. part.items) (owner_of (g.C.Cut.shard_of c.args.self.now.cut.now) branch_in c.len.result) c.len.result c.in_ok-items.items.items c.in_ok-parts.parts.items c.in_ok-parts.ensures in
+    let counted = parts_counted (λ part. part.items)
+    (owner_of (g.C.Cut.shard_of c.args.self.now.cut.now) branch_in c.len.result) c.len.result
+    c.in_ok-items.items.items c.in_ok-parts.parts.items c.in_ok-parts.ensures in
     omega (arith, counted, c.len.ensures, c.in_ok-parts.parts.ok)
 
 pub returns : goal.returns
@@ -24,10 +30,18 @@ returns g c =
     let shard_of = g.C.Cut.shard_of c.args.self.now.cut.now in
     let tables = c.args.tables.items in
     let as_many : c.len.result ≡ length tables = omega (arith, c.len.ensures, c.args.tables.ok) in
-    led_third (owner_of shard_of branch_in (length tables)) tables c.in_ok-tables.tables.items c.args.now c.args.commands.items (groups c.in_ok-tables.replies.ticks.items) (groups c.in_ok-tables.replies.items.items)
+    led_third (owner_of shard_of branch_in (length tables)) tables c.in_ok-tables.tables.items
+    c.args.now c.args.commands.items (groups c.in_ok-tables.replies.ticks.items)
+    (groups c.in_ok-tables.replies.items.items)
     c.in_ok-joined.field-0.items c.args.outputs.now.items c.send_all.new.outputs.items
-    (c.in_ok-tables.ensures (owner_of shard_of branch_in (length tables)) (command_items c.args.now 0 c.args.commands.items) (λ key. g.met.C.Cut.within c.args.self.now.cut.now (branch_in key) (length tables) c.requires.shards)
-    (subst (λ n. map (λ part. part.items) c.in_ok-parts.parts.items ≡ cut_by (owner_of shard_of branch_in n) 0 n c.in_ok-items.items.items) as_many c.in_ok-parts.ensures
-    ∙ ap (cut_by (owner_of shard_of branch_in (length tables)) 0 (length tables)) c.in_ok-items.ensures)
+    (c.in_ok-tables.ensures (owner_of shard_of branch_in (length tables))
+    (command_items c.args.now 0 c.args.commands.items)
+    (λ key. g.met.C.Cut.within c.args.self.now.cut.now (branch_in key)
+    (length tables) c.requires.shards)
+    (subst (λ n. map (λ part. part.items) c.in_ok-parts.parts.items
+    ≡ cut_by (owner_of shard_of branch_in n) 0 n c.in_ok-items.items.items) as_many
+    c.in_ok-parts.ensures
+    ∙ ap (cut_by (owner_of shard_of branch_in (length tables)) 0 (length tables))
+    c.in_ok-items.ensures)
     (climbs_in_order 0 _ (commands_climb c.args.now 0 c.args.commands.items)))
     c.in_ok-joined.ensures c.in_ok-send_all.ensures

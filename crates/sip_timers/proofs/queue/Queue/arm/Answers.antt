@@ -6,6 +6,8 @@ use Rattle.sip_timers.proofs.queue.Queue.arm.Goals as goal
 
 pub returns-in-Some-clause-ok : goal.returns-in-Some-clause-ok
 returns-in-Some-clause-ok g c =
-    let sorted : IsStrictlySortedBy g.K.Ord.cmp (keys_of c.args.self.now) = rw (← c.self.view_is) c.self.invariant.0 in
+    let sorted : IsStrictlySortedBy g.K.Ord.cmp (keys_of c.args.self.now) =
+    rw (← c.self.view_is) c.self.invariant.0 in
     insert_same g.met.K.Ord.total c.args.self.now sorted c.args.key c.args.due
-    (rw (← c.self.view_is) (sym (c.get.ensures.value) ∙ sym c.copied.ensures ∙ c.in-Some.is ∙ ap (λ (m : ℕ). Some m) c.if-former-due.true))
+    (rw (← c.self.view_is) (sym (c.get.ensures.value) ∙ sym c.copied.ensures ∙ c.in-Some.is
+    ∙ ap (λ (m : ℕ). Some m) c.if-former-due.true))

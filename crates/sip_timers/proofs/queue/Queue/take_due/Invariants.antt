@@ -7,4 +7,5 @@ abbrev pub invariant-loop : goal.invariant-loop
 invariant-loop g l =
     (vec_len l.keys ≡ l.counter)
     × (vec_capacity l.keys ≡ l.count)
-    × Taking g.K.Ord.cmp l.now l.initial.self-inside.moments.entries l.counter l.count l.keys.items l.self-inside.moments.entries l.self-inside.dues.keys
+    × Taking g.K.Ord.cmp l.now l.initial.self-inside.moments.entries l.counter l.count l.keys.items
+    l.self-inside.moments.entries l.self-inside.dues.keys

@@ -7,8 +7,12 @@ use Rattle.sip_transactions.proofs.shard.Shard.tick.Goals as goal
 
 pub returns-clause-step : goal.returns-clause-step
 returns-clause-step c =
-    subst (λ old. IfOk c.tick.result (λ outs. StepsAll key_cmp transaction_machine old.held c.tick.new.self (tick_at c.args.now) outs.items)) c.self.view_is c.tick.ensures.step
+    subst (λ old. IfOk c.tick.result
+    (λ outs. StepsAll key_cmp transaction_machine old.held c.tick.new.self
+    (tick_at c.args.now) outs.items)) c.self.view_is c.tick.ensures.step
 
 pub returns-clause-histories : goal.returns-clause-histories
 returns-clause-histories c =
-    subst (λ old. IfOk c.tick.result (λ outs. AddsInputs key_cmp transaction_machine old.held c.tick.new.self (tick_at c.args.now) outs.items)) c.self.view_is c.tick.ensures.histories
+    subst (λ old. IfOk c.tick.result
+    (λ outs. AddsInputs key_cmp transaction_machine old.held c.tick.new.self
+    (tick_at c.args.now) outs.items)) c.self.view_is c.tick.ensures.histories

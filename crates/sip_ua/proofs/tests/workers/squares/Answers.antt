@@ -3,4 +3,5 @@ use Rattle.sip_workers.proofs.Gathers.{numbered_grown}
 use Rattle.sip_ua.proofs.tests.workers.squares.Goals as goal
 
 pub loop-k-preserved : goal.loop-k-preserved
-loop-k-preserved c = numbered_grown _ _ _ _ _ c.in_ok-push.ensures.items c.loop-k.invariant (refl, refl)
+loop-k-preserved c =
+    numbered_grown _ _ _ _ _ c.in_ok-push.ensures.items c.loop-k.invariant (refl, refl)
