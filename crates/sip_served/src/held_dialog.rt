@@ -1,12 +1,12 @@
 //! A dialog that is held.
 
 ghost use Rattle.std.specs.Prelude.{◌≡◌, IfOk};
-ghost use Rattle.std.specs.Str.{str_to_ascii_lowercase};
 ghost use Rattle.sip_served.specs.Requests.{name_of_tags};
 
 use crate::debt::Debt;
 use sip_dialog::Dialog;
 use sip_message::{Addr, Id};
+use sip_parts::LowerText;
 use sip_reliable::Inbound;
 use sip_text::{Series, Text};
 use std::alloc::{AllocError, Global};
@@ -25,20 +25,10 @@ impl DialogName {
         ensures { IfOk result (λ name. name ≡ name_of_tags local.now remote.now) }
     {
         Ok(DialogName {
-            local: lower_case(alloc, local)?,
-            remote: lower_case(alloc, remote)?,
+            local: LowerText::of(alloc, local)?.into_text(),
+            remote: LowerText::of(alloc, remote)?.into_text(),
         })
     }
-}
-
-fn lower_case(alloc: Global, text: &[u8]) -> Result<Text, AllocError>
-    ensures { IfOk result (λ lower. lower ≡ str_to_ascii_lowercase text.now) }
-{
-    let bytes = text
-        .iter()
-        .map(|byte| byte.to_ascii_lowercase())
-        .collect(alloc)?;
-    Ok(Text::from_vec(bytes))
 }
 
 /// A dialog, from the event that made it to the one that ends it.
