@@ -1,9 +1,10 @@
 -- What each call does to the ledger that is read from all that happened, and when the next thing is
 -- due.
-use Rattle.std.proofs.Common.{◌≡◌, ◌≢◌, ℕ, ◌+◌, ◌≤◌, ◌==◌, nat_le, not, ◌||◌, ◌&&◌, Bool, true, false, cond, List, [], ◌∷◌, ◌++◌, length, map, filter, min, Option, Some, None, Result, Ok, Err, IfOk, OnOk, refl, sym, ap, subst, ◌∙◌, ◌⊎◌, inl, inr, append-nil, arith, eq-eqb}
+use Rattle.std.proofs.Common.{◌≡◌, ◌≢◌, ℕ, ◌+◌, ◌≤◌, ◌==◌, nat_le, not, ◌||◌, ◌&&◌, Bool, true, false, cond, List, [], ◌∷◌, ◌++◌, length, map, filter, min, Option, Some, None, Result, Ok, Err, IfOk, OnOk, refl, sym, ap, subst, ◌∙◌, ◌⊎◌, inl, inr, append-nil, arith, eq-eqb, ◌*◌}
 use Rattle.std.specs.List.{list_any, reduce, flat_map}
 use Rattle.std.specs.Option.{option_map, option_map_or, option_to_list, is_some}
 use Rattle.std.proofs.lemmas.Bool.{lt-leb, le-leb, cases_lt}
+use Rattle.sip_reliable.specs.declared.provisional.TheConstants.{T1}
 use Rattle.sip_reliable.specs.declared.tick.Tick.{Tick}
 use Rattle.sip_reliable.specs.declared.tick.Tick.TheVariants.{Nothing, Again, GivenUp}
 use Rattle.sip_reliable.specs.declared.send_fault.SendFault.{SendFault}
@@ -181,20 +182,20 @@ nothing : (late repeated : Bool) → late ≡ false → repeated ≡ false
 nothing late repeated p q = cc
 
 of_one : (sent : ℕ) (o : Option Retransmission)
-    → IsNextDue (λ now. answer_by (is_some o && nat_le (sent + 32000) now)
+    → IsNextDue (λ now. answer_by (is_some o && nat_le (sent + 64 * T1) now)
     (option_map_or (λ r. nat_le r.due now) o false))
-    (option_map (λ r. min r.due (sent + 32000)) o)
+    (option_map (λ r. min r.due (sent + 64 * T1)) o)
 of_one sent None = λ now. refl
 of_one sent (Some r) = (
-  something (nat_le (sent + 32000) (min r.due (sent + 32000)))
-      (nat_le r.due (min r.due (sent + 32000)))
-      (elim (cases_lt r.due (sent + 32000)) as (λ _.
-      (nat_le (sent + 32000) (min r.due (sent + 32000)) ≡ true)
-      ⊎ (nat_le r.due (min r.due (sent + 32000)) ≡ true)) [
+  something (nat_le (sent + 64 * T1) (min r.due (sent + 64 * T1)))
+      (nat_le r.due (min r.due (sent + 64 * T1)))
+      (elim (cases_lt r.due (sent + 64 * T1)) as (λ _.
+      (nat_le (sent + 64 * T1) (min r.due (sent + 64 * T1)) ≡ true)
+      ⊎ (nat_le r.due (min r.due (sent + 64 * T1)) ≡ true)) [
         | inl before ↦ inr (le-leb _ _ (omega arith))
         | inr after ↦ inl (le-leb _ _ (omega arith))
       ]),
-  λ now early. nothing (nat_le (sent + 32000) now) (nat_le r.due now) (lt-leb _ _ (omega arith))
+  λ now early. nothing (nat_le (sent + 64 * T1) now) (nat_le r.due now) (lt-leb _ _ (omega arith))
       (lt-leb _ _ (omega arith)),
 )
 
@@ -216,7 +217,7 @@ next_by true waiting one = λ now. refl
 next_by false [] one = λ now. refl
 next_by false (p ∷ []) one =
     subst (λ (m : Option ℕ). IsNextDue (tick_by false (p ∷ [])) m)
-    (sym (first_of_one (option_map (λ r. min r.due (p.sent + 32000)) p.retransmission)))
+    (sym (first_of_one (option_map (λ r. min r.due (p.sent + 64 * T1)) p.retransmission)))
     (of_one p.sent p.retransmission)
 next_by false (p ∷ q ∷ ps) one = absurd (omega arith)
 

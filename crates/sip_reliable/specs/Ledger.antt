@@ -1,9 +1,10 @@
 -- The reliable provisional responses of one INVITE that wait for a PRACK, read from all that
 -- happened (RFC 3262 section 3).
--- Moments are in milliseconds; T1 is 500.
+-- Moments are in milliseconds.
 use Rattle.std.specs.Prelude.{◌≡◌, ◌≢◌, ◌<◌, ℕ, ◌+◌, ◌*◌, ◌^◌, ◌==◌, nat_le, nat_lt, not, true, false, Bool, ◌&&◌, if◌then◌else◌, List, [], ◌∷◌, ◌++◌, map, filter, count_by, fold, Option, None, Some, min, Result, Ok, Err, length}
 use Rattle.std.specs.List.{list_any, reduce, flat_map}
 use Rattle.std.specs.Option.{option_map, option_map_or, is_some, option_to_list}
+use Rattle.sip_reliable.specs.declared.provisional.TheConstants.{T1}
 use Rattle.sip_reliable.specs.declared.tick.Tick.{Tick}
 use Rattle.sip_reliable.specs.declared.tick.Tick.TheVariants.{Nothing, Again, GivenUp}
 use Rattle.sip_reliable.specs.declared.send_fault.SendFault.{SendFault}
@@ -33,7 +34,7 @@ pub record Ledger : Type 0 where
 -- the interval before a response is sent again, by how often it was: T1, 2*T1, 4*T1 and so on, with
 -- no cap
 abbrev pub interval_after : ℕ → ℕ
-interval_after repeats = 500 * 2 ^ repeats
+interval_after repeats = T1 * 2 ^ repeats
 
 -- the moment at which the response was sent last
 abbrev pub last_moment : ℕ → ℕ → Happening → ℕ
@@ -88,7 +89,7 @@ ledger_after first supported life =
 
 -- 64*T1 after it was sent, where it is still sent again
 abbrev pub is_late : ℕ → Provisional → Bool
-is_late now p = is_some p.retransmission && nat_le (p.sent + 32000) now
+is_late now p = is_some p.retransmission && nat_le (p.sent + 64 * T1) now
 
 -- whether it is to be sent again
 abbrev pub is_repeated : ℕ → Provisional → Bool
@@ -135,7 +136,7 @@ ticked GivenUp l now = record l { waiting = map given_up l.waiting }
 
 -- the earliest moment at which something is due
 abbrev pub due_moment : Provisional → List ℕ
-due_moment p = option_to_list (option_map (λ r. min r.due (p.sent + 32000)) p.retransmission)
+due_moment p = option_to_list (option_map (λ r. min r.due (p.sent + 64 * T1)) p.retransmission)
 
 abbrev pub next_moment : Ledger → Option ℕ
 next_moment l = if l.closed then None else reduce min (flat_map due_moment l.waiting)

@@ -1,3 +1,5 @@
+//! The reliable provisional responses that a caller takes.
+
 ghost use Rattle.std.specs.Prelude.{◌≡◌, ℕ, List, [], ◌∷◌, ◌++◌, ◌≢◌, None, AllPairs};
 ghost use Rattle.sip_reliable.specs.Inbound.{in_order, latest, offered, taken, latest_after, IsConsecutive};
 

@@ -1,3 +1,5 @@
+//! The one error of an acknowledgment.
+
 use std::error::Error;
 use std::fmt;
 

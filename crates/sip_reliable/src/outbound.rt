@@ -1,3 +1,5 @@
+//! The reliable provisional responses that a callee sends.
+
 ghost use Rattle.std.specs.Prelude.{◌≡◌, ◌≢◌, ℕ, Bool, ◌+◌, ◌^◌, ◌<◌, ◌≤◌, [], ◌∷◌, ◌++◌, List, length, IsTrue, IsNone, ◌↔◌, IfSome, IfOk, OnOk, OnErr, IsOk};
 ghost use Rattle.std.specs.List.{list_any};
 ghost use Rattle.sip_reliable.specs.Happening.{Happening, Sends, Acknowledges, Closes};

@@ -1,5 +1,8 @@
+//! One reliable provisional response that was sent, and when it is sent again.
+
 ghost use Rattle.std.specs.Prelude.{◌≡◌, ◌≤◌, ◌<◌, ◌+◌, ◌*◌, ◌^◌, min};
 ghost use Rattle.std.specs.Option.{ForSome, option_map};
+ghost use Rattle.sip_reliable.specs.declared.provisional.TheConstants.{T1};
 
 use crate::Tick;
 
@@ -17,7 +20,7 @@ pub(crate) struct Provisional {
     pub(crate) retransmission: Option<Retransmission>,
     ghost sent_fits: { sent ≤ 2 ^ 62 },
     ghost paced: { ForSome retransmission
-        (λ r. (sent + 2 * r.interval ≤ r.due + 500) × (r.due ≤ 2 ^ 63)) },
+        (λ r. (sent + 2 * r.interval ≤ r.due + T1) × (r.due ≤ 2 ^ 63)) },
 }
 
 /// When a response is sent again, and the interval before it, both in ms.
@@ -49,7 +52,7 @@ impl Provisional {
 
     /// The next moment at which something is due.
     pub(crate) fn next_due(&self) -> Option<u64>
-        ensures { result ≡ option_map (λ r. min r.due (self.now.sent + 32000))
+        ensures { result ≡ option_map (λ r. min r.due (self.now.sent + 64 * T1))
             self.now.retransmission }
     {
         let retransmission = self.retransmission?;
@@ -80,7 +83,7 @@ impl Provisional {
 
     // The moment at which it is given up, 64*T1 after it was sent.
     fn end(&self) -> u64
-        ensures { result ≡ self.now.sent + 32000 }
+        ensures { result ≡ self.now.sent + 64 * T1 }
     {
         self.sent + 64 * T1
     }

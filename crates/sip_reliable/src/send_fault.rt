@@ -1,3 +1,5 @@
+//! The errors of a reliable provisional response that is to be sent.
+
 use std::error::Error;
 use std::fmt;
 

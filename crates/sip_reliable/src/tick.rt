@@ -1,3 +1,5 @@
+//! The answer to a tick of what was sent.
+
 /// What is due of the reliable provisional responses that were sent (RFC 3262 section 3).
 #[derive(Clone, Copy, Debug, PartialEq, Eq)]
 pub enum Tick {

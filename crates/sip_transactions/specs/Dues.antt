@@ -1,5 +1,6 @@
 -- The due moments of a transaction, as its timers keep them.
 use Rattle.std.specs.Prelude.{ℕ, zero, suc, ◌+◌, ◌*◌, ◌^◌, min, Bool, true, false, nat_le, Option, None, Some}
+use Rattle.sip_transactions.specs.declared.timers.TheConstants.{T1, T2}
 
 -- at most one moment to send again, how often it has fired since it was first set, and at most one
 -- moment to end
@@ -11,10 +12,10 @@ pub record Dues : Type 0 where
 -- the least time that so many firings take after the first
 unfoldable pub spent : ℕ → ℕ
 spent zero = 0
-spent (suc fired) = spent fired + min (500 * 2 ^ suc fired) 4000
+spent (suc fired) = spent fired + min (T1 * 2 ^ suc fired) T2
 
 -- a repeat has an end, and the firings so far took their time
 abbrev pub is_paced : Option ℕ → ℕ → Option ℕ → Bool
 is_paced None fired ending = true
 is_paced (Some due) fired None = false
-is_paced (Some due) fired (Some ending) = nat_le (ending + spent fired) (due + 31500)
+is_paced (Some due) fired (Some ending) = nat_le (ending + spent fired) (due + 63 * T1)

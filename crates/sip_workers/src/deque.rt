@@ -1,3 +1,5 @@
+//! The deque of pieces that an owner and thieves share.
+
 ghost use Rattle.std.specs.Prelude.{List};
 
 use crate::Piece;

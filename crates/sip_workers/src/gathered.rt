@@ -1,3 +1,5 @@
+//! What the pieces gave, in the order of their numbers.
+
 ghost use Rattle.std.specs.Prelude.{◌≡◌, ℕ, List, map, nat_eq, IfOk};
 ghost use Rattle.std.specs.List.{AllZip, IsDistinct};
 ghost use Rattle.sip_workers.specs.declared.piece.Piece.{Piece};

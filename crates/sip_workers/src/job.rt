@@ -1,3 +1,5 @@
+//! The work of a piece.
+
 /// Work that a thread can do, once.
 pub trait Job {
     /// What it makes.

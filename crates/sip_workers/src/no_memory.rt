@@ -1,3 +1,5 @@
+//! The one error of the workers.
+
 use std::alloc::{AllocError, AllocFailed};
 use std::error::Error;
 use std::fmt;

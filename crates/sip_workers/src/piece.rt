@@ -1,3 +1,5 @@
+//! A piece of work: a job and the number of its shard.
+
 /// The work of one shard.
 #[derive(Drop)]
 pub struct Piece<J> {

@@ -1,3 +1,5 @@
+//! Pieces of work run by an owner and thieves.
+
 ghost use Rattle.std.specs.Prelude.{◌≡◌, ◌<◌, ◌≤◌, ◌+◌, List, [], IfOk, vec_len, All, map, nat_eq};
 ghost use Rattle.std.specs.List.{AllByRecursion, AllZip, IsDistinct};
 ghost use Rattle.crossbeam_deque.specs.Handles.{worker_deque, worker_view};

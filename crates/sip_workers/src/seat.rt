@@ -1,3 +1,5 @@
+//! The seat of a worker at the deque: the owner, or a thief.
+
 ghost use Rattle.std.specs.Prelude.{◌≡◌, ◌<◌, [], ◌∷◌, ◌++◌, Some, Ok, IfOk, IfSome, IfNone, IsOk};
 ghost use Rattle.crossbeam_deque.specs.Handles.{view, IsPassOf, worker_deque, worker_view, stealer_deque};
 ghost use Rattle.sip_workers.specs.Ran.{IsDoneOf, Ran};
