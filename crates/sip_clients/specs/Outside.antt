@@ -3,37 +3,29 @@
 use Rattle.std.specs.Prelude.{ℕ, List, [], ◌∷◌, Some, None, codes}
 use Rattle.sip_dialog.specs.Request.{contact_of, via_of}
 use Rattle.sip_message.specs.declared.addr.Addr.{Addr}
+use Rattle.sip_message.specs.declared.cseq.CSeq.{CSeq}
 use Rattle.sip_message.specs.declared.message.Message.{Message}
+use Rattle.sip_message.specs.declared.message.TheConstants.{MAX_FORWARDS}
 use Rattle.sip_message.specs.declared.start_line.StartLine.TheVariants.{Request}
-use Rattle.sip_message.specs.Message.{with_body_of}
+use Rattle.sip_message.specs.Message.{bare, with_body_of}
 use Rattle.sip_message.specs.Party.{party_of}
 use Rattle.sip_served.specs.declared.command.Invite.{Invite}
 use Rattle.sip_served.specs.declared.command.Plain.{Plain}
 use Rattle.sip_served.specs.declared.command.ProvisionalSupport.{ProvisionalSupport}
 use Rattle.sip_served.specs.declared.command.ProvisionalSupport.TheVariants as support
 use Rattle.sip_clients.specs.declared.event.Event.{Event}
+use Rattle.sip_clients.specs.declared.outside.TheConstants.{FIRST_CSEQ}
 use Rattle.sip_clients.specs.Event.{branch_of, from_tag_of}
 
 -- the request of this method, without a body
 unfoldable pub bare_request : Event → List ℕ → List ℕ → List ℕ → List ℕ → List ℕ → Message
-bare_request event call_id method uri from to = record {
-  start = Request uri;
-  vias = via_of event.local (branch_of event) ∷ [];
-  max_forwards = Some 70;
-  from = party_of from (Some (from_tag_of event));
-  to = party_of to None;
-  call_id = call_id;
-  cseq = record { number = 1; method = method };
-  contacts = [];
-  record_routes = [];
-  routes = [];
-  require = [];
-  supported = [];
-  rseq = None;
-  rack = None;
-  others = [];
-  body = [];
-}
+bare_request event call_id method uri from to =
+    let via = via_of event.local (branch_of event) in
+    let from = party_of from (Some (from_tag_of event)) in
+    let cseq : CSeq = record { number = FIRST_CSEQ; method = method } in
+    record (bare (Request uri) (via ∷ []) from (party_of to None) call_id cseq) {
+      max_forwards = Some MAX_FORWARDS;
+    }
 
 abbrev pub with_contact : Addr → Message → Message
 with_contact local message = record message { contacts = contact_of local ∷ [] }

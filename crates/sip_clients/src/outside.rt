@@ -6,13 +6,12 @@ ghost use Rattle.sip_clients.specs.Outside as spec;
 
 use crate::event::Event;
 use sip_dialog::{own_contact, own_via};
-use sip_message::{Addr, CSeq, CallId, Message, Party, RequestUri, StartLine, Token, Uri};
+use sip_message::{
+    Addr, CSeq, CallId, MAX_FORWARDS, Message, Party, RequestUri, StartLine, Token, Uri,
+};
 use sip_served::{Invite, Plain, ProvisionalSupport};
 use sip_text::{Series, Text};
 use std::alloc::{AllocError, Global};
-
-/// How many hops a made request may take (RFC 3261, section 8.1.1.6).
-const MAX_FORWARDS: u32 = 70;
 
 /// The CSeq number of a request outside of dialogs.
 const FIRST_CSEQ: u32 = 1;
@@ -113,29 +112,16 @@ fn bare_request(
     let vias = own_via(alloc, event.local, event.branch(alloc)?)?;
     let from = Party::new(alloc, from, Some(event.from_tag(alloc)?))?;
     let to = Party::new(alloc, to, None)?;
-    Ok(Message {
-        start: StartLine::Request {
-            uri: RequestUri::from_uri(uri),
-        },
-        vias,
-        max_forwards: Some(MAX_FORWARDS),
-        from,
-        to,
-        call_id,
-        cseq: CSeq {
-            number: FIRST_CSEQ,
-            method,
-        },
-        contacts: Series::new(alloc),
-        record_routes: Series::new(alloc),
-        routes: Series::new(alloc),
-        require: Series::new(alloc),
-        supported: Series::new(alloc),
-        rseq: None,
-        rack: None,
-        others: Series::new(alloc),
-        body: Text::from_vec(Vec::new(alloc)),
-    })
+    let start = StartLine::Request {
+        uri: RequestUri::from_uri(uri),
+    };
+    let cseq = CSeq {
+        number: FIRST_CSEQ,
+        method,
+    };
+    let mut made = Message::bare(alloc, start, vias, from, to, call_id, cseq);
+    made.max_forwards = Some(MAX_FORWARDS);
+    Ok(made)
 }
 
 /// The token that a word is.

@@ -3,13 +3,15 @@ use Rattle.std.specs.Prelude.{ℕ, Bool, List, [], ◌∷◌, ◌++◌, Some, No
 use Rattle.std.specs.Str.{bytes_eq}
 use Rattle.sip_parts.specs.declared.parameter.Parameter.{Parameter}
 use Rattle.sip_message.specs.declared.addr.Addr.{Addr}
+use Rattle.sip_message.specs.declared.cseq.CSeq.{CSeq}
 use Rattle.sip_message.specs.declared.message.Message.{Message}
+use Rattle.sip_message.specs.declared.message.TheConstants.{MAX_FORWARDS}
 use Rattle.sip_message.specs.declared.name_addr.NameAddr.{NameAddr}
 use Rattle.sip_message.specs.declared.start_line.StartLine.TheVariants.{Request}
 use Rattle.sip_message.specs.declared.via.Via.{Via}
 use Rattle.sip_message.specs.Addr.{addr_text}
 use Rattle.sip_message.specs.Ip.{ip_text}
-use Rattle.sip_message.specs.Message.{with_body_of}
+use Rattle.sip_message.specs.Message.{bare, with_body_of}
 use Rattle.sip_message.specs.Party.{party_of}
 use Rattle.sip_dialog.specs.declared.dialog.Dialog.{Dialog}
 
@@ -41,24 +43,15 @@ contacts_of method local = if is_invite method then contact_of local ∷ [] else
 
 -- the request of this method and number, without a body
 abbrev pub bare_request_in : Dialog → List ℕ → ℕ → List ℕ → Addr → Message
-bare_request_in dialog method number branch local = record {
-  start = Request dialog.target;
-  vias = via_of local branch ∷ [];
-  max_forwards = Some 70;
-  from = party_of dialog.local.uri dialog.local.tag;
-  to = party_of dialog.remote.uri dialog.remote.tag;
-  call_id = dialog.call_id;
-  cseq = record { number = number; method = method };
-  contacts = contacts_of method local;
-  record_routes = [];
-  routes = dialog.route_set;
-  require = [];
-  supported = [];
-  rseq = None;
-  rack = None;
-  others = [];
-  body = [];
-}
+bare_request_in dialog method number branch local =
+    let from = party_of dialog.local.uri dialog.local.tag in
+    let to = party_of dialog.remote.uri dialog.remote.tag in
+    let cseq : CSeq = record { number = number; method = method } in
+    record (bare (Request dialog.target) (via_of local branch ∷ []) from to dialog.call_id cseq) {
+      max_forwards = Some MAX_FORWARDS;
+      contacts = contacts_of method local;
+      routes = dialog.route_set;
+    }
 
 -- the same with this body
 abbrev pub request_in : Dialog → List ℕ → ℕ → List ℕ → List ℕ → Addr → Message

@@ -10,16 +10,13 @@ use crate::branch::Branch;
 use crate::dialog::{Dialog, DialogState};
 use crate::fault::DialogFault;
 use crate::own_headers::{ack, contacts_of, is_invite, own_via};
-use sip_message::{Addr, CSeq, Message, StartLine};
+use sip_message::{Addr, CSeq, MAX_FORWARDS, Message, StartLine};
 use sip_parts::Token;
-use sip_text::{Series, Text};
+use sip_text::Text;
 use std::alloc::AllocError;
 
 /// The greatest CSeq of a made request: it is below 2^31 (RFC 3261, section 8.1.1.5).
 const LAST_CSEQ: u32 = 2_147_483_647;
-
-/// How many hops a made request may take (RFC 3261, section 8.1.1.6).
-const MAX_FORWARDS: u32 = 70;
 
 impl Dialog {
     /// The next request of this method, with this body: it takes the next local CSeq. It is sent
@@ -171,30 +168,19 @@ impl Dialog {
         ensures { IfOk result (λ message. message
             ≡ bare_request_in self.now method number branch local) }
     {
-        let uri = self.target.clone()?;
+        let start = StartLine::Request {
+            uri: self.target.clone()?,
+        };
         let vias = own_via(self.alloc, local, branch)?;
         let from = self.local.to_party(self.alloc)?;
         let to = self.remote.to_party(self.alloc)?;
         let call_id = self.call_id.clone()?;
         let contacts = contacts_of(self.alloc, &method, local)?;
-        let routes = self.route_set.clone()?;
-        Ok(Message {
-            start: StartLine::Request { uri },
-            vias,
-            max_forwards: Some(MAX_FORWARDS),
-            from,
-            to,
-            call_id,
-            cseq: CSeq { number, method },
-            contacts,
-            record_routes: Series::new(self.alloc),
-            routes,
-            require: Series::new(self.alloc),
-            supported: Series::new(self.alloc),
-            rseq: None,
-            rack: None,
-            others: Series::new(self.alloc),
-            body: Text::from_vec(Vec::new(self.alloc)),
-        })
+        let cseq = CSeq { number, method };
+        let mut made = Message::bare(self.alloc, start, vias, from, to, call_id, cseq);
+        made.max_forwards = Some(MAX_FORWARDS);
+        made.contacts = contacts;
+        made.routes = self.route_set.clone()?;
+        Ok(made)
     }
 }

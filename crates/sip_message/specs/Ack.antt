@@ -1,9 +1,9 @@
 -- The ACK of a response of 300 to 699 (RFC 3261, section 17.1.1.3).
 use Rattle.std.specs.Prelude.{ℕ, List, Some, codes, take}
-use Rattle.sip_message.specs.declared.ack.TheConstants.{MAX_FORWARDS}
+use Rattle.sip_message.specs.declared.message.TheConstants.{MAX_FORWARDS}
 use Rattle.sip_message.specs.declared.cseq.CSeq.{CSeq}
 use Rattle.sip_message.specs.declared.message.Message.{Message}
-use Rattle.sip_message.specs.Response.{bare}
+use Rattle.sip_message.specs.Message.{bare}
 
 -- the request's number, with the method ACK
 abbrev pub ack_cseq : CSeq → CSeq

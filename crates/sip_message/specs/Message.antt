@@ -1,5 +1,5 @@
 -- Messages (RFC 3261, section 7).
-use Rattle.std.specs.Prelude.{ℕ, Bool, true, false, List, [], ◌∷◌, ◌++◌, codes, Option}
+use Rattle.std.specs.Prelude.{ℕ, Bool, true, false, List, [], ◌∷◌, ◌++◌, codes, Option, None}
 use Rattle.sip_message.specs.declared.start_line.StartLine.{StartLine}
 use Rattle.sip_message.specs.declared.start_line.StartLine.TheVariants.{Request, Response}
 use Rattle.sip_message.specs.declared.header.Header.{Header}
@@ -26,6 +26,27 @@ unfoldable pub with_body_of : Message → List ℕ → Message
 with_body_of message [] = message
 with_body_of message (b ∷ bs) =
     record message { others = message.others ++ content_type ∷ []; body = b ∷ bs }
+
+-- a message with no header but Via, From, To, Call-ID and CSeq, and without a body
+abbrev pub bare : StartLine → List Via → Party → Party → List ℕ → CSeq → Message
+bare start vias from to call_id cseq = record {
+  start = start;
+  vias = vias;
+  max_forwards = None;
+  from = from;
+  to = to;
+  call_id = call_id;
+  cseq = cseq;
+  contacts = [];
+  record_routes = [];
+  routes = [];
+  require = [];
+  supported = [];
+  rseq = None;
+  rack = None;
+  others = [];
+  body = [];
+}
 
 -- a message of its parts
 unfoldable pub assembled : (StartLine × List Via × Party × Party)

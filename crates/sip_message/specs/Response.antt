@@ -1,12 +1,10 @@
 -- The response that is made from a request (RFC 3261, section 8.2.6.2).
-use Rattle.std.specs.Prelude.{ℕ, Bool, List, [], ◌∷◌, ◌++◌, Option, Some, None, codes, ◌==◌, ◌||◌, is_some, if◌then◌else◌}
+use Rattle.std.specs.Prelude.{ℕ, Bool, List, [], ◌∷◌, ◌++◌, Some, codes, ◌==◌, is_some, if◌then◌else◌}
 use Rattle.sip_parts.specs.declared.parameter.Parameter.{Parameter}
 use Rattle.sip_message.specs.declared.party.Party.{Party}
-use Rattle.sip_message.specs.declared.start_line.StartLine.{StartLine}
 use Rattle.sip_message.specs.declared.start_line.StartLine.TheVariants.{Response}
-use Rattle.sip_message.specs.declared.via.Via.{Via}
-use Rattle.sip_message.specs.declared.cseq.CSeq.{CSeq}
 use Rattle.sip_message.specs.declared.message.Message.{Message}
+use Rattle.sip_message.specs.Message.{bare}
 use Rattle.sip_parts.specs.Parameters.{parameter_named}
 
 abbrev pub tag_parameter : List ℕ → Parameter
@@ -24,27 +22,6 @@ tagged party tag = if is_tagged party then party
 -- the To of a response; a 100 gets no tag
 abbrev pub answering_to : Party → ℕ → List ℕ → Party
 answering_to party status tag = if status == 100 then party else tagged party tag
-
--- a message with no header but Via, From, To, Call-ID and CSeq, and without a body
-unfoldable pub bare : StartLine → List Via → Party → Party → List ℕ → CSeq → Message
-bare start vias from to call_id cseq = record {
-  start = start;
-  vias = vias;
-  max_forwards = None;
-  from = from;
-  to = to;
-  call_id = call_id;
-  cseq = cseq;
-  contacts = [];
-  record_routes = [];
-  routes = [];
-  require = [];
-  supported = [];
-  rseq = None;
-  rack = None;
-  others = [];
-  body = [];
-}
 
 -- Via, From, To, Call-ID and CSeq of the request, with a tag in To, and nothing else
 abbrev pub response_of : Message → ℕ → List ℕ → List ℕ → Message

@@ -3,20 +3,15 @@ ghost use Rattle.std.specs.Prelude.{◌≡◌, IfOk, codes, take};
 ghost use Rattle.sip_message.specs.Ack as ack;
 
 use crate::cseq::CSeq;
-use crate::message::Message;
-use crate::response::bare;
+use crate::message::{MAX_FORWARDS, Message};
 use crate::vias::Vias;
 use sip_parts::Token;
 use sip_text::{Series, Text};
 use std::alloc::{AllocError, Global};
 
-/// How many hops an ACK may take (RFC 3261, section 8.1.1.6).
-const MAX_FORWARDS: u32 = 70;
-
 /// The ACK that the client of an INVITE sends for a response of 300 to 699: the start line, From,
 /// Call-ID, CSeq number and Route of the request, its top Via alone, the To of the response, and no
 /// body.
-#[tactic(auto, unfolding(crate::specs::Response::bare))]
 pub fn ack_for(alloc: Global, request: &Message, response: &Message) -> Result<Message, AllocError>
     ensures { IfOk result (λ made. made ≡ ack.ack_of request.now response.now) }
 {
@@ -26,7 +21,7 @@ pub fn ack_for(alloc: Global, request: &Message, response: &Message) -> Result<M
     let to = response.to.clone()?;
     let call_id = request.call_id.clone()?;
     let cseq = ack_cseq(alloc, &request.cseq)?;
-    let mut made = bare(alloc, start, vias, from, to, call_id, cseq);
+    let mut made = Message::bare(alloc, start, vias, from, to, call_id, cseq);
     made.max_forwards = Some(MAX_FORWARDS);
     made.routes = request.routes.clone()?;
     Ok(made)

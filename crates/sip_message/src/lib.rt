@@ -32,7 +32,7 @@ pub use header::Header;
 pub use id::Id;
 pub use key::Key;
 pub use keys::{is_sent_by, key_of};
-pub use message::Message;
+pub use message::{MAX_FORWARDS, Message};
 pub use name_addr::NameAddr;
 pub use party::Party;
 pub use rack::RAck;

@@ -13,6 +13,9 @@ use sip_parts::{CallId, HeaderValue, OtherName, Token};
 use sip_text::{Series, Text};
 use std::alloc::{AllocError, Global};
 
+/// How many hops a made request may take (RFC 3261, section 8.1.1.6).
+pub const MAX_FORWARDS: u32 = 70;
+
 /// A request or a response. Lists are in the order of the message; the top Via is the first.
 pub struct Message {
     pub start: StartLine,
@@ -34,7 +37,39 @@ pub struct Message {
 }
 
 impl Message {
-    ghost use Rattle.sip_message.specs.Message.{is_request_message, with_body_of};
+    ghost use Rattle.sip_message.specs.Message.{bare, is_request_message, with_body_of};
+
+    /// A message with no header but these and without a body. Takes no memory.
+    pub fn bare(
+        alloc: Global,
+        start: StartLine,
+        vias: Vias,
+        from: Party,
+        to: Party,
+        call_id: CallId,
+        cseq: CSeq,
+    ) -> Message
+        ensures { result ≡ bare start vias from to call_id cseq }
+    {
+        Message {
+            start,
+            vias,
+            max_forwards: None,
+            from,
+            to,
+            call_id,
+            cseq,
+            contacts: Series::new(alloc),
+            record_routes: Series::new(alloc),
+            routes: Series::new(alloc),
+            require: Series::new(alloc),
+            supported: Series::new(alloc),
+            rseq: None,
+            rack: None,
+            others: Series::new(alloc),
+            body: Text::from_vec(Vec::new(alloc)),
+        }
+    }
 
     pub fn is_request(&self) -> bool
         ensures { result ≡ is_request_message self.now }

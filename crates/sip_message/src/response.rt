@@ -33,40 +33,7 @@ pub fn response_to(
     let call_id = request.call_id.clone()?;
     let cseq = request.cseq.clone()?;
     let start = StartLine::Response { status, reason };
-    Ok(bare(alloc, start, vias, from, to, call_id, cseq))
-}
-
-/// A message with no header but these and without a body.
-#[tactic(auto, unfolding(crate::specs::Response::bare))]
-pub(crate) fn bare(
-    alloc: Global,
-    start: StartLine,
-    vias: Vias,
-    from: Party,
-    to: Party,
-    call_id: CallId,
-    cseq: CSeq,
-) -> Message
-    ensures { result ≡ response.bare start vias from to call_id cseq }
-{
-    Message {
-        start,
-        vias,
-        max_forwards: None,
-        from,
-        to,
-        call_id,
-        cseq,
-        contacts: Series::new(alloc),
-        record_routes: Series::new(alloc),
-        routes: Series::new(alloc),
-        require: Series::new(alloc),
-        supported: Series::new(alloc),
-        rseq: None,
-        rack: None,
-        others: Series::new(alloc),
-        body: Text::from_vec(Vec::new(alloc)),
-    }
+    Ok(Message::bare(alloc, start, vias, from, to, call_id, cseq))
 }
 
 fn answering_to(
