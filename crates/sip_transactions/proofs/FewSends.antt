@@ -18,7 +18,6 @@ use Rattle.sip_message.specs.declared.start_line.StartLine.{StartLine}
 use Rattle.sip_message.specs.declared.start_line.StartLine.TheVariants as start
 use Rattle.sip_message.specs.Ack.{ack_of}
 use Rattle.sip_message.specs.Message.{is_request_message, is_request_line}
-use Rattle.sip_message.specs.Response.{bare}
 use Rattle.sip_message.specs.Written.{written, head_text, start_text, identity_text, routes_text, extensions_text, content_text, via_line, number_line}
 use Rattle.sip_model.specs.Machine.{outputs_from, IsWithinLife}
 use Rattle.sip_model.proofs.History.{state_after-push}
@@ -225,7 +224,6 @@ ack_first (start.Response status reason) m same = false≢true (ap is_i same)
 ack-text : (request response : Message)
     → written (ack_of request response)
     ≡ text_by request.start (codes "ACK") (ack_of request response)
-unfolding bare
 ack-text request response = text-is (ack_of request response)
 
 by_line : (line : StartLine) (m : Message) → is_request_line line ≡ true
