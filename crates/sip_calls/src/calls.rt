@@ -97,11 +97,13 @@ impl StateMachine for Calls {
             (None, Happening::Tick) => Ok((None, Vec::new(alloc))),
             (Some(call), Happening::Tick) => tick(call, now),
             (None, Happening::Item(id, item)) => {
-                let call = self.new_call(alloc);
-                self.take_first(alloc, call, self.event(id, now), item)
+                let mut call = self.new_call(alloc);
+                let outs = take_first(alloc, &mut call, self.event(id, now), item)?;
+                Ok((kept(call), outs))
             }
-            (Some(call), Happening::Item(id, item)) => {
-                self.take_next(alloc, call, self.event(id, now), item)
+            (Some(mut call), Happening::Item(id, item)) => {
+                let outs = take_next(alloc, &mut call, self.event(id, now), item)?;
+                Ok((kept(call), outs))
             }
         }
     }
@@ -127,47 +129,38 @@ impl Calls {
             clients: Clients::new(alloc),
         }
     }
+}
 
-    // A call of which nothing was held takes an item.
-    fn take_first(
-        &self,
-        alloc: Global,
-        mut call: Call,
-        event: Event,
-        item: Item,
-    ) -> Result<(Option<Call>, Vec<CallOut>), AllocError>
-        requires { event.moment ≤ 2 ^ 62 }
-        ensures next { IfOk result (λ after. after.0
-            ≡ (spec.kept (spec.first_item_taken call event item)).0) }
-        ensures adds { IfOk result (λ after. after.1.items
-            ≡ (spec.kept (spec.first_item_taken call event item)).1) }
-    {
-        let outs = match item {
-            Item::Up(up) => take_up(alloc, &mut call, event, up)?,
-            Item::User(command) => take_first_command(alloc, &mut call, event, command)?,
-        };
-        Ok((kept(call), outs))
+// A call of which nothing was held takes an item.
+fn take_first(
+    alloc: Global,
+    call: &mut Call,
+    event: Event,
+    item: Item,
+) -> Result<Vec<CallOut>, AllocError>
+    requires { event.moment ≤ 2 ^ 62 }
+    ensures { IfOk result (λ outs. (call.new, outs.items)
+        ≡ spec.first_item_taken call.old event item) }
+{
+    match item {
+        Item::Up(up) => take_up(alloc, call, event, up),
+        Item::User(command) => take_first_command(alloc, call, event, command),
     }
+}
 
-    // A call takes an item.
-    fn take_next(
-        &self,
-        alloc: Global,
-        mut call: Call,
-        event: Event,
-        item: Item,
-    ) -> Result<(Option<Call>, Vec<CallOut>), AllocError>
-        requires { event.moment ≤ 2 ^ 62 }
-        ensures next { IfOk result (λ after. after.0
-            ≡ (spec.kept (spec.item_taken call event item)).0) }
-        ensures adds { IfOk result (λ after. after.1.items
-            ≡ (spec.kept (spec.item_taken call event item)).1) }
-    {
-        let outs = match item {
-            Item::Up(up) => take_up(alloc, &mut call, event, up)?,
-            Item::User(command) => take_command(alloc, &mut call, event, command)?,
-        };
-        Ok((kept(call), outs))
+// A call takes an item.
+fn take_next(
+    alloc: Global,
+    call: &mut Call,
+    event: Event,
+    item: Item,
+) -> Result<Vec<CallOut>, AllocError>
+    requires { event.moment ≤ 2 ^ 62 }
+    ensures { IfOk result (λ outs. (call.new, outs.items) ≡ spec.item_taken call.old event item) }
+{
+    match item {
+        Item::Up(up) => take_up(alloc, call, event, up),
+        Item::User(command) => take_command(alloc, call, event, command),
     }
 }
 

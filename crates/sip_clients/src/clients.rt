@@ -5,7 +5,7 @@ ghost use Rattle.sip_clients.specs.Clients as spec;
 ghost use Rattle.sip_clients.specs.Tick as ticks;
 
 use crate::client::{Asks, client_for};
-use crate::commands::{ack_told, debt_for, is_bad_outside, prack_told, request_told, tag_bytes};
+use crate::commands::{ack_told, debt_for, is_bad_outside, name_in, prack_told, request_told};
 use crate::debts::DebtKind;
 use crate::event::Event;
 use crate::held::{ClientMap, lose, name_at, note_ack, reply_at, settle, start};
@@ -191,9 +191,7 @@ impl Clients {
             ≡ spec.request_taken event command.now
             record { dialogs = dialogs.old.entries; clients = self.old }) }
     {
-        let local = tag_bytes(&command.local_tag);
-        let remote = tag_bytes(&command.remote_tag);
-        let name = DialogName::of_tags(self.alloc, local, remote)?;
+        let name = name_in(self.alloc, &command.local_tag, &command.remote_tag)?;
         let told = request_told(self.alloc, dialogs, event, &name, command)?;
         self.finish_request(event, told)
     }
@@ -225,9 +223,7 @@ impl Clients {
             ≡ spec.ack_taken event command.now
             record { dialogs = dialogs.old.entries; clients = self.old }) }
     {
-        let local = tag_bytes(&command.local_tag);
-        let remote = tag_bytes(&command.remote_tag);
-        let name = DialogName::of_tags(self.alloc, local, remote)?;
+        let name = name_in(self.alloc, &command.local_tag, &command.remote_tag)?;
         match debt_for(dialogs, &name, DebtKind::Ack) {
             Err(refusal) => refused(self.alloc, event, &command.call_id, refusal),
             Ok(debt) => self.pay_ack(dialogs, event, name, command, debt),
@@ -265,9 +261,7 @@ impl Clients {
             ≡ spec.prack_taken event command.now
             record { dialogs = dialogs.old.entries; clients = self.old }) }
     {
-        let local = tag_bytes(&command.local_tag);
-        let remote = tag_bytes(&command.remote_tag);
-        let name = DialogName::of_tags(self.alloc, local, remote)?;
+        let name = name_in(self.alloc, &command.local_tag, &command.remote_tag)?;
         match debt_for(dialogs, &name, DebtKind::Prack) {
             Err(refusal) => refused(self.alloc, event, &command.call_id, refusal),
             Ok(debt) => self.pay_prack(dialogs, event, name, command, debt),

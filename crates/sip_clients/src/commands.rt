@@ -19,8 +19,19 @@ use sip_served::{
 use sip_text::Text;
 use std::alloc::{AllocError, Global};
 
-/// The bytes of a tag, none where it is absent.
-pub(crate) fn tag_bytes(tag: &Option<Token>) -> &[u8]
+/// The name of the dialog of these tags.
+pub(crate) fn name_in(
+    alloc: Global,
+    local: &Option<Token>,
+    remote: &Option<Token>,
+) -> Result<DialogName, AllocError>
+    ensures { IfOk result (λ name. name ≡ spec.name_in local.now remote.now) }
+{
+    DialogName::of_tags(alloc, tag_bytes(local), tag_bytes(remote))
+}
+
+// The bytes of a tag, none where it is absent.
+fn tag_bytes(tag: &Option<Token>) -> &[u8]
     ensures { result.now ≡ tag_text tag.now }
 {
     match tag {
