@@ -187,22 +187,44 @@ fn take_up(alloc: Global, call: &mut Call, event: Event, up: Up) -> Result<Vec<C
     ensures { IfOk result (λ outs. (call.new, outs.items)
         ≡ spec.up_taken call.old event up up.kind) }
 {
-    match up {
-        Up {
-            id,
-            call_id,
-            kind: Kind::Response(response),
-            ..
-        } => call.response(event, id, call_id, response),
-        Up {
-            kind: Kind::Timeout,
-            ..
-        } => lose(alloc, call, event, up, true),
-        Up {
-            kind: Kind::Failed,
-            ..
-        } => lose(alloc, call, event, up, false),
-        up => call.serve(alloc, event, Item::Up(up)),
+    let Up {
+        key,
+        id,
+        call_id,
+        kind,
+    } = up;
+    match kind {
+        Kind::Response(response) => call.response(event, id, call_id, response),
+        Kind::Timeout => {
+            let kind = Kind::Timeout;
+            let up = Up {
+                key,
+                id,
+                call_id,
+                kind,
+            };
+            lose(alloc, call, event, up, true)
+        }
+        Kind::Failed => {
+            let kind = Kind::Failed;
+            let up = Up {
+                key,
+                id,
+                call_id,
+                kind,
+            };
+            lose(alloc, call, event, up, false)
+        }
+        kind => call.serve(
+            alloc,
+            event,
+            Item::Up(Up {
+                key,
+                id,
+                call_id,
+                kind,
+            }),
+        ),
     }
 }
 
