@@ -219,18 +219,6 @@ holds_last : {X : Type 0} (P : X → Type 0) (xs : List X) (y : X) → P y
 holds_last P [] y holds = holds
 holds_last P (x ∷ xs) y holds = holds_last P xs y holds
 
-pub opened_none : {E : Type 0} (desk : Desk E) (posters : List (Poster E)) (capacity : ℕ)
-    → desk.lines.items ≡ [] → posters ≡ [] → IsOpened desk posters 0 capacity
-opened_none {E} desk posters capacity none no_posters = record {
-  count = ap length none;
-  each = ap length no_posters;
-  untaken = λ line. ap (λ (lines : List (Consumer E Global AnyItems)).
-      option_map_or received (slice_get lines line) []) none;
-  made = λ line poster at. let nothing : None ≡ Some poster =
-      sym (ap (λ (ps : List (Poster E)). slice_get ps line) no_posters) ∙ at in
-      absurd (none_some poster nothing);
-}
-
 module _ {E : Type 0} (desk more : Desk E) (posters grown : List (Poster E)) (n capacity : ℕ)
     (poster : Poster E) (end : Consumer E Global AnyItems)
     (so_far : IsOpened desk posters n capacity)

@@ -219,10 +219,6 @@ enough t (suc n) (suc m) (b ∷ bs) sound ln lm =
 abbrev pub onto : List ℕ → Option (List ℕ) → Option (List ℕ)
 onto front read = option_map (λ more. front ++ more) read
 
-pub onto_nothing : (read : Option (List ℕ)) → onto [] read ≡ read
-onto_nothing None = refl
-onto_nothing (Some more) = refl
-
 abbrev pub after_byte : (ℕ → Bool) → Option (ℕ × List ℕ) → Option (List ℕ)
 after_byte t None = None
 after_byte t (Some p) = onto (p.0 ∷ []) (bytes_at t p.1)

@@ -410,15 +410,6 @@ one_further draft next number text left line after item s cut is goes =
       counted = omega (arith, s.counted, length_push s.lines line);
     }
 
-pub all_read : (draft : Draft) (number : ℕ) (text left : List ℕ) → SoFar draft number text left
-    → left ≡ [] → Drafts draft text
-all_read draft number text left s none = record {
-  lines = s.lines;
-  said = s.said;
-  says = s.says;
-  spelled = s.parts ∙ ap (λ (x : List ℕ). with_ends s.lines ++ x) none
-      ∙ append-nil (with_ends s.lines);
-  gives = s.gives;
 }
 
 stuck_here : (draft : Draft) (number : ℕ) (text left : List ℕ) → SoFar draft number text left

@@ -23,9 +23,6 @@ letter_not_x b l e = grind (arith, nat_tests)
 pub letter_small : (b l : ℕ) → letter_of b ≡ Some l → b < 256
 letter_small b l e = grind (arith, nat_tests)
 
-quotient : (h l : ℕ) → l < 16 → ((h * 16 + l) / 16 ≡ h) × ((h * 16 + l) % 16 ≡ l)
-quotient h l lt = (omega arith, omega arith)
-
 pub pair_takes : (high low b : ℕ) → hex_byte high low ≡ Some b
     → (high ∷ low ∷ [] ≡ hex_pair b) × (b < 256)
 unfolding hex_byte

@@ -119,10 +119,6 @@ some_value : {X : Type 0} (o : Option X) → is_some o ≡ true → (x : X) × (
 some_value None e = absurd cc
 some_value (Some x) e = (x, refl)
 
-no_value : {X : Type 0} (o : Option X) → is_some o ≡ false → o ≡ None
-no_value None e = refl
-no_value (Some x) e = absurd cc
-
 -- the numbers of good words
 pub record HasNumbers (h : Headers) : Type 0 where
   pub numbers : Numbers

@@ -18,10 +18,6 @@ use Rattle.sip_model.proofs.Ordered.{all_both, all_here, all_keys, flat_map-filt
 is_some_from : {S : Type 0} (o : Option S) (s : S) → o ≡ Some s → IsSome o
 is_some_from o s e = subst IsSome (sym e) refl
 
-none_from : {S : Type 0} (o : Option S) → is_some o ≡ false → o ≡ None
-none_from None e = refl
-none_from (Some s) e = cc
-
 module _ {K S : Type 0} {cmp : K → K → Ordering} (total : IsTotalOrder cmp) (es : List (K × S))
     (ordered : IsStrictlySortedBy cmp (keys_of es)) where
   abbrev find : K → Option S
@@ -43,23 +39,6 @@ module _ {K S : Type 0} {cmp : K → K → Ordering} (total : IsTotalOrder cmp) 
   count_held keys covers =
       sym (length-keys_of es) ∙ sym (length_all_zip _ _ _ (held_keys keys covers))
       ∙ length-filter (λ key. is_some (find key)) keys
-
-  -- outputs of the held entries in order are those of the keys in order, where a key without a
-  -- state says nothing
-  pub flat_map-covered : CmpEqualImpliesEq cmp → {O : Type 0} (says : K → Option S → List O)
-      → ((k : K) → says k None ≡ []) → (keys : List K) → Covers cmp keys find
-      → flat_map (λ e. says e.0 (Some e.1)) es ≡ flat_map (λ k. says k (find k)) keys
-  flat_map-covered exact {O} says silent keys covers =
-      let spoken : K → List O = λ k. says k (find k) in
-      let by_entry : flat_map spoken (keys_of es) ≡ flat_map (λ e. says e.0 (Some e.1)) es =
-      flat_map-keys spoken (λ (e : K × S). says e.0 (Some e.1)) es
-      (all_both (λ e found again. ap (says e.0) found) es (found_entries total es ordered)
-      (found_entries total es ordered)) in
-      let same : keys_of es ≡ filter (λ k. is_some (find k)) keys =
-      same_from_all_zip _ _ _ (held_keys keys covers) (λ k h tied. sym (exact k h tied)) in
-      sym by_entry ∙ ap (flat_map spoken) same
-      ∙ flat_map-filter spoken (λ k. is_some (find k))
-      (λ k none. ap (says k) (none_from _ none) ∙ silent k) keys
 
 -- how many a table holds, where `held` is its value
 pub count_live : {K S : Type 0} {cmp : K → K → Ordering} → IsTotalOrder cmp

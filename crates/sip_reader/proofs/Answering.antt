@@ -1,11 +1,11 @@
 -- What reading gives, as an answer about the text.
-use Rattle.std.proofs.Common.{ℕ, List, Result, Ok, Err, refl, sym, subst, ap}
+use Rattle.std.proofs.Common.{ℕ, List, Result, Ok, Err, refl, sym, subst}
 use Rattle.std.specs.Prelude.{IfOk, IfErr}
 use Rattle.sip_message.specs.declared.fault.ReadFault.{ReadFault}
 use Rattle.sip_message.specs.declared.fault.ReadFault.TheVariants as fault
 use Rattle.sip_message.specs.declared.message.Message.{Message}
 use Rattle.sip_reader.specs.Faults.{TellsFault}
-use Rattle.sip_reader.specs.ReadMessage.{◌>>=◌, Gives, Fails, message_at}
+use Rattle.sip_reader.specs.ReadMessage.{Gives, Fails, message_at}
 use Rattle.sip_reader.specs.Spells.{Spells, Answers}
 use Rattle.sip_reader.proofs.FirstFaults.{told}
 use Rattle.sip_reader.proofs.Outcomes.{same_Ok}
@@ -63,9 +63,3 @@ gives_itself (Err fault.BadNumber) = refl
 gives_itself (Err fault.OldBranch) = refl
 gives_itself (Err fault.MethodMismatch) = refl
 gives_itself (Err fault.Truncated) = refl
-
--- a step that failed, and nothing after it counts
-pub fails_on : {A B : Type 0} (e : ReadFault) (r : Result A ReadFault) (f : A → Result B ReadFault)
-    → Fails e r → Fails e (r >>= f)
-fails_on fault.NoMemory r f given = tt
-fails_on e r f given = ap (λ q. q >>= f) given

@@ -3,7 +3,6 @@ use Rattle.std.proofs.Common.{◌≡◌, ℕ, Bool, true, false, cond, not, ◌&
 use Rattle.std.specs.List.{list_all}
 use Rattle.std.proofs.lemmas.Bool.{and_parts, and_from, and_left, not-true}
 use Rattle.sip_text.specs.Character.{is_blank}
-use Rattle.sip_text.specs.Token.{is_run}
 use Rattle.sip_text.specs.Trimmed.{trimmed_start, trimmed_end}
 
 -- ---- at the start
@@ -37,19 +36,6 @@ start_is (b ∷ bs) rest blank same =
 -- what begins with another byte
 pub starts_full : (b : ℕ) (bs : List ℕ) → is_blank b ≡ false → trimmed_start (b ∷ bs) ≡ b ∷ bs
 starts_full b bs full = rw full refl
-
-first_full : (test : ℕ → Bool) → ((b : ℕ) → test b ≡ true → is_blank b ≡ false)
-    → (word more : List ℕ) → is_run test word ≡ true → trimmed_start (word ++ more) ≡ word ++ more
-first_full test excludes [] more run = absurd cc
-first_full test excludes (b ∷ bs) more run =
-    starts_full b (bs ++ more) (excludes b (and_parts (test b) (list_all test bs) run).0)
-
--- white space before a word
-pub gap_before : (test : ℕ → Bool) → ((b : ℕ) → test b ≡ true → is_blank b ≡ false)
-    → (gap word more : List ℕ) → list_all is_blank gap ≡ true → is_run test word ≡ true
-    → trimmed_start (gap ++ (word ++ more)) ≡ word ++ more
-gap_before test excludes gap word more blank run =
-    start_is gap (word ++ more) blank (first_full test excludes word more run)
 
 -- ---- at the end
 

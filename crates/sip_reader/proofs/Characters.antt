@@ -7,12 +7,10 @@ use Rattle.std.proofs.lemmas.Bool.{eqb-true, ne_eqb, ltb-false, true≢false}
 use Rattle.std.proofs.lemmas.Slice.Eq.{bytes_eq-Decides}
 use Rattle.sip_text.specs.Character.{is_blank, is_token_byte}
 use Rattle.sip_text.specs.Token.{is_run, is_token}
-use Rattle.sip_parts.specs.Host.{is_host_byte, is_bracket_byte}
-use Rattle.sip_text.specs.Parameter.{is_value_byte, is_value_word}
-use Rattle.sip_parts.specs.Uri.{is_uri_byte, is_uri}
+use Rattle.sip_parts.specs.Host.{is_host_byte}
 use Rattle.sip_parts.specs.Word.{is_word_byte, is_word}
 use Rattle.sip_text.specs.Lines.{has_no}
-use Rattle.sip_reader.proofs.Cuts.{all_imply, run_all, none_of}
+use Rattle.sip_reader.proofs.Cuts.{run_all, none_of}
 use Rattle.sip_reader.proofs.Pieces.{by_bool}
 
 pub full_at : (test : ℕ → Bool) (b at : ℕ) → test at ≡ false → test b ≡ true → eqb b at ≡ false
@@ -43,11 +41,6 @@ pub token_full : (b : ℕ) → is_token_byte b ≡ true → is_blank b ≡ false
 unfolding is_token_byte
 token_full b passes = full_bytes is_token_byte refl refl b passes
 
-pub token_not_blank : (text : List ℕ) → is_token text ≡ true
-    → list_all (λ b. not (is_blank b)) text ≡ true
-token_not_blank text token = all_imply is_token_byte (λ b. not (is_blank b))
-    (λ b passes. ap not (token_full b passes)) text (token_bytes text token)
-
 pub token_without : (at : ℕ) → is_token_byte at ≡ false → (text : List ℕ) → is_token text ≡ true
     → has_no at text ≡ true
 token_without at fails text token = none_of is_token_byte at fails text (token_bytes text token)
@@ -59,10 +52,6 @@ no_colon = refl
 pub no_equals : is_token_byte 61 ≡ false
 unfolding is_token_byte
 no_equals = refl
-
-pub no_semicolon : is_token_byte 59 ≡ false
-unfolding is_token_byte
-no_semicolon = refl
 
 pub no_space : is_token_byte 32 ≡ false
 unfolding is_token_byte
@@ -78,38 +67,9 @@ pub word_bytes : (text : List ℕ) → is_word text ≡ true → list_all is_wor
 unfolding is_word
 word_bytes text word = run_all is_word_byte text word
 
-pub word_not_blank : (text : List ℕ) → is_word text ≡ true
-    → list_all (λ b. not (is_blank b)) text ≡ true
-unfolding is_word_byte
-word_not_blank text word = all_imply is_word_byte (λ b. not (is_blank b))
-    (not_blank is_word_byte refl refl) text (word_bytes text word)
-
 pub word_without_space : (text : List ℕ) → is_word text ≡ true → has_no 32 text ≡ true
 unfolding is_word_byte
 word_without_space text word = none_of is_word_byte 32 refl text (word_bytes text word)
-
-pub uri_without_bracket : (text : List ℕ) → is_uri text ≡ true → has_no 62 text ≡ true
-unfolding is_uri is_uri_byte
-uri_without_bracket text uri = none_of is_uri_byte 62 refl text (run_all is_uri_byte text uri)
-
-pub value_without_semicolon : (text : List ℕ) → is_value_word text ≡ true → has_no 59 text ≡ true
-unfolding is_value_word is_value_byte
-value_without_semicolon text value =
-    none_of is_value_byte 59 refl text (run_all is_value_byte text value)
-
-pub bracket_without_semicolon : (text : List ℕ) → list_all is_bracket_byte text ≡ true
-    → has_no 59 text ≡ true
-unfolding is_bracket_byte
-bracket_without_semicolon text all = none_of is_bracket_byte 59 refl text all
-
-pub host_without_semicolon : (text : List ℕ) → list_all is_host_byte text ≡ true
-    → has_no 59 text ≡ true
-unfolding is_host_byte
-host_without_semicolon text all = none_of is_host_byte 59 refl text all
-
-pub host_without_colon : (text : List ℕ) → list_all is_host_byte text ≡ true → has_no 58 text ≡ true
-unfolding is_host_byte
-host_without_colon text all = none_of is_host_byte 58 refl text all
 
 pub host_full : (b : ℕ) → is_host_byte b ≡ true → is_blank b ≡ false
 unfolding is_host_byte

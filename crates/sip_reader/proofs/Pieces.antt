@@ -25,14 +25,6 @@ pub guard_some : {A : Type 0} (b : Bool) (x y : A) → cond b (Some x) None ≡ 
 guard_some true x y e = (refl, same_Some x y e)
 guard_some false x y e = absurd cc
 
-pub guard_option : {A : Type 0} (b : Bool) (o : Option A) (y : A) → cond b o None ≡ Some y
-    → (b ≡ true) × (o ≡ Some y)
-guard_option true o y e = (refl, e)
-guard_option false o y e = absurd cc
-
-pub guard_true : {A : Type 0} (b : Bool) (x : A) → b ≡ true → cond b (Some x) None ≡ Some x
-guard_true b x e = ap (λ c. cond c (Some x) None) e
-
 pub by_bool : (b : Bool) (P : Bool → Type 0) → (b ≡ true → P true) → (b ≡ false → P false) → P b
 by_bool true P yes_case no_case = yes_case refl
 by_bool false P yes_case no_case = no_case refl

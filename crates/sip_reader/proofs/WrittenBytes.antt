@@ -4,7 +4,7 @@ use Rattle.std.specs.Char.{is_ascii_digit}
 use Rattle.std.specs.List.{list_all}
 use Rattle.std.specs.Str.{all_ascii_digits}
 use Rattle.std.specs.Str.Parse.{digits_value}
-use Rattle.std.proofs.lemmas.Bool.{and_parts, and_from, and_right, or_parts, not-true, true≢false, lt-ltb, eqb-true}
+use Rattle.std.proofs.lemmas.Bool.{and_parts, and_from, and_right, or_parts, not-true, true≢false, eqb-true}
 use Rattle.std.proofs.lemmas.Fmt.{digits_decimal, digits_value-decimal, decimal_nonempty}
 use Rattle.std.proofs.lemmas.List.{append-nil}
 use Rattle.std.proofs.lemmas.List.Folds.{list_all-append}
@@ -15,7 +15,6 @@ use Rattle.sip_text.specs.Number.{is_digits}
 use Rattle.sip_text.specs.Token.{is_run, is_token}
 use Rattle.sip_text.specs.Trimmed.{trimmed, trimmed_end}
 use Rattle.sip_parts.specs.HeaderValue.{has_no_blank_ends, has_no_line_byte, is_header_value}
-use Rattle.sip_parts.specs.Host.{is_host_byte, is_bracket_byte}
 use Rattle.sip_text.specs.Parameter.{is_value_byte, is_value_word}
 use Rattle.sip_parts.specs.Uri.{is_uri_byte, is_uri}
 use Rattle.sip_parts.specs.Word.{is_word_byte, is_word}
@@ -23,7 +22,7 @@ use Rattle.sip_text.specs.Lines.{has_no}
 use Rattle.sip_reader.proofs.Blanks.{end_is, starts_full}
 use Rattle.sip_reader.proofs.Characters.{token_bytes, full_at}
 use Rattle.sip_reader.proofs.Cuts.{all_imply, run_all}
-use Rattle.sip_reader.proofs.Digits.{IsNumber, all_digits}
+use Rattle.sip_reader.proofs.Digits.{all_digits}
 use Rattle.sip_reader.proofs.Pieces.{by_bool}
 
 -- ---- bytes that neither end a line nor are white space
@@ -67,16 +66,6 @@ value_solid text value = all_imply is_value_byte is_solid
 pub digits_solid : (text : List ℕ) → is_digits text ≡ true → solid text ≡ true
 digits_solid text digits = all_imply is_ascii_digit is_solid
     (solid_byte is_ascii_digit refl refl refl refl) text (run_all is_ascii_digit text digits)
-
-pub host_bytes_solid : (text : List ℕ) → list_all is_host_byte text ≡ true → solid text ≡ true
-unfolding is_host_byte
-host_bytes_solid text all =
-    all_imply is_host_byte is_solid (solid_byte is_host_byte refl refl refl refl) text all
-
-pub bracket_bytes_solid : (text : List ℕ) → list_all is_bracket_byte text ≡ true → solid text ≡ true
-unfolding is_bracket_byte
-bracket_bytes_solid text all =
-    all_imply is_bracket_byte is_solid (solid_byte is_bracket_byte refl refl refl refl) text all
 
 pub solid_both : (one other : List ℕ) → solid one ≡ true → solid other ≡ true
     → solid (one ++ other) ≡ true
@@ -161,15 +150,6 @@ decimal_digits n lt =
 pub decimal_value : (n : ℕ) → n < 2 ^ 64 → digits_value 10 (decimal n) ≡ n
 decimal_value n lt = digits_value-decimal
     (numerals_by_value (λ ds. all_ascii_digits ds ≡ true) tells_all_ascii_digits) n lt
-
-pub decimal_number : (limit n : ℕ) → n < limit → limit ≤ 2 ^ 64 → IsNumber limit n (decimal n)
-decimal_number limit n lt small =
-    let value = decimal_value n (omega arith) in
-    record {
-      is = and_from _ _ (decimal_digits n (omega arith))
-          (lt-ltb (digits_value 10 (decimal n)) limit (omega (arith, value)));
-      value = value;
-    }
 
 full_to : (test : ℕ → Bool) (b at : ℕ) → test at ≡ false → test b ≡ true → eqb at b ≡ false
 full_to test b at fails passes =

@@ -118,10 +118,6 @@ token_is_full text token e = run_full is_token_byte text token e
 digits_full : (text : List ℕ) → is_digits text ≡ true → Full text
 digits_full text digits e = run_full is_ascii_digit text digits e
 
-uri_full : (text : List ℕ) → is_uri text ≡ true → Full text
-unfolding is_uri
-uri_full text is e = run_full is_uri_byte text is e
-
 passing_some : (test : Bool) (text : List ℕ) → test ≡ true → cond test (Some text) None ≡ Some text
 passing_some test text e = ap (λ r. cond r (Some text) None) e
 

@@ -87,10 +87,6 @@ token_value b bs all =
     (not_blank b first) (not_blank (get_or (b ∷ bs) (length (b ∷ bs) - 1) 0) last))
     (no_lines (b ∷ bs) all)
 
--- the first byte is that of the first part, and the last that of the last
-first_stays : (t : ℕ) (ts : List ℕ) (xs : List ℕ) → slice_index ((t ∷ ts) ++ codes ", " ++ xs) 0 ≡ t
-first_stays t ts xs = refl
-
 last_moves : (ts : List ℕ) (b : ℕ) (bs : List ℕ)
     → slice_index (ts ++ codes ", " ++ b ∷ bs) (length (ts ++ codes ", " ++ b ∷ bs) - 1)
     ≡ slice_index (b ∷ bs) (length (b ∷ bs) - 1)

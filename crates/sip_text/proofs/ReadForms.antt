@@ -165,11 +165,6 @@ each_again f P reads (text ∷ texts) [] all = absurd all
 each_again f P reads (text ∷ texts) (x ∷ xs) all =
     rw (reads.again text x all.0, each_again f P reads texts xs all.1) refl
 
-pub each_reads : {A X : Type 0} {f : A → Option X} {P : X → A → Type 0} → Reads A X f P
-    → Reads (List A) (List X) (each f) (AllZip P)
-each_reads {f = f} {P = P} reads =
-    record { takes = each_takes f P reads; again = each_again f P reads }
-
 pub split_reads : {X : Type 0} {f : List ℕ → Option X} {P : X → List ℕ → Type 0} (at : Separator)
     → Reads (List ℕ) X f P → Reads (List ℕ) (List X) (split at f) (Split at P)
 split_reads {X} {f} {P} at reads = record {

@@ -1,5 +1,5 @@
 -- Lemmas on taking out what is due, one key after another.
-use Rattle.std.proofs.Common.{◌≡◌, ℕ, suc, ◌+◌, ◌≤◌, ◌<◌, Bool, true, false, cond, List, [], ◌∷◌, ◌++◌, Some, None, refl, sym, ap, subst, ◌∙◌, arith, length}
+use Rattle.std.proofs.Common.{◌≡◌, ℕ, suc, ◌+◌, ◌≤◌, ◌<◌, Bool, true, false, cond, List, [], ◌∷◌, ◌++◌, Some, None, refl, sym, ap, subst, ◌∙◌, arith}
 use Rattle.std.specs.Prelude.{nat_lt, nat_le, filter}
 use Rattle.std.specs.List.{slice_get}
 use Rattle.std.specs.List.Sorted.{IsPermutation, IsStrictlySortedBy}
@@ -88,11 +88,6 @@ pub record Taking {K : Type 0} (cmp : K → K → Ordering) (now : ℕ) (all : L
   pub left : taken + due_count now dues ≡ count
   pub given : IsPermutation (due_keys now all) (keys ++ due_keys now entries)
   pub kept : later now entries ≡ later now all
-
-pub some_left : {K : Type 0} (now taken count : ℕ) (dues : List (ℕ × K))
-    → taken + due_count now dues ≡ count → taken < count → 0 < length dues
-some_left now taken count [] left more = omega arith
-some_left now taken count (d ∷ ds) left more = omega arith
 
 module _ {K : Type 0} {cmp : K → K → Ordering} (total : IsTotalOrder cmp) (now : ℕ)
     (all : List (K × ℕ)) where

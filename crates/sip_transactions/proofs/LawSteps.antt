@@ -171,10 +171,6 @@ server_tables (key.Server branch sent_by method) server =
     (λ hit. ap (λ b. table_passes begins_by_request (rows_of (cond b InviteServer Server))) hit)
     (λ miss. ap (λ b. table_passes begins_by_request (rows_of (cond b InviteServer Server))) miss)
 
-pub not-is_true : (b : Bool) → not b ≡ true → b ≡ false
-not-is_true true e = absurd (false≢true e)
-not-is_true false e = refl
-
 -- ---- what a row says
 -- it is nothing, where what it hands up and what it sends are nothing that counts
 counts_none : (life : Life) (key : Key) (o : Option (List ℕ))

@@ -1,5 +1,4 @@
 pub mod AfterTheEnd
-pub mod Counted
 pub mod LawSteps
 pub mod OneRequest
 pub mod Pace
