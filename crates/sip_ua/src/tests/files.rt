@@ -4,7 +4,7 @@
 use sip_files::{EventsFault, write_outputs};
 use sip_message::{CallId, Id};
 use sip_round::Output;
-use sip_served::Notice;
+use sip_served::{Notice, Refusal};
 use sip_text::Text;
 use std::alloc::Global;
 use std::test::Fail;
@@ -36,6 +36,19 @@ fn a_cancel_is_told(rt: HostRuntime) -> Result<(), Fail> {
     let (call_id, id) = (call(alloc)?, ID);
     let cancel = Notice::Cancel { call_id, id };
     assert!(rt; is_told(alloc, cancel, b"notice c1 cancel 3.2\n")?);
+    Ok(())
+}
+
+// No event file can use up the numbers of a dialog.
+#[test]
+fn numbers_used_up_are_told(rt: HostRuntime) -> Result<(), Fail> {
+    let alloc = rt.alloc();
+    let refused = Notice::Refused {
+        call_id: call(alloc)?,
+        place: 4,
+        refusal: Refusal::SequenceUsedUp,
+    };
+    assert!(rt; is_told(alloc, refused, b"notice c1 refused 4 11\n")?);
     Ok(())
 }
 

@@ -14,12 +14,17 @@ const LINES: [&[u8]; 6] = [
     b"CSeq: 7 OPTIONS",
 ];
 
-// The lines with their ends, an empty line and a body; one of the lines is another one.
+// The lines with their ends, an empty line and a body; one of the lines is another one, or one more
+// stands last.
 fn text_with(alloc: Global, at: usize, line: &[u8], body: &[u8]) -> Result<Vec<u8>, AllocError> {
     let mut text = Vec::new(alloc);
     for (index, own) in LINES.iter().enumerate() {
         let written = if index == at { line } else { *own };
         text.extend_from_slice(written)?;
+        text.extend_from_slice(b"\r\n")?;
+    }
+    if at == LINES.len() && !line.is_empty() {
+        text.extend_from_slice(line)?;
         text.extend_from_slice(b"\r\n")?;
     }
     text.extend_from_slice(b"\r\n")?;
@@ -78,11 +83,22 @@ fn a_response(rt: HostRuntime) -> Result<(), Fail> {
 
 #[test]
 fn a_compact_name_gets_its_long_form(rt: HostRuntime) -> Result<(), Fail> {
-    let line = b"c: application/sdp\r\nt: <sip:192.0.2.1>\r\nMax-Forwards: 70";
+    let lines = [
+        (b"c: gzip".as_slice(), b"Content-Type".as_slice()),
+        (b"s: gzip".as_slice(), b"Subject".as_slice()),
+        (b"e: gzip".as_slice(), b"Content-Encoding".as_slice()),
+        (b"E: gzip".as_slice(), b"Content-Encoding".as_slice()),
+        (b"x: gzip".as_slice(), b"x".as_slice()),
+    ];
+    for (line, name) in lines {
+        let message = message_with(rt.alloc(), 6, line, b"")?;
+        assert!(rt; message.others.len() == 1);
+        let header = message.others.first().ok_or("one header is kept")?;
+        assert!(rt; header.name.as_slice() == name);
+        assert!(rt; header.value.as_slice() == b"gzip".as_slice());
+    }
+    let line = b"t: <sip:192.0.2.1>\r\nMax-Forwards: 70";
     let message = message_with(rt.alloc(), 3, line, b"")?;
-    assert!(rt; message.others.len() == 1 && message.max_forwards == Some(70));
-    let header = message.others.first().ok_or("one header is kept")?;
-    assert!(rt; header.name.as_slice() == b"Content-Type".as_slice());
-    assert!(rt; header.value.as_slice() == b"application/sdp".as_slice());
+    assert!(rt; message.others.is_empty() && message.max_forwards == Some(70));
     Ok(())
 }

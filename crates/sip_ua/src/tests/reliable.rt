@@ -85,6 +85,12 @@ fn refuses_in_order(rt: HostRuntime) {
     assert!(rt; outbound.send(0, false) == Err(SendFault::Closed));
     let mut unsupported = Outbound::new(1, false);
     assert!(rt; unsupported.send(0, false) == Err(SendFault::NotSupported));
+    unsupported.close();
+    assert!(rt; unsupported.send(0, false) == Err(SendFault::Closed));
+    let mut waiting = Outbound::new(1, true);
+    assert!(rt; waiting.send(0, false) == Ok(1));
+    waiting.close();
+    assert!(rt; waiting.send(0, false) == Err(SendFault::Closed));
 }
 
 #[test]

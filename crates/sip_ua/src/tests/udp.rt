@@ -2,6 +2,7 @@
 
 ghost use Rattle.std.specs.Prelude.{Some, ◌≤◌};
 
+use super::Flushed;
 use sip_desk::{Desk, NoMemory, Poster, open};
 use sip_message::{Addr, CallId, Key, Token, Uri};
 use sip_round::{Event, Output};
@@ -284,5 +285,40 @@ fn a_listener_on_loopback_has_no_service_for_info(rt: HostRuntime) -> Result<(),
     );
     assert!(rt; heard.is_some());
     assert!(rt; answered == Some(true));
+    Ok(())
+}
+
+// How a listener ends whose notices go to a writer, and that writer.
+fn flushed<R: Threads + Clock + Sync>(
+    rt: &R,
+    alloc: Global,
+    socket: UdpSocket,
+    local: Addr,
+    fails: bool,
+) -> (Result<(), UaFault>, Flushed) {
+    let mut notices = Flushed {
+        bytes: Vec::new(alloc),
+        flushed: 0,
+        fails,
+    };
+    let ended = listen(rt, alloc, socket, local, [7; 32], 100, &mut notices);
+    (ended, notices)
+}
+
+#[test]
+fn a_listener_flushes_each_notice(rt: HostRuntime) -> Result<(), Fail> {
+    for (fails, expected) in [(false, Ok(())), (true, Err(UaFault::Output))] {
+        let (theirs, to) = bound(&rt)?;
+        let (own, _) = bound(&rt)?;
+        let alloc = rt.alloc();
+        let ((ended, notices), _) = thread::join(
+            &rt,
+            || flushed(&rt, alloc, theirs, to, fails),
+            || answer_to_info(alloc, &own, to),
+        );
+        assert!(rt; ended == expected);
+        assert!(rt; !notices.bytes.is_empty());
+        assert!(rt; fails || notices.flushed == notices.bytes.len());
+    }
     Ok(())
 }
