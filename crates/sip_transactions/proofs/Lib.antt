@@ -1,4 +1,5 @@
 pub mod AfterTheEnd
+pub mod AtServers
 pub mod LawSteps
 pub mod OneRequest
 pub mod Pace

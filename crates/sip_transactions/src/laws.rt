@@ -1,6 +1,7 @@
 //! Laws of transactions: what holds over any list of inputs of one transaction.
 
 ghost use Rattle.sip_transactions.specs.Laws.{AtMostOneRow, CommandsOnlySend, OneRequestUp, NothingAfterTheEnd, FewSends};
+ghost use Rattle.sip_transactions.specs.ServerLaws.{AnsweredAgain, EndsAfterItsAnswer, FailedSendKeeps};
 
 /// Of each table at most one row fits a state and a trigger.
 pub fn at_most_one_row()
@@ -27,4 +28,21 @@ pub fn nothing_after_the_end()
 /// times.
 pub fn few_sends()
     ensures { FewSends }
+{}
+
+/// A request that was answered and comes again gets the same bytes, and nothing else happens (RFC
+/// 3261, sections 17.2.1 and 17.2.2).
+pub fn answered_again()
+    ensures { AnsweredAgain }
+{}
+
+/// A failed send leaves a life of a server as it is.
+pub fn failed_send_keeps()
+    ensures { FailedSendKeeps }
+{}
+
+/// The server of another request than INVITE is held for 64*T1 after its final answer, and ends at
+/// the first tick from then on (RFC 3261, section 17.2.2).
+pub fn ends_after_its_answer()
+    ensures { EndsAfterItsAnswer }
 {}

@@ -1,0 +1,84 @@
+-- What holds of every server transaction that is held, at one input or two.
+use Rattle.std.specs.Prelude.{◌≡◌, ℕ, ◌+◌, Bool, true, false, nat_le, List, [], ◌∷◌, Option, None, Some, if◌then◌else◌}
+use Rattle.sip_message.specs.declared.addr.Addr.{Addr}
+use Rattle.sip_message.specs.declared.id.Id.{Id}
+use Rattle.sip_message.specs.declared.key.Key.{Key}
+use Rattle.sip_message.specs.declared.message.Message.{Message}
+use Rattle.sip_transactions.specs.declared.life.Life.{Life}
+use Rattle.sip_transactions.specs.declared.output.Out.TheVariants.{Send}
+use Rattle.sip_transactions.specs.declared.input.Input.TheVariants as input
+use Rattle.sip_transactions.specs.declared.input.Timed.{Timed}
+use Rattle.sip_transactions.specs.declared.state.Role.TheVariants as role
+use Rattle.sip_transactions.specs.declared.state.State.{State}
+use Rattle.sip_transactions.specs.declared.state.State.TheVariants.{Calling, Trying, Proceeding, Completed, Accepted, Confirmed}
+use Rattle.sip_transactions.specs.declared.timers.TheConstants.{LIFETIME}
+use Rattle.sip_transactions.specs.declared.trigger.Class.TheVariants as class
+use Rattle.sip_transactions.specs.declared.trigger.Trigger.{Trigger}
+use Rattle.sip_transactions.specs.declared.trigger.Trigger.TheVariants as on
+use Rattle.sip_transactions.specs.Input.{answer_of, arrival_of, role_of}
+use Rattle.sip_transactions.specs.Laws.{IsServer}
+use Rattle.sip_transactions.specs.Life.{stepped}
+use Rattle.sip_transactions.specs.Machine.{tick_at}
+use Rattle.sip_transactions.specs.Shard.{failure, receipt}
+
+-- a response was sent, and the server waits for nothing but repeats of its request and its end
+abbrev pub is_answering : State → Bool
+is_answering Calling = false
+is_answering Trying = false
+is_answering Proceeding = true
+is_answering Completed = true
+is_answering Accepted = false
+is_answering Confirmed = false
+
+-- A request that was answered and comes again gets the same bytes, and nothing else happens (RFC
+-- 3261, sections 17.2.1 and 17.2.2).
+abbrev pub AnsweredAgain : Type 0
+AnsweredAgain = (key : Key) → IsServer key → (life : Life) (bytes : List ℕ)
+    → is_answering life.state ≡ true → life.last ≡ Some bytes
+    → (id : Id) (message : Message) (reply_to : Addr) (now : ℕ)
+    → arrival_of message.start message.cseq.method ≡ on.Request
+    → stepped key (Some life) (receipt id message reply_to now)
+    ≡ (Some life, Send key life.to bytes ∷ [])
+
+-- no final response was sent
+abbrev pub is_open : State → Bool
+is_open Calling = false
+is_open Trying = true
+is_open Proceeding = true
+is_open Completed = false
+is_open Accepted = false
+is_open Confirmed = false
+
+-- an answer that is a final response
+abbrev pub is_final : Option Trigger → Bool
+is_final None = false
+is_final (Some on.Start) = false
+is_final (Some on.RepeatDue) = false
+is_final (Some on.EndingDue) = false
+is_final (Some on.Failed) = false
+is_final (Some on.Request) = false
+is_final (Some on.Ack) = false
+is_final (Some (on.Response c)) = false
+is_final (Some (on.Answer class.Trying)) = false
+is_final (Some (on.Answer class.Provisional)) = false
+is_final (Some (on.Answer class.Success)) = true
+is_final (Some (on.Answer class.Failure)) = true
+
+-- the user's answer, as an input
+abbrev pub answering : Id → Message → ℕ → Timed
+answering id response now = record { moment = now; input = input.Answer id response }
+
+-- A life of the server of another request than INVITE ends at the first tick from 64*T1 after its
+-- final answer, and no tick before that changes it (RFC 3261, section 17.2.2).
+abbrev pub EndsAfterItsAnswer : Type 0
+EndsAfterItsAnswer = (key : Key) → role_of key ≡ role.Server → (life : Life)
+    → is_open life.state ≡ true → (id : Id) (response : Message) (now : ℕ)
+    → is_final (answer_of response.start) ≡ true → (moment : ℕ)
+    → (stepped key (stepped key (Some life) (answering id response now)).0 (tick_at moment)).0
+    ≡ (if nat_le (now + LIFETIME) moment then None
+    else (stepped key (Some life) (answering id response now)).0)
+
+-- a failed send leaves a life of a server as it is
+abbrev pub FailedSendKeeps : Type 0
+FailedSendKeeps = (key : Key) → IsServer key → (life : Life) (id : Id) (now : ℕ)
+    → (stepped key (Some life) (failure id now)).0 ≡ Some life
