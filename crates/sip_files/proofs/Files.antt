@@ -410,7 +410,6 @@ one_further draft next number text left line after item s cut is goes =
       counted = omega (arith, s.counted, length_push s.lines line);
     }
 
-
 stuck_here : (draft : Draft) (number : ℕ) (text left : List ℕ) → SoFar draft number text left
     → (left ≡ [] → ⊥) → ((line after : List ℕ) (next : EventLine) → SpellsLine line next
     → left ≡ line ++ 10 ∷ after → taken draft next ≡ None) → Stuck number text
