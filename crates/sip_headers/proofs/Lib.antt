@@ -6,3 +6,4 @@ pub mod Eaches
 pub mod HeaderSets
 pub mod HeaderNumbers
 pub mod HeaderFaults
+pub mod WrittenValues

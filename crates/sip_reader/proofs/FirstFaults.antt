@@ -37,7 +37,7 @@ use Rattle.sip_reader.specs.StartLine.{SpellsStart}
 use Rattle.sip_reader.proofs.Layouts.{Laid, laid_takes, laid_again}
 use Rattle.sip_reader.proofs.Making.{some_start, first_of, first_spelled, other_method, own_method, body_short, body_long}
 use Rattle.sip_reader.proofs.Outcomes.{same_Ok, no_such, step_decides, step_again}
-use Rattle.sip_reader.proofs.Pieces.{by_bool}
+use Rattle.sip_values.proofs.Pieces.{by_bool}
 use Rattle.sip_reader.proofs.Spelled.{then_body, then_start, then_branch, spelled_again}
 use Rattle.sip_reader.proofs.StartLines.{SpellsFirst, start_reads}
 

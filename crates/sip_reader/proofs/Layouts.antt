@@ -14,8 +14,8 @@ use Rattle.sip_headers.specs.Folding.{Section, with_line_of, section_at, folded_
 use Rattle.sip_headers.proofs.Folds.{one_line, no_line}
 use Rattle.sip_reader.specs.Layout.{IsFull, Lays}
 use Rattle.sip_reader.specs.SkippedEnds.{without_line_ends}
-use Rattle.sip_reader.proofs.Cuts.{at_again}
-use Rattle.sip_reader.proofs.Pieces.{map_some}
+use Rattle.sip_values.proofs.Cuts.{at_again}
+use Rattle.sip_values.proofs.Pieces.{map_some}
 
 -- ---- one line
 

@@ -1,7 +1,3 @@
-pub mod Pieces
-pub mod Cuts
-pub mod Characters
-pub mod Digits
 pub mod StartLines
 pub mod Layouts
 pub mod Outcomes
@@ -10,9 +6,5 @@ pub mod Spelled
 pub mod FirstFaults
 pub mod Answering
 pub mod Sections
-pub mod Blanks
-pub mod WrittenBytes
-pub mod Passing
-pub mod WrittenValues
 pub mod WrittenLines
 pub mod RoundTrip

@@ -11,7 +11,7 @@ use Rattle.sip_reader.specs.declared.first_line.FirstLine.TheVariants as first
 use Rattle.sip_reader.specs.ReadMessage.{start_line_of, body_of}
 use Rattle.sip_reader.specs.Spells.{IsBody}
 use Rattle.sip_reader.specs.StartLine.{SpellsStart, IsRequestLine}
-use Rattle.sip_reader.proofs.Pieces.{guard_some, by_bool}
+use Rattle.sip_values.proofs.Pieces.{guard_some, by_bool}
 use Rattle.sip_reader.proofs.StartLines.{SpellsFirst}
 
 -- ---- the start line

@@ -40,7 +40,7 @@ use Rattle.sip_headers.proofs.HeaderSets.{no_fault}
 use Rattle.sip_reader.specs.Layout.{IsFull}
 use Rattle.sip_reader.specs.ReadMessage.{◌>>=◌, message_of_headers, message_of_lines, message_in, message_at}
 use Rattle.sip_reader.specs.ReadStart.{start_at}
-use Rattle.sip_reader.specs.Rules.{IsStartLine, IsParty, IsNameAddr, IsRAck, IsVia, IsOtherHeader, IsMessage}
+use Rattle.sip_message.specs.Rules.{IsStartLine, IsParty, IsNameAddr, IsRAck, IsVia, IsOtherHeader, IsMessage}
 use Rattle.sip_reader.specs.SkippedEnds.{without_line_ends}
 use Rattle.sip_reader.specs.Spells.{Spells}
 use Rattle.sip_reader.specs.StartLine.{SpellsStart, IsStatusCode}
@@ -50,9 +50,9 @@ use Rattle.sip_reader.proofs.Outcomes.{step_again, result_again}
 use Rattle.sip_reader.proofs.Sections.{some_gathered}
 use Rattle.sip_reader.proofs.Spelled.{made_again, spelled_takes}
 use Rattle.sip_reader.proofs.StartLines.{is_three, start_reads}
-use Rattle.sip_reader.proofs.WrittenBytes.{solid, token_solid, word_solid, digits_solid, solid_line, no_lf, decimal_digits, decimal_value}
+use Rattle.sip_values.proofs.WrittenBytes.{solid, token_solid, word_solid, digits_solid, solid_line, no_lf, decimal_digits, decimal_value}
 use Rattle.sip_reader.proofs.WrittenLines.{is_line, ended_line, Ready, Goes, no_lines, goes_to, end_ready, end_gathered, header_goes, other_goes, list_goes, two_go}
-use Rattle.sip_reader.proofs.WrittenValues.{Again, party_again, name_addr_again, number_again, call_id_again, cseq_again, rack_again, tokens_again, via_again}
+use Rattle.sip_headers.proofs.WrittenValues.{Again, party_again, name_addr_again, number_again, call_id_again, cseq_again, rack_again, tokens_again, via_again}
 
 -- ---- the start line
 

@@ -29,12 +29,12 @@ use Rattle.sip_headers.specs.HeaderLine.{Class, known, other, class_by_name, cla
 use Rattle.sip_headers.specs.Slot.{listed}
 use Rattle.sip_headers.specs.declared.draft.Draft.{Draft}
 use Rattle.sip_headers.proofs.Folds.{drafted_on, section_ends, section_goes_on, ends_here}
-use Rattle.sip_reader.specs.Rules.{IsOtherHeader}
-use Rattle.sip_reader.proofs.Characters.{token_without, token_full}
+use Rattle.sip_message.specs.Rules.{IsOtherHeader}
+use Rattle.sip_values.proofs.Characters.{token_without, token_full}
 use Rattle.sip_reader.proofs.Layouts.{line_again}
-use Rattle.sip_reader.proofs.Passing.{cut_here, token_passes}
-use Rattle.sip_reader.proofs.WrittenBytes.{solid_end, token_solid, no_lf, header_value_kept, header_value_plain}
-use Rattle.sip_reader.proofs.WrittenValues.{Good}
+use Rattle.sip_values.proofs.Passing.{cut_here, token_passes}
+use Rattle.sip_values.proofs.WrittenBytes.{solid_end, token_solid, no_lf, header_value_kept, header_value_plain}
+use Rattle.sip_headers.proofs.WrittenValues.{Good}
 
 -- ---- a line with its end
 

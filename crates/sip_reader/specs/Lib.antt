@@ -2,7 +2,6 @@ pub mod Layout
 pub mod StartLine
 pub mod Spells
 pub mod Faults
-pub mod Rules
 pub mod SkippedEnds
 pub mod ReadStart
 pub mod ReadMessage

@@ -6,7 +6,7 @@ ghost use Rattle.sip_message.specs.declared.message.Message.{Message};
 ghost use Rattle.sip_message.specs.Written.{written};
 ghost use Rattle.sip_reader.specs.Faults.{Condition, IsFirstFault, faults};
 ghost use Rattle.sip_reader.specs.ReadMessage.{message_at};
-ghost use Rattle.sip_reader.specs.Rules.{IsMessage};
+ghost use Rattle.sip_message.specs.Rules.{IsMessage};
 ghost use Rattle.sip_reader.specs.Spells.{Spells};
 
 /// A text spells at most one message.

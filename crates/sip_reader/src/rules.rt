@@ -2,7 +2,7 @@
 ghost use Rattle.std.specs.Prelude.{◌<◌, ◌^◌, IfSome, IsTrue};
 ghost use Rattle.std.specs.List.{AllByRecursion};
 ghost use Rattle.sip_text.specs.Token.{is_token};
-ghost use Rattle.sip_reader.specs.Rules as rules;
+ghost use Rattle.sip_message.specs.Rules as rules;
 
 use sip_message::{Header, Message, NameAddr, Party, RAck, StartLine, Via};
 use sip_parts::{Parameter, Token};

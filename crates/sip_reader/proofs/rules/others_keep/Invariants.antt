@@ -1,6 +1,6 @@
 use Rattle.std.proofs.Common.{take}
 use Rattle.std.specs.List.{AllByRecursion}
-use Rattle.sip_reader.specs.Rules.{IsOtherHeader}
+use Rattle.sip_message.specs.Rules.{IsOtherHeader}
 use Rattle.sip_reader.proofs.rules.others_keep.Given as goal
 
 abbrev pub invariant-loop-other : goal.invariant-loop-other

@@ -1,6 +1,6 @@
 use Rattle.std.proofs.Common.{take}
 use Rattle.std.specs.List.{AllByRecursion}
-use Rattle.sip_reader.specs.Rules.{IsVia}
+use Rattle.sip_message.specs.Rules.{IsVia}
 use Rattle.sip_reader.proofs.rules.vias_keep.Given as goal
 
 abbrev pub invariant-loop-via : goal.invariant-loop-via

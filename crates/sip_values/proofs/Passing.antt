@@ -13,9 +13,9 @@ use Rattle.sip_text.specs.declared.separator.Separator.TheVariants.{Byte, Blank,
 use Rattle.sip_text.specs.declared.separator.Place.{Place}
 use Rattle.sip_text.specs.declared.separator.Place.TheVariants.{Plain, Quoted, Escaped}
 use Rattle.sip_text.proofs.Separators.{cut_again, whole_again, and_then_some}
-use Rattle.sip_reader.proofs.Characters.{full_at, token_bytes}
-use Rattle.sip_reader.proofs.Cuts.{all_imply, run_all}
-use Rattle.sip_reader.proofs.Pieces.{by_bool}
+use Rattle.sip_values.proofs.Characters.{full_at, token_bytes}
+use Rattle.sip_values.proofs.Cuts.{all_imply, run_all}
+use Rattle.sip_values.proofs.Pieces.{by_bool}
 
 abbrev pub Passes : Separator → List ℕ → Type 0
 Passes at text = place_after at Plain text ≡ Some Plain

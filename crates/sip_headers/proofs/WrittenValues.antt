@@ -41,12 +41,12 @@ use Rattle.sip_values.specs.ParameterValues.{parameter_of, one_parameter, many_p
 use Rattle.sip_values.specs.Sequence as sequence
 use Rattle.sip_values.specs.ViaValue as via
 use Rattle.sip_headers.specs.Numbers.{via_draft, rack_draft}
-use Rattle.sip_reader.specs.Rules.{IsParameter, IsVia, IsParty, IsNameAddr, IsRAck}
-use Rattle.sip_reader.proofs.Characters.{full_at}
-use Rattle.sip_reader.proofs.Cuts.{all_imply, run_all, at_takes}
-use Rattle.sip_reader.proofs.Passing.{Passes, clear, all_pass, both_pass, place_append, cut_here, none_here, byte_clear, class_passes, class_passes_blank, Marks, semicolon_marks, comma_marks, token_passes, token_passes_blank, quoted_begins, quoted_passes, quoted_ends, quoted_plain, value_passes}
-use Rattle.sip_reader.proofs.Pieces.{by_bool}
-use Rattle.sip_reader.proofs.WrittenBytes.{is_solid, solid, token_solid, word_solid, uri_solid, value_solid, digits_solid, solid_both, solid_full, solid_line, solid_end, longer_end, decimal_digits, decimal_value, digits_word, kept_end}
+use Rattle.sip_message.specs.Rules.{IsParameter, IsVia, IsParty, IsNameAddr, IsRAck}
+use Rattle.sip_values.proofs.Characters.{full_at}
+use Rattle.sip_values.proofs.Cuts.{all_imply, run_all, at_takes}
+use Rattle.sip_values.proofs.Passing.{Passes, clear, all_pass, both_pass, place_append, cut_here, none_here, byte_clear, class_passes, class_passes_blank, Marks, semicolon_marks, comma_marks, token_passes, token_passes_blank, quoted_begins, quoted_passes, quoted_ends, quoted_plain, value_passes}
+use Rattle.sip_values.proofs.Pieces.{by_bool}
+use Rattle.sip_values.proofs.WrittenBytes.{is_solid, solid, token_solid, word_solid, uri_solid, value_solid, digits_solid, solid_both, solid_full, solid_line, solid_end, longer_end, decimal_digits, decimal_value, digits_word, kept_end}
 
 -- ---- the ends of a text
 

@@ -7,7 +7,7 @@ use Rattle.std.proofs.lemmas.Option.{same_Some}
 use Rattle.sip_text.specs.Cut.{cut_where, cut_at}
 use Rattle.sip_text.specs.Token.{is_run}
 use Rattle.sip_text.specs.Lines.{has_no}
-use Rattle.sip_reader.proofs.Pieces.{map_some, by_bool}
+use Rattle.sip_values.proofs.Pieces.{map_some, by_bool}
 
 pub record IsCut (test : ℕ → Bool) (text front after : List ℕ) : Type 0 where
   pub byte : ℕ

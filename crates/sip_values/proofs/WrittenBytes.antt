@@ -19,11 +19,11 @@ use Rattle.sip_text.specs.Parameter.{is_value_byte, is_value_word}
 use Rattle.sip_parts.specs.Uri.{is_uri_byte, is_uri}
 use Rattle.sip_parts.specs.Word.{is_word_byte, is_word}
 use Rattle.sip_text.specs.Lines.{has_no}
-use Rattle.sip_reader.proofs.Blanks.{end_is, starts_full}
-use Rattle.sip_reader.proofs.Characters.{token_bytes, full_at}
-use Rattle.sip_reader.proofs.Cuts.{all_imply, run_all}
-use Rattle.sip_reader.proofs.Digits.{all_digits}
-use Rattle.sip_reader.proofs.Pieces.{by_bool}
+use Rattle.sip_values.proofs.Blanks.{end_is, starts_full}
+use Rattle.sip_values.proofs.Characters.{token_bytes, full_at}
+use Rattle.sip_values.proofs.Cuts.{all_imply, run_all}
+use Rattle.sip_values.proofs.Digits.{all_digits}
+use Rattle.sip_values.proofs.Pieces.{by_bool}
 
 -- ---- bytes that neither end a line nor are white space
 
