@@ -6,6 +6,6 @@ loop-piece-preserved g c = (
   tt,
   tt,
   ran_then g.J.Job.gives c.loop-piece.yielded c.in-Some.piece c.run_piece.result
-  c.loop-piece.dones.items c.push.new.self.items c.in_ok-push.ensures.items
-  c.run_piece.ensures c.loop-piece.invariant.2,
+      c.loop-piece.dones.items c.push.new.self.items c.in_ok-push.ensures.items
+      c.run_piece.ensures c.loop-piece.invariant.2,
 )
