@@ -15,19 +15,27 @@ use sip_parts::{Parameter, Token};
 use sip_text::decimal;
 use std::alloc::{AllocError, Global};
 
+/// How many bytes are reserved for all that stands before a body.
+const ROOM_FOR_HEADERS: usize = 512;
+
 /// The one text of the message: its start line, its headers in a fixed order, an empty line and its
 /// body.
 #[tactic(auto, unfolding(crate::specs::Written::written))]
 pub fn write(alloc: Global, message: &Message) -> Result<Vec<u8>, AllocError>
     ensures { IfOk result (λ text. text.items ≡ written.written message.now) }
 {
-    let mut out = Vec::new(alloc);
+    let mut out = Vec::with_capacity(alloc, room_for(message))?;
     push_head(&mut out, message)?;
     push_identity(&mut out, message)?;
     push_routes(&mut out, message)?;
     push_extensions(&mut out, message)?;
     push_content(&mut out, message)?;
     Ok(out)
+}
+
+// How many bytes are reserved for a message, so that few of them grow as they are written.
+fn room_for(message: &Message) -> usize {
+    ROOM_FOR_HEADERS.saturating_add(message.body.len())
 }
 
 #[tactic(auto, unfolding(crate::specs::Written::head_text))]

@@ -26,6 +26,9 @@ impl<K: Drop, O: Drop> Replies<K, O> {
         let Replies { ticks, items } = self;
         let mut said = joined(alloc, ticks)?;
         let mut rest = joined(alloc, items)?;
+        if said.is_empty() {
+            return Ok(rest);
+        }
         said.append(&mut rest)?;
         Ok(said)
     }

@@ -91,9 +91,18 @@ pub fn joined<L: Drop, O: Drop>(alloc: Global, told: Vec<(L, Vec<O>)>) -> Result
     ensures { IfOk result (λ outputs. outputs.items
         ≡ flat_map (λ group. group.1.items) told.items) }
 {
-    let mut outputs = Vec::new(alloc);
+    let mut outputs = Vec::with_capacity(alloc, count_in(&told))?;
     for (_, mut said) in told {
         outputs.append(&mut said)?;
     }
     Ok(outputs)
+}
+
+// How much was said in all.
+fn count_in<L, O>(told: &[(L, Vec<O>)]) -> usize {
+    let mut count: usize = 0;
+    for group in told {
+        count = count.saturating_add(group.1.len());
+    }
+    count
 }

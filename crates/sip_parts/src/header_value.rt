@@ -3,7 +3,8 @@ ghost use Rattle.std.specs.Prelude.{◌≡◌};
 ghost use Rattle.sip_parts.specs.HeaderValue as rule;
 
 use crate::checked::{Checked, Rule};
-use sip_text::{is_blank, is_line_byte};
+use memchr::memchr2;
+use sip_text::is_blank;
 
 /// The rule of [`HeaderValue`].
 pub struct HeaderValueRule;
@@ -44,5 +45,5 @@ pub(crate) fn has_no_blank_ends(text: &[u8]) -> bool
 pub fn has_no_line_byte(text: &[u8]) -> bool
     ensures { result ≡ rule.has_no_line_byte text.now }
 {
-    text.iter().all(|byte| !is_line_byte(*byte))
+    memchr2(b'\r', b'\n', text).is_none()
 }

@@ -29,9 +29,11 @@ pub(crate) fn said(
 {
     let mut outputs = Vec::new(alloc);
     if let Some(out) = hand_up(key, life, step.handed, arrived)? {
+        outputs.reserve_exact(1)?;
         outputs.push(out)?;
     }
     if let Some(bytes) = bytes_sent(life.last.as_ref(), step.sent, made) {
+        outputs.reserve_exact(1)?;
         outputs.push(send_out(key, life.to, bytes)?)?;
     }
     Ok(outputs)
@@ -53,6 +55,7 @@ pub(crate) fn passed_on(
 {
     let mut outputs = Vec::new(alloc);
     if let Some(out) = pass_on(key, id, message, reply_to, handed)? {
+        outputs.reserve_exact(1)?;
         outputs.push(out)?;
     }
     Ok(outputs)

@@ -16,7 +16,7 @@ use std::thread;
 use std::thread::Threads;
 
 /// Runs each piece once, on up to `workers` threads, and gives each done with its piece's shard
-/// number, in any order.
+/// number, in any order. One worker, or one piece, starts no thread.
 ///
 /// `gate` is told of each piece as it begins.
 ///
@@ -37,6 +37,61 @@ where
     ensures each_once { IfOk result (λ dones. AllRan J.gives pieces.items dones.items) }
     ensures differ { IsDistinct nat_eq (map (λ p. p.shard) pieces.items)
         → IfOk result (λ dones. IsDistinct nat_eq (map (λ d. d.0) dones.items)) }
+{
+    dones_of(rt, alloc, pieces, workers, gate)
+}
+
+// Where there is nothing to share, no thread is started.
+fn dones_of<R: Threads + Sync, J: Job + Send + Drop, G: Gate>(
+    rt: &R,
+    alloc: Global,
+    pieces: Vec<Piece<J>>,
+    workers: usize,
+    gate: &G,
+) -> Result<Vec<(usize, J::Done)>, NoMemory>
+where
+    J::Done: Send + Drop,
+    requires some { 0 < workers }
+    requires most { workers ≤ 64 }
+    ensures { IfOk result (λ dones. AllRan J.gives pieces.items dones.items) }
+{
+    if workers == 1 || pieces.len() == 1 {
+        in_turn(alloc, pieces, gate)
+    } else {
+        shared_out(rt, alloc, pieces, workers, gate)
+    }
+}
+
+// Each piece in its turn, on the thread that asks for it.
+fn in_turn<J: Job + Drop, G: Gate>(
+    alloc: Global,
+    pieces: Vec<Piece<J>>,
+    gate: &G,
+) -> Result<Vec<(usize, J::Done)>, NoMemory>
+where
+    J::Done: Drop,
+    ensures { IfOk result (λ dones. AllRan J.gives pieces.items dones.items) }
+{
+    let mut dones = Vec::with_capacity(alloc, pieces.len())?;
+    for piece in pieces {
+        dones.push(run_piece(piece, gate))?;
+    }
+    Ok(dones)
+}
+
+// The pieces in a deque, from which the owner and the thieves take them.
+fn shared_out<R: Threads + Sync, J: Job + Send + Drop, G: Gate>(
+    rt: &R,
+    alloc: Global,
+    pieces: Vec<Piece<J>>,
+    workers: usize,
+    gate: &G,
+) -> Result<Vec<(usize, J::Done)>, NoMemory>
+where
+    J::Done: Send + Drop,
+    requires some { 0 < workers }
+    requires most { workers ≤ 64 }
+    ensures { IfOk result (λ dones. AllRan J.gives pieces.items dones.items) }
 {
     let most = pieces.len();
     let owner = filled(alloc, pieces)?;

@@ -1,0 +1,70 @@
+//! What was counted.
+
+use crate::fault::BenchFault;
+use std::fmt;
+
+/// What a measurement counted.
+#[derive(Clone, Copy)]
+pub enum Tally {
+    /// Messages that were read, and their bytes.
+    Read { messages: u64, bytes: u64 },
+    /// Answers that were written, and their bytes.
+    Answered { answers: u64, bytes: u64 },
+    /// What came of requests.
+    Served(Served),
+}
+
+/// What came of the requests of a load.
+#[derive(Clone, Copy)]
+pub struct Served {
+    /// The user was told of so many.
+    pub told: u64,
+    /// So many 200 were sent.
+    pub answered: u64,
+    /// So many have ended.
+    pub ended: u64,
+    /// So many are held.
+    pub held: u64,
+    /// So many rounds passed.
+    pub rounds: u64,
+}
+
+impl fmt::Display for Tally {
+    fn fmt<W: fmt::Write>(&self, f: &mut fmt::Formatter<W>) -> fmt::Result {
+        match self {
+            Tally::Read { messages, bytes } => write!(f, "{messages} read of {bytes} bytes"),
+            Tally::Answered { answers, bytes } => {
+                write!(f, "{answers} answers written of {bytes} bytes")
+            }
+            Tally::Served(
+                Served {
+                    told,
+                    answered,
+                    ended,
+                    held,
+                    rounds,
+                },
+            ) => write!(
+                f,
+                "{told} told, {answered} answered, {ended} ended, {held} held, {rounds} rounds"
+            ),
+        }
+    }
+}
+
+/// That a count is what was asked for.
+///
+/// # Errors
+///
+/// `Count` where it isn't.
+pub fn expect(what: &'static str, wanted: u64, given: u64) -> Result<(), BenchFault> {
+    if given == wanted {
+        Ok(())
+    } else {
+        Err(BenchFault::Count {
+            what,
+            wanted,
+            given,
+        })
+    }
+}

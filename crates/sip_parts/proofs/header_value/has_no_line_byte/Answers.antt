@@ -1,0 +1,9 @@
+use Rattle.std.proofs.Common.{sym}
+use Rattle.sip_text.specs.Character.{is_line_byte}
+use Rattle.sip_parts.proofs.LineBytes.{none_found}
+use Rattle.sip_parts.proofs.header_value.has_no_line_byte.Goals as goal
+
+pub returns : goal.returns
+returns c =
+    none_found is_line_byte c.args.text.now c.memchr2.result c.is_none.result
+    (sym c.is_none.ensures) c.memchr2.ensures
