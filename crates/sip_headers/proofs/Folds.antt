@@ -1,5 +1,5 @@
 -- Lines are read one after the other, with those that go on with them.
-use Rattle.std.proofs.Common.{◌≡◌, ℕ, Bool, true, false, cond, eqb, ◌&&◌, List, [], ◌∷◌, ◌++◌, length, take, Option, Some, None, fold, refl, sym, ap, ◌∙◌, arith}
+use Rattle.std.proofs.Common.{◌≡◌, ℕ, zero, suc, Bool, true, false, cond, eqb, ◌&&◌, List, [], ◌∷◌, ◌++◌, length, take, Option, Some, None, fold, refl, sym, subst, ap, ◌∙◌, ◌-◌, slice_index, arith}
 use Rattle.std.specs.List.{list_all, slice_split, onto_first, join_with_byte}
 use Rattle.std.specs.Option.{option_map}
 use Rattle.std.specs.Str.Lines.{strip_carriage_return}
@@ -192,3 +192,58 @@ is_empty_text (b ∷ bs) e = absurd (omega (arith, eqb-true (length (b ∷ bs)) 
 pub is_full_text : (text : List ℕ) → eqb (length text) 0 ≡ false → text ≡ [] → ⊥
 is_full_text [] e is = absurd cc
 is_full_text (b ∷ bs) e is = absurd cc
+
+-- ---- a text that begins with no white space goes on with no line
+
+abbrev unsome : Option (List ℕ × List ℕ) → List ℕ × List ℕ
+unsome None = ([], [])
+unsome (Some p) = p
+
+first_by : (b : ℕ) (bs : List ℕ) (r : Bool) (o : Option (List ℕ × List ℕ)) (p : List ℕ × List ℕ)
+    → cond r (Some ([], bs)) (option_map (longer b) o) ≡ Some p → is_blank b ≡ false
+    → begins_blank p.0 ≡ false
+first_by b bs true o p e plain =
+    subst (λ (q : List ℕ × List ℕ). begins_blank q.0 ≡ false)
+    (ap unsome e) refl
+first_by b bs false None p e plain = absurd cc
+first_by b bs false (Some q) p e plain =
+    subst (λ (q : List ℕ × List ℕ). begins_blank q.0 ≡ false) (ap unsome e) plain
+
+first_part : (text : List ℕ) (p : List ℕ × List ℕ) → cut_at 10 text ≡ Some p
+    → begins_blank text ≡ false → begins_blank p.0 ≡ false
+first_part [] p e plain = absurd cc
+first_part (b ∷ bs) p e plain = first_by b bs (eqb b 10) (cut_at 10 bs) p e plain
+
+taken : (n : ℕ) (line : List ℕ) → begins_blank line ≡ false → begins_blank (take n line) ≡ false
+taken zero line plain = refl
+taken (suc n) [] plain = refl
+taken (suc n) (b ∷ bs) plain = plain
+
+stripped_by : (r : Bool) (line : List ℕ) → begins_blank line ≡ false
+    → begins_blank (cond r (take (length line - 1) line) line) ≡ false
+stripped_by false line plain = plain
+stripped_by true line plain = taken (length line - 1) line plain
+
+stripped : (line : List ℕ) → begins_blank line ≡ false
+    → begins_blank (strip_carriage_return line) ≡ false
+stripped line plain = stripped_by (eqb (slice_index line (length line - 1)) 13) line plain
+
+plain_first : (text line after : List ℕ) → line_at text ≡ Some (line, after)
+    → begins_blank text ≡ false → begins_blank line ≡ false
+unfolding line_at
+plain_first text line after e plain =
+    let m = mapped (λ (p : List ℕ × List ℕ). (strip_carriage_return p.0, p.1)) (cut_at 10 text)
+    (line, after) e in
+    subst (λ l. begins_blank l ≡ false) (ap (λ (p : List ℕ × List ℕ). p.0) m.2)
+    (stripped m.0.0 (first_part text m.0 m.1 plain))
+
+plain_by : (whole text : List ℕ) (first : Option (List ℕ × List ℕ)) → line_at text ≡ first
+    → begins_blank text ≡ false
+    → onto_section whole (section_at text) ≡ behind_line whole (whole_section (section_at text))
+plain_by whole text None e plain = ends_unended whole text e
+plain_by whole text (Some (more, after)) e plain =
+    ends_here whole text more after e (plain_first text more after e plain)
+
+pub ends_plain : (whole text : List ℕ) → begins_blank text ≡ false
+    → onto_section whole (section_at text) ≡ behind_line whole (whole_section (section_at text))
+ends_plain whole text plain = plain_by whole text (line_at text) refl plain

@@ -65,6 +65,9 @@ pub fn whole_line<'a>(
         found.1.now))) }
     ensures shorter { IfOk result (λ found. length found.1.now ≤ length text.now) }
 {
+    if !begins_blank(text) {
+        return Ok((Whole::Plain(line), text));
+    }
     let mut whole = Whole::Plain(line);
     let mut rest = text;
     while let Some((more, after)) = next_line(rest) {

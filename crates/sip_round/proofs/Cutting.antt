@@ -31,6 +31,17 @@ pub map_long : {X Y : Type 0} (f : X → Y) (xs : List X) → length (map f xs) 
 map_long f [] = refl
 map_long f (x ∷ xs) = ap suc (map_long f xs)
 
+-- where there is one shard, it has all items
+pub all_in_one : {K I : Type 0} (owner : K → ℕ) (items : List (Item K I))
+    → ((key : K) → owner key < 1)
+    → filter (λ item. is_owned owner 0 item.key) items ≡ items
+all_in_one owner [] one = refl
+all_in_one owner (item ∷ items) one =
+    let first : owner item.key ≡ 0 = omega (arith, one item.key) in
+    let owned : is_owned owner 0 item.key ≡ true =
+    subst (λ n. nat_eq n 0 ≡ true) (sym first) refl in
+    rw (owned, all_in_one owner items one) refl
+
 module _ {K I : Type 0} (owner : K → ℕ) (shards : ℕ) (all : List (Item K I)) where
   -- before the first item every part is empty
   pub parts_empty : (V : Type 0) (items : V → List (Item K I)) (d : V) (parts : List V)

@@ -98,3 +98,10 @@ pub(crate) fn part_calls(
     }
     Ok(())
 }
+
+/// How many commands there are among what calls say.
+pub(crate) fn count_commands(outs: &[CallOut]) -> usize {
+    outs.iter()
+        .filter(|out| matches!(out, CallOut::Command(..)))
+        .count()
+}

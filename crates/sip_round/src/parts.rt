@@ -46,6 +46,39 @@ pub(crate) fn parts_of<C: Cut, K: Named + Drop, I: Drop>(
     ensures { IfOk result (λ parts. map (λ part. part.items) parts.items
         ≡ cut_by (owner_of (C.shard_of cut.now) K.name shards) 0 shards items.items) }
 {
+    if shards == 1 {
+        one_part(alloc, items)
+    } else {
+        parts_by_name(alloc, cut, items, shards)
+    }
+}
+
+// One shard has all items.
+fn one_part<K: Drop, I: Drop>(
+    alloc: Global,
+    items: Vec<Item<K, I>>,
+) -> Result<Vec<Vec<Item<K, I>>>, AllocError>
+    ensures { (owner : K → ℕ) → ((key : K) → owner key < 1)
+        → IfOk result (λ parts. map (λ part. part.items) parts.items
+        ≡ cut_by owner 0 1 items.items) }
+{
+    let mut parts = Vec::with_capacity(alloc, 1)?;
+    parts.push(items)?;
+    Ok(parts)
+}
+
+// Each item goes to the shard of its name.
+fn parts_by_name<C: Cut, K: Named + Drop, I: Drop>(
+    alloc: Global,
+    cut: &C,
+    items: Vec<Item<K, I>>,
+    shards: usize,
+) -> Result<Vec<Vec<Item<K, I>>>, AllocError>
+    requires some { 0 < shards }
+    requires most { shards ≤ 256 }
+    ensures { IfOk result (λ parts. map (λ part. part.items) parts.items
+        ≡ cut_by (owner_of (C.shard_of cut.now) K.name shards) 0 shards items.items) }
+{
     let mut parts = empty_parts(alloc, shards)?;
     for item in items {
         let shard = cut.shard(item.key.name(), shards);

@@ -11,7 +11,7 @@ ghost use Rattle.sip_round.specs.Parts.{owner_of};
 
 use crate::inputs::{call_items, command_items};
 use crate::output::Output;
-use crate::outs::{part_calls, send_all};
+use crate::outs::{count_commands, part_calls, send_all};
 use crate::parts::parts_of;
 use crate::phase::deal_phase;
 use crate::round::Round;
@@ -166,8 +166,9 @@ impl<'a, R: Threads + Sync, C: Cut, G: Gate> Ground<'a, R, C, G> {
             self.workers,
             self.gate,
         )?;
-        let mut commands = Vec::new(self.alloc);
-        part_calls(replies.joined(self.alloc)?, outputs, &mut commands)?;
+        let said = replies.joined(self.alloc)?;
+        let mut commands = Vec::with_capacity(self.alloc, count_commands(&said))?;
+        part_calls(said, outputs, &mut commands)?;
         Ok((tables, commands))
     }
 

@@ -91,8 +91,8 @@ pub(crate) fn weave(
 {
     let Replies { ticks, items: said } = replies;
     let ticked = joined(alloc, ticks)?;
-    let mut outputs = Vec::new(alloc);
-    let mut items = Vec::new(alloc);
+    let mut outputs = Vec::with_capacity(alloc, waiting.len())?;
+    let mut items = Vec::with_capacity(alloc, waiting.len())?;
     part(ticked, Id { round, place: 0 }, &mut outputs, &mut items)?;
     weave_all(waiting, said, &mut outputs, &mut items)?;
     Ok((outputs, items))

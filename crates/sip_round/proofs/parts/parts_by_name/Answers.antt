@@ -3,7 +3,7 @@ use Rattle.std.proofs.lemmas.List.{nil_from_length, map-set, get_or-map}
 use Rattle.std.specs.Vec.Iter.{into_iter_items}
 use Rattle.sip_round.specs.Parts.{owner_of}
 use Rattle.sip_round.proofs.Cutting.{PartsLeft, parts_empty, one_pushed, parts_whole, map_long}
-use Rattle.sip_round.proofs.parts.parts_of.Goals as goal
+use Rattle.sip_round.proofs.parts.parts_by_name.Goals as goal
 
 pub loop-item-init : goal.loop-item-init
 loop-item-init g c =

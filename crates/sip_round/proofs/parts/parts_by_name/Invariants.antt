@@ -2,7 +2,7 @@ use Rattle.std.proofs.Common.{map}
 use Rattle.std.specs.Vec.Iter.{into_iter_items}
 use Rattle.sip_round.specs.Parts.{owner_of}
 use Rattle.sip_round.proofs.Cutting.{PartsLeft}
-use Rattle.sip_round.proofs.parts.parts_of.Given as goal
+use Rattle.sip_round.proofs.parts.parts_by_name.Given as goal
 
 abbrev pub invariant-loop-item : goal.invariant-loop-item
 invariant-loop-item g l =

@@ -12,7 +12,7 @@ returns-clause-outputs c =
     ∙ ap (λ os. os ++ flat_map (λ w. flat_map sent_of w.1)
     (woven c.args.waiting.items (groups c.args.replies.items.items)))
     (c.in_ok-part.ensures.outputs ∙ ap
-    (λ os. os ++ flat_map sent_of c.in_ok-ticked.ticked.items) c.new-outputs.ensures.items
+    (λ os. os ++ flat_map sent_of c.in_ok-ticked.ticked.items) c.in_ok-outputs.ensures.items
     ∙ ap (flat_map sent_of) (c.in_ok-ticked.ensures
     ∙ flat_map-groups c.args.replies.ticks.items))
 
@@ -23,6 +23,6 @@ returns-clause-items c =
     (woven c.args.waiting.items (groups c.args.replies.items.items)))
     (c.in_ok-part.ensures.items ∙ ap
     (λ is. is ++ flat_map (raised_of (record { round = c.args.round; place = 0 }))
-    c.in_ok-ticked.ticked.items) c.new-items.ensures.items
+    c.in_ok-ticked.ticked.items) c.in_ok-items.ensures.items
     ∙ ap (flat_map (raised_of (record { round = c.args.round; place = 0 })))
     (c.in_ok-ticked.ensures ∙ flat_map-groups c.args.replies.ticks.items))

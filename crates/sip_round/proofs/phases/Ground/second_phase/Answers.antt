@@ -32,8 +32,8 @@ returns g c =
     led_second c.args.calls (owner_of shard_of (λ call_id. call_id) (length tables)) tables
     c.in_ok-tables.tables.items c.args.now c.args.items.items
     (groups c.in_ok-tables.replies.ticks.items) (groups c.in_ok-tables.replies.items.items)
-    c.in_ok-joined.field-0.items c.args.outputs.now.items c.part_calls.new.outputs.items
-    c.new-commands.result.items c.part_calls.new.commands.items
+    c.in_ok-said.said.items c.args.outputs.now.items c.part_calls.new.outputs.items
+    c.in_ok-commands.commands.items c.part_calls.new.commands.items
     (c.in_ok-tables.ensures (owner_of shard_of (λ call_id. call_id) (length tables))
     (call_items c.args.now 0 c.args.items.items)
     (λ key. g.met.C.Cut.within c.args.self.now.cut.now key (length tables) c.requires.shards)
@@ -43,5 +43,5 @@ returns g c =
     ∙ ap (cut_by (owner_of shard_of (λ call_id. call_id) (length tables)) 0 (length tables))
     c.in_ok-items.ensures)
     (climbs_in_order 0 _ (calls_climb c.args.now 0 c.args.items.items)))
-    c.in_ok-joined.ensures c.in_ok-part_calls.ensures.outputs c.new-commands.ensures.items
+    c.in_ok-said.ensures c.in_ok-part_calls.ensures.outputs c.in_ok-commands.ensures.items
     c.in_ok-part_calls.ensures.commands
