@@ -228,6 +228,20 @@ fn a_strict_router_has_no_lr_behind_its_host(rt: HostRuntime) -> Result<(), Fail
     let mut early = routed(&rt, rt.alloc(), 180, "sip:p")?;
     let fault = fault_of(next(&rt, rt.alloc(), &mut early, "INVITE")?);
     assert!(rt; fault == Some(DialogFault::NotConfirmed));
+    let fault = fault_of(ack_of(&rt, rt.alloc(), &early, 1, "")?);
+    assert!(rt; fault == Some(DialogFault::NotConfirmed));
+    Ok(())
+}
+
+#[test]
+fn a_strict_router_is_told_before_numbers_that_end(rt: HostRuntime) -> Result<(), Fail> {
+    let alloc = rt.alloc();
+    let request = own_invite(alloc, 2_147_483_647)?;
+    let mut response = answer(alloc, 200, 2_147_483_647)?;
+    response.record_routes.push(address(&rt, alloc, "sip:p")?)?;
+    let mut dialog = Dialog::from_response(alloc, &request, &response)?;
+    let fault = fault_of(next(&rt, alloc, &mut dialog, "INFO")?);
+    assert!(rt; fault == Some(DialogFault::StrictRoute));
     Ok(())
 }
 
