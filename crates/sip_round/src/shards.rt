@@ -29,7 +29,8 @@ impl Model for Shards {
 
     ghost view = { λ s. record { transactions = s.transactions.items; calls = s.calls.items } };
 
-    ghost invariant = { λ s. AreShards (record { transactions = s.transactions.items; calls = s.calls.items }) };
+    ghost invariant = { λ s. AreShards
+        (record { transactions = s.transactions.items; calls = s.calls.items }) };
 }
 
 impl Drop for Shards {

@@ -26,7 +26,7 @@ returns-clause-whole c =
       | in-Some+then-not-begins_blank-2 w ↦ ends_here
           (whole_now c.loop-more.whole) c.loop-more.rest.now w.in-Some.more.now w.in-Some.after.now
           (sym w.in-Some.ensures.parts) (sym w.begins_blank-in-Some.ensures
-              ∙ w.if-not-begins_blank-2.true)
+          ∙ w.if-not-begins_blank-2.true)
       | in_default w ↦ ends_unended (whole_now c.loop-more.whole) c.loop-more.rest.now
           (sym w.in_default.ensures.parts)
     ]
