@@ -44,7 +44,8 @@ pub returns-in_default-clause-each_request_once : goal.returns-in_default-clause
 returns-in_default-clause-each_request_once g c =
     c.one_request_in_each_life.ensures c.args.config c.args.rounds.now
 
-pub returns-in_default-clause-provisionals_in_order : goal.returns-in_default-clause-provisionals_in_order
+pub returns-in_default-clause-provisionals_in_order :
+    goal.returns-in_default-clause-provisionals_in_order
 returns-in_default-clause-provisionals_in_order g c =
     c.provisionals_in_each_life.ensures c.args.rounds.now
 
@@ -56,11 +57,13 @@ pub returns-in-Err-clause-provisionals_in_order : goal.returns-in-Err-clause-pro
 returns-in-Err-clause-provisionals_in_order g c =
     c.provisionals_in_each_life.ensures c.args.rounds.now
 
-pub returns-in_default-push-clause-each_request_once : goal.returns-in_default-push-clause-each_request_once
+pub returns-in_default-push-clause-each_request_once :
+    goal.returns-in_default-push-clause-each_request_once
 returns-in_default-push-clause-each_request_once g c =
     c.one_request_in_each_life.ensures c.args.config c.args.rounds.now
 
-pub returns-in_default-push-clause-provisionals_in_order : goal.returns-in_default-push-clause-provisionals_in_order
+pub returns-in_default-push-clause-provisionals_in_order :
+    goal.returns-in_default-push-clause-provisionals_in_order
 returns-in_default-push-clause-provisionals_in_order g c =
     c.provisionals_in_each_life.ensures c.args.rounds.now
 
@@ -71,7 +74,8 @@ returns-clause-each_request_once g c =
 pub returns-clause-provisionals_in_order : goal.returns-clause-provisionals_in_order
 returns-clause-provisionals_in_order g c = c.provisionals_in_each_life.ensures c.args.rounds.now
 
-pub returns-in_default-clause-nothing_after_the_end : goal.returns-in_default-clause-nothing_after_the_end
+pub returns-in_default-clause-nothing_after_the_end :
+    goal.returns-in_default-clause-nothing_after_the_end
 returns-in_default-clause-nothing_after_the_end g c =
     c.nothing_after_each_end.ensures c.args.config c.args.rounds.now
 
@@ -79,7 +83,8 @@ pub returns-in-Err-clause-nothing_after_the_end : goal.returns-in-Err-clause-not
 returns-in-Err-clause-nothing_after_the_end g c =
     c.nothing_after_each_end.ensures c.args.config c.args.rounds.now
 
-pub returns-in_default-push-clause-nothing_after_the_end : goal.returns-in_default-push-clause-nothing_after_the_end
+pub returns-in_default-push-clause-nothing_after_the_end :
+    goal.returns-in_default-push-clause-nothing_after_the_end
 returns-in_default-push-clause-nothing_after_the_end g c =
     c.nothing_after_each_end.ensures c.args.config c.args.rounds.now
 
