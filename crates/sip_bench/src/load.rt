@@ -94,7 +94,7 @@ impl Load {
         };
         let outputs = self.agent.run_round(rt, &round, workers, &Open)?;
         self.rounds = self.rounds.saturating_add(1);
-        for output in outputs {
+        for output in &outputs {
             self.take(output)?;
         }
         Ok(())
@@ -134,15 +134,15 @@ impl Load {
     }
 
     // Counts an output, and answers a request that the user is told of.
-    fn take(&mut self, output: Output) -> Result<(), BenchFault> {
+    fn take(&mut self, output: &Output) -> Result<(), BenchFault> {
         match output {
             Output::Send { bytes, .. } => {
-                if bytes.as_slice().starts_with(ANSWER) {
+                if is_answer(bytes.as_slice()) {
                     self.answered = self.answered.saturating_add(1);
                 }
             }
             Output::Notice(notice) => {
-                if let Some(answer) = answer_to(self.alloc, &notice)? {
+                if let Some(answer) = answer_to(self.alloc, notice)? {
                     self.told = self.told.saturating_add(1);
                     self.answers.push(answer)?;
                 }
@@ -151,6 +151,10 @@ impl Load {
         }
         Ok(())
     }
+}
+
+fn is_answer(text: &[u8]) -> bool {
+    text.starts_with(ANSWER)
 }
 
 // The answer to what the user is told, where that is a request.

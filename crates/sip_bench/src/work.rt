@@ -13,6 +13,9 @@ use std::thread::Threads;
 /// How long a transaction is held once it is answered, in ms: 64 T1.
 const LIFE: u64 = 32_000;
 
+/// How many requests come in a round before idle ones.
+const REQUESTS_AT_ONCE: u64 = 100;
+
 /// How many requests a large round has.
 pub const REQUESTS_OF_ROUND: u64 = 10_000;
 
@@ -73,12 +76,10 @@ fn idle<R: Threads + Sync>(
     rounds: u64,
 ) -> Result<Tally, BenchFault> {
     let mut load = Load::new(alloc, 1, 1)?;
-    let mut left = held;
-    while left > 0 {
-        let now = left.min(REQUESTS_OF_ROUND);
-        load.round(rt, 0, now)?;
-        left -= now;
+    for _ in 0..held / REQUESTS_AT_ONCE {
+        load.round(rt, 0, REQUESTS_AT_ONCE)?;
     }
+    load.round(rt, 0, held % REQUESTS_AT_ONCE)?;
     load.round(rt, 0, 0)?;
     for number in 0..rounds {
         load.round(rt, number % LIFE, 0)?;
