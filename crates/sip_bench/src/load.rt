@@ -16,6 +16,11 @@ const OK: u16 = 200;
 
 const REASON: &[u8] = b"OK";
 
+/// The most shards and workers that an agent has.
+const MOST_SHARDS: usize = 256;
+
+const MOST_WORKERS: usize = 64;
+
 /// What each answer begins with.
 const ANSWER: &[u8] = b"SIP/2.0 200 ";
 
@@ -57,7 +62,7 @@ impl Load {
     ///
     /// `Words` for numbers of shards or workers that there can't be, and want of memory.
     pub fn new(alloc: Global, shards: usize, workers: usize) -> Result<Load, BenchFault> {
-        if shards == 0 || shards > 256 {
+        if shards == 0 || shards > MOST_SHARDS {
             return Err(BenchFault::Words);
         }
         Ok(Load {
@@ -85,7 +90,7 @@ impl Load {
         requests: u64,
     ) -> Result<(), BenchFault> {
         let workers = self.workers;
-        if workers == 0 || workers > 64 {
+        if workers == 0 || workers > MOST_WORKERS {
             return Err(BenchFault::Words);
         }
         let round = Round {
