@@ -1,4 +1,5 @@
 pub mod EventsStatus
+pub mod Inputs
 pub mod RoundStatus
 pub mod Status
 pub mod TalkStatus

@@ -1,7 +1,8 @@
 //! The program: what each command does.
 
 ghost use Rattle.std.specs.Prelude.{◌≡◌, ◌≢◌, ◌<◌, ◌≤◌, IfErr, IfSome, IsFalse, IsTrue, OnOk, map};
-ghost use Rattle.sip_files.specs.Replay.{WritesAll};
+ghost use Rattle.sip_files.specs.Replay.{TellsReplay, WritesAll};
+ghost use Rattle.sip_program.specs.Inputs.{HasRefusedRound, IsNoEventFile};
 ghost use Rattle.sip_program.specs.Words.{asks_replay};
 ghost use Rattle.sip_files.specs.declared.file_replay.ReplayFault.TheVariants as replay_fault;
 
@@ -46,6 +47,10 @@ pub fn ua<T: Threads + Clock + Net + RandomSource + Sync, S: AsStr, R: Read, W: 
         (WritesAll (W.contents output.old) (W.contents output.new)) }
     ensures unwritten { IsTrue (asks_replay (map S.text words.now)) → result ≢ 0 → result ≢ 4
         → output.new ≡ output.old }
+    ensures no_event_file { IsTrue (asks_replay (map S.text words.now)) → result ≡ 1
+        → IfSome (R.remaining input.old) IsNoEventFile }
+    ensures refused_round { IsTrue (asks_replay (map S.text words.now)) → result ≡ 3
+        → IfSome (R.remaining input.old) HasRefusedRound }
     ensures unread { IsFalse (asks_replay (map S.text words.now)) → input.new ≡ input.old }
     ensures bad_words { result ≡ 2 → output.new ≡ output.old }
 {
@@ -75,6 +80,7 @@ fn replay_by<T: Threads + Sync, R: Read, W: Write>(
     requires most_workers { words.workers ≤ 64 }
     ensures replays { OnOk result (IfSome (R.remaining input.old)
         (WritesAll (W.contents output.old) (W.contents output.new))) }
+    ensures fault { IfErr result (λ fault. IfSome (R.remaining input.old) (TellsReplay fault)) }
     ensures unwritten { IfErr result
         (λ fault. fault ≢ replay_fault.Output → output.new ≡ output.old) }
 {

@@ -27,6 +27,8 @@ const NO_MEMORY: u8 = 5;
 /// Tells a fault of the words, and gives its status.
 pub(crate) fn tell_words<E: Write>(error: &Error, errors: &mut E) -> u8
     ensures fault { result ≢ 0 }
+    ensures events { result ≢ 1 }
+    ensures round { result ≢ 3 }
     ensures stream { result ≢ 4 }
 {
     if error.kind() == ErrorKind::OutOfMemory {

@@ -1,0 +1,14 @@
+-- What the statuses 1 and 3 of a replay tell of its input.
+use Rattle.std.specs.Prelude.{ℕ, List}
+use Rattle.sip_files.specs.EventFile.{TellsFault}
+use Rattle.sip_files.specs.Replay.{RefusesRound}
+use Rattle.sip_files.specs.declared.events_fault.EventsFault.{EventsFault}
+use Rattle.sip_round.specs.declared.round_fault.RoundFault.{RoundFault}
+
+-- some fault of an event file fits it
+abbrev pub IsNoEventFile : List ℕ → Type 0
+IsNoEventFile text = (fault : EventsFault) × TellsFault fault text
+
+-- some round of it is the first that is refused
+abbrev pub HasRefusedRound : List ℕ → Type 0
+HasRefusedRound text = (index : ℕ) × (fault : RoundFault) × RefusesRound index fault text
