@@ -2,5 +2,4 @@ pub mod UriTexts
 pub mod Tags
 pub mod Requests
 pub mod Lives
-pub mod Numerals
 pub mod Addresses

@@ -6,7 +6,8 @@ use Rattle.sip_message.specs.declared.addr.Addr.{Addr}
 use Rattle.sip_message.specs.declared.name_addr.NameAddr.{NameAddr}
 use Rattle.sip_dialog.specs.declared.dialog.Dialog.{Dialog}
 use Rattle.sip_dialog.specs.UriText.{semicolon, before, host_part, is_loose}
-use Rattle.sip_dialog.specs.Address.{address_at, ◌>>=◌}
+use Rattle.sip_text.specs.Options.{◌>>=◌}
+use Rattle.sip_dialog.specs.Address.{address_at}
 
 -- the first route is a strict router
 abbrev pub is_strict : List NameAddr → Bool

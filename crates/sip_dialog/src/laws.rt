@@ -1,7 +1,8 @@
 //! Laws of the definitions. Each is proved by its contract alone, and calling one does nothing.
 ghost use Rattle.std.specs.Prelude.{◌≡◌, List, ℕ, Some};
 ghost use Rattle.sip_message.specs.declared.addr.Addr.{Addr};
-ghost use Rattle.sip_dialog.specs.Address.{address_at, IsAddr, IsTextOf};
+ghost use Rattle.sip_message.specs.Addr.{IsAddr};
+ghost use Rattle.sip_dialog.specs.Address.{address_at, IsTextOf};
 
 /// An address is read from its own texts, and from no other.
 pub fn an_address_has_its_own_texts()

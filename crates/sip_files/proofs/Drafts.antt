@@ -6,6 +6,8 @@ use Rattle.std.specs.Option.{option_map}
 use Rattle.std.specs.Prelude.{replicate}
 use Rattle.std.proofs.lemmas.List.{append-nil}
 use Rattle.std.proofs.lemmas.List.Concat.{flat_map-append}
+use Rattle.sip_text.proofs.Options.{bind_some, same_some}
+use Rattle.sip_text.specs.Options.{◌>>=◌}
 use Rattle.sip_message.specs.declared.addr.Addr.{Addr}
 use Rattle.sip_round.specs.declared.config.Config.{Config}
 use Rattle.sip_round.specs.declared.round.Event.{Event}
@@ -16,9 +18,7 @@ use Rattle.sip_files.specs.declared.draft.Stage.{Stage}
 use Rattle.sip_files.specs.declared.draft.Stage.TheVariants as stage
 use Rattle.sip_files.specs.declared.draft.Draft.{Draft}
 use Rattle.sip_files.specs.EventFile.{Head, config_of, head_lines, round_lines, file_lines}
-use Rattle.sip_files.specs.Reading.{◌>>=◌}
 use Rattle.sip_files.specs.Drafting.{nothing_read, local_taken, seed_taken, first_taken, begun_round, round_taken, with_event, taken, drafted}
-use Rattle.sip_files.proofs.Options.{bind_some, same_some}
 
 abbrev pub one_more : Round → Event → Round
 one_more round event = record round { events = round.events ++ event ∷ [] }

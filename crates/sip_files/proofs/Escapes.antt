@@ -5,12 +5,13 @@ use Rattle.std.specs.Option.{option_map, is_some}
 use Rattle.std.proofs.lemmas.Bool.{eqb-true, or_parts, or_from, cases_Bool}
 use Rattle.std.proofs.lemmas.Bool.Decides.{nat_tests}
 use Rattle.std.proofs.lemmas.List.{append-nil}
+use Rattle.sip_text.proofs.Options.{bind_some, chosen, passed, not_stopped}
+use Rattle.sip_text.specs.Options.{◌>>=◌}
 use Rattle.sip_files.specs.declared.words.Form.{Form}
 use Rattle.sip_files.specs.declared.words.Form.TheVariants.{Word, Rest}
 use Rattle.sip_files.specs.Form.{itself_in}
 use Rattle.sip_files.specs.Word.{is_plain, is_plain_or_space, letter_of, hex_pair, escape_with, spelled_byte}
-use Rattle.sip_files.specs.Reading.{◌>>=◌, byte_of_letter, hex_byte, hex_at, letter_at, escape_at, byte_at, bytes_from, bytes_at}
-use Rattle.sip_files.proofs.Options.{bind_some, chosen, passed, not_stopped}
+use Rattle.sip_files.specs.Reading.{byte_of_letter, hex_byte, hex_at, letter_at, escape_at, byte_at, bytes_from, bytes_at}
 use Rattle.sip_files.proofs.Hex.{letter_again, letter_takes, letter_not_x, letter_small, pair_takes, pair_again}
 
 -- a backslash never stands for itself, and what does is a byte

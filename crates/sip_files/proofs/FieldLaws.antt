@@ -5,12 +5,18 @@ use Rattle.std.specs.Str.{bytes_eq}
 use Rattle.std.proofs.lemmas.Bool.{eqb-true, false≢true, ne_eqb}
 use Rattle.std.proofs.lemmas.List.{nil_from_length}
 use Rattle.std.proofs.lemmas.Slice.Eq.{bytes_eq-Decides}
+use Rattle.sip_text.proofs.Numerals.{number_reads, number_has_no}
+use Rattle.sip_text.proofs.Cuts.{has_no, Reads, none_passing}
+use Rattle.sip_text.proofs.Options.{bind_some, chosen, passed, same_some}
+use Rattle.sip_text.specs.Cut.{field_at}
+use Rattle.sip_text.specs.Number.{number_at}
+use Rattle.sip_text.specs.Options.{◌>>=◌}
 use Rattle.sip_parts.specs.Word.{is_word}
 use Rattle.sip_parts.specs.Reason.{is_reason}
 use Rattle.sip_parts.specs.Uri.{is_uri}
 use Rattle.sip_text.specs.Character.{is_token_byte}
 use Rattle.sip_text.specs.Token.{is_token}
-use Rattle.sip_message.specs.Addr.{addr_text}
+use Rattle.sip_message.specs.Addr.{addr_text, IsAddr}
 use Rattle.sip_served.specs.declared.command.Reliability.{Reliability}
 use Rattle.sip_served.specs.declared.command.Reliability.TheVariants as reliability
 use Rattle.sip_served.specs.declared.command.ProvisionalSupport.{ProvisionalSupport}
@@ -19,14 +25,13 @@ use Rattle.sip_files.specs.declared.fields.Dialog.{Dialog}
 use Rattle.sip_files.specs.declared.fields.Uris.{Uris}
 use Rattle.sip_files.specs.Word.{are_bytes, spelled_word, spelled_rest}
 use Rattle.sip_files.specs.Field.{id_text}
-use Rattle.sip_files.specs.Events.{IsAddress, IsId, IsCallId, IsReason, IsUri, IsMethod, IsTag, reliability_text, support_text}
-use Rattle.sip_files.specs.Reading.{◌>>=◌, word_at, rest_at, number_at, field_at, id_at, address_at}
+use Rattle.sip_files.specs.Events.{IsId, IsCallId, IsReason, IsUri, IsMethod, IsTag, reliability_text, support_text}
+use Rattle.sip_files.specs.Reading.{word_at, rest_at, id_at, address_at}
 use Rattle.sip_files.specs.ReadLine.{call_id_at, reason_at, reliability_at, uri_at, method_at, tag_of, tag_at, support_at, uris_of, uris_at, dialog_of, dialog_at}
-use Rattle.sip_files.proofs.Options.{bind_some, chosen, passed, same_some}
 use Rattle.sip_files.proofs.WordLaws.{word_took, word_again, rest_took, rest_again}
-use Rattle.sip_files.proofs.Cuts.{has_no, Reads, ReadsFront, field_front, both_front, made_front}
-use Rattle.sip_files.proofs.Shown.{none_passing, word_no}
-use Rattle.sip_files.proofs.NumberLaws.{number_reads, id_reads, address_reads, address_no, id_no, number_no}
+use Rattle.sip_files.proofs.Cuts.{ReadsFront, field_front, both_front, made_front}
+use Rattle.sip_files.proofs.Shown.{word_no}
+use Rattle.sip_files.proofs.NumberLaws.{id_reads, address_reads, address_no, id_no}
 
 -- ---- fields
 
@@ -239,8 +244,8 @@ pub method_front : ReadsFront IsMethod (λ text. text) (field_at 32 method_at)
 method_front = field_front IsMethod (λ text. text) method_at method_reads
     (λ text fits. no_method 32 text (unfold is_token_byte in refl) fits)
 
-pub address_front : ReadsFront IsAddress addr_text (field_at 32 address_at)
-address_front = field_front IsAddress addr_text address_at address_reads
+pub address_front : ReadsFront IsAddr addr_text (field_at 32 address_at)
+address_front = field_front IsAddr addr_text address_at address_reads
     (λ address fits. address_no 32 address refl refl refl fits)
 
 pub support_front : ReadsFront AnySupport support_text (field_at 32 support_at)
@@ -252,11 +257,11 @@ id_front = field_front IsId id_text id_at id_reads (λ id fits. id_no 32 id refl
 
 pub status_front : ReadsFront (λ n. n ≤ 999) decimal (field_at 32 (number_at 999))
 status_front = field_front (λ n. n ≤ 999) decimal (number_at 999) (number_reads 999 (omega arith))
-    (λ n fits. number_no 32 n refl (omega (arith, fits)))
+    (λ n fits. number_has_no 32 n refl (omega (arith, fits)))
 
 pub port_front : ReadsFront (λ n. n ≤ 65535) decimal (field_at 32 (number_at 65535))
 port_front = field_front (λ n. n ≤ 65535) decimal (number_at 65535)
-    (number_reads 65535 (omega arith)) (λ n fits. number_no 32 n refl (omega (arith, fits)))
+    (number_reads 65535 (omega arith)) (λ n fits. number_has_no 32 n refl (omega (arith, fits)))
 
 pub reliability_front : ReadsFront Any reliability_text (field_at 32 reliability_at)
 reliability_front =

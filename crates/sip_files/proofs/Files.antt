@@ -5,6 +5,8 @@ use Rattle.std.specs.List.{AllByRecursion, AllZip}
 use Rattle.std.proofs.lemmas.List.{append-nil, append_cancel_left, length_push}
 use Rattle.std.proofs.lemmas.List.Concat.{flat_map-append}
 use Rattle.std.proofs.lemmas.Option.{some_pair_parts}
+use Rattle.sip_text.proofs.Cuts.{has_no, cut_took, cut_again}
+use Rattle.sip_text.proofs.Options.{same_some}
 use Rattle.sip_text.specs.Cut.{cut_at}
 use Rattle.sip_message.specs.declared.addr.Addr.{Addr}
 use Rattle.sip_round.specs.declared.config.Config.{Config}
@@ -21,8 +23,6 @@ use Rattle.sip_files.specs.EventFile.{Head, config_of, file_lines, with_ends, ve
 use Rattle.sip_files.specs.ReadLine.{line_at}
 use Rattle.sip_files.specs.Drafting.{is_begun, nothing_read, taken, drafted}
 use Rattle.sip_files.specs.Lines.{FollowsVersion, TellsVersion, TellsLine, Drafts, Stuck}
-use Rattle.sip_files.proofs.Options.{same_some}
-use Rattle.sip_files.proofs.Cuts.{has_no, cut_took, cut_again}
 use Rattle.sip_files.proofs.LineLaws.{line_took, line_again, line_no}
 use Rattle.sip_files.proofs.Drafts.{drafted-push, next_taken, Begun, Gives, file_gives, file_of, nothing_of, begun_unless}
 
@@ -253,7 +253,7 @@ abbrev least_lines : List (List ℕ)
 least_lines = (codes "local" ++ address_field some_address) ∷ []
 
 least_says : SayAll least_lines (file_lines least_head [])
-least_says = (((refl, refl, omega arith), refl), tt)
+least_says = ((((refl, refl), omega arith), refl), tt)
 
 least_spelled : SpellsEvents (config_of least_head) [] (file_text least_lines)
 least_spelled = record {

@@ -1,4 +1,3 @@
-pub mod Options
 pub mod Hex
 pub mod Escapes
 pub mod Pairs

@@ -3,11 +3,16 @@ use Rattle.std.proofs.Common.{◌≡◌, ℕ, ◌≤◌, true, cond, List, ◌�
 use Rattle.std.specs.List.{flat_map}
 use Rattle.std.specs.Option.{option_map}
 use Rattle.std.specs.Str.{bytes_eq}
-use Rattle.sip_text.specs.Cut.{cut_at}
+use Rattle.sip_text.proofs.Numerals.{number_reads, number_has_no}
+use Rattle.sip_text.proofs.Cuts.{has_no, Reads, cut_took, field_took, field_again, has_no-append}
+use Rattle.sip_text.proofs.Options.{bind_some, chosen, same_some}
+use Rattle.sip_text.specs.Number.{number_at}
+use Rattle.sip_text.specs.Options.{◌>>=◌}
+use Rattle.sip_text.specs.Cut.{cut_at, field_at}
 use Rattle.sip_text.specs.Character.{is_token_byte}
 use Rattle.sip_message.specs.declared.addr.Addr.{Addr}
 use Rattle.sip_message.specs.declared.key.Key.{Key}
-use Rattle.sip_message.specs.Addr.{addr_text}
+use Rattle.sip_message.specs.Addr.{addr_text, IsAddr}
 use Rattle.sip_served.specs.declared.command.Reliability.{Reliability}
 use Rattle.sip_served.specs.declared.command.Reliability.TheVariants as reliability
 use Rattle.sip_served.specs.declared.command.DialogBody.{DialogBody}
@@ -27,14 +32,13 @@ use Rattle.sip_files.specs.declared.fields.Dialog.{Dialog}
 use Rattle.sip_files.specs.declared.fields.Uris.{Uris}
 use Rattle.sip_files.specs.Word.{hex_pair, are_bytes, spelled_word, spelled_rest}
 use Rattle.sip_files.specs.Field.{id_text, plain_field, number_field, id_field, address_field, word_field, rest_field}
-use Rattle.sip_files.specs.Events.{IsAddress, IsReason, IsMethod, IsInvite, IsPlain, IsRequest, IsBody, IsRespond, IsCommandLine, reliability_text, support_text, command_text, SpellsClient, SpellsServer, SpellsEvent, SpellsLine}
-use Rattle.sip_files.specs.Reading.{◌>>=◌, word_at, rest_at, number_at, field_at, both_at, ended_by, address_at, seed_at}
+use Rattle.sip_files.specs.Events.{IsReason, IsMethod, IsInvite, IsPlain, IsRequest, IsBody, IsRespond, IsCommandLine, reliability_text, support_text, command_text, SpellsClient, SpellsServer, SpellsEvent, SpellsLine}
+use Rattle.sip_files.specs.Reading.{word_at, rest_at, both_at, ended_by, address_at, seed_at}
 use Rattle.sip_files.specs.ReadLine.{reason_at, method_at, invite_of, invite_at, plain_of, plain_at, request_of, request_at, body_of, body_at, respond_of, respond_at, command_at, datagram_at, client_of, client_at, server_of, server_at, key_at, failed_at, event_at, keyword_line, line_at}
-use Rattle.sip_files.proofs.Options.{bind_some, chosen, same_some}
 use Rattle.sip_files.proofs.WordLaws.{rest_took, rest_again}
-use Rattle.sip_files.proofs.Cuts.{has_no, Reads, cut_took, field_took, field_again, both_front, ended_reads, made_reads}
-use Rattle.sip_files.proofs.Shown.{has_no-append, word_no, rest_no, pairs_no}
-use Rattle.sip_files.proofs.NumberLaws.{number_reads, address_reads, seed_reads, address_no, id_no, number_no}
+use Rattle.sip_files.proofs.Cuts.{both_front, ended_reads, made_reads}
+use Rattle.sip_files.proofs.Shown.{word_no, rest_no, pairs_no}
+use Rattle.sip_files.proofs.NumberLaws.{address_reads, seed_reads, address_no, id_no}
 use Rattle.sip_files.proofs.FieldLaws.{word_reads, reason_took, reason_again, same_text, no_method, tag_text, call_id_front, word_front, method_reads, method_front, address_front, support_front, id_front, status_front, port_front, reliability_front, uris_text, uris_front, dialog_text, dialog_front}
 
 mapped : {A B : Type 0} (f : A → B) (o : Option A) (y : B) → option_map f o ≡ Some y
@@ -51,7 +55,7 @@ datagram_took fields event e =
     let a = bind_some (field_at 32 address_at fields)
     (λ from. rest_at from.1 >>= λ bytes. Some (Datagram from.0 bytes)) event e in
     let b = bind_some (rest_at a.0.1) (λ bytes. Some (Datagram a.0.0 bytes)) event a.2 in
-    let from = field_took 32 IsAddress addr_text address_at address_reads fields a.0 a.1 in
+    let from = field_took 32 IsAddr addr_text address_at address_reads fields a.0 a.1 in
     let bytes = rest_took a.0.1 b.0 b.1 in
     let whole : fields ≡ addr_text a.0.0 ++ 32 ∷ spelled_rest b.0 =
     from.1 ∙ ap (λ (x : List ℕ). addr_text a.0.0 ++ 32 ∷ x) bytes.1 in
@@ -59,12 +63,12 @@ datagram_took fields event e =
     subst P (same_some (Datagram a.0.0 b.0) event b.2)
     ((from.0, bytes.0), ap (λ (x : List ℕ). codes "datagram" ++ 32 ∷ x) whole)
 
-datagram_again : (from : Addr) (bytes : List ℕ) → IsAddress from → are_bytes bytes ≡ true
+datagram_again : (from : Addr) (bytes : List ℕ) → IsAddr from → are_bytes bytes ≡ true
     → datagram_at (addr_text from ++ 32 ∷ spelled_rest bytes) ≡ Some (Datagram from bytes)
 unfolding datagram_at
 datagram_again from bytes fits bytes_fit =
     ap (λ o. o >>= λ from. rest_at from.1 >>= λ bytes. Some (Datagram from.0 bytes))
-    (field_again 32 IsAddress addr_text address_at address_reads from (spelled_rest bytes) fits
+    (field_again 32 IsAddr addr_text address_at address_reads from (spelled_rest bytes) fits
     (address_no 32 from refl refl refl fits))
     ∙ ap (λ o. o >>= λ bytes. Some (Datagram from bytes)) (rest_again bytes bytes_fit)
 
@@ -639,7 +643,7 @@ line_none : (text k fields : List ℕ) → text ≡ k ++ 32 ∷ fields → has_n
 line_none text k fields is none rest =
     ap (has_no 10) is ∙ fields_no 10 k (32 ∷ fields) none rest.none
 
-no_address : (address : Addr) → IsAddress address → NoEnd (addr_text address)
+no_address : (address : Addr) → IsAddr address → NoEnd (addr_text address)
 no_address address fits = record { none = address_no 10 address refl refl refl fits }
 
 no_method_end : (text : List ℕ) → IsMethod text → NoEnd text
@@ -666,7 +670,7 @@ command_no (command.Respond c) fits =
     line_none _ (codes "respond") (respond_fields c) (respond_text c) refl
     (behind (behind (behind (behind
     (behind (no_word c.call_id) (record { none = id_no 10 c.id refl refl fits.id }))
-    (record { none = number_no 10 c.status refl (omega (arith, fits.status)) }))
+    (record { none = number_has_no 10 c.status refl (omega (arith, fits.status)) }))
     (no_reliability c.reliability)) (no_word c.body)) (record {
       none =
           rest_no 10 c.reason (omega arith) refl;
@@ -678,7 +682,7 @@ command_no (command.Prack c) fits =
 command_no (command.Cancel c) fits = elim fits [ ]
 
 no_number : (number : ℕ) → number ≤ 65535 → NoEnd (decimal number)
-no_number number fits = record { none = number_no 10 number refl (omega (arith, fits)) }
+no_number number fits = record { none = number_has_no 10 number refl (omega (arith, fits)) }
 
 client_no : (text : List ℕ) (key : Key) → SpellsClient text key → has_no 10 text ≡ true
 client_no text key s =
@@ -703,10 +707,10 @@ line_no text (line.Seed seed) s =
     (pairs_no 10 seed (omega arith))
 line_no text (line.First number) s =
     ap (has_no 10) s.1 ∙ fields_no 10 (codes "first ") (decimal number) refl
-    (number_no 10 number refl (omega (arith, s.0)))
+    (number_has_no 10 number refl (omega (arith, s.0)))
 line_no text (line.Round moment) s =
     ap (has_no 10) s.1 ∙ fields_no 10 (codes "round ") (decimal moment) refl
-    (number_no 10 moment refl (omega (arith, s.0)))
+    (number_has_no 10 moment refl (omega (arith, s.0)))
 line_no text (line.Event (Datagram from bytes)) s =
     ap (has_no 10) s.1
     ∙ fields_no 10 (codes "datagram " ++ addr_text from) (codes " " ++ spelled_rest bytes)

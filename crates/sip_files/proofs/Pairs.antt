@@ -4,9 +4,10 @@ use Rattle.std.proofs.Common.{◌≡◌, ℕ, zero, suc, ◌+◌, ◌-◌, ◌<�
 use Rattle.std.specs.List.{flat_map}
 use Rattle.std.proofs.lemmas.Bool.{and_parts, and_from, ltb-true, lt-ltb, ne_eqb}
 use Rattle.std.proofs.lemmas.List.{append-nil, take_more_set, take_all}
+use Rattle.sip_text.proofs.Options.{bind_some, same_some}
+use Rattle.sip_text.specs.Options.{◌>>=◌}
 use Rattle.sip_files.specs.Word.{hex_pair, are_bytes}
-use Rattle.sip_files.specs.Reading.{◌>>=◌, hex_byte, pair_at, pairs_at}
-use Rattle.sip_files.proofs.Options.{bind_some, same_some}
+use Rattle.sip_files.specs.Reading.{hex_byte, pair_at, pairs_at}
 use Rattle.sip_files.proofs.Hex.{pair_takes, pair_again}
 use Rattle.sip_files.proofs.Escapes.{onto}
 

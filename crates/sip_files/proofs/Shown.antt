@@ -1,38 +1,14 @@
 -- Which bytes stand in a field: no space and no line's end in a word or a number, and no line's end
 -- in a rest.
-use Rattle.std.proofs.Common.{◌≡◌, ℕ, ◌/◌, ◌%◌, ◌≤◌, Bool, true, false, cond, not, eqb, List, [], ◌∷◌, ◌++◌, Option, Some, None, refl, sym, ap, ◌∙◌, arith, codes, length}
-use Rattle.std.specs.List.{list_all, flat_map}
-use Rattle.std.specs.Char.{is_ascii_digit}
+use Rattle.std.proofs.Common.{◌≡◌, ℕ, ◌/◌, ◌%◌, ◌≤◌, Bool, true, false, cond, not, eqb, List, [], ◌∷◌, Option, Some, None, refl, ap, ◌∙◌, arith, codes, length}
+use Rattle.std.specs.List.{flat_map}
 use Rattle.std.specs.Str.{bytes_eq}
-use Rattle.std.proofs.lemmas.Bool.{and_parts, and_from, eqb-true, true≢false}
+use Rattle.std.proofs.lemmas.Bool.{and_from}
 use Rattle.std.proofs.lemmas.Bool.Decides.{nat_tests}
-use Rattle.std.proofs.lemmas.List.Folds.{list_all-append}
+use Rattle.sip_text.proofs.Cuts.{has_no, has_no-append, none_passing}
 use Rattle.sip_files.specs.Word.{is_plain, is_plain_or_space, letter_of, hex_digit, hex_pair, spelled_byte, spelled_bytes, spelled_word, spelled_rest}
-use Rattle.sip_files.proofs.Cuts.{has_no}
 use Rattle.sip_files.proofs.Escapes.{spelled_itself, spelled_letter, spelled_hex}
 use Rattle.sip_files.proofs.WordLaws.{word_is}
-
-pub has_no-append : (at : ℕ) (xs ys : List ℕ) → has_no at xs ≡ true → has_no at ys ≡ true
-    → has_no at (xs ++ ys) ≡ true
-has_no-append at xs ys p q = list_all-append (λ b. not (eqb b at)) xs ys ∙ and_from _ _ p q
-
-other : (test : ℕ → Bool) (at b : ℕ) (r : Bool) → eqb b at ≡ r → test at ≡ false → test b ≡ true
-    → not (eqb b at) ≡ true
-other test at b true e fails is = absurd (true≢false (sym is ∙ ap test (eqb-true b at e) ∙ fails))
-other test at b false e fails is = ap not e
-
--- a byte that fails the test isn't among those that pass
-pub none_passing : (test : ℕ → Bool) (at : ℕ) (text : List ℕ) → test at ≡ false
-    → list_all test text ≡ true → has_no at text ≡ true
-none_passing test at [] fails all = refl
-none_passing test at (b ∷ bs) fails all =
-    let parts = and_parts (test b) (list_all test bs) all in
-    and_from _ _ (other test at b (eqb b at) refl fails parts.0)
-    (none_passing test at bs fails parts.1)
-
-pub digits_have_no : (at : ℕ) (digits : List ℕ) → is_ascii_digit at ≡ false
-    → list_all is_ascii_digit digits ≡ true → has_no at digits ≡ true
-digits_have_no at digits fails all = none_passing is_ascii_digit at digits fails all
 
 -- ---- words and rests
 
@@ -63,7 +39,7 @@ byte_no : (t : ℕ → Bool) (at b : ℕ) (r : Bool) (o : Option ℕ) → Hidden
     → letter_of b ≡ o → has_no at (spelled_byte t b) ≡ true
 byte_no t at b true o hidden h g =
     ap (has_no at) (spelled_itself t b h)
-    ∙ and_from _ _ (other t at b (eqb b at) refl hidden.itself h) refl
+    ∙ none_passing t at (b ∷ []) hidden.itself (and_from _ _ h refl)
 byte_no t at b false None hidden h g =
     ap (has_no at) (spelled_hex t b h g)
     ∙ and_from _ _ (mark_differs at 92 hidden.low (omega arith))

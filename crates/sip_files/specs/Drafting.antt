@@ -1,6 +1,7 @@
 -- Reading the lines of an event file one after the other, each where it may stand.
 use Rattle.std.specs.Prelude.{ℕ, Bool, true, false, List, [], ◌∷◌, ◌++◌, Option, Some, None, replicate}
 use Rattle.std.specs.Option.{option_map}
+use Rattle.sip_text.specs.Options.{◌>>=◌}
 use Rattle.sip_message.specs.declared.addr.Addr.{Addr}
 use Rattle.sip_round.specs.declared.round.Event.{Event}
 use Rattle.sip_round.specs.declared.round.Round.{Round}
@@ -9,7 +10,6 @@ use Rattle.sip_files.specs.declared.event_line.EventLine.TheVariants as line
 use Rattle.sip_files.specs.declared.draft.Stage.{Stage}
 use Rattle.sip_files.specs.declared.draft.Stage.TheVariants as stage
 use Rattle.sip_files.specs.declared.draft.Draft.{Draft}
-use Rattle.sip_files.specs.Reading.{◌>>=◌}
 
 abbrev pub nothing_read : Draft
 nothing_read = record {

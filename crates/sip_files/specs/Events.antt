@@ -6,9 +6,9 @@ use Rattle.sip_parts.specs.Word.{is_word}
 use Rattle.sip_parts.specs.Reason.{is_reason}
 use Rattle.sip_parts.specs.Uri.{is_uri}
 use Rattle.sip_text.specs.Token.{is_token}
-use Rattle.sip_message.specs.declared.addr.Addr.{Addr}
 use Rattle.sip_message.specs.declared.id.Id.{Id}
 use Rattle.sip_message.specs.declared.key.Key.{Key}
+use Rattle.sip_message.specs.Addr.{IsAddr}
 use Rattle.sip_message.specs.Key.{client_key, server_key}
 use Rattle.sip_served.specs.declared.command.Reliability.{Reliability}
 use Rattle.sip_served.specs.declared.command.Reliability.TheVariants as reliability
@@ -29,9 +29,6 @@ use Rattle.sip_files.specs.Word.{hex_pair, are_bytes}
 use Rattle.sip_files.specs.Field.{plain_field, number_field, id_field, address_field, word_field, rest_field}
 
 -- ---- what has a spelling
-
-abbrev pub IsAddress : Addr → Type 0
-IsAddress address = (length address.ip ≡ 4) × IsTrue (are_bytes address.ip) × (address.port ≤ 65535)
 
 abbrev pub IsId : Id → Type 0
 IsId id = (id.round ≤ 2 ^ 64 - 1) × (id.place ≤ 2 ^ 32 - 1)
@@ -58,7 +55,7 @@ IsTag (Some text) = IsTrue (are_bytes text) × IsTrue (is_token text)
 
 pub record IsInvite (invite : Invite) : Type 0 where
   pub call_id : IsCallId invite.call_id
-  pub address : IsAddress invite.address
+  pub address : IsAddr invite.address
   pub request_uri : IsUri invite.request_uri
   pub from : IsUri invite.from
   pub to : IsUri invite.to
@@ -66,7 +63,7 @@ pub record IsInvite (invite : Invite) : Type 0 where
 
 pub record IsPlain (plain : Plain) : Type 0 where
   pub call_id : IsCallId plain.call_id
-  pub address : IsAddress plain.address
+  pub address : IsAddr plain.address
   pub method : IsMethod plain.method
   pub request_uri : IsUri plain.request_uri
   pub from : IsUri plain.from
@@ -168,7 +165,7 @@ pub record SpellsServer (text : List ℕ) (key : Key) : Type 0 where
 
 abbrev pub SpellsEvent : List ℕ → Event → Type 0
 SpellsEvent text (Datagram from bytes) =
-    (IsAddress from × IsTrue (are_bytes bytes))
+    (IsAddr from × IsTrue (are_bytes bytes))
     × (text ≡ codes "datagram" ++ address_field from ++ rest_field bytes)
 SpellsEvent text (Failed key) = SpellsClient text key ⊎ SpellsServer text key
 SpellsEvent text (Command command) = IsCommandLine command × (text ≡ command_text command)
@@ -176,7 +173,7 @@ SpellsEvent text (Command command) = IsCommandLine command × (text ≡ command_
 -- the text is a line that says this
 abbrev pub SpellsLine : List ℕ → EventLine → Type 0
 SpellsLine text (line.Local address) =
-    IsAddress address × (text ≡ codes "local" ++ address_field address)
+    IsAddr address × (text ≡ codes "local" ++ address_field address)
 SpellsLine text (line.Seed seed) =
     IsSeed seed × (text ≡ codes "seed" ++ plain_field (flat_map hex_pair seed))
 SpellsLine text (line.First number) =

@@ -2,7 +2,9 @@
 use Rattle.std.specs.Prelude.{ℕ, ◌^◌, ◌-◌, ◌==◌, List, length, Option, Some, None, codes, if◌then◌else◌}
 use Rattle.std.specs.Option.{option_map}
 use Rattle.std.specs.Str.{bytes_eq}
-use Rattle.sip_text.specs.Cut.{cut_at}
+use Rattle.sip_text.specs.Number.{number_at}
+use Rattle.sip_text.specs.Options.{◌>>=◌}
+use Rattle.sip_text.specs.Cut.{cut_at, field_at}
 use Rattle.sip_text.specs.Token.{is_token}
 use Rattle.sip_parts.specs.Word.{is_word}
 use Rattle.sip_parts.specs.Reason.{is_reason}
@@ -28,7 +30,7 @@ use Rattle.sip_files.specs.declared.event_line.EventLine.{EventLine}
 use Rattle.sip_files.specs.declared.fields.Dialog.{Dialog}
 use Rattle.sip_files.specs.declared.fields.Uris.{Uris}
 use Rattle.sip_files.specs.declared.event_line.EventLine.TheVariants as line
-use Rattle.sip_files.specs.Reading.{◌>>=◌, word_at, rest_at, number_at, field_at, id_at, address_at, seed_at, both_at, ended_by}
+use Rattle.sip_files.specs.Reading.{word_at, rest_at, id_at, address_at, seed_at, both_at, ended_by}
 
 unfoldable pub call_id_at : List ℕ → Option (List ℕ)
 call_id_at field = word_at field >>= λ text. if is_word text then Some text else None

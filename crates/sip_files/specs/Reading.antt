@@ -1,20 +1,16 @@
 -- Reading the fields of a line from left to right, a function for each. What is read is said by the
 -- spellings.
-use Rattle.std.specs.Prelude.{ℕ, zero, suc, Bool, false, not, ◌&&◌, ◌||◌, ◌==◌, ◌+◌, ◌-◌, ◌*◌, nat_le, List, [], ◌∷◌, length, Option, Some, None, is_some, codes, option_and_then, if◌then◌else◌}
-use Rattle.std.specs.List.{list_all}
+use Rattle.std.specs.Prelude.{ℕ, zero, suc, Bool, ◌&&◌, ◌||◌, ◌==◌, ◌+◌, ◌-◌, ◌*◌, nat_le, List, [], ◌∷◌, length, Option, Some, None, is_some, codes, if◌then◌else◌}
 use Rattle.std.specs.Option.{option_map}
 use Rattle.std.specs.Borrow.{Bor}
 use Rattle.std.specs.Str.{bytes_eq}
-use Rattle.std.specs.Char.{is_ascii_digit}
-use Rattle.std.specs.Str.Parse.{digits_value}
-use Rattle.sip_text.specs.Cut.{cut_at}
+use Rattle.sip_text.specs.Cut.{field_at}
+use Rattle.sip_text.specs.Number.{number_at}
+use Rattle.sip_text.specs.Options.{◌>>=◌}
 use Rattle.sip_message.specs.declared.addr.Addr.{Addr}
 use Rattle.sip_message.specs.declared.id.Id.{Id}
+use Rattle.sip_message.specs.Ip.{ip_at}
 use Rattle.sip_files.specs.Word.{is_plain, is_plain_or_space, letter_of}
-
-infixl 10 ◌>>=◌
-abbrev pub ◌>>=◌ : {A B : Type 0} → Option A → (A → Option B) → Option B
-o >>= f = option_and_then f o
 
 -- what a reader gave, without its reference
 abbrev pub read_now : {A : Type 0} → Option (A × Bor (List ℕ)) → Option (A × List ℕ)
@@ -87,22 +83,7 @@ word_at field =
 unfoldable pub rest_at : List ℕ → Option (List ℕ)
 rest_at field = bytes_at is_plain_or_space field
 
--- ---- numbers, ids and addresses
-
--- digits, of which the first is no zero where there are several
-abbrev pub is_numeral : List ℕ → Bool
-is_numeral [] = false
-is_numeral (b ∷ []) = is_ascii_digit b
-is_numeral (b ∷ c ∷ bs) = not (b == 48) && list_all is_ascii_digit (b ∷ c ∷ bs)
-
-unfoldable pub number_at : ℕ → List ℕ → Option ℕ
-number_at most field =
-    if is_numeral field && nat_le (digits_value 10 field) most then Some (digits_value 10 field)
-    else None
-
--- a field before the first such byte, and what follows that
-abbrev pub field_at : {A : Type 0} → ℕ → (List ℕ → Option A) → List ℕ → Option (A × List ℕ)
-field_at at read text = cut_at at text >>= λ p. read p.0 >>= λ x. Some (x, p.1)
+-- ---- ids and addresses
 
 -- two parts at the front, one after the other
 abbrev pub both_at : {A B : Type 0} → (List ℕ → Option (A × List ℕ))
@@ -119,14 +100,6 @@ id_at field = do
   round ← field_at 46 (number_at 18446744073709551615) field
   place ← number_at 4294967295 round.1
   Some (record { round = round.0; place = place })
-
-unfoldable pub ip_at : List ℕ → Option (List ℕ)
-ip_at field = do
-  a ← field_at 46 (number_at 255) field
-  b ← field_at 46 (number_at 255) a.1
-  c ← field_at 46 (number_at 255) b.1
-  d ← number_at 255 c.1
-  Some (a.0 ∷ b.0 ∷ c.0 ∷ d ∷ [])
 
 unfoldable pub address_at : List ℕ → Option Addr
 address_at field = do

@@ -5,11 +5,11 @@ ghost use Rattle.sip_files.specs.ReadLine as reading;
 
 use crate::command_line::read_command;
 use crate::failed_line::read_failed;
-use crate::numbers::{read_address, read_number, read_seed};
+use crate::numbers::{read_address, read_seed};
 use crate::words::read_rest;
 use sip_message::Addr;
 use sip_round::Event;
-use sip_text::cut;
+use sip_text::{cut, number_up_to};
 use std::alloc::{AllocError, Global};
 
 /// The greatest number of a first round.
@@ -56,10 +56,10 @@ fn read_keyword(
         return Ok(read_seed(fields).map(EventLine::Seed));
     }
     if keyword == b"first".as_slice() {
-        return Ok(read_number(fields, MAX_FIRST).map(EventLine::First));
+        return Ok(number_up_to(fields, MAX_FIRST).map(EventLine::First));
     }
     if keyword == b"round".as_slice() {
-        return Ok(read_number(fields, u64::MAX).map(EventLine::Round));
+        return Ok(number_up_to(fields, u64::MAX).map(EventLine::Round));
     }
     Ok(read_event(alloc, keyword, fields)?.map(EventLine::Event))
 }

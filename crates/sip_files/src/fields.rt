@@ -1,14 +1,16 @@
 //! The fields of the lines of an event file: each is read, and gives the fields after it.
 
 ghost use Rattle.std.specs.Prelude.{◌≡◌, IfOk};
-ghost use Rattle.sip_files.specs.Reading.{address_at, field_at, id_at, number_at, read_now, word_at};
+ghost use Rattle.sip_text.specs.Number.{number_at};
+ghost use Rattle.sip_text.specs.Cut.{field_at};
+ghost use Rattle.sip_files.specs.Reading.{address_at, id_at, read_now, word_at};
 ghost use Rattle.sip_files.specs.ReadLine as reading;
 
-use crate::numbers::{read_address, read_id, read_number};
+use crate::numbers::{read_address, read_id};
 use crate::words::{read_rest, read_word};
 use sip_message::{Addr, CallId, Id, Reason, Token, Uri};
 use sip_served::{ProvisionalSupport, Reliability};
-use sip_text::{Text, cut};
+use sip_text::{Text, cut, number_up_to};
 use std::alloc::{AllocError, Global};
 
 /// The greatest status of a line.
@@ -173,14 +175,14 @@ pub(crate) fn status_field(fields: &[u8]) -> Option<(u16, &[u8])>
     ensures { read_now result ≡ field_at 32 (number_at 999) fields.now }
 {
     let (status, fields) = cut(b' ', fields)?;
-    Some((read_number(status, MAX_STATUS)? as u16, fields))
+    Some((number_up_to(status, MAX_STATUS)? as u16, fields))
 }
 
 pub(crate) fn port_field(fields: &[u8]) -> Option<(u16, &[u8])>
     ensures { read_now result ≡ field_at 32 (number_at 65535) fields.now }
 {
     let (port, fields) = cut(b' ', fields)?;
-    Some((read_number(port, u64::from(u16::MAX))? as u16, fields))
+    Some((number_up_to(port, u64::from(u16::MAX))? as u16, fields))
 }
 
 pub(crate) fn reliability_field(fields: &[u8]) -> Option<(Reliability, &[u8])>

@@ -15,7 +15,7 @@ use Rattle.sip_values.specs.declared.numeral.Numeral.{Numeral}
 use Rattle.sip_values.specs.declared.numeral.Numeral.TheVariants.{Number, NotANumber}
 use Rattle.sip_values.specs.declared.sequence.RAckDraft.{RAckDraft}
 use Rattle.sip_values.specs.declared.via.ViaDraft.{ViaDraft}
-use Rattle.sip_headers.specs.Complete.{◌>>=◌}
+use Rattle.sip_text.specs.Options.{◌>>=◌}
 use Rattle.sip_headers.specs.Numbers.{via_draft, rack_draft, headers_with, rack_words, port_words, number_words, is_number, is_port, are_numbers, known, known_if, known_both, known_rack, known_port, numbers_in, via_with, rack_with, message_with}
 use Rattle.sip_headers.specs.declared.headers.Headers.{Headers}
 use Rattle.sip_headers.specs.declared.headers.Numbers.{Numbers}

@@ -1,6 +1,7 @@
 -- A draft in which no header is missing, repeated or in another form, and the headers that it
 -- holds.
-use Rattle.std.specs.Prelude.{◌≡◌, true, false, Option, Some, None, Result, Ok, Err, is_some, option_and_then, if◌then◌else◌}
+use Rattle.std.specs.Prelude.{◌≡◌, true, false, Option, Some, None, Result, Ok, Err, is_some, if◌then◌else◌}
+use Rattle.sip_text.specs.Options.{◌>>=◌}
 use Rattle.sip_parts.specs.declared.header_name.HeaderName.{HeaderName}
 use Rattle.sip_message.specs.declared.fault.ReadFault.{ReadFault}
 use Rattle.sip_message.specs.declared.fault.ReadFault.TheVariants as fault
@@ -80,10 +81,6 @@ draft_with h = record {
   content_length = slot_of h.content_length;
   others = Some h.others;
 }
-
-infixl 10 ◌>>=◌
-abbrev pub ◌>>=◌ : {A B : Type 0} → Option A → (A → Option B) → Option B
-o >>= f = option_and_then f o
 
 unfoldable pub headers_in : Draft → Option Headers
 headers_in d = do

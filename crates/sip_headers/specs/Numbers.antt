@@ -10,7 +10,7 @@ use Rattle.sip_values.specs.declared.numeral.Numeral.{Numeral}
 use Rattle.sip_values.specs.declared.numeral.Numeral.TheVariants.{Number, NotANumber}
 use Rattle.sip_values.specs.declared.sequence.RAckDraft.{RAckDraft}
 use Rattle.sip_values.specs.declared.via.ViaDraft.{ViaDraft}
-use Rattle.sip_headers.specs.Complete.{◌>>=◌}
+use Rattle.sip_text.specs.Options.{◌>>=◌}
 use Rattle.sip_headers.specs.declared.headers.Headers.{Headers}
 use Rattle.sip_headers.specs.declared.headers.Numbers.{Numbers}
 

@@ -200,14 +200,15 @@ pub fn with_ports(
 ) -> Result<Option<Series<Via>>, AllocError>
     ensures { IfOk result (λ vias. vias ≡ each numbered.via_with drafts) }
 {
-    let mut vias = Series::new(alloc);
-    for draft in drafts.into_vec() {
+    let drafts = drafts.into_vec();
+    let mut vias = Vec::with_capacity(alloc, drafts.len())?;
+    for draft in drafts {
         let Some(via) = with_port(draft) else {
             return Ok(None);
         };
         vias.push(via)?;
     }
-    Ok(Some(vias))
+    Ok(Some(Series::from_vec(vias)))
 }
 
 fn with_port(draft: ViaDraft) -> Option<Via>

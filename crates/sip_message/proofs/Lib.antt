@@ -2,3 +2,4 @@ pub mod Copies
 pub mod Tags
 pub mod Stamps
 pub mod Sums
+pub mod Ips

@@ -1,10 +1,8 @@
 -- An IP address as a parameter's value, and a branch that a stamp leaves alone.
-use Rattle.std.proofs.Common.{◌≡◌, ℕ, ◌+◌, ◌<◌, ◌^◌, Bool, true, false, cond, not, List, [], ◌∷◌, ◌++◌, length, Option, Some, None, refl, sym, ap, ◌∙◌, IsTrue, codes, decimal, slice_index, arith, rules}
-use Rattle.std.specs.Prelude.{find}
+use Rattle.std.proofs.Common.{◌≡◌, ℕ, ◌<◌, ◌^◌, Bool, true, false, cond, not, List, [], ◌∷◌, ◌++◌, length, Some, None, refl, sym, ap, ◌∙◌, IsTrue, codes, decimal, slice_index, arith, rules}
 use Rattle.std.specs.List.{list_all}
 use Rattle.std.specs.Char.{is_ascii_digit}
 use Rattle.std.specs.Str.{str_eq_ignore_ascii_case, str_to_ascii_lowercase, bytes_eq}
-use Rattle.std.proofs.lemmas.Bool.{true≢false}
 use Rattle.std.proofs.lemmas.List.Folds.{list_all-append}
 use Rattle.std.proofs.lemmas.Slice.Eq.{bytes_eq-Decides}
 use Rattle.std.proofs.lemmas.Str.Parse.{IsDigitsTest, numerals_by_value}
@@ -19,7 +17,7 @@ use Rattle.sip_parts.specs.Parameters.{parameter_named, value_named, value_or_no
 use Rattle.sip_message.specs.Via.{branch_of, has_cookie, are_vias, with_top_parameters, first_branch}
 use Rattle.std.specs.List.{slice_get}
 use Rattle.std.proofs.lemmas.Option.{same_Some}
-use Rattle.sip_message.specs.Source.{with_value, asks_port, with_received, with_port, stamped_parameters, stamped_via, stamped_vias}
+use Rattle.sip_message.specs.Source.{with_value, asks_port, with_received, with_port, stamped_parameters, stamped_via}
 use Rattle.sip_message.specs.declared.addr.Addr.{Addr}
 use Rattle.sip_parts.proofs.Bytes.{or_right, both_true, none_of, all_weaker}
 

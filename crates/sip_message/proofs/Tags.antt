@@ -1,5 +1,5 @@
 -- A tag at the end of parameters that have none.
-use Rattle.std.proofs.Common.{◌≡◌, ℕ, Bool, true, false, cond, List, [], ◌∷◌, ◌++◌, Option, Some, None, refl, sym, ap, ◌∙◌, IsTrue, codes}
+use Rattle.std.proofs.Common.{◌≡◌, ℕ, Bool, true, false, cond, List, [], ◌∷◌, ◌++◌, Some, None, refl, ap, ◌∙◌, IsTrue, codes}
 use Rattle.std.specs.Prelude.{find}
 use Rattle.std.specs.Str.{str_eq_ignore_ascii_case}
 use Rattle.sip_text.specs.Token.{is_token}

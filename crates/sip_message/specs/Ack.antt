@@ -1,5 +1,5 @@
 -- The ACK of a response of 300 to 699 (RFC 3261, section 17.1.1.3).
-use Rattle.std.specs.Prelude.{ℕ, List, Some, codes, take}
+use Rattle.std.specs.Prelude.{Some, codes, take}
 use Rattle.sip_message.specs.declared.message.TheConstants.{MAX_FORWARDS}
 use Rattle.sip_message.specs.declared.cseq.CSeq.{CSeq}
 use Rattle.sip_message.specs.declared.message.Message.{Message}

@@ -3,10 +3,11 @@ ghost use Rattle.std.specs.Prelude.{◌≡◌, ◌≤◌, ◌+◌, ◌++◌, dec
 ghost use Rattle.sip_text.specs.Parameter.{is_parameter_value};
 ghost use Rattle.arrayvec.specs.ArrayVec.{array_vec_len};
 ghost use Rattle.sip_message.specs.Addr.{addr_text};
-ghost use Rattle.sip_message.specs.Ip.{ip_text};
+ghost use Rattle.sip_message.specs.Ip.{ip_at, ip_text};
+ghost use Rattle.sip_text.specs.Number.{number_at};
 
 use arrayvec::ArrayVec;
-use sip_text::decimal;
+use sip_text::{cut, decimal, number_up_to};
 use std::fmt;
 
 /// An IPv4 address and a UDP port. It is printed as `a.b.c.d:port`.
@@ -50,4 +51,25 @@ fn push_octet(text: &mut ArrayVec<u8, 15>, octet: u8)
 {
     text.try_extend_from_slice(&decimal(u64::from(octet)))
         .unwrap();
+}
+
+/// The IP address that stands as four decimal numbers with dots between them, or None where the text
+/// is none. Takes no memory.
+#[tactic(auto, unfolding(crate::specs::Ip::ip_at))]
+pub fn ip_in(text: &[u8]) -> Option<[u8; 4]>
+    ensures { result ≡ ip_at text.now }
+{
+    let (a, others) = cut(b'.', text)?;
+    let a = read_octet(a)?;
+    let (b, others) = cut(b'.', others)?;
+    let b = read_octet(b)?;
+    let (c, d) = cut(b'.', others)?;
+    let c = read_octet(c)?;
+    Some([a, b, c, read_octet(d)?])
+}
+
+fn read_octet(text: &[u8]) -> Option<u8>
+    ensures { result ≡ number_at 255 text.now }
+{
+    Some(number_up_to(text, 255)? as u8)
 }

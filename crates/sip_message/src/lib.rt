@@ -24,7 +24,7 @@ mod vias;
 mod writer;
 
 pub use ack::ack_for;
-pub use addr::{Addr, ip_text};
+pub use addr::{Addr, ip_in, ip_text};
 pub use cseq::CSeq;
 pub use cut::{Cut, First, Spread};
 pub use fault::ReadFault;

@@ -110,7 +110,7 @@ fn with_value(
     requires value_is { IsTrue (is_parameter_value value.now) }
     ensures { IfOk result (λ made. made ≡ source_of.with_value name.now value.now parameters.now) }
 {
-    let mut made = Vec::new(alloc);
+    let mut made = Vec::with_capacity(alloc, parameters.len() + 1)?;
     let mut rest = parameters;
     while let [parameter, others @ ..] = rest {
         if token_eq(parameter.name.as_slice(), name) {

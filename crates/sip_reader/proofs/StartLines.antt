@@ -17,7 +17,7 @@ use Rattle.sip_reader.specs.declared.first_line.FirstLine.{FirstLine}
 use Rattle.sip_reader.specs.declared.first_line.FirstLine.TheVariants as first
 use Rattle.sip_text.specs.Lines.{has_no}
 use Rattle.sip_text.proofs.ReadForms.{Reads}
-use Rattle.sip_headers.specs.Complete.{◌>>=◌}
+use Rattle.sip_text.specs.Options.{◌>>=◌}
 use Rattle.sip_reader.specs.ReadStart.{request_at, code_in, code_at, reason_at, status_at, start_at}
 use Rattle.sip_reader.specs.StartLine.{is_version, IsRequestLine, IsStatusCode, IsReasonPart, IsStatusLine}
 use Rattle.sip_values.proofs.Characters.{same_lower, lower_without, token_without, no_space, no_slash, word_without_space}

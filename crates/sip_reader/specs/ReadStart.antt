@@ -6,7 +6,7 @@ use Rattle.sip_text.specs.Number.{number_of}
 use Rattle.sip_text.specs.declared.fault.TextFault.{TextFault}
 use Rattle.sip_parts.specs.Word.{is_word}
 use Rattle.sip_parts.specs.Reason.{is_reason}
-use Rattle.sip_headers.specs.Complete.{◌>>=◌}
+use Rattle.sip_text.specs.Options.{◌>>=◌}
 use Rattle.sip_reader.specs.StartLine.{is_version}
 use Rattle.sip_reader.specs.declared.first_line.FirstLine.{FirstLine}
 use Rattle.sip_reader.specs.declared.first_line.FirstLine.TheVariants as first

@@ -8,3 +8,6 @@ pub mod Loops
 pub mod ParameterForms
 pub mod QuotedStrings
 pub mod LineParts
+pub mod Options
+pub mod Cuts
+pub mod Numerals

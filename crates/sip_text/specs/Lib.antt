@@ -1,6 +1,7 @@
 pub mod Character
 pub mod Token
 pub mod Number
+pub mod Options
 pub mod Cut
 pub mod Line
 pub mod Trimmed

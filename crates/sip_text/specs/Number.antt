@@ -1,10 +1,13 @@
--- Numbers in decimal digits (RFC 3261, section 25.1), read up to 2 ^ 32 - 1.
-use Rattle.std.specs.Prelude.{ℕ, ◌^◌, Bool, List, Result, Ok, Err, nat_lt, if◌then◌else◌}
+-- Numbers in decimal digits (RFC 3261, section 25.1).
+use Rattle.std.specs.Prelude.{ℕ, ◌^◌, Bool, false, not, ◌&&◌, ◌==◌, List, [], ◌∷◌, Option, Some, None, Result, Ok, Err, nat_lt, nat_le, if◌then◌else◌}
 use Rattle.std.specs.Char.{is_ascii_digit}
+use Rattle.std.specs.List.{list_all}
 use Rattle.std.specs.Str.Parse.{digits_value}
 use Rattle.sip_text.specs.Token.{is_run}
 use Rattle.sip_text.specs.declared.fault.TextFault.{TextFault}
 use Rattle.sip_text.specs.declared.fault.TextFault.TheVariants.{NotAToken, NumberTooLarge}
+
+-- ---- any digits, up to 2 ^ 32 - 1
 
 -- one digit or more, and nothing else
 abbrev pub is_digits : List ℕ → Bool
@@ -17,3 +20,16 @@ number_of text =
     then (if nat_lt (digits_value 10 text) (2 ^ 32) then Ok (digits_value 10 text)
     else Err NumberTooLarge)
     else Err NotAToken
+
+-- ---- one spelling for a number, up to a greatest one
+
+-- digits, of which the first is no zero where there are several
+abbrev pub is_numeral : List ℕ → Bool
+is_numeral [] = false
+is_numeral (b ∷ []) = is_ascii_digit b
+is_numeral (b ∷ c ∷ bs) = not (b == 48) && list_all is_ascii_digit (b ∷ c ∷ bs)
+
+unfoldable pub number_at : ℕ → List ℕ → Option ℕ
+number_at most text =
+    if is_numeral text && nat_le (digits_value 10 text) most then Some (digits_value 10 text)
+    else None

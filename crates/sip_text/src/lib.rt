@@ -1,6 +1,7 @@
 //! Bytes, lists, tokens and numbers of SIP's text.
 #![tactic(auto)]
 
+mod boxed;
 mod character;
 mod fault;
 mod folding;
@@ -18,12 +19,13 @@ mod token;
 mod trim;
 mod values;
 
+pub use boxed::Boxed;
 pub use character::{is_blank, is_line_byte, is_token_byte};
 pub use fault::TextFault;
 pub use folding::{begins_blank, lines, unfold};
 pub use laws::{one_cut, one_list_of_parameters, one_split, quoted_strings};
 pub use line::next_line;
-pub use number::{decimal, number_u32};
+pub use number::{decimal, number_u32, number_up_to};
 pub use parameters::{
     ParameterText, is_blanks, is_parameter_value, is_value_word, parameter_in, params,
 };

@@ -1,5 +1,5 @@
 //! Numbers in decimal digits.
-ghost use Rattle.std.specs.Prelude.{◌≡◌, ◌<◌, ◌^◌, true};
+ghost use Rattle.std.specs.Prelude.{◌≡◌, ◌+◌, ◌*◌, ◌<◌, ◌≤◌, ◌^◌, true, IfSome};
 ghost use Rattle.std.specs.Fmt as fmt;
 ghost use Rattle.std.specs.List.{list_all};
 ghost use Rattle.std.specs.Char as char;
@@ -23,10 +23,22 @@ pub fn number_u32(text: &[u8]) -> Result<u32, TextFault>
     if !is_digits(text) {
         return Err(TextFault::NotAToken);
     }
-    match value_of(text) {
-        Some(value) => Ok(value),
+    match value_of(text, u64::from(u32::MAX)) {
+        Some(value) => Ok(value as u32),
         None => Err(TextFault::NumberTooLarge),
     }
+}
+
+/// The number in its one spelling, without leading zeros, where it is at most `most`.
+#[tactic(auto, unfolding(crate::specs::Number::number_at))]
+pub fn number_up_to(text: &[u8], most: u64) -> Option<u64>
+    ensures number { result ≡ number.number_at most text.now }
+    ensures bound { IfSome result (λ number. number ≤ most) }
+{
+    if !is_numeral(text) {
+        return None;
+    }
+    value_of(text, most)
 }
 
 fn is_digits(text: &[u8]) -> bool
@@ -38,24 +50,41 @@ fn is_digits(text: &[u8]) -> bool
     }
 }
 
+fn is_numeral(text: &[u8]) -> bool
+    ensures { result ≡ number.is_numeral text.now }
+{
+    match text {
+        [] | [b'0', _, ..] => false,
+        _ => all_digits(text),
+    }
+}
+
 fn all_digits(text: &[u8]) -> bool
     ensures { result ≡ list_all char.is_ascii_digit text.now }
 {
     text.iter().all(|byte| byte.is_ascii_digit())
 }
 
-fn value_of(text: &[u8]) -> Option<u32>
-    requires { list_all char.is_ascii_digit text.now ≡ true }
-    ensures { SomeIff result (digits_value 10 text.now < 2 ^ 32) (digits_value 10 text.now) }
+// The number that digits stand for, where it is at most `most`.
+fn value_of(digits: &[u8], most: u64) -> Option<u64>
+    requires { list_all char.is_ascii_digit digits.now ≡ true }
+    ensures { SomeIff result (digits_value 10 digits.now ≤ most) (digits_value 10 digits.now) }
 {
     let mut value = 0u64;
-    for byte in text {
-        value = value * 10 + u64::from(byte - b'0');
-        if value > u64::from(u32::MAX) {
+    for digit in digits {
+        value = with_digit(value, digit - b'0')?;
+        if value > most {
             return None;
         }
     }
-    Some(value as u32)
+    Some(value)
+}
+
+// The number with one more decimal digit at its end.
+fn with_digit(number: u64, digit: u8) -> Option<u64>
+    ensures { SomeIff result (number * 10 + digit < 2 ^ 64) (number * 10 + digit) }
+{
+    number.checked_mul(10)?.checked_add(u64::from(digit))
 }
 
 /// The number in decimal digits, without leading zeros. Takes no memory.

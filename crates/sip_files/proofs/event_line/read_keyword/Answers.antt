@@ -34,7 +34,7 @@ returns-then-eq-3 c =
     let is_first = rw c.as_slice-3.ensures at (sym c.eq-3.ensures ∙ c.if-eq-3.true) in
     rw (not_local, not_seed, is_first)
     (mapped line.First _ _ c.map-then-eq-3.ensures.cases
-    ∙ ap (option_map line.First) c.read_number.ensures.number)
+    ∙ ap (option_map line.First) c.number_up_to.ensures.number)
 
 pub returns-then-eq-4 : goal.returns-then-eq-4
 unfolding keyword_line
@@ -45,7 +45,7 @@ returns-then-eq-4 c =
     let is_round = rw c.as_slice-4.ensures at (sym c.eq-4.ensures ∙ c.if-eq-4.true) in
     rw (not_local, not_seed, not_first, is_round)
     (mapped line.Round _ _ c.map-then-eq-4.ensures.cases
-    ∙ ap (option_map line.Round) c.read_number-then-eq-4.ensures.number)
+    ∙ ap (option_map line.Round) c.number_up_to-then-eq-4.ensures.number)
 
 pub returns : goal.returns
 unfolding keyword_line

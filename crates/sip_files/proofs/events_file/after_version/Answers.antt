@@ -1,7 +1,7 @@
 use Rattle.std.proofs.Common.{◌≡◌, ◌++◌, ◌∷◌, ap, sym, ◌∙◌}
 use Rattle.std.proofs.lemmas.Slice.Eq.{bytes_eq-Decides}
+use Rattle.sip_text.proofs.Cuts.{cut_took}
 use Rattle.sip_files.specs.EventFile.{version_line}
-use Rattle.sip_files.proofs.Cuts.{cut_took}
 use Rattle.sip_files.proofs.events_file.after_version.Goals as goal
 
 pub returns-then-eq-2 : goal.returns-then-eq-2

@@ -1,5 +1,5 @@
 use Rattle.std.proofs.Common.{sym, ◌∙◌}
-use Rattle.sip_files.proofs.Options.{same_some}
+use Rattle.sip_text.proofs.Options.{same_some}
 use Rattle.sip_files.proofs.LineLaws.{line_again}
 use Rattle.sip_files.proofs.laws.one_meaning_of_a_line.Goals as goal
 

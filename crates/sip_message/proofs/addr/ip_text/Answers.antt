@@ -1,5 +1,4 @@
 use Rattle.std.proofs.Common.{◌≡◌, rules, arith}
-use Rattle.std.proofs.lemmas.Grind.{common_steps}
 use Rattle.sip_message.specs.Ip.{ip_text}
 use Rattle.sip_message.proofs.Stamps.{ip_is_value}
 use Rattle.sip_message.proofs.addr.ip_text.Goals as goal

@@ -1,4 +1,4 @@
-use Rattle.std.proofs.Common.{◌≡◌, Bool, false, Option, Some, None, refl, sym, ◌∙◌, is_some}
+use Rattle.std.proofs.Common.{◌≡◌, false, Option, Some, None, refl, sym, ◌∙◌, is_some}
 use Rattle.sip_message.specs.Response.{is_tagged}
 use Rattle.sip_message.proofs.response.tagged.Goals as goal
 

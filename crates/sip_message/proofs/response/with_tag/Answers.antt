@@ -1,5 +1,4 @@
-use Rattle.std.proofs.Common.{◌≡◌, ◌++◌, ◌∷◌, [], ap, ◌∙◌}
-use Rattle.sip_message.specs.Response.{tag_parameter}
+use Rattle.std.proofs.Common.{◌≡◌, ◌∙◌}
 use Rattle.sip_message.proofs.Tags.{good_tag_added}
 use Rattle.sip_message.proofs.response.with_tag.Goals as goal
 

@@ -1,6 +1,5 @@
-use Rattle.std.proofs.Common.{◌≡◌, arith, codes, ◌∙◌}
+use Rattle.std.proofs.Common.{◌≡◌, arith}
 use Rattle.std.proofs.lemmas.Grind.{common_steps}
-use Rattle.sip_parts.specs.Parameters.{value_named}
 use Rattle.sip_message.specs.Source.{stamped_parameters}
 use Rattle.sip_message.proofs.Stamps.{stamp_leaves}
 use Rattle.sip_message.proofs.source.stamp_source.Goals as goal

@@ -1,6 +1,6 @@
 -- Steps that gave something.
 use Rattle.std.proofs.Common.{◌≡◌, Bool, true, false, cond, Option, Some, None, refl, ◌⊎◌, inl, inr}
-use Rattle.sip_files.specs.Reading.{◌>>=◌}
+use Rattle.sip_text.specs.Options.{◌>>=◌}
 
 -- the value of a step that gave one
 pub bind_some : {A B : Type 0} (o : Option A) (f : A → Option B) (y : B) → (o >>= f) ≡ Some y

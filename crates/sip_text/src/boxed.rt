@@ -1,0 +1,44 @@
+//! A value on the heap.
+ghost use Rattle.std.specs.Prelude.{◌≡◌, IfOk};
+
+use std::alloc::{AllocError, Global};
+use std::marker::Model;
+
+/// A value that stands on the heap, so that it is moved as one pointer, and takes no more room than
+/// that where there is none. A contract sees the value.
+#[derive(Drop)]
+pub struct Boxed<T> {
+    value: Box<T>,
+}
+
+impl<T> Model for Boxed<T> {
+    ghost Value = { T };
+
+    ghost view = { λ b. b.value.value };
+}
+
+impl<T> Boxed<T> {
+    /// Puts the value on the heap.
+    pub fn new(alloc: Global, value: T) -> Result<Boxed<T>, AllocError>
+    where
+        T: Drop,
+        ensures { IfOk result (λ boxed. boxed ≡ value) }
+    {
+        Ok(Boxed {
+            value: Box::new(alloc, value)?,
+        })
+    }
+
+    pub fn get(&self) -> &T
+        ensures { result.now ≡ self.now }
+    {
+        &self.value
+    }
+
+    /// The value, taken off the heap.
+    pub fn into_inner(self) -> T
+        ensures { result ≡ self }
+    {
+        Box::into_inner(self.value)
+    }
+}
