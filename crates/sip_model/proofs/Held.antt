@@ -1,19 +1,18 @@
 -- The held keys in order are those of any ordered list of keys that hold a state.
-use Rattle.std.proofs.Common.{◌≡◌, true, false, List, [], length, refl, sym, ◌∙◌, ap, subst}
-use Rattle.std.specs.Prelude.{Option, None, Some, is_some, IsSome, filter, count_by}
+use Rattle.std.proofs.Common.{◌≡◌, true, List, length, refl, sym, ◌∙◌, ap, subst}
+use Rattle.std.specs.Prelude.{Option, Some, is_some, IsSome, filter, count_by}
 use Rattle.std.specs.declared.cmp.Ordering.{Ordering}
 use Rattle.std.specs.declared.cmp.Ordering.TheVariants.{Equal}
-use Rattle.std.proofs.lemmas.List.Elements.{same_from_all_zip, length_all_zip}
+use Rattle.std.proofs.lemmas.List.Elements.{length_all_zip}
 use Rattle.std.proofs.lemmas.Map.Entries.{length-keys_of}
 use Rattle.std.proofs.lemmas.List.Sums.{length-filter}
 use Rattle.std.specs.Cmp.{IsTotalOrder}
 use Rattle.std.specs.BTreeMap.{is_at}
 use Rattle.std.specs.Map.{lookup, keys_of}
-use Rattle.std.specs.List.{flat_map, list_any, AllZip}
+use Rattle.std.specs.List.{list_any, AllZip}
 use Rattle.std.specs.List.Sorted.{IsStrictlySortedBy}
-use Rattle.std.proofs.lemmas.Map.Lookups.{CmpEqualImpliesEq}
 use Rattle.sip_model.specs.Table.{Held, entries_of, state_at, Covers}
-use Rattle.sip_model.proofs.Ordered.{all_both, all_here, all_keys, flat_map-filter, flat_map-keys, filter_tied, found_entries, is_some-lookup}
+use Rattle.sip_model.proofs.Ordered.{all_both, all_here, all_keys, filter_tied, found_entries, is_some-lookup}
 
 is_some_from : {S : Type 0} (o : Option S) (s : S) → o ≡ Some s → IsSome o
 is_some_from o s e = subst IsSome (sym e) refl

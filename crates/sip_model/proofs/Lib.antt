@@ -2,6 +2,7 @@ pub mod Alone
 pub mod Apart
 pub mod Held
 pub mod History
+pub mod IdlePhase
 pub mod ItemsLeft
 pub mod Merged
 pub mod Named

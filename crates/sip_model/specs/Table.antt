@@ -1,11 +1,11 @@
 -- What a table of held keys shows: its entries in key order, or `None` once it is broken.
-use Rattle.std.specs.Prelude.{◌≡◌, ℕ, true, List, [], Option, None, Some, IsSome, cond}
+use Rattle.std.specs.Prelude.{◌≡◌, ℕ, true, false, List, [], Option, None, Some, IsSome, cond}
 use Rattle.std.specs.declared.cmp.Ordering.{Ordering}
 use Rattle.std.specs.BTreeMap.{is_at}
 use Rattle.std.specs.Map.{lookup}
 use Rattle.std.specs.List.{flat_map, list_any}
 use Rattle.std.specs.List.Sorted.{IsStrictlySortedBy}
-use Rattle.sip_timers.specs.Queue.{moment}
+use Rattle.sip_timers.specs.Queue.{is_due, moment}
 use Rattle.sip_model.specs.Machine.{Machine, next, adds, due_of}
 
 -- the value of a table of keys `K` and states `S`
@@ -16,6 +16,10 @@ Held K S = Option (List (K × S))
 abbrev pub entries_of : {K S : Type 0} → Held K S → List (K × S)
 entries_of None = []
 entries_of (Some entries) = entries
+
+-- nothing is due of any key at the moment
+abbrev pub IsCalm : {K S : Type 0} → (S → Option ℕ) → (K → Option S) → ℕ → Type 0
+IsCalm {K} due states now = (key : K) → is_due now (due_of due (states key)) ≡ false
 
 module _ {K S : Type 0} (cmp : K → K → Ordering) where
   -- the state of a key among entries

@@ -1,10 +1,10 @@
 //! The table of the held keys.
 
-ghost use Rattle.std.specs.Prelude.{◌≡◌, ℕ, List, Option, Some, None, [], IfOk, OnOk, OnErr, IsTrue, cond, length, true, count_by, is_some, IsErr, IsSome, All};
+ghost use Rattle.std.specs.Prelude.{◌≡◌, ℕ, List, Option, Some, None, [], IfOk, IfSome, OnOk, OnErr, IsTrue, cond, length, true, count_by, is_some, IsErr, IsSome, All};
 ghost use Rattle.std.specs.Option.{option_copied, option_map, option_map_or};
 ghost use Rattle.std.specs.BTreeMap.{get, is_at, BTreeMap};
 ghost use Rattle.sip_model.specs.Machine.{next, adds};
-ghost use Rattle.sip_model.specs.Table.{AreDues, Held, state_at, state_in, entries_of, Covers, StepsKey, StepsAll};
+ghost use Rattle.sip_model.specs.Table.{AreDues, Held, IsCalm, state_at, state_in, entries_of, Covers, StepsKey, StepsAll};
 ghost use Rattle.sip_model.specs.Phase.{AddsPhase, DealsPhase};
 ghost use Rattle.sip_model.specs.Told.{groups};
 ghost use Rattle.sip_model.specs.History.{AddsInput, AddsInputs};
@@ -62,6 +62,17 @@ impl<M: StateMachine> Model for Live<M> {
 }
 
 impl<M: StateMachine> Live<M> {
+    // Whether nothing is due at the moment, or there is none.
+    fn is_calm(&self, moment: Option<u64>) -> bool
+        ensures { IsTrue result → IfSome moment
+            (λ now. IsCalm M.due (state_in M.Key.cmp self.now) now) }
+    {
+        match (moment, self.dues.next_due()) {
+            (Some(now), Some(due)) => now < due,
+            (None, _) | (_, None) => true,
+        }
+    }
+
     fn apart(self) -> (BTreeMap<M::Key, M::State>, Queue<M::Key>)
         ensures states { result.0.entries ≡ self }
         ensures dues { AreDues M.Key.cmp M.due (state_in M.Key.cmp self) result.1 }
@@ -198,6 +209,18 @@ impl<M: StateMachine> Table<M> {
         let outputs = joined(self.alloc, told)?;
         self.live = Some(Live { states, dues });
         Ok(outputs)
+    }
+
+    /// Whether a phase without items changes nothing and says nothing: nothing is due at its moment
+    /// in ms, or it has none. Takes no memory.
+    pub fn is_idle(&self, _machine: &M, moment: Option<u64>) -> bool
+        ensures phases { IsTrue result → AddsPhase M.Key.cmp (M.machine _machine.now) M.tick
+            self.now self.now (record { moment = moment; items = [] }) [] [] }
+    {
+        match &self.live {
+            None => false,
+            Some(live) => live.is_calm(moment),
+        }
     }
 
     /// Gives every key the tick of a moment in ms, where there is one, and then each item to its

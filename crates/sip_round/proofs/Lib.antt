@@ -6,6 +6,8 @@ pub mod Cutting
 pub mod EventsRise
 pub mod FewUps
 pub mod Leading
+pub mod IdleShards
+pub mod IdleRound
 pub mod LiveShards
 pub mod Lives
 pub mod Living

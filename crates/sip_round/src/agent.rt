@@ -1,6 +1,6 @@
 //! An agent: its transactions and its calls, led through rounds.
 
-ghost use Rattle.std.specs.Prelude.{◌≡◌, ◌⊎◌, ◌+◌, ◌++◌, ◌∷◌, ◌<◌, ◌≤◌, ◌^◌, IfOk, IfSome, IsSome, OnErr, OnOk, Some, None, Err, List, [], false, true, length, map};
+ghost use Rattle.std.specs.Prelude.{◌≡◌, ◌⊎◌, ◌+◌, ◌++◌, ◌∷◌, ◌<◌, ◌≤◌, ◌^◌, IfOk, IfSome, IsSome, IsTrue, OnErr, OnOk, Some, None, Err, List, [], false, true, length, map};
 ghost use Rattle.sip_message.specs.Key.{branch_in};
 ghost use Rattle.sip_round.specs.Arrivals.{arrivals_from};
 ghost use Rattle.sip_round.specs.Steps.Arrived.{IsArrived};
@@ -17,6 +17,8 @@ use crate::shards::Shards;
 use crate::waiting::split;
 use sip_calls::Calls;
 use sip_message::Cut;
+use sip_model::laws_of_phases;
+use sip_transactions::Transactions;
 use sip_workers::{Gate, NoMemory};
 use std::alloc::{AllocError, Global};
 use std::marker::Model;
@@ -148,6 +150,11 @@ impl<C: Cut + Drop> Agent<C> {
         if let Some(fault) = self.refusal(round) {
             return Err(fault);
         }
+        if self.is_idle(round) {
+            self.next_round += 1;
+            self.last_moment = round.moment;
+            return Ok(Vec::new(self.alloc));
+        }
         let Ok(arrived) = self.arrived(round) else {
             return Err(RoundFault::NoMemory { broken: false });
         };
@@ -213,6 +220,22 @@ impl<C: Cut + Drop> Agent<C> {
             Some(RoundFault::RoundsUsedUp)
         } else {
             None
+        }
+    }
+
+    // Whether a round has no events, and nothing is due in it: then nothing changes.
+    fn is_idle(&self, round: &Round) -> bool
+        ensures { IsTrue result → IfSome self.now.shards (λ shards.
+            Deals self.now.calls (C.shard_of self.now.cut) self.now.next_round round.now shards
+            shards []) }
+    {
+        laws_of_phases(&Transactions);
+        laws_of_phases(&self.calls);
+        match &self.shards {
+            None => false,
+            Some(shards) => {
+                round.events.is_empty() && shards.are_idle(&self.calls, round.moment)
+            }
         }
     }
 

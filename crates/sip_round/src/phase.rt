@@ -9,7 +9,7 @@ ghost use Rattle.sip_model.specs.Told.{groups};
 ghost use Rattle.sip_model.specs.declared.item.Item.{Item as AnItem};
 ghost use Rattle.sip_workers.specs.Ran.{IsNumbered};
 ghost use Rattle.sip_round.specs.Parts.{cut_by};
-ghost use Rattle.sip_round.specs.Steps.Dealt.{DealsAll, IsApart};
+ghost use Rattle.sip_round.specs.Steps.Dealt.{DealsAll, IsApart, IsIdle};
 
 use crate::dealing::{Dealing, Dealt};
 use sip_model::{Item, Replies, ShardFault, StateMachine, Table, by_label, laws_of_phases};
@@ -53,6 +53,10 @@ where
         (groups dealt.1.items.items)) }
 {
     laws_of_phases(&machine);
+    if have_no_items(&parts) && are_idle(&machine, moment, &tables) {
+        let (ticks, items) = (Vec::new(alloc), Vec::new(alloc));
+        return Ok((tables, Replies { ticks, items }));
+    }
     dones_in_order::<Dealing<M>>();
     let pieces = pieces_of(alloc, machine, tables, moment, parts)?;
     let dones = run_pieces(rt, alloc, pieces, workers, gate)?;
@@ -61,6 +65,31 @@ where
     let ticks = by_label(ticks);
     let items = by_label(items);
     Ok((tables, Replies { ticks, items }))
+}
+
+/// Whether nothing is due in any of these tables at the moment in ms, if there is one.
+pub(crate) fn are_idle<M: StateMachine>(
+    machine: &M,
+    moment: Option<u64>,
+    tables: &[Table<M>],
+) -> bool
+    ensures { IsTrue result → AllByRecursion
+        (IsIdle M.Key.cmp (M.machine machine.now) M.tick moment) tables.now }
+{
+    match tables {
+        [] => true,
+        [table, others @ ..] => table.is_idle(machine, moment) && are_idle(machine, moment, others),
+    }
+}
+
+// Whether no shard has an item.
+fn have_no_items<K, I>(parts: &[Vec<Item<K, I>>]) -> bool
+    ensures { IsTrue result → AllByRecursion (λ part. part.items ≡ []) parts.now }
+{
+    match parts {
+        [] => true,
+        [part, others @ ..] => part.is_empty() && have_no_items(others),
+    }
 }
 
 // Each table with its part, under the number of its shard.

@@ -1,11 +1,16 @@
 //! The tables of all shards.
 
-ghost use Rattle.std.specs.Prelude.{◌≡◌, ◌<◌, ◌≤◌, ℕ, List, Some, [], IfOk, All, count_by, is_some, length, sum_by, vec_len};
+ghost use Rattle.std.specs.Prelude.{◌≡◌, ◌<◌, ◌≤◌, ℕ, List, None, Some, [], IfOk, IsTrue, All, count_by, is_some, length, sum_by, vec_len};
+ghost use Rattle.std.specs.List.{AllByRecursion};
+ghost use Rattle.sip_calls.specs.Call.{call_machine, tick_input};
 ghost use Rattle.sip_calls.specs.CallShard.{call_cmp};
 ghost use Rattle.sip_message.specs.Key.{key_cmp};
 ghost use Rattle.sip_message.specs.declared.key.Key.{Key};
 ghost use Rattle.sip_model.specs.Table.{Covers, state_at};
+ghost use Rattle.sip_round.specs.Steps.Dealt.{IsIdle};
+ghost use Rattle.sip_transactions.specs.Machine.{transaction_machine, tick_at};
 
+use crate::phase::are_idle;
 use crate::transfer::transfer;
 use sip_calls::Calls;
 use sip_message::Cut;
@@ -129,6 +134,21 @@ impl Shards {
         ensures few { result ≤ 256 }
     {
         self.transactions.len()
+    }
+
+    /// Whether nothing is due in any of them at the moment in ms. Takes no memory.
+    pub(crate) fn are_idle(&self, calls: &Calls, moment: u64) -> bool
+        ensures shards { AreShards self.now }
+        ensures first { IsTrue result → AllByRecursion
+            (IsIdle key_cmp transaction_machine tick_at (Some moment)) self.now.transactions }
+        ensures second { IsTrue result → AllByRecursion
+            (IsIdle call_cmp (call_machine calls.now) tick_input (Some moment)) self.now.calls }
+        ensures third { IsTrue result → AllByRecursion
+            (IsIdle key_cmp transaction_machine tick_at None) self.now.transactions }
+    {
+        are_idle(&Transactions, Some(moment), &self.transactions)
+            && are_idle(&Transactions, None, &self.transactions)
+            && are_idle(calls, Some(moment), &self.calls)
     }
 
     /// How many transactions and how many calls are held.

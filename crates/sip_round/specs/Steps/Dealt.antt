@@ -1,10 +1,10 @@
 -- Phases of all shards.
-use Rattle.std.specs.Prelude.{◌≡◌, ℕ, zero, List, [], ◌∷◌, ◌++◌, length, map, Result, Ok}
+use Rattle.std.specs.Prelude.{◌≡◌, ℕ, zero, List, [], ◌∷◌, ◌++◌, length, map, Option, Result, Ok}
 use Rattle.std.specs.List.{flat_map}
 use Rattle.std.specs.declared.cmp.Ordering.{Ordering}
 use Rattle.sip_model.specs.Machine.{Machine}
 use Rattle.sip_model.specs.Table.{Held}
-use Rattle.sip_model.specs.Phase.{Phase, by_place, told_next}
+use Rattle.sip_model.specs.Phase.{Phase, AddsPhase, by_place, told_next}
 use Rattle.sip_model.specs.Shards.{HoldFrom}
 
 -- the tables of all shards before and after a phase, and what was said in it: they are as many as
@@ -20,6 +20,12 @@ pub record DealsAll {K S I O : Type 0} (cmp : K → K → Ordering) (machine : M
       → ticks ≡ (told_next cmp machine tick phases phase).ticks
   pub items_told : (phases : List (Phase K I)) → HoldFrom cmp machine tick owner zero old phases
       → items ≡ map by_place (told_next cmp machine tick phases phase).items
+
+-- a phase without items changes nothing in the table, and nothing is said
+abbrev pub IsIdle : {K S I O : Type 0} → (K → K → Ordering) → Machine K S I O → (ℕ → I) → Option ℕ
+    → Held K S → Type 0
+IsIdle cmp machine tick moment table =
+    AddsPhase cmp machine tick table table (record { moment = moment; items = [] }) [] []
 
 -- the dones of all shards, none of which met want of memory, taken apart: their tables in order,
 -- and all that was said, shard by shard

@@ -1,7 +1,10 @@
-use Rattle.std.proofs.Common.{◌≡◌, ◌∙◌, subst}
+use Rattle.std.proofs.Common.{◌≡◌, ◌∙◌, [], subst, sym, arith}
 use Rattle.std.specs.Prelude.{IfOk}
+use Rattle.std.specs.List.{AllByRecursion}
 use Rattle.sip_model.specs.Told.{groups}
 use Rattle.sip_model.specs.Phase.{AddsPhase}
+use Rattle.sip_round.specs.Steps.Dealt.{DealsAll, IsIdle}
+use Rattle.sip_round.proofs.IdleShards.{empty_parts, idle_shards}
 use Rattle.sip_round.proofs.Together.{deals_all}
 use Rattle.sip_round.proofs.phase.deal_phase.Goals as goal
 
@@ -38,3 +41,29 @@ returns g c = λ owner items within parts rising.
     (groups c.by_label-ticks.result.items) (groups c.in_ok-tables.replies.items.items)
     (groups c.by_label-items.result.items)
     c.in_ok-tables.ensures c.by_label-ticks.ensures c.by_label-items.ensures
+
+pub gather-requires : goal.gather-requires
+gather-requires g c =
+    c.in_ok-dones.ensures.differ
+    (c.dones_in_order.ensures.differ c.in_ok-pieces.pieces.items c.in_ok-pieces.ensures.numbered)
+
+pub returns-then-are_idle : goal.returns-then-are_idle
+returns-then-are_idle g c = λ owner items within parts rising.
+    let cmp = g.M.Key.Ord.cmp in
+    let machine = g.M.StateMachine.machine c.args.machine in
+    let tick = g.M.StateMachine.tick in
+    let tables = c.args.tables.items in
+    let none = subst (λ ps. AllByRecursion (λ part. part.items ≡ []) ps) c.deref.ensures.value
+    (c.have_no_items.ensures c.if-have_no_items.true) in
+    let still = subst (λ held. AllByRecursion (IsIdle cmp machine tick c.args.moment) held)
+    c.deref-then-have_no_items.ensures.value (c.are_idle.ensures c.if-are_idle.true) in
+    let idle = idle_shards cmp machine tick owner c.args.moment
+    c.laws_of_phases.ensures.shards_tell_all items tables within rising still
+    (sym (empty_parts (λ part. part.items) c.args.parts.items tables none
+    (omega (arith, c.requires.count, c.args.parts.ok, c.args.tables.ok))) ∙ parts) in
+    subst (λ ticks. DealsAll cmp machine tick owner tables tables
+    (record { moment = c.args.moment; items = items }) (groups ticks) (groups c.new-items.result.items))
+    (sym c.new-ticks.ensures.items)
+    (subst (λ said. DealsAll cmp machine tick owner tables tables
+    (record { moment = c.args.moment; items = items }) [] (groups said))
+    (sym c.new-items.ensures.items) idle)
