@@ -187,45 +187,22 @@ fn take_up(alloc: Global, call: &mut Call, event: Event, up: Up) -> Result<Vec<C
     ensures { IfOk result (λ outs. (call.new, outs.items)
         ≡ spec.up_taken call.old event up up.kind) }
 {
+    match &up.kind {
+        Kind::Timeout => return lose(alloc, call, event, up, true),
+        Kind::Failed => return lose(alloc, call, event, up, false),
+        Kind::Request(..) | Kind::Ack(_) => return call.serve(alloc, event, Item::Up(up)),
+        Kind::Response(_) => {}
+    }
     let Up {
-        key,
+        key: _,
         id,
         call_id,
         kind,
     } = up;
-    match kind {
-        Kind::Response(response) => call.response(event, id, call_id, response),
-        Kind::Timeout => {
-            let kind = Kind::Timeout;
-            let up = Up {
-                key,
-                id,
-                call_id,
-                kind,
-            };
-            lose(alloc, call, event, up, true)
-        }
-        Kind::Failed => {
-            let kind = Kind::Failed;
-            let up = Up {
-                key,
-                id,
-                call_id,
-                kind,
-            };
-            lose(alloc, call, event, up, false)
-        }
-        kind => call.serve(
-            alloc,
-            event,
-            Item::Up(Up {
-                key,
-                id,
-                call_id,
-                kind,
-            }),
-        ),
-    }
+    let Kind::Response(response) = kind else {
+        unreachable!();
+    };
+    call.response(event, id, call_id, response)
 }
 
 // A transaction is lost: that is told, and then what ends with it ends.

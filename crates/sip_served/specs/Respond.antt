@@ -75,15 +75,24 @@ reliable_refusal held respond =
     then Some ReliablePending
     else None)
 
--- the first that fits
+-- the conditions under which an answer is refused, in the order in which they are looked at
+abbrev pub refusals : Dialogs → Respond → HeldRequest → List (Bool × Refusal)
+refusals dialogs respond held =
+    (not (is_user_status respond.status), BadStatus)
+    ∷ (is_some held.removal, AlreadyFinal)
+    ∷ (is_reliable respond.reliability && not (may_be_reliable held respond.status), NotSupported)
+    ∷ (is_of_dialog held respond.status && has_ended dialogs held, DialogEnded)
+    ∷ []
+
+-- the refusal of the first condition that holds, and otherwise this
+abbrev pub first_refusal : List (Bool × Refusal) → Option Refusal → Option Refusal
+first_refusal [] otherwise = otherwise
+first_refusal ((holds, refusal) ∷ others) otherwise =
+    if holds then Some refusal else first_refusal others otherwise
+
 abbrev pub refusal_for : Dialogs → Respond → HeldRequest → Option Refusal
 refusal_for dialogs respond held =
-    if not (is_user_status respond.status) then Some BadStatus
-    else (if is_some held.removal then Some AlreadyFinal
-    else (if is_reliable respond.reliability && not (may_be_reliable held respond.status)
-    then Some NotSupported
-    else (if is_of_dialog held respond.status && has_ended dialogs held then Some DialogEnded
-    else reliable_refusal held respond)))
+    first_refusal (refusals dialogs respond held) (reliable_refusal held respond)
 
 -- ---- the response
 

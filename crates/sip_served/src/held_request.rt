@@ -3,6 +3,7 @@
 use crate::held_dialog::DialogLife;
 use sip_message::{Addr, Id, Key, Message, Token};
 use sip_reliable::Outbound;
+use sip_text::Boxed;
 
 /// A server request that came up and was told to the user.
 pub struct HeldRequest {
@@ -19,7 +20,7 @@ pub struct HeldRequest {
     /// The reliable provisional responses to it that were sent.
     pub ledger: Outbound,
     /// The last of them, until its PRACK came.
-    pub provisional: Option<Message>,
+    pub provisional: Option<Boxed<Message>>,
     /// The 2xx to an INVITE.
     pub success: Option<Success>,
     /// After the final response: the moment in ms at which it is removed.
@@ -29,7 +30,7 @@ pub struct HeldRequest {
 /// The 2xx response to an INVITE, which is sent again until its ACK comes (RFC 3261, section
 /// 13.3.1.4).
 pub struct Success {
-    pub response: Message,
+    pub response: Boxed<Message>,
     /// The moment in ms at which it is given up.
     pub end: u64,
     /// None once its ACK came or it was given up.

@@ -24,13 +24,11 @@ use crate::outputs::{
 use crate::refusal::Refusal;
 use crate::request::{dialog_name, is_bye, is_inside};
 use crate::requests::place_of;
-use crate::respond::{
-    answer_command, answer_to, dialogs_answered, note_answer, note_dialog, refusal_for,
-};
+use crate::respond::{answer_to, dialogs_answered, note_answer, note_dialog, refusal_for};
 use crate::tick::{is_kept, next_due, tick_requests};
 use indexmap::IndexMap;
 use sip_message::{Addr, CallId, Id, Message, Token};
-use sip_transactions::{Kind, Up};
+use sip_transactions::{Command, Kind, Up};
 use std::alloc::{AllocError, Global};
 use std::marker::Model;
 
@@ -231,6 +229,10 @@ impl Holdings {
     {
         let notice = notice_of_request(self.alloc, &arrival)?;
         let dialog = own_dialog(&self.dialogs, &arrival.request, name)?;
+        // Most calls hold one request, and a list that grows by itself begins with four places.
+        if self.requests.is_empty() {
+            self.requests.reserve_exact(1)?;
+        }
         self.requests.push(arrival.into_held(dialog))?;
         tell(self.alloc, notice)
     }
@@ -289,8 +291,7 @@ impl Holdings {
     {
         let held = &mut self.requests[index];
         let response = answer_to(self.alloc, self.local, held, &respond)?;
-        let mut outs = one(self.alloc, answer_command(held, &response)?)?;
-        let mut ends = dialogs_answered(
+        let ends = dialogs_answered(
             self.alloc,
             &mut self.dialogs,
             event,
@@ -298,10 +299,12 @@ impl Holdings {
             &respond,
             &response,
         )?;
+        let (id, key) = (held.id, held.key.clone()?);
         note_dialog(self.alloc, held, event, &respond)?;
-        note_answer(held, &respond, response, now);
-        outs.append(&mut ends)?;
-        Ok(outs)
+        note_answer(self.alloc, held, &respond, &response, now)?;
+        let message = response;
+        let command = CallOut::Command(id, Command::Answer { key, message });
+        joined(one(self.alloc, command)?, ends)
     }
 
     /// The moment `now`, in ms, has come.

@@ -5,6 +5,7 @@ use sip_message::{CallId, Id, StatusCode, Token};
 use sip_text::Text;
 
 /// What the user is told of a call. A tag is empty where the message has none.
+#[derive(Drop)]
 pub enum Notice {
     /// A request came up and is held.
     Request {
@@ -75,53 +76,4 @@ pub enum Notice {
         place: u32,
         refusal: Refusal,
     },
-}
-
-impl Drop for Notice {
-    fn drop(self) {
-        match self {
-            Notice::Request {
-                call_id: _,
-                id: _,
-                method: _,
-                local_tag: _,
-                remote_tag: _,
-                body: _,
-            } => {}
-            Notice::Response {
-                call_id: _,
-                id: _,
-                status: _,
-                local_tag: _,
-                remote_tag: _,
-                body: _,
-            } => {}
-            Notice::Ack {
-                call_id: _,
-                id: _,
-                body: _,
-            } => {}
-            Notice::Prack {
-                call_id: _,
-                id: _,
-                rseq: _,
-                body: _,
-            } => {}
-            Notice::Timeout { call_id: _, id: _ } => {}
-            Notice::Failed { call_id: _, id: _ } => {}
-            Notice::NoAck { call_id: _, id: _ } => {}
-            Notice::NoPrack { call_id: _, id: _ } => {}
-            Notice::Cancel { call_id: _, id: _ } => {}
-            Notice::Ended {
-                call_id: _,
-                local_tag: _,
-                remote_tag: _,
-            } => {}
-            Notice::Refused {
-                call_id: _,
-                place: _,
-                refusal: _,
-            } => {}
-        }
-    }
 }

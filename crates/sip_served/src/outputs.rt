@@ -22,7 +22,7 @@ use std::alloc::{AllocError, Global};
 pub(crate) fn one(alloc: Global, out: CallOut) -> Result<Vec<CallOut>, AllocError>
     ensures { IfOk result (λ outs. outs.items ≡ out ∷ []) }
 {
-    let mut outs = Vec::new(alloc);
+    let mut outs = Vec::with_capacity(alloc, 1)?;
     outs.push(out)?;
     Ok(outs)
 }

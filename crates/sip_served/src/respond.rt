@@ -21,7 +21,7 @@ use crate::request::{
 use sip_dialog::{Dialog, own_contact};
 use sip_message::{Addr, Id, Message, StatusCode, Token, response_to};
 use sip_reliable::{Inbound, SendFault};
-use sip_text::{Series, Text};
+use sip_text::{Boxed, Series, Text};
 use sip_transactions::{Command, LIFETIME, T1};
 use std::alloc::{AllocError, Global};
 
@@ -181,37 +181,58 @@ fn option_100rel(alloc: Global) -> Result<Token, AllocError>
 }
 
 /// What becomes of a held request by its answer.
-pub(crate) fn note_answer(held: &mut HeldRequest, respond: &Respond, response: Message, now: u64)
+pub(crate) fn note_answer(
+    alloc: Global,
+    held: &mut HeldRequest,
+    respond: &Respond,
+    response: &Message,
+    now: u64,
+) -> Result<(), AllocError>
     requires { now ≤ 2 ^ 62 }
-    ensures { held.new ≡ spec.answered respond.now response now held.old }
+    ensures { OnOk result (held.new ≡ spec.answered respond.now response.now now held.old) }
 {
     if is_sent_reliably(held, respond) {
-        send_reliably(held, response, now);
+        send_reliably(alloc, held, response, now)
     } else if is_final(respond.status) {
-        finish(held, response, respond.status, now);
+        finish(alloc, held, response, respond.status, now)
+    } else {
+        Ok(())
     }
 }
 
-fn send_reliably(held: &mut HeldRequest, response: Message, now: u64)
+fn send_reliably(
+    alloc: Global,
+    held: &mut HeldRequest,
+    response: &Message,
+    now: u64,
+) -> Result<(), AllocError>
     requires { now ≤ 2 ^ 62 }
-    ensures { held.new ≡ spec.sent_reliably response now held.old }
+    ensures { OnOk result (held.new ≡ spec.sent_reliably response.now now held.old) }
 {
     let _ = held.ledger.send(now, !response.body.is_empty());
-    held.provisional = Some(response);
+    held.provisional = Some(Boxed::new(alloc, response.clone()?)?);
+    Ok(())
 }
 
-fn finish(held: &mut HeldRequest, response: Message, status: u16, now: u64)
+fn finish(
+    alloc: Global,
+    held: &mut HeldRequest,
+    response: &Message,
+    status: u16,
+    now: u64,
+) -> Result<(), AllocError>
     requires { now ≤ 2 ^ 62 }
-    ensures { held.new ≡ spec.finished response status now held.old }
+    ensures { OnOk result (held.new ≡ spec.finished response.now status now held.old) }
 {
     held.ledger.close();
     if is_invite(&held.request) && is_success(status) {
-        held.success = Some(success_sent(response, now));
+        held.success = Some(success_sent(Boxed::new(alloc, response.clone()?)?, now));
     }
     held.removal = Some(now + u64::from(LIFETIME));
+    Ok(())
 }
 
-fn success_sent(response: Message, now: u64) -> Success
+fn success_sent(response: Boxed<Message>, now: u64) -> Success
     requires { now ≤ 2 ^ 62 }
     ensures { result ≡ spec.success_sent response now }
 {

@@ -59,7 +59,7 @@ fn tick_success(held: &mut HeldRequest, now: u64, outs: &mut Vec<CallOut>) -> Re
     match success_answer(success, now) {
         Tick::Nothing => Ok(()),
         Tick::Again => {
-            outs.push(answer_command(held, &success.response)?)?;
+            outs.push(answer_command(held, success.response.get())?)?;
             repeat_success(held, now);
             Ok(())
         }
@@ -152,7 +152,7 @@ fn tell_provisional(
     };
     match tick {
         Tick::Nothing => {}
-        Tick::Again => outs.push(answer_command(held, response)?)?,
+        Tick::Again => outs.push(answer_command(held, response.get())?)?,
         Tick::GivenUp => outs.push(CallOut::Notice(no_prack(held)?))?,
     }
     Ok(())

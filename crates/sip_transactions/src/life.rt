@@ -1,6 +1,7 @@
 //! What is held of a transaction.
 
 ghost use Rattle.std.specs.Prelude.{◌≡◌, ◌≤◌, ◌^◌, None};
+ghost use Rattle.std.specs.Option.{option_copied};
 ghost use Rattle.sip_transactions.specs.Life.{life_by, life_after, entered, last_of};
 ghost use Rattle.sip_transactions.specs.Timers.{IsTimely, no_dues};
 
@@ -8,7 +9,7 @@ use crate::state::State;
 use crate::step::{Next, Step};
 use crate::timers::Timers;
 use sip_message::{Addr, CallId, Id, Message};
-use sip_text::Text;
+use sip_text::{Boxed, Text};
 
 /// A life of a transaction: from the input that made it to the one that ends it.
 #[derive(Drop)]
@@ -21,7 +22,7 @@ pub struct Life {
     /// Where what it sends goes.
     pub to: Addr,
     /// The INVITE that its client was started with, of which an ACK is made.
-    pub request: Option<Message>,
+    pub request: Option<Boxed<Message>>,
     /// What it sent last.
     pub last: Option<Text>,
     /// When that is sent again, and when the life ends.
@@ -30,7 +31,7 @@ pub struct Life {
 
 impl Life {
     /// The life of an input with this id and this Call-ID, before its row gives it its state.
-    pub(crate) fn new(id: Id, call_id: CallId, to: Addr, request: Option<Message>) -> Life
+    pub(crate) fn new(id: Id, call_id: CallId, to: Addr, request: Option<Boxed<Message>>) -> Life
         ensures { result ≡ life_by id call_id to request }
     {
         Life {
@@ -41,6 +42,16 @@ impl Life {
             request,
             last: None,
             timers: Timers::new(),
+        }
+    }
+
+    /// The INVITE that its client was started with.
+    pub(crate) fn request(&self) -> Option<&Message>
+        ensures { option_copied result ≡ self.now.request }
+    {
+        match &self.request {
+            None => None,
+            Some(request) => Some(request.get()),
         }
     }
 

@@ -1,6 +1,6 @@
 //! One input of one transaction.
 
-ghost use Rattle.std.specs.Prelude.{◌≡◌, ℕ, ◌≤◌, ◌^◌, IfOk, IfSome, None};
+ghost use Rattle.std.specs.Prelude.{◌≡◌, ℕ, ◌≤◌, ◌^◌, IfOk, IfSome, Some, None, if◌then◌else◌};
 ghost use Rattle.sip_transactions.specs.Input.{role_of};
 ghost use Rattle.sip_transactions.specs.Life.{step_for, begun, keeps_request, life_after, acted, acted_if, acted_at_arrival};
 ghost use Rattle.sip_transactions.specs.Timers.{IsTimely};
@@ -18,7 +18,7 @@ use crate::step::{Next, Sent, Step};
 use crate::trigger::trigger_of;
 use sip_message::{Addr, Id, Key, Message};
 use sip_model::StateMachine;
-use sip_text::Text;
+use sip_text::{Boxed, Text};
 use std::alloc::{AllocError, Global};
 
 /// What is held after an input, and what it adds.
@@ -63,8 +63,10 @@ fn act(
     ensures adds { IfOk result (λ after. after.1.items
         ≡ outputs_of key.now life step made arrived) }
 {
-    let outputs = said(alloc, key, &life, step, made.as_ref(), arrived)?;
-    Ok((life.after(step, now, made), outputs))
+    // The copy has no spare room, which what is written has.
+    let kept = made.clone()?;
+    let outputs = said(alloc, key, &life, step, made, arrived)?;
+    Ok((life.after(step, now, kept), outputs))
 }
 
 // A row at the life that is held.
@@ -81,7 +83,7 @@ fn go_on(
     ensures next { IfOk result (λ after. after.0 ≡ (acted key.now now input life step).0) }
     ensures adds { IfOk result (λ after. after.1.items ≡ (acted key.now now input life step).1) }
 {
-    let made = made_bytes(alloc, life.request.as_ref(), step.sent, input.message())?;
+    let made = made_bytes(alloc, life.request(), step.sent, input.message())?;
     act(alloc, key, now, life, step, made, input.into_arrived())
 }
 
@@ -110,7 +112,7 @@ fn begin(alloc: Global, key: &Key, now: u64, input: Input, step: Step) -> Result
             let keeps = keeps_request(role_of(key));
             let request = if keeps { Some(&message) } else { None };
             let made = made_bytes(alloc, request, step.sent, Some(&message))?;
-            let request = if keeps { Some(message) } else { None };
+            let request = kept_request(alloc, keeps, message)?;
             act(
                 alloc,
                 key,
@@ -122,6 +124,21 @@ fn begin(alloc: Global, key: &Key, now: u64, input: Input, step: Step) -> Result
             )
         }
         Input::Tick | Input::Answer { .. } | Input::Failed { .. } => Ok((None, Vec::new(alloc))),
+    }
+}
+
+// The message, where the client keeps it.
+fn kept_request(
+    alloc: Global,
+    keeps: bool,
+    message: Message,
+) -> Result<Option<Boxed<Message>>, AllocError>
+    ensures { IfOk result (λ kept. kept ≡ (if keeps then Some message else None)) }
+{
+    if keeps {
+        Ok(Some(Boxed::new(alloc, message)?))
+    } else {
+        Ok(None)
     }
 }
 

@@ -4,10 +4,14 @@ ghost use Rattle.std.specs.Prelude.{◌≡◌, IfSome};
 ghost use Rattle.sip_transactions.specs.Repeats.{FiresWhenDue};
 ghost use Rattle.sip_transactions.specs.Rows.{row_of, rows_of, invite_client_rows, client_rows, invite_server_rows, server_rows};
 
-use crate::state::{Role, State};
+use crate::state::Role;
+use crate::state::State::{self, Accepted, Calling, Completed, Confirmed, Proceeding, Trying};
 use crate::step::{Due, Handed, Pace, Sent, Step};
 use crate::timers::{LIFETIME, T4};
-use crate::trigger::{Class, Trigger};
+use crate::trigger::Class;
+use crate::trigger::Trigger::{
+    self, Ack, Answer, EndingDue, Failed, RepeatDue, Request, Response, Start,
+};
 
 /// The row of a table that fits a state and a trigger. No state is `None`.
 pub fn step_of(role: Role, state: Option<State>, trigger: Trigger) -> Option<Step>
@@ -28,50 +32,32 @@ fn invite_client_step(state: Option<State>, trigger: Trigger) -> Option<Step>
     ensures repeat { IfSome result (λ step. FiresWhenDue step.due trigger) }
 {
     let step = match (state, trigger) {
-        (None, Trigger::Start) => Step::enter(
-            State::Calling,
-            Handed::Nothing,
-            Sent::Given,
-            Due::Both,
-        ),
-        (Some(State::Calling), Trigger::RepeatDue) => Step::repeat(Pace::Doubled),
-        (Some(State::Calling), Trigger::EndingDue) => Step::end(Handed::Timeout),
-        (Some(State::Calling | State::Completed), Trigger::Failed) => Step::end(Handed::Failed),
-        (
-            Some(State::Calling | State::Proceeding),
-            Trigger::Response(Class::Trying | Class::Provisional),
-        ) => Step::enter(
-            State::Proceeding,
+        (None, Start) => Step::enter(Calling, Handed::Nothing, Sent::Given, Due::Both),
+        (Some(Calling), RepeatDue) => Step::repeat(Pace::Doubled),
+        (Some(Calling), EndingDue) => Step::end(Handed::Timeout),
+        (Some(Calling | Completed), Failed) => Step::end(Handed::Failed),
+        (Some(Calling | Proceeding), Response(Class::Trying | Class::Provisional)) => Step::enter(
+            Proceeding,
             Handed::Message,
             Sent::Nothing,
             Due::Clear,
         ),
-        (Some(State::Calling | State::Proceeding), Trigger::Response(Class::Success)) =>
-            Step::enter(
-                State::Accepted,
-                Handed::Message,
-                Sent::Nothing,
-                Due::Ending(LIFETIME),
-            ),
-        (Some(State::Calling | State::Proceeding), Trigger::Response(Class::Failure)) =>
-            Step::enter(
-                State::Completed,
-                Handed::Message,
-                Sent::Ack,
-                Due::Ending(LIFETIME),
-            ),
-        (Some(State::Completed), Trigger::Response(Class::Failure)) => Step::stay(
-            Handed::Nothing,
-            Sent::Latest,
-        ),
-        (Some(State::Accepted), Trigger::Response(Class::Success)) => Step::stay(
+        (Some(Calling | Proceeding), Response(Class::Success)) => Step::enter(
+            Accepted,
             Handed::Message,
             Sent::Nothing,
+            Due::Ending(LIFETIME),
         ),
-        (Some(State::Completed | State::Accepted), Trigger::EndingDue) => Step::end(
-            Handed::Nothing,
+        (Some(Calling | Proceeding), Response(Class::Failure)) => Step::enter(
+            Completed,
+            Handed::Message,
+            Sent::Ack,
+            Due::Ending(LIFETIME),
         ),
-        (None, Trigger::Response(_)) => Step::end(Handed::NoTransaction),
+        (Some(Completed), Response(Class::Failure)) => Step::stay(Handed::Nothing, Sent::Latest),
+        (Some(Accepted), Response(Class::Success)) => Step::stay(Handed::Message, Sent::Nothing),
+        (Some(Completed | Accepted), EndingDue) => Step::end(Handed::Nothing),
+        (None, Response(_)) => Step::end(Handed::NoTransaction),
         _ => return None,
     };
     Some(step)
@@ -83,31 +69,25 @@ fn client_step(state: Option<State>, trigger: Trigger) -> Option<Step>
     ensures repeat { IfSome result (λ step. FiresWhenDue step.due trigger) }
 {
     let step = match (state, trigger) {
-        (None, Trigger::Start) => Step::enter(
-            State::Trying,
-            Handed::Nothing,
-            Sent::Given,
-            Due::Both,
+        (None, Start) => Step::enter(Trying, Handed::Nothing, Sent::Given, Due::Both),
+        (Some(Trying), RepeatDue) => Step::repeat(Pace::Capped),
+        (Some(Proceeding), RepeatDue) => Step::repeat(Pace::Even),
+        (Some(Trying | Proceeding), EndingDue) => Step::end(Handed::Timeout),
+        (Some(Trying | Proceeding), Failed) => Step::end(Handed::Failed),
+        (Some(Trying | Proceeding), Response(Class::Trying | Class::Provisional)) => Step::enter(
+            Proceeding,
+            Handed::Message,
+            Sent::Nothing,
+            Due::Keep,
         ),
-        (Some(State::Trying), Trigger::RepeatDue) => Step::repeat(Pace::Capped),
-        (Some(State::Proceeding), Trigger::RepeatDue) => Step::repeat(Pace::Even),
-        (Some(State::Trying | State::Proceeding), Trigger::EndingDue) => Step::end(Handed::Timeout),
-        (Some(State::Trying | State::Proceeding), Trigger::Failed) => Step::end(Handed::Failed),
-        (
-            Some(State::Trying | State::Proceeding),
-            Trigger::Response(Class::Trying | Class::Provisional),
-        ) => Step::enter(State::Proceeding, Handed::Message, Sent::Nothing, Due::Keep),
-        (
-            Some(State::Trying | State::Proceeding),
-            Trigger::Response(Class::Success | Class::Failure),
-        ) => Step::enter(
-            State::Completed,
+        (Some(Trying | Proceeding), Response(Class::Success | Class::Failure)) => Step::enter(
+            Completed,
             Handed::Message,
             Sent::Nothing,
             Due::Ending(T4),
         ),
-        (Some(State::Completed), Trigger::EndingDue) => Step::end(Handed::Nothing),
-        (None, Trigger::Response(_)) => Step::end(Handed::NoTransaction),
+        (Some(Completed), EndingDue) => Step::end(Handed::Nothing),
+        (None, Response(_)) => Step::end(Handed::NoTransaction),
         _ => return None,
     };
     Some(step)
@@ -119,53 +99,37 @@ fn invite_server_step(state: Option<State>, trigger: Trigger) -> Option<Step>
     ensures repeat { IfSome result (λ step. FiresWhenDue step.due trigger) }
 {
     let step = match (state, trigger) {
-        (None, Trigger::Request) => Step::enter(
-            State::Proceeding,
-            Handed::Message,
-            Sent::Trying,
-            Due::Clear,
-        ),
-        (Some(State::Proceeding | State::Completed), Trigger::Request) => Step::stay(
-            Handed::Nothing,
-            Sent::Latest,
-        ),
-        (Some(State::Proceeding), Trigger::Answer(Class::Provisional)) => Step::stay(
-            Handed::Nothing,
-            Sent::Given,
-        ),
-        (Some(State::Proceeding), Trigger::Answer(Class::Success)) => Step::enter(
-            State::Accepted,
+        (None, Request) => Step::enter(Proceeding, Handed::Message, Sent::Trying, Due::Clear),
+        (Some(Proceeding | Completed), Request) => Step::stay(Handed::Nothing, Sent::Latest),
+        (Some(Proceeding), Answer(Class::Provisional)) => Step::stay(Handed::Nothing, Sent::Given),
+        (Some(Proceeding), Answer(Class::Success)) => Step::enter(
+            Accepted,
             Handed::Nothing,
             Sent::Given,
             Due::Ending(LIFETIME),
         ),
-        (Some(State::Proceeding), Trigger::Answer(Class::Failure)) => Step::enter(
-            State::Completed,
+        (Some(Proceeding), Answer(Class::Failure)) => Step::enter(
+            Completed,
             Handed::Nothing,
             Sent::Given,
             Due::Both,
         ),
-        (Some(State::Completed), Trigger::RepeatDue) => Step::repeat(Pace::Capped),
-        (Some(State::Completed), Trigger::Ack) => Step::enter(
-            State::Confirmed,
+        (Some(Completed), RepeatDue) => Step::repeat(Pace::Capped),
+        (Some(Completed), Ack) => Step::enter(
+            Confirmed,
             Handed::Nothing,
             Sent::Nothing,
             Due::Ending(T4),
         ),
-        (Some(State::Completed), Trigger::EndingDue) => Step::end(Handed::Timeout),
-        (Some(State::Accepted), Trigger::Ack) => Step::stay(Handed::Message, Sent::Nothing),
-        (Some(State::Accepted), Trigger::Answer(Class::Success)) => Step::stay(
-            Handed::Nothing,
-            Sent::Given,
+        (Some(Completed), EndingDue) => Step::end(Handed::Timeout),
+        (Some(Accepted), Ack) => Step::stay(Handed::Message, Sent::Nothing),
+        (Some(Accepted), Answer(Class::Success)) => Step::stay(Handed::Nothing, Sent::Given),
+        (Some(Confirmed | Accepted), EndingDue) => Step::end(Handed::Nothing),
+        (Some(Proceeding | Completed | Accepted | Confirmed), Failed) => Step::stay(
+            Handed::Failed,
+            Sent::Nothing,
         ),
-        (Some(State::Confirmed | State::Accepted), Trigger::EndingDue) => Step::end(
-            Handed::Nothing,
-        ),
-        (
-            Some(State::Proceeding | State::Completed | State::Accepted | State::Confirmed),
-            Trigger::Failed,
-        ) => Step::stay(Handed::Failed, Sent::Nothing),
-        (None, Trigger::Ack) => Step::end(Handed::Message),
+        (None, Ack) => Step::end(Handed::Message),
         _ => return None,
     };
     Some(step)
@@ -177,29 +141,22 @@ fn server_step(state: Option<State>, trigger: Trigger) -> Option<Step>
     ensures repeat { IfSome result (λ step. FiresWhenDue step.due trigger) }
 {
     let step = match (state, trigger) {
-        (None, Trigger::Request) => Step::enter(
-            State::Trying,
-            Handed::Message,
-            Sent::Nothing,
+        (None, Request) => Step::enter(Trying, Handed::Message, Sent::Nothing, Due::Clear),
+        (Some(Trying | Proceeding), Answer(Class::Provisional)) => Step::enter(
+            Proceeding,
+            Handed::Nothing,
+            Sent::Given,
             Due::Clear,
         ),
-        (Some(State::Trying | State::Proceeding), Trigger::Answer(Class::Provisional)) =>
-            Step::enter(State::Proceeding, Handed::Nothing, Sent::Given, Due::Clear),
-        (
-            Some(State::Trying | State::Proceeding),
-            Trigger::Answer(Class::Success | Class::Failure),
-        ) => Step::enter(
-            State::Completed,
+        (Some(Trying | Proceeding), Answer(Class::Success | Class::Failure)) => Step::enter(
+            Completed,
             Handed::Nothing,
             Sent::Given,
             Due::Ending(LIFETIME),
         ),
-        (Some(State::Proceeding | State::Completed), Trigger::Request) => Step::stay(
-            Handed::Nothing,
-            Sent::Latest,
-        ),
-        (Some(State::Completed), Trigger::EndingDue) => Step::end(Handed::Nothing),
-        (Some(State::Trying | State::Proceeding | State::Completed), Trigger::Failed) => Step::stay(
+        (Some(Proceeding | Completed), Request) => Step::stay(Handed::Nothing, Sent::Latest),
+        (Some(Completed), EndingDue) => Step::end(Handed::Nothing),
+        (Some(Trying | Proceeding | Completed), Failed) => Step::stay(
             Handed::Failed,
             Sent::Nothing,
         ),

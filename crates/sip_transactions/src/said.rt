@@ -21,18 +21,18 @@ pub(crate) fn said(
     key: &Key,
     life: &Life,
     step: Step,
-    made: Option<&Text>,
+    made: Option<Text>,
     arrived: Option<(Message, Addr)>,
 ) -> Result<Vec<Out>, AllocError>
-    ensures { let bytes = option_copied made.entry in
-        IfOk result (λ outputs. outputs.items ≡ outputs_of key.now life.now step bytes arrived) }
+    ensures { IfOk result (λ outputs. outputs.items
+        ≡ outputs_of key.now life.now step made arrived) }
 {
     let mut outputs = Vec::new(alloc);
     if let Some(out) = hand_up(key, life, step.handed, arrived)? {
         outputs.reserve_exact(1)?;
         outputs.push(out)?;
     }
-    if let Some(bytes) = bytes_sent(life.last.as_ref(), step.sent, made) {
+    if let Some(bytes) = bytes_sent(&life.last, step.sent, made)? {
         outputs.reserve_exact(1)?;
         outputs.push(send_out(key, life.to, bytes)?)?;
     }
@@ -136,22 +136,25 @@ fn kind_of(message: Message, reply_to: Addr) -> Kind
 }
 
 // The bytes that a row sends: what it made, or what was sent last.
-fn bytes_sent<'a>(last: Option<&'a Text>, sent: Sent, made: Option<&'a Text>) -> Option<&'a Text>
-    ensures { let bytes = option_copied made.entry in
-        option_copied result ≡ sent_bytes (option_copied last.entry) sent bytes }
+fn bytes_sent(
+    last: &Option<Text>,
+    sent: Sent,
+    made: Option<Text>,
+) -> Result<Option<Text>, AllocError>
+    ensures { IfOk result (λ bytes. bytes ≡ sent_bytes last.now sent made) }
 {
     match sent {
-        Sent::Latest => last,
-        Sent::Nothing | Sent::Given | Sent::Trying | Sent::Ack => made,
+        Sent::Latest => last.clone(),
+        Sent::Nothing | Sent::Given | Sent::Trying | Sent::Ack => Ok(made),
     }
 }
 
-fn send_out(key: &Key, to: Addr, bytes: &Text) -> Result<Out, AllocError>
-    ensures { IfOk result (λ out. out ≡ send_out key.now to bytes.now) }
+fn send_out(key: &Key, to: Addr, bytes: Text) -> Result<Out, AllocError>
+    ensures { IfOk result (λ out. out ≡ send_out key.now to bytes) }
 {
     Ok(Out::Send {
         key: key.clone()?,
         to,
-        bytes: bytes.clone()?,
+        bytes,
     })
 }
