@@ -20,7 +20,8 @@ Examples:
   ua listen --local 127.0.0.1:5070 --turns 3000
   ua call --local 127.0.0.1:5080 --to 127.0.0.1:5070 --uri sip:b@127.0.0.1 --turns 200
 
-Status: 0 success, 1 no event file, 2 bad words, 3 a refused round, 4 a device that failed, 5 no memory";
+Status: 0 success, 1 no event file, 2 bad words, 3 a refused round, 4 a device that failed, \
+5 no memory";
 
 const REPLAY_EXAMPLE: &str = "\
 Example:
@@ -148,7 +149,8 @@ pub(crate) fn call_words<'a>(matches: &ArgMatches<'a>) -> Option<CallWords<'a>> 
 fn listen_command<'a>(alloc: Global) -> Result<Command<'a>, AllocError> {
     Command::new(alloc, "listen")
         .about(
-            "Answers calls over UDP: 200 to INVITE, BYE and OPTIONS, 501 to all else; a line for each notice",
+            "Answers calls over UDP: 200 to INVITE, BYE and OPTIONS, 501 to all else; a line for \
+            each notice",
         )
         .after_help(LISTEN_EXAMPLE)
         .arg(local_argument(alloc))?
@@ -189,7 +191,8 @@ fn local_argument<'a>(alloc: Global) -> Arg<'a> {
         .value_name("ADDR")
         .required(true)
         .help(
-            "One's own address, as 192.0.2.1:5060: the socket is bound to it, and it stands in what is sent",
+            "One's own address, as 192.0.2.1:5060: the socket is bound to it, and it stands in \
+            what is sent",
         )
 }
 
@@ -209,7 +212,8 @@ fn replay_command<'a>(alloc: Global) -> Result<Command<'a>, AllocError> {
         .value_parser(value_parser!(usize).range(1..=256))
         .default_value("1")
         .help(
-            "Into how many parts transactions and calls are cut, from 1 to 256; each part is dealt with by one thread at a time",
+            "Into how many parts transactions and calls are cut, from 1 to 256; each part is \
+            dealt with by one thread at a time",
         );
     let workers = Arg::new(alloc, "workers")
         .long("workers")
@@ -217,7 +221,8 @@ fn replay_command<'a>(alloc: Global) -> Result<Command<'a>, AllocError> {
         .value_parser(value_parser!(usize).range(1..=64))
         .default_value("1")
         .help(
-            "On how many threads at most the parts are dealt with, from 1 to 64; with 1 no thread is started",
+            "On how many threads at most the parts are dealt with, from 1 to 64; with 1 no thread \
+            is started",
         );
     let cut = Arg::new(alloc, "cut")
         .long("cut")
@@ -225,7 +230,8 @@ fn replay_command<'a>(alloc: Global) -> Result<Command<'a>, AllocError> {
         .value_parser(["spread", "first"].as_slice())
         .default_value("spread")
         .help(
-            "How the parts are cut: by the sum of the bytes of a branch or a Call-ID, or all into the first",
+            "How the parts are cut: by the sum of the bytes of a branch or a Call-ID, or all into \
+            the first",
         );
     Command::new(alloc, "replay")
         .about("Runs the rounds of an event file on standard input, and writes its output file")

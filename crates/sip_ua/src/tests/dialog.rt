@@ -46,7 +46,9 @@ fn status(rt: &impl Abort, code: u16) -> StatusCode {
 // An INVITE of this number that one sends.
 fn own_invite(alloc: Global, cseq: u32) -> Result<Message, Fail> {
     let text = format!(in alloc;
-        "INVITE sip:b@192.0.2.9 SIP/2.0\r\nVia: SIP/2.0/UDP 192.0.2.1:5060;rport;branch=z9hG4bKi\r\nFrom: <sip:a@192.0.2.1>;tag=l1\r\nTo: <sip:b@192.0.2.9>\r\nCall-ID: c2\r\nCSeq: {cseq} INVITE\r\n\r\n"
+        "INVITE sip:b@192.0.2.9 SIP/2.0\r\nVia: SIP/2.0/UDP \
+        192.0.2.1:5060;rport;branch=z9hG4bKi\r\nFrom: <sip:a@192.0.2.1>;tag=l1\r\n\
+        To: <sip:b@192.0.2.9>\r\nCall-ID: c2\r\nCSeq: {cseq} INVITE\r\n\r\n"
     )?;
     Ok(read(alloc, text.as_bytes()).ok().ok_or("an INVITE")?)
 }
@@ -54,7 +56,9 @@ fn own_invite(alloc: Global, cseq: u32) -> Result<Message, Fail> {
 // Its answer of this status, with the tag `x`.
 fn answer(alloc: Global, code: u16, cseq: u32) -> Result<Message, Fail> {
     let text = format!(in alloc;
-        "SIP/2.0 {code} X\r\nVia: SIP/2.0/UDP 192.0.2.1:5060;rport;branch=z9hG4bKi\r\nFrom: <sip:a@192.0.2.1>;tag=l1\r\nTo: <sip:b@192.0.2.9>;tag=x\r\nCall-ID: c2\r\nCSeq: {cseq} INVITE\r\n\r\n"
+        "SIP/2.0 {code} X\r\nVia: SIP/2.0/UDP 192.0.2.1:5060;rport;branch=z9hG4bKi\r\n\
+        From: <sip:a@192.0.2.1>;tag=l1\r\nTo: <sip:b@192.0.2.9>;tag=x\r\nCall-ID: c2\r\n\
+        CSeq: {cseq} INVITE\r\n\r\n"
     )?;
     Ok(read(alloc, text.as_bytes()).ok().ok_or("a response")?)
 }
@@ -146,21 +150,29 @@ fn requests_are_numbered_and_whole(rt: HostRuntime) -> Result<(), Fail> {
         &rt,
         alloc,
         info,
-        "INFO sip:b@192.0.2.9 SIP/2.0\r\nVia: SIP/2.0/UDP 192.0.2.1:5060;rport;branch=z9hG4bKb\r\nMax-Forwards: 70\r\nFrom: <sip:a@192.0.2.1>;tag=l1\r\nTo: <sip:b@192.0.2.9>;tag=x\r\nCall-ID: c2\r\nCSeq: 2 INFO\r\nContent-Length: 0\r\n\r\n",
+        "INFO sip:b@192.0.2.9 SIP/2.0\r\nVia: SIP/2.0/UDP 192.0.2.1:5060;rport;branch=z9hG4bKb\r\n\
+        Max-Forwards: 70\r\nFrom: <sip:a@192.0.2.1>;tag=l1\r\nTo: <sip:b@192.0.2.9>;tag=x\r\n\
+        Call-ID: c2\r\nCSeq: 2 INFO\r\nContent-Length: 0\r\n\r\n",
     )?;
     let ack = ack_of(&rt, alloc, &dialog, 1, "v=0")?;
     is_written(
         &rt,
         alloc,
         ack,
-        "ACK sip:b@192.0.2.9 SIP/2.0\r\nVia: SIP/2.0/UDP 192.0.2.1:5060;rport;branch=z9hG4bKb\r\nMax-Forwards: 70\r\nFrom: <sip:a@192.0.2.1>;tag=l1\r\nTo: <sip:b@192.0.2.9>;tag=x\r\nCall-ID: c2\r\nCSeq: 1 ACK\r\nContent-Type: application/sdp\r\nContent-Length: 3\r\n\r\nv=0",
+        "ACK sip:b@192.0.2.9 SIP/2.0\r\nVia: SIP/2.0/UDP 192.0.2.1:5060;rport;branch=z9hG4bKb\r\n\
+        Max-Forwards: 70\r\nFrom: <sip:a@192.0.2.1>;tag=l1\r\nTo: <sip:b@192.0.2.9>;tag=x\r\n\
+        Call-ID: c2\r\nCSeq: 1 ACK\r\nContent-Type: application/sdp\r\nContent-Length: 3\r\n\r\n\
+        v=0",
     )?;
     let invite = next(&rt, alloc, &mut dialog, "INVITE")?;
     is_written(
         &rt,
         alloc,
         invite,
-        "INVITE sip:b@192.0.2.9 SIP/2.0\r\nVia: SIP/2.0/UDP 192.0.2.1:5060;rport;branch=z9hG4bKb\r\nMax-Forwards: 70\r\nFrom: <sip:a@192.0.2.1>;tag=l1\r\nTo: <sip:b@192.0.2.9>;tag=x\r\nCall-ID: c2\r\nCSeq: 3 INVITE\r\nContact: <sip:192.0.2.1:5060>\r\nContent-Length: 0\r\n\r\n",
+        "INVITE sip:b@192.0.2.9 SIP/2.0\r\nVia: SIP/2.0/UDP \
+        192.0.2.1:5060;rport;branch=z9hG4bKb\r\nMax-Forwards: 70\r\n\
+        From: <sip:a@192.0.2.1>;tag=l1\r\nTo: <sip:b@192.0.2.9>;tag=x\r\nCall-ID: c2\r\n\
+        CSeq: 3 INVITE\r\nContact: <sip:192.0.2.1:5060>\r\nContent-Length: 0\r\n\r\n",
     )?;
     Ok(())
 }
@@ -320,15 +332,18 @@ fn a_refreshed_target_is_the_request_uri(rt: HostRuntime) -> Result<(), Fail> {
         &rt,
         alloc,
         bye,
-        "BYE sip:n@10.0.0.6 SIP/2.0\r\nVia: SIP/2.0/UDP 192.0.2.1:5060;rport;branch=z9hG4bKb\r\nMax-Forwards: 70\r\nFrom: <sip:a@192.0.2.1>;tag=l1\r\nTo: <sip:b@192.0.2.9>;tag=x\r\nCall-ID: c2\r\nCSeq: 2 BYE\r\nContent-Length: 0\r\n\r\n",
+        "BYE sip:n@10.0.0.6 SIP/2.0\r\nVia: SIP/2.0/UDP 192.0.2.1:5060;rport;branch=z9hG4bKb\r\n\
+        Max-Forwards: 70\r\nFrom: <sip:a@192.0.2.1>;tag=l1\r\nTo: <sip:b@192.0.2.9>;tag=x\r\n\
+        Call-ID: c2\r\nCSeq: 2 BYE\r\nContent-Length: 0\r\n\r\n",
     )?;
     Ok(())
 }
 
 // An INVITE of the peer.
 fn peer_invite(alloc: Global) -> Result<Message, Fail> {
-    let text =
-        "INVITE sip:a@192.0.2.1 SIP/2.0\r\nVia: SIP/2.0/UDP 192.0.2.9;branch=z9hG4bKa1\r\nFrom: <sip:b@192.0.2.9>;tag=f1\r\nTo: <sip:a@192.0.2.1>\r\nCall-ID: c1\r\nCSeq: 5 INVITE\r\n\r\n";
+    let text = "INVITE sip:a@192.0.2.1 SIP/2.0\r\nVia: SIP/2.0/UDP 192.0.2.9;branch=z9hG4bKa1\r\n\
+        From: <sip:b@192.0.2.9>;tag=f1\r\nTo: <sip:a@192.0.2.1>\r\nCall-ID: c1\r\n\
+        CSeq: 5 INVITE\r\n\r\n";
     Ok(read(alloc, text.as_bytes()).ok().ok_or("an INVITE")?)
 }
 
@@ -352,15 +367,19 @@ fn a_callee_that_is_confirmed_goes_on(rt: HostRuntime) -> Result<(), Fail> {
         &rt,
         alloc,
         info,
-        "INFO sip:b@192.0.2.9 SIP/2.0\r\nVia: SIP/2.0/UDP 192.0.2.1:5060;rport;branch=z9hG4bKb\r\nMax-Forwards: 70\r\nFrom: <sip:a@192.0.2.1>;tag=T1\r\nTo: <sip:b@192.0.2.9>;tag=f1\r\nCall-ID: c1\r\nCSeq: 2 INFO\r\nContent-Length: 0\r\n\r\n",
+        "INFO sip:b@192.0.2.9 SIP/2.0\r\nVia: SIP/2.0/UDP 192.0.2.1:5060;rport;branch=z9hG4bKb\r\n\
+        Max-Forwards: 70\r\nFrom: <sip:a@192.0.2.1>;tag=T1\r\nTo: <sip:b@192.0.2.9>;tag=f1\r\n\
+        Call-ID: c1\r\nCSeq: 2 INFO\r\nContent-Length: 0\r\n\r\n",
     )?;
     Ok(())
 }
 
 // The INVITE of Alice as Bob receives it, with her Contact.
 fn alice(rt: &impl Abort, alloc: Global) -> Result<Message, Fail> {
-    let text =
-        "INVITE sip:bob@192.0.2.4 SIP/2.0\r\nVia: SIP/2.0/UDP pc33.atlanta.com;branch=z9hG4bKnashds8\r\nTo: <sip:bob@biloxi.com>\r\nFrom: <sip:alice@atlanta.com>;tag=1928301774\r\nCall-ID: a84b4c76e66710\r\nCSeq: 314159 INVITE\r\n\r\n";
+    let text = "INVITE sip:bob@192.0.2.4 SIP/2.0\r\nVia: SIP/2.0/UDP \
+        pc33.atlanta.com;branch=z9hG4bKnashds8\r\nTo: <sip:bob@biloxi.com>\r\n\
+        From: <sip:alice@atlanta.com>;tag=1928301774\r\nCall-ID: a84b4c76e66710\r\n\
+        CSeq: 314159 INVITE\r\n\r\n";
     let mut invite = read(alloc, text.as_bytes()).ok().ok_or("an INVITE")?;
     let contact = address(rt, alloc, "sip:alice@pc33.atlanta.com")?;
     invite.contacts.push(contact)?;
@@ -369,8 +388,9 @@ fn alice(rt: &impl Abort, alloc: Global) -> Result<Message, Fail> {
 
 // Bob's answer, with his Contact.
 fn bob(rt: &impl Abort, alloc: Global) -> Result<Message, Fail> {
-    let text =
-        "SIP/2.0 200 OK\r\nVia: SIP/2.0/UDP pc33.atlanta.com;branch=z9hG4bKnashds8\r\nTo: <sip:bob@biloxi.com>;tag=a6c85cf\r\nFrom: <sip:alice@atlanta.com>;tag=1928301774\r\nCall-ID: a84b4c76e66710\r\nCSeq: 314159 INVITE\r\n\r\n";
+    let text = "SIP/2.0 200 OK\r\nVia: SIP/2.0/UDP pc33.atlanta.com;branch=z9hG4bKnashds8\r\n\
+        To: <sip:bob@biloxi.com>;tag=a6c85cf\r\nFrom: <sip:alice@atlanta.com>;tag=1928301774\r\n\
+        Call-ID: a84b4c76e66710\r\nCSeq: 314159 INVITE\r\n\r\n";
     let mut answer = read(alloc, text.as_bytes()).ok().ok_or("a response")?;
     let contact = address(rt, alloc, "sip:bob@192.0.2.4")?;
     answer.contacts.push(contact)?;
@@ -390,7 +410,10 @@ fn a_session_of_alice_and_bob(rt: HostRuntime) -> Result<(), Fail> {
         &rt,
         alloc,
         ack,
-        "ACK sip:bob@192.0.2.4 SIP/2.0\r\nVia: SIP/2.0/UDP 192.0.2.1:5060;rport;branch=z9hG4bKb\r\nMax-Forwards: 70\r\nFrom: <sip:alice@atlanta.com>;tag=1928301774\r\nTo: <sip:bob@biloxi.com>;tag=a6c85cf\r\nCall-ID: a84b4c76e66710\r\nCSeq: 314159 ACK\r\nContent-Length: 0\r\n\r\n",
+        "ACK sip:bob@192.0.2.4 SIP/2.0\r\nVia: SIP/2.0/UDP \
+        192.0.2.1:5060;rport;branch=z9hG4bKb\r\nMax-Forwards: 70\r\n\
+        From: <sip:alice@atlanta.com>;tag=1928301774\r\nTo: <sip:bob@biloxi.com>;tag=a6c85cf\r\n\
+        Call-ID: a84b4c76e66710\r\nCSeq: 314159 ACK\r\nContent-Length: 0\r\n\r\n",
     )?;
     let tag = token(&rt, alloc, "a6c85cf")?;
     let mut callee = Dialog::from_request(alloc, &invite, tag, status(&rt, 200))?;
@@ -399,7 +422,10 @@ fn a_session_of_alice_and_bob(rt: HostRuntime) -> Result<(), Fail> {
         &rt,
         alloc,
         bye,
-        "BYE sip:alice@pc33.atlanta.com SIP/2.0\r\nVia: SIP/2.0/UDP 192.0.2.1:5060;rport;branch=z9hG4bKb\r\nMax-Forwards: 70\r\nFrom: <sip:bob@biloxi.com>;tag=a6c85cf\r\nTo: <sip:alice@atlanta.com>;tag=1928301774\r\nCall-ID: a84b4c76e66710\r\nCSeq: 1 BYE\r\nContent-Length: 0\r\n\r\n",
+        "BYE sip:alice@pc33.atlanta.com SIP/2.0\r\n\
+        Via: SIP/2.0/UDP 192.0.2.1:5060;rport;branch=z9hG4bKb\r\nMax-Forwards: 70\r\n\
+        From: <sip:bob@biloxi.com>;tag=a6c85cf\r\nTo: <sip:alice@atlanta.com>;tag=1928301774\r\n\
+        Call-ID: a84b4c76e66710\r\nCSeq: 1 BYE\r\nContent-Length: 0\r\n\r\n",
     )?;
     Ok(())
 }
@@ -422,7 +448,11 @@ fn routes_are_reversed_at_the_caller(rt: HostRuntime) -> Result<(), Fail> {
         &rt,
         alloc,
         bye,
-        "BYE sip:alice@pc33.atlanta.com SIP/2.0\r\nVia: SIP/2.0/UDP 192.0.2.1:5060;rport;branch=z9hG4bKb\r\nMax-Forwards: 70\r\nFrom: <sip:bob@biloxi.com>;tag=a6c85cf\r\nTo: <sip:alice@atlanta.com>;tag=1928301774\r\nCall-ID: a84b4c76e66710\r\nCSeq: 1 BYE\r\nRoute: <sip:p2.domain.com;lr>\r\nRoute: <sip:p1.example.com;lr>\r\nContent-Length: 0\r\n\r\n",
+        "BYE sip:alice@pc33.atlanta.com SIP/2.0\r\n\
+        Via: SIP/2.0/UDP 192.0.2.1:5060;rport;branch=z9hG4bKb\r\nMax-Forwards: 70\r\n\
+        From: <sip:bob@biloxi.com>;tag=a6c85cf\r\nTo: <sip:alice@atlanta.com>;tag=1928301774\r\n\
+        Call-ID: a84b4c76e66710\r\nCSeq: 1 BYE\r\nRoute: <sip:p2.domain.com;lr>\r\n\
+        Route: <sip:p1.example.com;lr>\r\nContent-Length: 0\r\n\r\n",
     )?;
     let caller = Dialog::from_response(alloc, &invite, &ok)?;
     let ack = ack_of(&rt, alloc, &caller, 314_159, "")?;
@@ -430,7 +460,11 @@ fn routes_are_reversed_at_the_caller(rt: HostRuntime) -> Result<(), Fail> {
         &rt,
         alloc,
         ack,
-        "ACK sip:bob@192.0.2.4 SIP/2.0\r\nVia: SIP/2.0/UDP 192.0.2.1:5060;rport;branch=z9hG4bKb\r\nMax-Forwards: 70\r\nFrom: <sip:alice@atlanta.com>;tag=1928301774\r\nTo: <sip:bob@biloxi.com>;tag=a6c85cf\r\nCall-ID: a84b4c76e66710\r\nCSeq: 314159 ACK\r\nRoute: <sip:p1.example.com;lr>\r\nRoute: <sip:p2.domain.com;lr>\r\nContent-Length: 0\r\n\r\n",
+        "ACK sip:bob@192.0.2.4 SIP/2.0\r\nVia: SIP/2.0/UDP \
+        192.0.2.1:5060;rport;branch=z9hG4bKb\r\nMax-Forwards: 70\r\n\
+        From: <sip:alice@atlanta.com>;tag=1928301774\r\nTo: <sip:bob@biloxi.com>;tag=a6c85cf\r\n\
+        Call-ID: a84b4c76e66710\r\nCSeq: 314159 ACK\r\nRoute: <sip:p1.example.com;lr>\r\n\
+        Route: <sip:p2.domain.com;lr>\r\nContent-Length: 0\r\n\r\n",
     )?;
     Ok(())
 }

@@ -76,7 +76,9 @@ fn request(alloc: Global, key: u32) -> Result<Event, Fail> {
     };
     let call = key % 13;
     let text = format!(in alloc;
-        "{method} sip:192.0.2.1 SIP/2.0\r\nVia: SIP/2.0/UDP 192.0.2.9;branch=z9hG4bKs{key}\r\nFrom: <sip:a@192.0.2.9>;tag=f{key}\r\nTo: <sip:192.0.2.1>\r\nCall-ID: c{call}\r\nCSeq: 7 {method}\r\nSupported: 100rel\r\n\r\n"
+        "{method} sip:192.0.2.1 SIP/2.0\r\nVia: SIP/2.0/UDP 192.0.2.9;branch=z9hG4bKs{key}\r\n\
+        From: <sip:a@192.0.2.9>;tag=f{key}\r\nTo: <sip:192.0.2.1>\r\nCall-ID: c{call}\r\n\
+        CSeq: 7 {method}\r\nSupported: 100rel\r\n\r\n"
     )?;
     let bytes = Text::copy_of(alloc, text.as_bytes())?;
     Ok(Event::Datagram { from: PEER, bytes })
@@ -235,7 +237,9 @@ fn two_shards_are_dealt_with_at_the_same_time(rt: HostRuntime) -> Result<(), Fai
 // A round in which an OPTIONS comes and is answered; each is of another branch and another call.
 fn answered(alloc: Global, number: u32) -> Result<Round, Fail> {
     let text = format!(in alloc;
-        "OPTIONS sip:192.0.2.1 SIP/2.0\r\nVia: SIP/2.0/UDP 192.0.2.9;branch=z9hG4bKr{number}\r\nFrom: <sip:a@192.0.2.9>;tag=f1\r\nTo: <sip:192.0.2.1>\r\nCall-ID: c{number}\r\nCSeq: 7 OPTIONS\r\n\r\n"
+        "OPTIONS sip:192.0.2.1 SIP/2.0\r\nVia: SIP/2.0/UDP 192.0.2.9;branch=z9hG4bKr{number}\r\n\
+        From: <sip:a@192.0.2.9>;tag=f1\r\nTo: <sip:192.0.2.1>\r\nCall-ID: c{number}\r\n\
+        CSeq: 7 OPTIONS\r\n\r\n"
     )?;
     let bytes = Text::copy_of(alloc, text.as_bytes())?;
     let round = u64::from(number);

@@ -92,7 +92,9 @@ fn message_of(alloc: Global, machine: Machine, method: &str, place: u32) -> Resu
         "Z9HG4BKA1"
     };
     let text = format!(in alloc;
-        "{method} sip:b@192.0.2.9 SIP/2.0\r\nVia: SIP/2.0/UDP {host};branch={branch}\r\nFrom: <sip:a@192.0.2.1>;tag=f1\r\nTo: <sip:b@192.0.2.9>\r\nCall-ID: c1\r\nCSeq: 7 {method}\r\n\r\n"
+        "{method} sip:b@192.0.2.9 SIP/2.0\r\nVia: SIP/2.0/UDP {host};branch={branch}\r\n\
+        From: <sip:a@192.0.2.1>;tag=f1\r\nTo: <sip:b@192.0.2.9>\r\nCall-ID: c1\r\n\
+        CSeq: 7 {method}\r\n\r\n"
     )?;
     Ok(read(alloc, text.as_bytes()).ok().ok_or("a request")?)
 }

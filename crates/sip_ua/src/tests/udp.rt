@@ -262,7 +262,8 @@ fn a_call_between_two_agents_on_loopback(rt: HostRuntime) -> Result<(), Fail> {
 
 /// A request for which a listener has no service.
 const INFO: &[u8] =
-    b"INFO sip:b@127.0.0.1 SIP/2.0\r\nVia: SIP/2.0/UDP 127.0.0.1;rport;branch=z9hG4bKn1\r\nFrom: <sip:a@127.0.0.1>;tag=f\r\nTo: <sip:b@127.0.0.1>\r\nCall-ID: c1\r\nCSeq: 1 INFO\r\n\r\n";
+    b"INFO sip:b@127.0.0.1 SIP/2.0\r\nVia: SIP/2.0/UDP 127.0.0.1;rport;branch=z9hG4bKn1\r\n\
+    From: <sip:a@127.0.0.1>;tag=f\r\nTo: <sip:b@127.0.0.1>\r\nCall-ID: c1\r\nCSeq: 1 INFO\r\n\r\n";
 
 // The first bytes of what a listener answers to it.
 fn answer_to_info(alloc: Global, socket: &UdpSocket, to: Addr) -> Option<bool> {

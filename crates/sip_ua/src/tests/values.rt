@@ -68,8 +68,8 @@ fn rows_of_lists(rt: HostRuntime) -> Result<(), Fail> {
 // Compact names, folds and lists in several lines; a number that is none is no bad header.
 #[test]
 fn header_lines_gathered(rt: HostRuntime) -> Result<(), Fail> {
-    let text =
-        b"v: SIP/2.0/UDP a;branch=z9hG4bK1\r\nVia: SIP/2.0/UDP\r\n b\r\nf: sip:a@h;tag=x\r\nRAck: 1 2 INVITE\r\nMax-Forwards: x\r\nk: a\r\n\r\nbody";
+    let text = b"v: SIP/2.0/UDP a;branch=z9hG4bK1\r\nVia: SIP/2.0/UDP\r\n b\r\nf: sip:a@h;tag=x\r\n\
+        RAck: 1 2 INVITE\r\nMax-Forwards: x\r\nk: a\r\n\r\nbody";
     let (draft, body) = gather(rt.alloc(), text)?.ok_or("no empty line")?;
     assert!(rt; body == b"body".as_slice());
     assert!(rt; !draft.has_bad_header());
