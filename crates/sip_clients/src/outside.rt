@@ -32,7 +32,7 @@ pub(crate) fn plain_of(alloc: Global, event: Event, plain: &Plain) -> Result<Mes
     message.with_body(alloc, plain.body.clone()?)
 }
 
-#[tactic(auto, unfolding(sip_text::specs::Token::is_token, sip_text::specs::Character::is_token_byte))]
+#[tactic(auto, unfolding(sip_text::specs::Token::is_token, sip_text::specs::Token::is_token_byte))]
 fn bare_invite(alloc: Global, event: Event, invite: &Invite) -> Result<Message, AllocError>
     ensures { IfOk result (λ made. made ≡ spec.bare_invite event invite.now) }
 {
@@ -87,7 +87,7 @@ fn support_in(
     Ok(message)
 }
 
-#[tactic(auto, unfolding(sip_text::specs::Token::is_token, sip_text::specs::Character::is_token_byte))]
+#[tactic(auto, unfolding(sip_text::specs::Token::is_token, sip_text::specs::Token::is_token_byte))]
 fn only_100rel(alloc: Global) -> Result<Series<Token>, AllocError>
     ensures { IfOk result (λ options. options ≡ codes "100rel" ∷ []) }
 {

@@ -112,7 +112,7 @@ fn ack(
 }
 
 // The PRACK of this RSeq.
-#[tactic(auto, unfolding(sip_text::specs::Token::is_token, sip_text::specs::Character::is_token_byte))]
+#[tactic(auto, unfolding(sip_text::specs::Token::is_token, sip_text::specs::Token::is_token_byte))]
 fn prack(
     alloc: Global,
     held: &mut HeldDialog,

@@ -61,14 +61,14 @@ fn token_of(alloc: Global, word: &[u8]) -> Result<Token, AllocError>
 }
 
 /// The method ACK.
-#[tactic(auto, unfolding(sip_text::specs::Token::is_token, sip_text::specs::Character::is_token_byte))]
+#[tactic(auto, unfolding(sip_text::specs::Token::is_token, sip_text::specs::Token::is_token_byte))]
 pub(crate) fn ack(alloc: Global) -> Result<Token, AllocError>
     ensures { IfOk result (λ token. token ≡ codes "ACK") }
 {
     token_of(alloc, b"ACK")
 }
 
-#[tactic(auto, unfolding(sip_text::specs::Token::is_token, sip_text::specs::Character::is_token_byte))]
+#[tactic(auto, unfolding(sip_text::specs::Token::is_token, sip_text::specs::Token::is_token_byte))]
 fn udp(alloc: Global) -> Result<Token, AllocError>
     ensures { IfOk result (λ token. token ≡ codes "UDP") }
 {
@@ -82,7 +82,7 @@ fn own_host(alloc: Global, local: Addr) -> Result<Host, AllocError>
     Ok(Host::from_text(Text::copy_of(alloc, &ip_text(local.ip))?))
 }
 
-#[tactic(auto, unfolding(sip_text::specs::Token::is_token, sip_text::specs::Character::is_token_byte))]
+#[tactic(auto, unfolding(sip_text::specs::Token::is_token, sip_text::specs::Token::is_token_byte))]
 fn via_parameters(alloc: Global, branch: Branch) -> Result<Series<Parameter>, AllocError>
     ensures value { IfOk result (λ made. made ≡ request.via_parameters branch) }
     ensures rule { OnOk result (IsTrue (is_branch branch)) }
@@ -106,20 +106,13 @@ pub fn own_contact(alloc: Global, local: Addr) -> Result<NameAddr, AllocError>
     ensures { IfOk result (λ contact. contact ≡ request.contact_of local) }
 {
     let uri = own_uri(alloc, local)?;
-    let display = no_display(alloc);
+    let display = DisplayText::nothing(alloc);
     let parameters = Series::new(alloc);
     Ok(NameAddr {
         display,
         uri,
         parameters,
     })
-}
-
-#[tactic(auto, unfolding(sip_parts::specs::DisplayText::is_display_text, sip_text::specs::Quoted::is_quoted))]
-fn no_display(alloc: Global) -> DisplayText
-    ensures { result ≡ [] }
-{
-    DisplayText::from_text(Text::from_vec(Vec::new(alloc)))
 }
 
 fn own_uri(alloc: Global, local: Addr) -> Result<Uri, AllocError>

@@ -48,7 +48,7 @@ fn ack_cseq(alloc: Global, cseq: &CSeq) -> Result<CSeq, AllocError>
     })
 }
 
-#[tactic(auto, unfolding(sip_text::specs::Token::is_token, sip_text::specs::Character::is_token_byte))]
+#[tactic(auto, unfolding(sip_text::specs::Token::is_token, sip_text::specs::Token::is_token_byte))]
 fn ack_method(alloc: Global) -> Result<Token, AllocError>
     ensures { IfOk result (λ token. token ≡ codes "ACK") }
 {

@@ -49,7 +49,7 @@ fn transaction_method(alloc: Global, method: &Token) -> Result<Token, AllocError
     }
 }
 
-#[tactic(auto, unfolding(sip_text::specs::Token::is_token, sip_text::specs::Character::is_token_byte))]
+#[tactic(auto, unfolding(sip_text::specs::Token::is_token, sip_text::specs::Token::is_token_byte))]
 fn invite(alloc: Global) -> Result<Token, AllocError>
     ensures { IfOk result (λ token. token ≡ codes "INVITE") }
 {

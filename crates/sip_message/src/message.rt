@@ -111,7 +111,6 @@ fn content_type(alloc: Global) -> Result<Header, AllocError>
     })
 }
 
-#[tactic(auto, unfolding(sip_parts::specs::OtherName::is_other_name, sip_parts::specs::OtherName::is_compact_name, sip_parts::specs::HeaderEntry::is_named, sip_text::specs::Token::is_token, sip_text::specs::Character::is_token_byte))]
 fn content_type_name(alloc: Global) -> Result<OtherName, AllocError>
     ensures { IfOk result (λ name. name ≡ codes "Content-Type") }
 {

@@ -86,7 +86,7 @@ fn with_tag(
 }
 
 /// The parameter `tag` with this value.
-#[tactic(auto, unfolding(sip_text::specs::Token::is_token, sip_text::specs::Character::is_token_byte))]
+#[tactic(auto, unfolding(sip_text::specs::Token::is_token, sip_text::specs::Token::is_token_byte))]
 pub(crate) fn tag_parameter(alloc: Global, tag: &Token) -> Result<Parameter, AllocError>
     ensures value { IfOk result (λ parameter. parameter ≡ response.tag_parameter tag.now) }
     ensures rule { OnOk result (IsTrue (token_rule.is_token tag.now)) }

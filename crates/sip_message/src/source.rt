@@ -74,7 +74,7 @@ fn stamped_parameters(
     Ok(Some(with_received(alloc, via.parameters.as_slice(), source)?))
 }
 
-#[tactic(auto, unfolding(sip_text::specs::Token::is_token, sip_text::specs::Character::is_token_byte))]
+#[tactic(auto, unfolding(sip_text::specs::Token::is_token, sip_text::specs::Token::is_token_byte))]
 fn with_received(
     alloc: Global,
     parameters: &[Parameter],
@@ -86,7 +86,7 @@ fn with_received(
     with_value(alloc, parameters, b"received", &ip)
 }
 
-#[tactic(auto, unfolding(sip_text::specs::Token::is_token, sip_text::specs::Character::is_token_byte))]
+#[tactic(auto, unfolding(sip_text::specs::Token::is_token, sip_text::specs::Token::is_token_byte))]
 fn with_port(
     alloc: Global,
     parameters: &[Parameter],

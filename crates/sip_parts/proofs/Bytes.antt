@@ -3,7 +3,7 @@ use Rattle.std.proofs.Common.{◌≡◌, ℕ, Bool, true, false, ◌&&◌, ◌||
 use Rattle.std.specs.List.{list_all}
 use Rattle.std.proofs.lemmas.Bool.{eqb-true, true≢false}
 use Rattle.sip_text.specs.Character.{is_among, is_token_byte}
-use Rattle.sip_text.specs.Token.{is_run, is_token}
+use Rattle.sip_text.specs.Token.{is_token}
 use Rattle.sip_parts.specs.Word.{is_word_byte, is_word}
 use Rattle.sip_parts.specs.Uri.{is_uri_byte, is_uri}
 use Rattle.sip_text.specs.Parameter.{is_value_byte, is_value_word, is_parameter_value}

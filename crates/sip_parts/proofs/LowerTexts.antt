@@ -1,8 +1,7 @@
 -- A text that was brought into lower case has no capital.
-use Rattle.std.proofs.Common.{◌≡◌, ℕ, true, ◌&&◌, not, List, [], ◌∷◌, refl, arith, IsTrue, map}
+use Rattle.std.proofs.Common.{◌≡◌, ℕ, true, not, List, [], ◌∷◌, refl, arith}
 use Rattle.std.proofs.lemmas.Bool.Decides.{nat_tests}
 use Rattle.std.specs.Char.{to_ascii_lowercase, is_ascii_uppercase}
-use Rattle.std.specs.List.{list_all}
 use Rattle.std.specs.Str.{str_to_ascii_lowercase}
 use Rattle.sip_parts.specs.LowerText.{is_lower_text}
 use Rattle.sip_parts.proofs.Bytes.{both_true}

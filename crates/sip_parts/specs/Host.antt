@@ -1,5 +1,5 @@
 -- The host of a Via (RFC 3261, section 20.42): a name, an IPv4 address, or a text in brackets.
-use Rattle.std.specs.Prelude.{ℕ, Bool, true, false, not, ◌==◌, List, [], ◌∷◌, codes, if◌then◌else◌, Option, Some, None}
+use Rattle.std.specs.Prelude.{ℕ, Bool, false, not, ◌==◌, List, [], ◌∷◌, codes, if◌then◌else◌, Option, Some, None}
 use Rattle.std.specs.List.{list_all}
 use Rattle.sip_text.specs.Character.{is_among}
 use Rattle.sip_text.specs.Cut.{cut_at}

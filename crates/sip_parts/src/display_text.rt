@@ -27,7 +27,6 @@ pub type DisplayText = Checked<DisplayTextRule>;
 
 impl Checked<DisplayTextRule> {
     /// The empty display text. Takes no memory.
-    #[tactic(auto, unfolding(crate::specs::DisplayText::is_display_text, sip_text::specs::Quoted::is_quoted))]
     pub fn nothing(alloc: Global) -> DisplayText
         ensures { result ≡ [] }
     {

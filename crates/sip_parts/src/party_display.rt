@@ -27,7 +27,6 @@ pub type PartyDisplay = Checked<PartyDisplayRule>;
 
 impl Checked<PartyDisplayRule> {
     /// The empty display text. Takes no memory.
-    #[tactic(auto, unfolding(crate::specs::PartyDisplay::is_party_display, sip_text::specs::Quoted::is_quoted))]
     pub fn nothing(alloc: Global) -> PartyDisplay
         ensures { result ≡ [] }
     {

@@ -1,7 +1,7 @@
 -- Tokens, which are compared without case (RFC 3261, sections 7.3.1 and 25.1).
 use Rattle.std.specs.Prelude.{ℕ, Bool, false, List, [], ◌∷◌}
 use Rattle.std.specs.List.{list_all}
-use Rattle.sip_text.specs.Character.{is_token_byte}
+unfoldable pub use Rattle.sip_text.specs.Character.{is_token_byte}
 
 -- at least one byte, and each passes the test
 abbrev pub is_run : (ℕ → Bool) → List ℕ → Bool

@@ -6,12 +6,9 @@ mod files;
 mod reading;
 mod reliable;
 mod shards;
-mod table;
-mod timers;
 mod transactions;
 mod two_agents;
 mod udp;
-mod values;
 mod workers;
 
 use sip_program::ua;

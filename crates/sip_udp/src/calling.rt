@@ -99,7 +99,7 @@ fn bye(
     })))
 }
 
-#[tactic(auto, unfolding(sip_text::specs::Token::is_token, sip_text::specs::Character::is_token_byte))]
+#[tactic(auto, unfolding(sip_text::specs::Token::is_token, sip_text::specs::Token::is_token_byte))]
 fn bye_method(alloc: Global) -> Result<Token, AllocError>
     ensures { IfOk result (λ token. token ≡ codes "BYE") }
 {

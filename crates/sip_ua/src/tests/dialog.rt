@@ -1,4 +1,4 @@
-//! Dialogs: worked examples, and those of RFC 3261, sections 12.2.1.1, 16.12.1.1 and 24.2.
+//! Dialogs: worked examples, and those of RFC 3261, sections 12.2.1.1 and 16.12.1.1.
 
 use sip_dialog::{Branch, Dialog, DialogFault, DialogState};
 use sip_message::{Addr, DisplayText, Message, NameAddr, StatusCode, Token, Uri, write};
@@ -142,42 +142,6 @@ fn is_written(
 }
 
 #[test]
-fn requests_are_numbered_and_whole(rt: HostRuntime) -> Result<(), Fail> {
-    let alloc = rt.alloc();
-    let mut dialog = caller(alloc, 200, 1)?;
-    let info = next(&rt, alloc, &mut dialog, "INFO")?;
-    is_written(
-        &rt,
-        alloc,
-        info,
-        "INFO sip:b@192.0.2.9 SIP/2.0\r\nVia: SIP/2.0/UDP 192.0.2.1:5060;rport;branch=z9hG4bKb\r\n\
-        Max-Forwards: 70\r\nFrom: <sip:a@192.0.2.1>;tag=l1\r\nTo: <sip:b@192.0.2.9>;tag=x\r\n\
-        Call-ID: c2\r\nCSeq: 2 INFO\r\nContent-Length: 0\r\n\r\n",
-    )?;
-    let ack = ack_of(&rt, alloc, &dialog, 1, "v=0")?;
-    is_written(
-        &rt,
-        alloc,
-        ack,
-        "ACK sip:b@192.0.2.9 SIP/2.0\r\nVia: SIP/2.0/UDP 192.0.2.1:5060;rport;branch=z9hG4bKb\r\n\
-        Max-Forwards: 70\r\nFrom: <sip:a@192.0.2.1>;tag=l1\r\nTo: <sip:b@192.0.2.9>;tag=x\r\n\
-        Call-ID: c2\r\nCSeq: 1 ACK\r\nContent-Type: application/sdp\r\nContent-Length: 3\r\n\r\n\
-        v=0",
-    )?;
-    let invite = next(&rt, alloc, &mut dialog, "INVITE")?;
-    is_written(
-        &rt,
-        alloc,
-        invite,
-        "INVITE sip:b@192.0.2.9 SIP/2.0\r\nVia: SIP/2.0/UDP \
-        192.0.2.1:5060;rport;branch=z9hG4bKb\r\nMax-Forwards: 70\r\n\
-        From: <sip:a@192.0.2.1>;tag=l1\r\nTo: <sip:b@192.0.2.9>;tag=x\r\nCall-ID: c2\r\n\
-        CSeq: 3 INVITE\r\nContact: <sip:192.0.2.1:5060>\r\nContent-Length: 0\r\n\r\n",
-    )?;
-    Ok(())
-}
-
-#[test]
 fn the_numbers_end(rt: HostRuntime) -> Result<(), Fail> {
     let alloc = rt.alloc();
     let mut last = caller(alloc, 200, 2_147_483_646)?;
@@ -189,23 +153,6 @@ fn the_numbers_end(rt: HostRuntime) -> Result<(), Fail> {
     let fault = fault_of(next(&rt, alloc, &mut full, "INFO")?);
     assert!(rt; fault == Some(DialogFault::SequenceUsedUp));
     assert!(rt; full.local_cseq() == 2_147_483_647);
-    Ok(())
-}
-
-#[test]
-fn an_early_dialog_sends_no_invite_and_no_ack(rt: HostRuntime) -> Result<(), Fail> {
-    let alloc = rt.alloc();
-    let mut dialog = caller(alloc, 180, 1)?;
-    assert!(rt; dialog.state() == DialogState::Early);
-    let fault = fault_of(next(&rt, alloc, &mut dialog, "INVITE")?);
-    assert!(rt; fault == Some(DialogFault::NotConfirmed));
-    let fault = fault_of(ack_of(&rt, alloc, &dialog, 1, "")?);
-    assert!(rt; fault == Some(DialogFault::NotConfirmed));
-    assert!(rt; fault_of(next(&rt, alloc, &mut dialog, "INFO")?).is_none());
-    let response = answer(alloc, 200, 1)?;
-    assert!(rt; dialog.confirm(&response) == Ok(()));
-    assert!(rt; fault_of(next(&rt, alloc, &mut dialog, "INVITE")?).is_none());
-    assert!(rt; dialog.local_cseq() == 3);
     Ok(())
 }
 
@@ -254,22 +201,6 @@ fn a_strict_router_is_told_before_numbers_that_end(rt: HostRuntime) -> Result<()
     let mut dialog = Dialog::from_response(alloc, &request, &response)?;
     let fault = fault_of(next(&rt, alloc, &mut dialog, "INFO")?);
     assert!(rt; fault == Some(DialogFault::StrictRoute));
-    Ok(())
-}
-
-#[test]
-fn numbers_of_the_peer_rise(rt: HostRuntime) -> Result<(), Fail> {
-    let mut dialog = caller(rt.alloc(), 200, 1)?;
-    assert!(rt; dialog.remote_cseq().is_none());
-    for (number, answer) in [
-        (5, Ok(())),
-        (5, Err(DialogFault::OutOfOrder)),
-        (4, Err(DialogFault::OutOfOrder)),
-        (4_294_967_295, Ok(())),
-        (4_294_967_295, Err(DialogFault::OutOfOrder)),
-    ] {
-        assert!(rt; dialog.accept(number) == answer, "at {number}");
-    }
     Ok(())
 }
 
@@ -339,41 +270,6 @@ fn a_refreshed_target_is_the_request_uri(rt: HostRuntime) -> Result<(), Fail> {
     Ok(())
 }
 
-// An INVITE of the peer.
-fn peer_invite(alloc: Global) -> Result<Message, Fail> {
-    let text = "INVITE sip:a@192.0.2.1 SIP/2.0\r\nVia: SIP/2.0/UDP 192.0.2.9;branch=z9hG4bKa1\r\n\
-        From: <sip:b@192.0.2.9>;tag=f1\r\nTo: <sip:a@192.0.2.1>\r\nCall-ID: c1\r\n\
-        CSeq: 5 INVITE\r\n\r\n";
-    Ok(read(alloc, text.as_bytes()).ok().ok_or("an INVITE")?)
-}
-
-#[test]
-fn a_callee_that_is_confirmed_goes_on(rt: HostRuntime) -> Result<(), Fail> {
-    let alloc = rt.alloc();
-    let request = peer_invite(alloc)?;
-    let tag = token(&rt, alloc, "T1")?;
-    let mut dialog = Dialog::from_request(alloc, &request, tag, status(&rt, 183))?;
-    assert!(rt; dialog.state() == DialogState::Early);
-    assert!(rt; dialog.accept(9) == Ok(()));
-    assert!(rt; fault_of(next(&rt, alloc, &mut dialog, "INFO")?).is_none());
-    let mut response = answer(alloc, 200, 5)?;
-    let contact = address(&rt, alloc, "sip:c@10.0.0.1")?;
-    response.contacts.push(contact)?;
-    assert!(rt; dialog.confirm(&response) == Ok(()));
-    assert!(rt; dialog.state() == DialogState::Confirmed);
-    assert!(rt; dialog.accept(9) == Err(DialogFault::OutOfOrder));
-    let info = next(&rt, alloc, &mut dialog, "INFO")?;
-    is_written(
-        &rt,
-        alloc,
-        info,
-        "INFO sip:b@192.0.2.9 SIP/2.0\r\nVia: SIP/2.0/UDP 192.0.2.1:5060;rport;branch=z9hG4bKb\r\n\
-        Max-Forwards: 70\r\nFrom: <sip:a@192.0.2.1>;tag=T1\r\nTo: <sip:b@192.0.2.9>;tag=f1\r\n\
-        Call-ID: c1\r\nCSeq: 2 INFO\r\nContent-Length: 0\r\n\r\n",
-    )?;
-    Ok(())
-}
-
 // The INVITE of Alice as Bob receives it, with her Contact.
 fn alice(rt: &impl Abort, alloc: Global) -> Result<Message, Fail> {
     let text = "INVITE sip:bob@192.0.2.4 SIP/2.0\r\nVia: SIP/2.0/UDP \
@@ -395,39 +291,6 @@ fn bob(rt: &impl Abort, alloc: Global) -> Result<Message, Fail> {
     let contact = address(rt, alloc, "sip:bob@192.0.2.4")?;
     answer.contacts.push(contact)?;
     Ok(answer)
-}
-
-// RFC 3261, section 24.2: Alice's ACK goes to the Contact of Bob's 200 with the number of her
-// INVITE, and Bob's BYE to that of her INVITE, with the tags the other way.
-#[test]
-fn a_session_of_alice_and_bob(rt: HostRuntime) -> Result<(), Fail> {
-    let alloc = rt.alloc();
-    let invite = alice(&rt, alloc)?;
-    let ok = bob(&rt, alloc)?;
-    let caller = Dialog::from_response(alloc, &invite, &ok)?;
-    let ack = ack_of(&rt, alloc, &caller, 314_159, "")?;
-    is_written(
-        &rt,
-        alloc,
-        ack,
-        "ACK sip:bob@192.0.2.4 SIP/2.0\r\nVia: SIP/2.0/UDP \
-        192.0.2.1:5060;rport;branch=z9hG4bKb\r\nMax-Forwards: 70\r\n\
-        From: <sip:alice@atlanta.com>;tag=1928301774\r\nTo: <sip:bob@biloxi.com>;tag=a6c85cf\r\n\
-        Call-ID: a84b4c76e66710\r\nCSeq: 314159 ACK\r\nContent-Length: 0\r\n\r\n",
-    )?;
-    let tag = token(&rt, alloc, "a6c85cf")?;
-    let mut callee = Dialog::from_request(alloc, &invite, tag, status(&rt, 200))?;
-    let bye = next(&rt, alloc, &mut callee, "BYE")?;
-    is_written(
-        &rt,
-        alloc,
-        bye,
-        "BYE sip:alice@pc33.atlanta.com SIP/2.0\r\n\
-        Via: SIP/2.0/UDP 192.0.2.1:5060;rport;branch=z9hG4bKb\r\nMax-Forwards: 70\r\n\
-        From: <sip:bob@biloxi.com>;tag=a6c85cf\r\nTo: <sip:alice@atlanta.com>;tag=1928301774\r\n\
-        Call-ID: a84b4c76e66710\r\nCSeq: 1 BYE\r\nContent-Length: 0\r\n\r\n",
-    )?;
-    Ok(())
 }
 
 // RFC 3261, section 16.12.1.1: the callee's BYE has the routes in the order of Record-Route, and

@@ -11,8 +11,8 @@ loop-draft-preserved c =
     let total = each via_with c.args.drafts in
     let left : behind c.loop-draft.vias.items
     (each via_with (c.in-Some.draft ∷ into_iter_items c.next.new.self)) ≡ total =
-    subst (λ ds. behind c.loop-draft.vias.items (each via_with ds) ≡ total) c.in-Some.ensures.steps.0
-    c.loop-draft.invariant in
+    subst (λ ds. behind c.loop-draft.vias.items (each via_with ds) ≡ total)
+    c.in-Some.ensures.steps.0 c.loop-draft.invariant in
     rw c.in_ok-push.ensures.items (each_more via_with c.loop-draft.vias.items c.in-Some.draft
     (into_iter_items c.next.new.self) c.in-Some-with_port.via total
     (sym c.in-Some-with_port.ensures) left)
@@ -22,10 +22,10 @@ returns-in_default c =
     let total = each via_with c.args.drafts in
     let left : behind c.loop-draft.vias.items
     (each via_with (c.in-Some.draft ∷ into_iter_items c.next.new.self)) ≡ total =
-    subst (λ ds. behind c.loop-draft.vias.items (each via_with ds) ≡ total) c.in-Some.ensures.steps.0
-    c.loop-draft.invariant in
-    each_stops via_with c.loop-draft.vias.items c.in-Some.draft (into_iter_items c.next.new.self) total
-    (sym c.in_default.ensures) left
+    subst (λ ds. behind c.loop-draft.vias.items (each via_with ds) ≡ total)
+    c.in-Some.ensures.steps.0 c.loop-draft.invariant in
+    each_stops via_with c.loop-draft.vias.items c.in-Some.draft
+    (into_iter_items c.next.new.self) total (sym c.in_default.ensures) left
 
 pub returns : goal.returns
 returns c =

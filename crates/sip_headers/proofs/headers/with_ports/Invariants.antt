@@ -7,4 +7,5 @@ use Rattle.sip_headers.proofs.headers.with_ports.Given as goal
 
 abbrev pub invariant-loop-draft : goal.invariant-loop-draft
 invariant-loop-draft l =
-    behind l.vias.items (each via_with (into_iter_items l.draft-iterator)) ≡ each via_with l.fn.drafts
+    behind l.vias.items (each via_with (into_iter_items l.draft-iterator))
+    ≡ each via_with l.fn.drafts

@@ -62,7 +62,8 @@ returns-then-are_idle g c = λ owner items within parts rising.
     (sym (empty_parts (λ part. part.items) c.args.parts.items tables none
     (omega (arith, c.requires.count, c.args.parts.ok, c.args.tables.ok))) ∙ parts) in
     subst (λ ticks. DealsAll cmp machine tick owner tables tables
-    (record { moment = c.args.moment; items = items }) (groups ticks) (groups c.new-items.result.items))
+    (record { moment = c.args.moment; items = items })
+    (groups ticks) (groups c.new-items.result.items))
     (sym c.new-ticks.ensures.items)
     (subst (λ said. DealsAll cmp machine tick owner tables tables
     (record { moment = c.args.moment; items = items }) [] (groups said))
