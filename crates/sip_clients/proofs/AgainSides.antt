@@ -14,7 +14,7 @@ use Rattle.sip_clients.specs.declared.event.Event.{Event}
 use Rattle.sip_clients.specs.declared.outputs.Rest.TheVariants.{Stays}
 use Rattle.sip_clients.specs.declared.reply.Reply.{Reply as Answer}
 use Rattle.sip_clients.specs.Client.{Clients, Side, Taken as ClientTaken, client_at}
-use Rattle.sip_clients.specs.Clients.{client_changed, named_taken, reply_name, reply_settled, response_taken, settled, status_of}
+use Rattle.sip_clients.specs.Clients.{client_changed, named_taken, reply_name, reply_of, reply_settled, response_taken, settled, status_of}
 use Rattle.sip_clients.specs.Provisionals.{InTheDialog, is_for, number_for, provisional_number}
 use Rattle.sip_clients.specs.Replied.{Replied, reply_taken}
 use Rattle.sip_clients.proofs.AgainInvite.{AgainResult, AreApart, ear_of, keeps_same, silent_result}
@@ -29,14 +29,8 @@ module _ (life : DialogLife) (invite : Id) (event : Option Id) (of : Event)
     (apart : AreApart side.clients)
     (once : event ≡ Some invite → ear_of life invite side.clients ≡ None) where
   abbrev answer_for : ℕ → Client → Answer
-  answer_for status client = record {
-    event = of;
-    id = id;
-    call_id = call_id;
-    name = reply_name client.asks client response;
-    status = status;
-    response = response;
-  }
+  answer_for status client =
+      reply_of of id call_id (reply_name client.asks client response) status response
 
   abbrev number_at : Option ℕ → Client → Option ℕ
   number_at status client = if is_for (InTheDialog invite) life id client client.asks response

@@ -37,7 +37,7 @@ use Rattle.sip_clients.specs.declared.service.Service.{Service}
 use Rattle.sip_clients.specs.declared.service.Service.TheVariants.{Sent, Waits, Refused}
 use Rattle.sip_clients.specs.Answers.{ack_of}
 use Rattle.sip_clients.specs.Client.{Clients, Side, client_at, client_for}
-use Rattle.sip_clients.specs.Clients.{ack_paid, ack_taken, invite_taken, lost_of, named_taken, paid_or_refused, plain_taken, prack_paid, prack_taken, replied_at, reply_name, request_taken, response_taken, settled, started, status_of}
+use Rattle.sip_clients.specs.Clients.{ack_paid, ack_taken, invite_taken, lost_of, named_taken, paid_or_refused, plain_taken, prack_paid, prack_taken, replied_at, reply_name, reply_of, request_taken, response_taken, settled, started, status_of}
 use Rattle.sip_clients.specs.Commands.{bye_ended, debt_for, is_bad_outside, name_in, requested_by}
 use Rattle.sip_clients.specs.Dialogs.{ended_with, own_ended, paid_at}
 use Rattle.sip_clients.specs.Event.{branch_of}
@@ -143,14 +143,7 @@ named_one : (event : Event) (id : Id) (call_id : List ℕ) (response : Message) 
 named_one event id call_id response None name side = inl refl
 named_one event id call_id response (Some status) None side = inl refl
 named_one event id call_id response (Some status) (Some name) side =
-    let answer : Answer = record {
-      event = event;
-      id = id;
-      call_id = call_id;
-      name = name;
-      status = status;
-      response = response;
-    } in
+    let answer = reply_of event id call_id name status response in
     let done = replied_at answer side.dialogs side.clients in
     none_then_one event.id done.2 (settled event id done.3 done.0).1
     (replied_none answer side.dialogs (client_at id side.clients))

@@ -21,7 +21,7 @@ use Rattle.sip_clients.specs.declared.reply.Reply.{Reply as Answer}
 use Rattle.sip_clients.specs.declared.reply.ReplyCase.{ReplyCase}
 use Rattle.sip_clients.specs.declared.reply.ReplyCase.TheVariants as reply
 use Rattle.sip_clients.specs.Client.{Clients, Side, Taken as ClientTaken, client_at}
-use Rattle.sip_clients.specs.Clients.{ack_paid, ack_taken, lost_of, named_taken, paid_or_refused, prack_paid, prack_taken, reply_name, reply_settled, replied_at, request_taken, response_taken, status_of}
+use Rattle.sip_clients.specs.Clients.{ack_paid, ack_taken, lost_of, named_taken, paid_or_refused, prack_paid, prack_taken, reply_name, reply_of, reply_settled, replied_at, request_taken, response_taken, status_of}
 use Rattle.sip_clients.specs.declared.debts.DebtKind.TheVariants as kind
 use Rattle.sip_clients.specs.Commands.{bye_ended, debt_for, name_in, requested_by, requesting}
 use Rattle.sip_clients.specs.Debts.{paying}
@@ -101,14 +101,8 @@ module _ (life : DialogLife) where
         (leads_same (λ id. call ≡ Some id) side.dialogs apart)
 
     abbrev answer_for : ℕ → Client → Answer
-    answer_for status client = record {
-      event = event;
-      id = id;
-      call_id = call_id;
-      name = reply_name client.asks client response;
-      status = status;
-      response = response;
-    }
+    answer_for status client =
+        reply_of event id call_id (reply_name client.asks client response) status response
 
     abbrev number_at : Option ℕ → Client → Option ℕ
     number_at status client = if is_for OfTheCall life id client client.asks response

@@ -94,18 +94,22 @@ reply_settled reply side =
     let after = settled reply.event reply.id done.3 done.0 in
     (record { dialogs = done.1; clients = after.0 }, done.2 ++ after.1)
 
+-- a response with all that comes up with it
+abbrev pub reply_of : Event → Id → List ℕ → DialogName → ℕ → Message → Answer
+reply_of event id call_id name status response = record {
+  event = event;
+  id = id;
+  call_id = call_id;
+  name = name;
+  status = status;
+  response = response;
+}
+
 abbrev pub named_taken : Event → Id → List ℕ → Message → Option ℕ → Option DialogName → Side → Taken
 named_taken event id call_id response None name side = quiet side
 named_taken event id call_id response (Some status) None side = quiet side
 named_taken event id call_id response (Some status) (Some name) side =
-    reply_settled record {
-      event = event;
-      id = id;
-      call_id = call_id;
-      name = name;
-      status = status;
-      response = response;
-    } side
+    reply_settled (reply_of event id call_id name status response) side
 
 -- where its request isn't held, nothing happens
 abbrev pub response_taken : Event → Id → List ℕ → Message → Side → Taken

@@ -11,37 +11,13 @@ use Rattle.sip_text.specs.Cut.{cut_at}
 use Rattle.sip_text.specs.Line.{line_at}
 use Rattle.sip_text.specs.Trimmed.{trimmed_end}
 use Rattle.sip_text.specs.Unfolded.{begins_blank, joined}
+use Rattle.sip_text.proofs.LineParts.{at_lf, longer, split_at, slice_split-cut_at}
 use Rattle.sip_text.proofs.Separators.{mapped}
 use Rattle.sip_headers.specs.Draft.{with_line}
 use Rattle.sip_headers.specs.Folding.{Section, with_line_of, section_from, section_at, whole_section, onto_section, behind_line}
 use Rattle.sip_headers.specs.declared.draft.Draft.{Draft}
 
 -- ---- the lines of a text
-
-abbrev at_lf : ℕ → Bool
-at_lf b = eqb b 10
-
-abbrev longer : ℕ → List ℕ × List ℕ → List ℕ × List ℕ
-longer c p = (c ∷ p.0, p.1)
-
-abbrev split_at : List ℕ → Option (List ℕ × List ℕ) → List (List ℕ)
-split_at text None = text ∷ []
-split_at text (Some p) = p.0 ∷ slice_split at_lf p.1
-
-onto_first-split_at : (b : ℕ) (bs : List ℕ) (o : Option (List ℕ × List ℕ))
-    → onto_first b (split_at bs o) ≡ split_at (b ∷ bs) (option_map (longer b) o)
-onto_first-split_at b bs None = refl
-onto_first-split_at b bs (Some p) = refl
-
-split_at_by : (b : ℕ) (bs : List ℕ) (r : Bool) → slice_split at_lf bs ≡ split_at bs (cut_at 10 bs)
-    → cond r ([] ∷ slice_split at_lf bs) (onto_first b (slice_split at_lf bs))
-    ≡ split_at (b ∷ bs) (cond r (Some ([], bs)) (option_map (longer b) (cut_at 10 bs)))
-split_at_by b bs true rest = refl
-split_at_by b bs false rest = ap (onto_first b) rest ∙ onto_first-split_at b bs (cut_at 10 bs)
-
-slice_split-cut_at : (text : List ℕ) → slice_split at_lf text ≡ split_at text (cut_at 10 text)
-slice_split-cut_at [] = refl
-slice_split-cut_at (b ∷ bs) = split_at_by b bs (eqb b 10) (slice_split-cut_at bs)
 
 not_mapped : {A B : Type 0} (f : A → B) (o : Option A) → option_map f o ≡ None → o ≡ None
 not_mapped f None e = refl

@@ -271,49 +271,15 @@ pub told_decides : {X : Type 0} (C D : ReadFault → Type 0) (es : List ReadFaul
 told_decides C D es (Ok x) both is = told_none C D es both is
 told_decides C D es (Err e) both is = told_first C D es e both is
 
-abbrev Same : (ReadFault → Type 0) → ReadFault → Type 0
-Same C f = (C f → C f) × (C f → C f)
+-- a condition is what it is
+eq : {A : Type 0} → (A → A) × (A → A)
+eq = (λ x. x, λ x. x)
 
 same_conditions : (start : List ℕ) (lines : List (List ℕ)) (rest : List ℕ)
     → AllByRecursion (λ f. (HeaderCondition lines f → LineCondition start lines rest f)
     × (LineCondition start lines rest f → HeaderCondition lines f)) header_faults
-same_conditions start lines rest = (
-  (λ x. x, λ x. x),
-  (
-    (λ x. x, λ x. x),
-    (
-      (λ x. x, λ x. x),
-      (
-        (λ x. x, λ x. x),
-        (
-          (λ x. x, λ x. x),
-          (
-            (λ x. x, λ x. x),
-            (
-              (λ x. x, λ x. x),
-              (
-                (λ x. x, λ x. x),
-                (
-                  (λ x. x, λ x. x),
-                  (
-                    (λ x. x, λ x. x),
-                    (
-                      (λ x. x, λ x. x),
-                      (
-                        (λ x. x, λ x. x),
-                        ((λ x. x, λ x. x), ((λ x. x, λ x. x), tt)),
-                      ),
-                    ),
-                  ),
-                ),
-              ),
-            ),
-          ),
-        ),
-      ),
-    ),
-  ),
-)
+same_conditions start lines rest =
+    (eq, (eq, (eq, (eq, (eq, (eq, (eq, (eq, (eq, (eq, (eq, (eq, (eq, (eq, tt))))))))))))))
 
 more_decided : {A X : Type 0} (C : ReadFault → Type 0) (es more : List ReadFault)
     (r : Result A ReadFault) (f : A → Result X ReadFault) → Decides C es r

@@ -21,7 +21,7 @@ use Rattle.sip_served.specs.declared.held_request.HeldRequest.{HeldRequest}
 use Rattle.sip_served.specs.declared.item.CallOut.{CallOut}
 use Rattle.sip_served.specs.declared.refusal.Refusal.{Refusal}
 use Rattle.sip_served.specs.Acknowledgment.{ack_noted, acknowledged_invite}
-use Rattle.sip_served.specs.Arrival.{by_case, bye_taken, case_of, noted, request_held}
+use Rattle.sip_served.specs.Arrival.{arrival_of, by_case, bye_taken, case_of, noted, request_held}
 use Rattle.sip_served.specs.Dialogs.{confirmed, dialog_changed, early_ended, ended_at, is_early_of, is_named, numbered, refreshed, retargeted, takes, visited}
 use Rattle.sip_served.specs.Requests.{dialog_name, is_bye, is_cancel, is_inside, is_invite}
 use Rattle.sip_served.specs.Respond.{answer_to, by_refusal, by_request, confirms_dialog, made_dialog, makes_dialog, refusal_for, rejects, respond_taken}
@@ -120,15 +120,7 @@ module _ (Makes : Id → Type 0) where
       → Leads Makes state.dialogs ((kind_taken state tag up kind).0).dialogs
   kind_leads state tag up (Request request reply_to) apart =
       case_leads (case_of state.requests state.dialogs (dialog_name request tag) request) state
-      (dialog_name request tag)
-      record {
-        key = up.key;
-        id = up.id;
-        call_id = up.call_id;
-        request = request;
-        reply_to = reply_to;
-        tag = tag;
-      } apart
+      (dialog_name request tag) (arrival_of up tag request reply_to) apart
   kind_leads state tag up (Ack ack) apart = ack_leads (acknowledged_invite ack state.requests)
     where
       ack_leads : (o : Option Id) → Leads Makes state.dialogs

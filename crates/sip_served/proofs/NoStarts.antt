@@ -31,7 +31,7 @@ use Rattle.sip_served.specs.declared.item.CallOut.TheVariants as out
 use Rattle.sip_served.specs.declared.notice.Notice.{Notice}
 use Rattle.sip_served.specs.declared.refusal.Refusal.{Refusal}
 use Rattle.sip_served.specs.Acknowledgment.{ack_noted, acknowledged_invite}
-use Rattle.sip_served.specs.Arrival.{by_case, case_of, noted, request_held}
+use Rattle.sip_served.specs.Arrival.{arrival_of, by_case, case_of, noted, request_held}
 use Rattle.sip_served.specs.Dialogs.{confirmed, dialog_at, dialog_changed, early_ended, ended_at, ended_notice, is_early_of, is_named}
 use Rattle.sip_served.specs.Requests.{dialog_name, is_bye, is_inside}
 use Rattle.sip_served.specs.Respond.{answer_to, by_refusal, by_request, confirms_dialog, made_dialog, makes_dialog, refusal_for, rejects, respond_taken}
@@ -108,15 +108,7 @@ pub kind_starts : (state : State) (tag : List ℕ) (up : Up) (kind : Kind)
     → starts (kind_taken state tag up kind).1 ≡ []
 kind_starts state tag up (Request request reply_to) =
     case_starts (case_of state.requests state.dialogs (dialog_name request tag) request) state
-    (dialog_name request tag)
-    record {
-      key = up.key;
-      id = up.id;
-      call_id = up.call_id;
-      request = request;
-      reply_to = reply_to;
-      tag = tag;
-    }
+    (dialog_name request tag) (arrival_of up tag request reply_to)
 kind_starts state tag up (Ack ack) = by_invite (acknowledged_invite ack state.requests)
   where
     by_invite : (o : Option Id) → starts (ack_noted state up.call_id ack o).1 ≡ []

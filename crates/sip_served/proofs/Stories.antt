@@ -46,7 +46,7 @@ use Rattle.sip_served.specs.declared.refusal.Refusal.{Refusal}
 use Rattle.sip_served.specs.declared.refusal.Refusal.TheVariants as bad
 use Rattle.sip_transactions.specs.declared.timers.TheConstants.{LIFETIME, T2}
 use Rattle.sip_served.specs.Acknowledgment.{ack_noted, acked, acknowledged_invite}
-use Rattle.sip_served.specs.Arrival.{first_rseq, by_case, case_of, noted, pracked, bye_taken, request_held}
+use Rattle.sip_served.specs.Arrival.{first_rseq, arrival_of, by_case, case_of, noted, pracked, bye_taken, request_held}
 use Rattle.sip_served.specs.Dialogs.{confirmed, dialog_changed, early_ended, ended_at, is_early_of, is_named, numbered, refreshed, retargeted, takes, visited}
 use Rattle.sip_served.specs.Requests.{dialog_name, is_bye, is_cancel, is_final, is_inside, is_invite, is_success, supports_100rel}
 use Rattle.sip_served.specs.Respond.{answer_given, answer_to, made_dialog, answered, by_refusal, by_request, confirms_dialog, finished, has_ended, is_of_dialog, is_reliable, is_sent_reliably, is_user_status, ledger_sent, makes_dialog, may_be_reliable, refusal_for, refusal_of_fault, rejects, sent_reliably, with_dialog}
@@ -490,14 +490,7 @@ kind_on : (story : Story) (tag : List ℕ) (up : Up) (kind : Kind)
 kind_on story tag up (Request request reply_to) =
     case_on (case_of (held_by story).requests (held_by story).dialogs
     (dialog_name request tag) request) story (dialog_name request tag)
-    record {
-      key = up.key;
-      id = up.id;
-      call_id = up.call_id;
-      request = request;
-      reply_to = reply_to;
-      tag = tag;
-    }
+    (arrival_of up tag request reply_to)
 kind_on story tag up (Ack ack) =
     ack_on story up.call_id ack (acknowledged_invite ack (held_by story).requests)
 kind_on story tag up (Response response) = refl

@@ -4,6 +4,7 @@ use Rattle.std.specs.Prelude.{ℕ, Bool, false, not, ◌&&◌, ◌||◌, ◌==�
 use Rattle.std.specs.List.{list_any, join_by}
 use Rattle.std.specs.Option.{option_map, option_map_or}
 use Rattle.std.specs.Str.{bytes_eq, str_eq_ignore_ascii_case}
+use Rattle.sip_message.specs.declared.addr.Addr.{Addr}
 use Rattle.sip_message.specs.declared.header.Header.{Header}
 use Rattle.sip_message.specs.declared.id.Id.{Id}
 use Rattle.sip_message.specs.declared.message.Message.{Message}
@@ -12,6 +13,7 @@ use Rattle.sip_message.specs.Party.{tag_of}
 use Rattle.sip_message.specs.Response.{response_of}
 use Rattle.sip_reliable.specs.Ledger.{acknowledged, ledger_after, waits_for}
 use Rattle.sip_transactions.specs.declared.input.Command.TheVariants.{Answer}
+use Rattle.sip_transactions.specs.declared.output.Up.{Up}
 use Rattle.sip_served.specs.declared.arrival.Arrival.{Arrival}
 use Rattle.sip_served.specs.declared.arrival.ArrivalCase.{ArrivalCase}
 use Rattle.sip_served.specs.declared.arrival.ArrivalCase.TheVariants.{Merged, BadExtension, NoDialog, OutOfOrder, Acknowledges, AcknowledgesNothing, ForUser}
@@ -173,6 +175,17 @@ abbrev pub for_user : State → DialogName → Arrival → Taken
 for_user state name arrival = followed (request_held state name arrival) (bye_taken arrival name)
 
 -- ---- all of it
+
+-- what is handed up, with the To tag made for a request without one
+abbrev pub arrival_of : Up → List ℕ → Message → Addr → Arrival
+arrival_of up tag request reply_to = record {
+  key = up.key;
+  id = up.id;
+  call_id = up.call_id;
+  request = request;
+  reply_to = reply_to;
+  tag = tag;
+}
 
 -- a request in a dialog is noted there
 abbrev pub noted : State → DialogName → Message → State

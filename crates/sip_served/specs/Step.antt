@@ -11,7 +11,7 @@ use Rattle.sip_served.specs.declared.item.Item.TheVariants as item
 use Rattle.sip_served.specs.declared.item.CallOut.TheVariants.{Notice}
 use Rattle.sip_served.specs.declared.notice.Notice.TheVariants as notice
 use Rattle.sip_served.specs.Acknowledgment.{ack_taken}
-use Rattle.sip_served.specs.Arrival.{request_taken}
+use Rattle.sip_served.specs.Arrival.{arrival_of, request_taken}
 use Rattle.sip_served.specs.Respond.{respond_taken}
 use Rattle.sip_served.specs.State.{State, Taken, quiet}
 
@@ -19,14 +19,7 @@ use Rattle.sip_served.specs.State.{State, Taken, quiet}
 -- transaction timed out or failed is told, also where its request isn't held.
 abbrev pub kind_taken : State → List ℕ → Up → Kind → Taken
 kind_taken state tag up (Request request reply_to) =
-    request_taken state record {
-      key = up.key;
-      id = up.id;
-      call_id = up.call_id;
-      request = request;
-      reply_to = reply_to;
-      tag = tag;
-    }
+    request_taken state (arrival_of up tag request reply_to)
 kind_taken state tag up (Ack ack) = ack_taken state up.call_id ack
 kind_taken state tag up (Response response) = quiet state
 kind_taken state tag up Timeout = (state, Notice (notice.Timeout up.call_id up.id) ∷ [])

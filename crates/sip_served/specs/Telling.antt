@@ -27,7 +27,7 @@ use Rattle.sip_served.specs.declared.held_request.HeldRequest.{HeldRequest}
 use Rattle.sip_served.specs.declared.item.Item.TheVariants as item
 use Rattle.sip_served.specs.declared.refusal.Refusal.{Refusal}
 use Rattle.sip_served.specs.Acknowledgment.{acknowledged_invite}
-use Rattle.sip_served.specs.Arrival.{case_of, own_dialog}
+use Rattle.sip_served.specs.Arrival.{arrival_of, case_of, own_dialog}
 use Rattle.sip_served.specs.Dialogs.{is_early_of, is_named, takes}
 use Rattle.sip_served.specs.Requests.{dialog_name, is_bye, is_cancel, is_final, is_inside, is_invite, is_success}
 use Rattle.sip_served.specs.Respond.{answer_to, confirms_dialog, is_sent_reliably, makes_dialog, refusal_for, rejects}
@@ -269,14 +269,7 @@ tick_told story now = record story {
 
 abbrev pub kind_told : Story → List ℕ → Up → Kind → Story
 kind_told story tag up (Request request reply_to) =
-    request_told story record {
-      key = up.key;
-      id = up.id;
-      call_id = up.call_id;
-      request = request;
-      reply_to = reply_to;
-      tag = tag;
-    }
+    request_told story (arrival_of up tag request reply_to)
 kind_told story tag up (Ack ack) = ack_told story (acknowledged_invite ack (held_by story).requests)
 kind_told story tag up (Response response) = story
 kind_told story tag up Timeout = story

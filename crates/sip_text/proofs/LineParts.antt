@@ -17,7 +17,7 @@ use Rattle.sip_text.proofs.Separators.{mapped}
 
 -- ---- one line
 
-abbrev longer : ℕ → List ℕ × List ℕ → List ℕ × List ℕ
+abbrev pub longer : ℕ → List ℕ × List ℕ → List ℕ × List ℕ
 longer c p = (c ∷ p.0, p.1)
 
 record IsAtEnd (text : List ℕ) (p : List ℕ × List ℕ) : Type 0 where
@@ -95,11 +95,11 @@ one_line_more text front rest line after before e more end lines =
 
 -- ---- folds
 
-abbrev at_lf : ℕ → Bool
+abbrev pub at_lf : ℕ → Bool
 at_lf b = eqb b 10
 
 -- a text is the part before the first LF, and the split of what follows
-abbrev split_at : List ℕ → Option (List ℕ × List ℕ) → List (List ℕ)
+abbrev pub split_at : List ℕ → Option (List ℕ × List ℕ) → List (List ℕ)
 split_at text None = text ∷ []
 split_at text (Some p) = p.0 ∷ slice_split at_lf p.1
 
@@ -114,7 +114,7 @@ split_at_by : (b : ℕ) (bs : List ℕ) (r : Bool) → slice_split at_lf bs ≡ 
 split_at_by b bs true rest = refl
 split_at_by b bs false rest = ap (onto_first b) rest ∙ onto_first-split_at b bs (cut_at 10 bs)
 
-slice_split-cut_at : (text : List ℕ) → slice_split at_lf text ≡ split_at text (cut_at 10 text)
+pub slice_split-cut_at : (text : List ℕ) → slice_split at_lf text ≡ split_at text (cut_at 10 text)
 slice_split-cut_at [] = refl
 slice_split-cut_at (b ∷ bs) = split_at_by b bs (eqb b 10) (slice_split-cut_at bs)
 

@@ -164,20 +164,16 @@ fn give(
     let key = key_for(rt, alloc, machine)?;
     let outs = match what {
         Happening::Tick => shard.tick(now)?,
-        Happening::Start => {
-            let call_id = request.call_id.clone()?;
-            let message = request;
-            shard.command(
-                id,
-                Command::Start {
-                    key,
-                    call_id,
-                    message,
-                    to,
-                },
-                now,
-            )?
-        }
+        Happening::Start => shard.command(
+            id,
+            Command::Start {
+                key,
+                call_id: request.call_id.clone()?,
+                message: request,
+                to,
+            },
+            now,
+        )?,
         Happening::Request => shard.receive(id, request, to, now)?,
         Happening::Ack => shard.receive(id, message_of(alloc, machine, "ACK", place)?, to, now)?,
         Happening::Response(status) => {
