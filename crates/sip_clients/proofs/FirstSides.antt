@@ -33,38 +33,18 @@ use Rattle.sip_clients.proofs.FirstReply.{first, first_replied, given, other_rep
 use Rattle.sip_served.proofs.Heard.{AreApart, Leads, leads_changed, leads_same, leads_then}
 use Rattle.sip_clients.proofs.Hearing.{Listens}
 
--- nothing is heard of other requests
-unheard_again : (own : DialogLife) (case : ReplyCase) (named : Bool)
-    → heard_number case (Again own) named ≡ None
-unheard_again own reply.Final named = refl
-unheard_again own reply.Repeated named = refl
-unheard_again own reply.Accepted named = refl
-unheard_again own reply.Late named = refl
-unheard_again own (reply.Reliable number) named = refl
-unheard_again own reply.Passed named = refl
-unheard_again own reply.Early named = refl
-unheard_again own reply.Told named = refl
-
-unheard_inside : (own : DialogLife) (case : ReplyCase) (named : Bool)
-    → heard_number case (Inside own) named ≡ None
-unheard_inside own reply.Final named = refl
-unheard_inside own reply.Repeated named = refl
-unheard_inside own reply.Accepted named = refl
-unheard_inside own reply.Late named = refl
-unheard_inside own (reply.Reliable number) named = refl
-unheard_inside own reply.Passed named = refl
-unheard_inside own reply.Early named = refl
-unheard_inside own reply.Told named = refl
-
-unheard_plain : (case : ReplyCase) (named : Bool) → heard_number case Plain named ≡ None
-unheard_plain reply.Final named = refl
-unheard_plain reply.Repeated named = refl
-unheard_plain reply.Accepted named = refl
-unheard_plain reply.Late named = refl
-unheard_plain (reply.Reliable number) named = refl
-unheard_plain reply.Passed named = refl
-unheard_plain reply.Early named = refl
-unheard_plain reply.Told named = refl
+-- nothing is heard of a request by which no reliable provisional response is heard
+unheard_by : (asks : Asks)
+    → ((number : ℕ) (named : Bool) → heard_number (reply.Reliable number) asks named ≡ None)
+    → (case : ReplyCase) (named : Bool) → heard_number case asks named ≡ None
+unheard_by asks none reply.Final named = refl
+unheard_by asks none reply.Repeated named = refl
+unheard_by asks none reply.Accepted named = refl
+unheard_by asks none reply.Late named = refl
+unheard_by asks none (reply.Reliable number) named = none number named
+unheard_by asks none reply.Passed named = refl
+unheard_by asks none reply.Early named = refl
+unheard_by asks none reply.Told named = refl
 
 abbrev with_asks : Asks → Client → Client
 with_asks asks client = record client { asks = asks }
@@ -144,17 +124,17 @@ module _ (life : DialogLife) where
         settled_at status (with_asks (Again own) client) None is
         (λ clients. other_replied call life client
         (answer_for status (with_asks (Again own) client)) side.dialogs apart made
-        (with_asks (Again own) client) clients (unheard_again own))
+        (with_asks (Again own) client) clients (unheard_by (Again own) (λ number named. refl)))
     by_asks status client (Inside own) is =
         settled_at status (with_asks (Inside own) client) None is
         (λ clients. other_replied call life client
         (answer_for status (with_asks (Inside own) client)) side.dialogs apart made
-        (with_asks (Inside own) client) clients (unheard_inside own))
+        (with_asks (Inside own) client) clients (unheard_by (Inside own) (λ number named. refl)))
     by_asks status client Plain is =
         settled_at status (with_asks Plain client) None is
         (λ clients. other_replied call life client
         (answer_for status (with_asks Plain client)) side.dialogs apart made
-        (with_asks Plain client) clients unheard_plain)
+        (with_asks Plain client) clients (unheard_by Plain (λ number named. refl)))
 
     by_client : (status : Option ℕ) (o : Option Client) → client_at id side.clients ≡ o
         → SideResult (option_and_then (number_at status) o)

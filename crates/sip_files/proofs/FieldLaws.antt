@@ -1,5 +1,5 @@
 -- The fields of an event file's lines: what is read is spelled so, and what is spelled so is read.
-use Rattle.std.proofs.Common.{◌≡◌, ℕ, ◌≤◌, true, false, cond, eqb, List, [], ◌∷◌, ◌++◌, length, Option, Some, None, refl, ap, subst, ◌∙◌, arith, inl, inr, codes, decimal}
+use Rattle.std.proofs.Common.{◌≡◌, ℕ, ◌≤◌, Bool, true, false, cond, eqb, List, [], ◌∷◌, ◌++◌, length, Option, Some, None, refl, ap, subst, ◌∙◌, arith, inl, inr, codes, decimal}
 use Rattle.std.specs.Prelude.{unwrap_or}
 use Rattle.std.specs.Str.{bytes_eq}
 use Rattle.std.proofs.lemmas.Bool.{eqb-true, false≢true, ne_eqb}
@@ -38,40 +38,43 @@ use Rattle.sip_files.proofs.NumberLaws.{id_reads, address_reads, address_no, id_
 pub word_reads : Reads (λ text. are_bytes text ≡ true) spelled_word word_at
 word_reads = record { took = word_took; again = word_again }
 
-call_id_took : (field text : List ℕ) → call_id_at field ≡ Some text
-    → IsCallId text × (field ≡ spelled_word text)
-unfolding call_id_at
-call_id_took field text e =
-    let w = bind_some (word_at field) (λ text. cond (is_word text) (Some text) None) text e in
-    let g = passed (is_word w.0) w.0 text w.2 in
-    let t = word_took field w.0 w.1 in
-    let P : List ℕ → Type 0 = λ y. IsCallId y × (field ≡ spelled_word y) in
-    subst P g.1 ((t.0, g.0), t.1)
+-- a field whose text has to pass a test
+abbrev tested : (List ℕ → Bool) → List ℕ → Option (List ℕ)
+tested fits text = cond (fits text) (Some text) None
 
-call_id_again : (text : List ℕ) → IsCallId text → call_id_at (spelled_word text) ≡ Some text
-unfolding call_id_at
-call_id_again text fits =
-    ap (λ o. o >>= λ text. cond (is_word text) (Some text) None) (word_again text fits.0)
-    ∙ ap (λ r. cond r (Some text) None) fits.1
+tested_reads : {Base : List ℕ → Type 0} (spell : List ℕ → List ℕ)
+    (read : List ℕ → Option (List ℕ)) (fits : List ℕ → Bool) → Reads Base spell read
+    → Reads (λ text. Base text × (fits text ≡ true)) spell (λ field. read field >>= tested fits)
+tested_reads {Base = Base} spell read fits reads = record { took = took; again = again }
+  where
+    took : (field text : List ℕ) → (read field >>= tested fits) ≡ Some text
+        → (Base text × (fits text ≡ true)) × (field ≡ spell text)
+    took field text e =
+        let w = bind_some (read field) (tested fits) text e in
+        let g = passed (fits w.0) w.0 text w.2 in
+        let t = reads.took field w.0 w.1 in
+        let P : List ℕ → Type 0 = λ y. (Base y × (fits y ≡ true)) × (field ≡ spell y) in
+        subst P g.1 ((t.0, g.0), t.1)
+
+    again : (text : List ℕ) → Base text × (fits text ≡ true)
+        → (read (spell text) >>= tested fits) ≡ Some text
+    again text is =
+        ap (λ o. o >>= tested fits) (reads.again text is.0) ∙ ap (λ r. cond r (Some text) None) is.1
 
 call_id_reads : Reads IsCallId spelled_word call_id_at
-call_id_reads = record { took = call_id_took; again = call_id_again }
+unfolding call_id_at
+call_id_reads = tested_reads spelled_word word_at is_word word_reads
 
-pub reason_took : (field text : List ℕ) → reason_at field ≡ Some text
-    → IsReason text × (field ≡ spelled_rest text)
-unfolding reason_at
-reason_took field text e =
-    let w = bind_some (rest_at field) (λ text. cond (is_reason text) (Some text) None) text e in
-    let g = passed (is_reason w.0) w.0 text w.2 in
-    let t = rest_took field w.0 w.1 in
-    let P : List ℕ → Type 0 = λ y. IsReason y × (field ≡ spelled_rest y) in
-    subst P g.1 ((t.0, g.0), t.1)
+rest_reads : Reads (λ text. are_bytes text ≡ true) spelled_rest rest_at
+rest_reads = record { took = rest_took; again = rest_again }
 
-pub reason_again : (text : List ℕ) → IsReason text → reason_at (spelled_rest text) ≡ Some text
+pub reason_reads : Reads IsReason spelled_rest reason_at
 unfolding reason_at
-reason_again text fits =
-    ap (λ o. o >>= λ text. cond (is_reason text) (Some text) None) (rest_again text fits.0)
-    ∙ ap (λ r. cond r (Some text) None) fits.1
+reason_reads = tested_reads spelled_rest rest_at is_reason rest_reads
+
+uri_reads : Reads IsUri spelled_word uri_at
+unfolding uri_at
+uri_reads = tested_reads spelled_word word_at is_uri word_reads
 
 pub same_text : (xs ys : List ℕ) → bytes_eq xs ys ≡ true → xs ≡ ys
 same_text xs ys e = (bytes_eq-Decides xs ys).0 e
@@ -104,23 +107,7 @@ reliability_no : (r : Reliability) → has_no 32 (reliability_text r) ≡ true
 reliability_no reliability.Plain = refl
 reliability_no reliability.Reliable = refl
 
--- ---- a URI, a tag, a method, the support of an INVITE
-
-uri_took : (field text : List ℕ) → uri_at field ≡ Some text
-    → IsUri text × (field ≡ spelled_word text)
-unfolding uri_at
-uri_took field text e =
-    let w = bind_some (word_at field) (λ text. cond (is_uri text) (Some text) None) text e in
-    let g = passed (is_uri w.0) w.0 text w.2 in
-    let t = word_took field w.0 w.1 in
-    let P : List ℕ → Type 0 = λ y. IsUri y × (field ≡ spelled_word y) in
-    subst P g.1 ((t.0, g.0), t.1)
-
-uri_again : (text : List ℕ) → IsUri text → uri_at (spelled_word text) ≡ Some text
-unfolding uri_at
-uri_again text fits =
-    ap (λ o. o >>= λ text. cond (is_uri text) (Some text) None) (word_again text fits.0)
-    ∙ ap (λ r. cond r (Some text) None) fits.1
+-- ---- a tag, a method, the support of an INVITE
 
 method_took : (field text : List ℕ) → method_at field ≡ Some text → IsMethod text × (field ≡ text)
 unfolding method_at
@@ -229,7 +216,7 @@ word_front = field_front (λ text. are_bytes text ≡ true) spelled_word word_at
     (λ text fits. word_no 32 text (omega arith) refl)
 
 uri_front : ReadsFront IsUri spelled_word (field_at 32 uri_at)
-uri_front = field_front IsUri spelled_word uri_at (record { took = uri_took; again = uri_again })
+uri_front = field_front IsUri spelled_word uri_at uri_reads
     (λ text fits. word_no 32 text (omega arith) refl)
 
 tag_front : ReadsFront IsTag (λ tag. spelled_word (tag_text tag)) (field_at 32 tag_at)

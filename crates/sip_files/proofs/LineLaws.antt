@@ -39,7 +39,7 @@ use Rattle.sip_files.proofs.WordLaws.{rest_took, rest_again}
 use Rattle.sip_files.proofs.Cuts.{both_front, ended_reads, made_reads}
 use Rattle.sip_files.proofs.Shown.{word_no, rest_no, pairs_no}
 use Rattle.sip_files.proofs.NumberLaws.{address_reads, seed_reads, address_no, id_no}
-use Rattle.sip_files.proofs.FieldLaws.{word_reads, reason_took, reason_again, same_text, no_method, tag_text, call_id_front, word_front, method_reads, method_front, address_front, support_front, id_front, status_front, port_front, reliability_front, uris_text, uris_front, dialog_text, dialog_front}
+use Rattle.sip_files.proofs.FieldLaws.{word_reads, reason_reads, same_text, no_method, tag_text, call_id_front, word_front, method_reads, method_front, address_front, support_front, id_front, status_front, port_front, reliability_front, uris_text, uris_front, dialog_text, dialog_front}
 
 mapped : {A B : Type 0} (f : A → B) (o : Option A) (y : B) → option_map f o ≡ Some y
     → (x : A) × (o ≡ Some x) × (f x ≡ y)
@@ -191,9 +191,6 @@ respond_fields c =
     ((((spelled_word c.call_id ++ 32 ∷ id_text c.id) ++ 32 ∷ decimal c.status)
     ++ 32 ∷ reliability_text c.reliability) ++ 32 ∷ spelled_word c.body)
     ++ 32 ∷ spelled_rest c.reason
-
-reason_reads : Reads IsReason spelled_rest reason_at
-reason_reads = record { took = reason_took; again = reason_again }
 
 respond_reads : Reads IsRespond respond_fields respond_at
 unfolding respond_at

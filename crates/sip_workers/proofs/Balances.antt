@@ -158,20 +158,6 @@ module _ {J : Type 0} where
     length-append xs items,
   )
 
-  pub steals : (port : ℕ) (v : Log J) → 0 < v.parts
-      → Takes Balanced port v 1 (λ xs w. w ≡ log v.parts v.put (v.taken ++ xs))
-  steals port v some_part xs items views some_one at_most_one b e =
-      let s = beside (xs ++ items) views port v e b in
-      let w = log v.parts v.put (v.taken ++ xs) in (
-        w,
-        balanced (xs ++ items) items views port v w e b (λ none. absurd (omega arith)) (
-          s.0,
-          take_front (v.put ++ all_put (others views port)) xs items v.taken
-              (all_taken (others views port)) s.1,
-        ),
-        refl,
-      )
-
   pub takes : (port : ℕ) (v : Log J) → 0 < v.parts
       → Takes Balanced port v 1 (λ xs w. (w ≡ log v.parts v.put (v.taken ++ xs))
       × (v.parts ≡ 64 → length (v.taken ++ xs) ≤ length v.put))
@@ -186,6 +172,12 @@ module _ {J : Type 0} where
         ),
         (refl, λ every. counted v xs items (whole (xs ++ items) views port v every e b)),
       )
+
+  pub steals : (port : ℕ) (v : Log J) → 0 < v.parts
+      → Takes Balanced port v 1 (λ xs w. w ≡ log v.parts v.put (v.taken ++ xs))
+  steals port v some_part xs items views some_one at_most_one b e =
+      let taken = takes port v some_part xs items views some_one at_most_one b e in
+      (taken.0, taken.1, taken.2.0)
 
   pub pops : (port : ℕ) (v : Log J) → 0 < v.parts
       → Pops Balanced port v (λ xs w. (w ≡ log v.parts v.put (v.taken ++ xs))
