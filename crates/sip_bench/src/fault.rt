@@ -2,7 +2,8 @@
 
 use sip_round::{NoMemory, RoundFault};
 use std::alloc::{AllocError, AllocFailed};
-use std::{fmt, io};
+use std::io;
+use thiserror::Error;
 
 const BAD_COUNT: u8 = 1;
 
@@ -25,22 +26,28 @@ bad words; it takes one of
 with each number from 1 to 9999999, at most 999 rounds, 256 shards and 64 workers";
 
 /// Why a measurement stopped.
-#[derive(Clone, Copy)]
+#[derive(Clone, Copy, Debug, Error)]
 pub enum BenchFault {
     /// The words ask for nothing that there is.
+    #[error("{usage}", usage = USAGE)]
     Words,
     /// The file spells no message, or the one that was written spells none.
+    #[error("no message")]
     Message,
     /// A round was refused.
+    #[error("a round is refused: {0}")]
     Round(RoundFault),
     /// Of this there was another number than was asked for.
+    #[error("{given} {what}, and not {wanted}")]
     Count {
         what: &'static str,
         wanted: u64,
         given: u64,
     },
     /// A file or a stream failed.
+    #[error("a file or a stream failed")]
     Device,
+    #[error("no memory")]
     NoMemory,
 }
 
@@ -53,23 +60,6 @@ impl BenchFault {
             BenchFault::Round(_) => BAD_ROUND,
             BenchFault::Device => FAILED_DEVICE,
             BenchFault::NoMemory => NO_MEMORY,
-        }
-    }
-}
-
-impl fmt::Display for BenchFault {
-    fn fmt<W: fmt::Write>(&self, f: &mut fmt::Formatter<W>) -> fmt::Result {
-        match self {
-            BenchFault::Words => write!(f, "{USAGE}"),
-            BenchFault::Message => write!(f, "no message"),
-            BenchFault::Round(fault) => write!(f, "a round is refused: {fault}"),
-            BenchFault::Count {
-                what,
-                wanted,
-                given,
-            } => write!(f, "{given} {what}, and not {wanted}"),
-            BenchFault::Device => write!(f, "a file or a stream failed"),
-            BenchFault::NoMemory => write!(f, "no memory"),
         }
     }
 }

@@ -32,9 +32,9 @@ use Rattle.sip_files.specs.declared.fields.Dialog.{Dialog}
 use Rattle.sip_files.specs.declared.fields.Uris.{Uris}
 use Rattle.sip_files.specs.Word.{hex_pair, are_bytes, spelled_word, spelled_rest}
 use Rattle.sip_files.specs.Field.{id_text, plain_field, number_field, id_field, address_field, word_field, rest_field}
-use Rattle.sip_files.specs.Events.{IsReason, IsMethod, IsInvite, IsPlain, IsRequest, IsBody, IsRespond, IsCommandLine, reliability_text, support_text, command_text, SpellsClient, SpellsServer, SpellsEvent, SpellsLine}
+use Rattle.sip_files.specs.Events.{IsMethod, IsInvite, IsPlain, IsRequest, IsBody, IsRespond, IsCommandLine, reliability_text, support_text, command_text, SpellsClient, SpellsServer, SpellsEvent, SpellsLine}
 use Rattle.sip_files.specs.Reading.{word_at, rest_at, both_at, ended_by, address_at, seed_at}
-use Rattle.sip_files.specs.ReadLine.{reason_at, method_at, invite_of, invite_at, plain_of, plain_at, request_of, request_at, body_of, body_at, respond_of, respond_at, command_at, datagram_at, client_of, client_at, server_of, server_at, key_at, failed_at, event_at, keyword_line, line_at}
+use Rattle.sip_files.specs.ReadLine.{method_at, invite_of, invite_at, plain_of, plain_at, request_of, request_at, body_of, body_at, respond_of, respond_at, command_at, datagram_at, client_of, client_at, server_of, server_at, key_at, failed_at, event_at, keyword_line, line_at}
 use Rattle.sip_files.proofs.WordLaws.{rest_took, rest_again}
 use Rattle.sip_files.proofs.Cuts.{both_front, ended_reads, made_reads}
 use Rattle.sip_files.proofs.Shown.{word_no, rest_no, pairs_no}

@@ -3,18 +3,21 @@
 ghost use Rattle.std.specs.Prelude.{◌≡◌};
 
 use std::alloc::AllocError;
-use std::error::Error;
-use std::fmt;
+use thiserror::Error;
 
 /// Why a text is no event file: the first that fits.
-#[derive(Clone, Copy, Debug, PartialEq, Eq)]
+#[derive(Clone, Copy, Debug, PartialEq, Eq, Error)]
 pub enum EventsFault {
     /// Over 2^26 bytes.
+    #[error("event file too long")]
     TooLong,
     /// The first line names no version that is read.
+    #[error("event file version")]
     BadVersion,
     /// The first line that breaks a rule, numbered from 1.
+    #[error("event file line {0}")]
     BadLine(u64),
+    #[error("no memory")]
     NoMemory,
 }
 
@@ -27,16 +30,3 @@ impl From<AllocError> for EventsFault {
         EventsFault::NoMemory
     }
 }
-
-impl fmt::Display for EventsFault {
-    fn fmt<W: fmt::Write>(&self, f: &mut fmt::Formatter<W>) -> fmt::Result {
-        match self {
-            EventsFault::TooLong => write!(f, "event file too long"),
-            EventsFault::BadVersion => write!(f, "event file version"),
-            EventsFault::BadLine(line) => write!(f, "event file line {line}"),
-            EventsFault::NoMemory => write!(f, "no memory"),
-        }
-    }
-}
-
-impl Error for EventsFault {}
