@@ -8,10 +8,10 @@ ghost use Rattle.sip_files.specs.Field as field;
 ghost use Rattle.sip_files.specs.Outputs as written;
 
 use crate::words::{push_rest, push_word};
-use sip_message::{Addr, CallId, Id, ReadFault, ip_text};
+use sip_message::{Addr, CallId, Id, ReadFault, StatusCode, Token, ip_text};
 use sip_round::Output;
 use sip_served::{Notice, Refusal};
-use sip_text::decimal;
+use sip_text::{Text, decimal};
 use sip_transactions::DropReason;
 use std::alloc::{AllocError, Global};
 
@@ -130,13 +130,7 @@ fn push_notice(file: &mut Vec<u8>, notice: &Notice) -> Result<(), AllocError>
             local_tag,
             remote_tag,
             body,
-        } => {
-            push_head(file, call_id, b"request", *id)?;
-            push_plain(file, method.as_slice())?;
-            push_text(file, local_tag.as_slice())?;
-            push_text(file, remote_tag.as_slice())?;
-            push_text(file, body.as_slice())
-        }
+        } => push_request(file, call_id, *id, method, local_tag, remote_tag, body),
         Notice::Response {
             call_id,
             id,
@@ -144,27 +138,14 @@ fn push_notice(file: &mut Vec<u8>, notice: &Notice) -> Result<(), AllocError>
             local_tag,
             remote_tag,
             body,
-        } => {
-            push_head(file, call_id, b"response", *id)?;
-            push_number(file, u64::from(status.code()))?;
-            push_text(file, local_tag.as_slice())?;
-            push_text(file, remote_tag.as_slice())?;
-            push_text(file, body.as_slice())
-        }
-        Notice::Ack { call_id, id, body } => {
-            push_head(file, call_id, b"ack", *id)?;
-            push_text(file, body.as_slice())
-        }
+        } => push_response(file, call_id, *id, *status, local_tag, remote_tag, body),
+        Notice::Ack { call_id, id, body } => push_ack(file, call_id, *id, body),
         Notice::Prack {
             call_id,
             id,
             rseq,
             body,
-        } => {
-            push_head(file, call_id, b"prack", *id)?;
-            push_number(file, u64::from(*rseq))?;
-            push_text(file, body.as_slice())
-        }
+        } => push_prack(file, call_id, *id, *rseq, body),
         Notice::Timeout { call_id, id } => push_head(file, call_id, b"timeout", *id),
         Notice::Failed { call_id, id } => push_head(file, call_id, b"failed", *id),
         Notice::NoAck { call_id, id } => push_head(file, call_id, b"noack", *id),
@@ -174,17 +155,88 @@ fn push_notice(file: &mut Vec<u8>, notice: &Notice) -> Result<(), AllocError>
             call_id,
             local_tag,
             remote_tag,
-        } => {
-            push_form(file, call_id, b"ended")?;
-            push_text(file, local_tag.as_slice())?;
-            push_text(file, remote_tag.as_slice())
-        }
+        } => push_ended(file, call_id, local_tag, remote_tag),
         Notice::Refused {
             call_id,
             place,
             refusal,
         } => push_refused(file, call_id, u64::from(*place), *refusal),
     }
+}
+
+fn push_request(
+    file: &mut Vec<u8>,
+    call_id: &CallId,
+    id: Id,
+    method: &Token,
+    local_tag: &Text,
+    remote_tag: &Text,
+    body: &Text,
+) -> Result<(), AllocError>
+    ensures { OnOk result (file.new.items ≡ file.old.items ++ written.notice_text
+        (notice.Request call_id.now id method.now local_tag.now remote_tag.now body.now)) }
+{
+    push_head(file, call_id, b"request", id)?;
+    push_plain(file, method.as_slice())?;
+    push_text(file, local_tag.as_slice())?;
+    push_text(file, remote_tag.as_slice())?;
+    push_text(file, body.as_slice())
+}
+
+fn push_response(
+    file: &mut Vec<u8>,
+    call_id: &CallId,
+    id: Id,
+    status: StatusCode,
+    local_tag: &Text,
+    remote_tag: &Text,
+    body: &Text,
+) -> Result<(), AllocError>
+    ensures { OnOk result (file.new.items ≡ file.old.items ++ written.notice_text
+        (notice.Response call_id.now id status local_tag.now remote_tag.now body.now)) }
+{
+    push_head(file, call_id, b"response", id)?;
+    push_number(file, u64::from(status.code()))?;
+    push_text(file, local_tag.as_slice())?;
+    push_text(file, remote_tag.as_slice())?;
+    push_text(file, body.as_slice())
+}
+
+fn push_ack(file: &mut Vec<u8>, call_id: &CallId, id: Id, body: &Text) -> Result<(), AllocError>
+    ensures { OnOk result (file.new.items ≡ file.old.items
+        ++ written.notice_text (notice.Ack call_id.now id body.now)) }
+{
+    push_head(file, call_id, b"ack", id)?;
+    push_text(file, body.as_slice())
+}
+
+fn push_prack(
+    file: &mut Vec<u8>,
+    call_id: &CallId,
+    id: Id,
+    rseq: u32,
+    body: &Text,
+) -> Result<(), AllocError>
+    ensures { OnOk result (file.new.items ≡ file.old.items
+        ++ written.notice_text (notice.Prack call_id.now id rseq body.now)) }
+{
+    push_head(file, call_id, b"prack", id)?;
+    push_number(file, u64::from(rseq))?;
+    push_text(file, body.as_slice())
+}
+
+fn push_ended(
+    file: &mut Vec<u8>,
+    call_id: &CallId,
+    local_tag: &Text,
+    remote_tag: &Text,
+) -> Result<(), AllocError>
+    ensures { OnOk result (file.new.items ≡ file.old.items
+        ++ written.notice_text (notice.Ended call_id.now local_tag.now remote_tag.now)) }
+{
+    push_form(file, call_id, b"ended")?;
+    push_text(file, local_tag.as_slice())?;
+    push_text(file, remote_tag.as_slice())
 }
 
 fn push_refused(
