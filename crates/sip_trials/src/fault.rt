@@ -1,0 +1,110 @@
+//! Why a trial stopped.
+
+use crate::difference::Difference;
+use sip_round::{NoMemory, RoundFault};
+use std::alloc::{AllocError, AllocFailed};
+use std::io;
+use thiserror::Error;
+
+const DIFFERENT: u8 = 1;
+
+const BAD_WORDS: u8 = 2;
+
+const BAD_ROUND: u8 = 3;
+
+const FAILED_DEVICE: u8 = 4;
+
+const NO_MEMORY: u8 = 5;
+
+/// What is told of words that ask for nothing.
+const USAGE: &str = "\
+bad words; it takes none, or one of
+  cases FOLDER
+  read FILE N
+  answer FILE N
+  transactions HELD N
+  idle HELD N
+  rounds N SHARDS WORKERS
+with each number from 1 to 9999999, at most 999 rounds, 256 shards and 64 workers";
+
+/// Why a trial stopped.
+#[derive(Debug, Drop, Error)]
+pub enum TrialFault {
+    /// The words ask for nothing that there is.
+    #[error("{usage}", usage = USAGE)]
+    Words,
+    /// A case of this name ends or writes otherwise than it is to.
+    #[error("{name}: {difference}")]
+    Differs {
+        name: String,
+        difference: Difference,
+    },
+    /// The file spells no message, or the one that was written spells none.
+    #[error("no message")]
+    Message,
+    /// A round was refused.
+    #[error("a round is refused: {0}")]
+    Round(RoundFault),
+    /// Of this there was another number than was asked for.
+    #[error("{given} {what}, and not {wanted}")]
+    Count {
+        what: &'static str,
+        wanted: u64,
+        given: u64,
+    },
+    /// A file or a stream failed.
+    #[error("a file or a stream failed")]
+    Device,
+    #[error("no memory")]
+    NoMemory,
+}
+
+impl TrialFault {
+    /// The status that the program ends in.
+    pub fn status(&self) -> u8 {
+        match self {
+            TrialFault::Differs { .. } | TrialFault::Message | TrialFault::Count { .. } =>
+                DIFFERENT,
+            TrialFault::Words => BAD_WORDS,
+            TrialFault::Round(_) => BAD_ROUND,
+            TrialFault::Device => FAILED_DEVICE,
+            TrialFault::NoMemory => NO_MEMORY,
+        }
+    }
+}
+
+impl From<AllocError> for TrialFault {
+    fn from(_error: AllocError) -> TrialFault {
+        TrialFault::NoMemory
+    }
+}
+
+impl<T: Drop> From<AllocFailed<T>> for TrialFault {
+    fn from(_error: AllocFailed<T>) -> TrialFault {
+        TrialFault::NoMemory
+    }
+}
+
+impl From<NoMemory> for TrialFault {
+    fn from(_error: NoMemory) -> TrialFault {
+        TrialFault::NoMemory
+    }
+}
+
+impl From<RoundFault> for TrialFault {
+    fn from(fault: RoundFault) -> TrialFault {
+        match fault {
+            RoundFault::NoMemory { .. } => TrialFault::NoMemory,
+            _ => TrialFault::Round(fault),
+        }
+    }
+}
+
+impl From<io::Error> for TrialFault {
+    fn from(error: io::Error) -> TrialFault {
+        match error.kind() {
+            io::ErrorKind::OutOfMemory => TrialFault::NoMemory,
+            _ => TrialFault::Device,
+        }
+    }
+}

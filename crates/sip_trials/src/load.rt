@@ -1,0 +1,181 @@
+//! An agent under load: requests come, are told to the user, are answered and end.
+
+use crate::fault::TrialFault;
+use crate::options::options_of;
+use crate::tally::{Served, expect};
+use sip_message::{Addr, Reason, Spread};
+use sip_round::{Agent, Config, Event, Gate, Output, Round};
+use sip_served::{Notice, Reliability, Respond, UserCommand};
+use sip_text::{Series, Text};
+use std::alloc::{AllocError, Global};
+use std::mem;
+use std::thread::Threads;
+
+/// The status that each request is answered with, and the reason.
+const OK: u16 = 200;
+
+const REASON: &[u8] = b"OK";
+
+/// The most shards and workers that an agent has.
+const MOST_SHARDS: usize = 256;
+
+const MOST_WORKERS: usize = 64;
+
+/// What each answer begins with.
+const ANSWER: &[u8] = b"SIP/2.0 200 ";
+
+/// What the agent is started with.
+const CONFIG: Config = Config {
+    local: Addr {
+        ip: [127, 0, 0, 1],
+        port: 5060,
+    },
+    seed: [7; 32],
+    first: 0,
+};
+
+/// The gate of the agent: it holds no piece of work up.
+struct Open;
+
+impl Gate for Open {
+    fn begin(&self, _shard: usize) {}
+}
+
+/// An agent, the user that answers each of its requests with 200, and what was counted so far.
+#[derive(Drop)]
+pub struct Load {
+    alloc: Global,
+    agent: Agent<Spread>,
+    workers: usize,
+    // The answers that the next round gets.
+    answers: Vec<Event>,
+    made: u64,
+    told: u64,
+    answered: u64,
+    rounds: u64,
+}
+
+impl Load {
+    /// Before the first round.
+    ///
+    /// # Errors
+    ///
+    /// `Words` for numbers of shards or workers that there can't be, and want of memory.
+    pub fn new(alloc: Global, shards: usize, workers: usize) -> Result<Load, TrialFault> {
+        if shards == 0 || shards > MOST_SHARDS {
+            return Err(TrialFault::Words);
+        }
+        Ok(Load {
+            alloc,
+            agent: Agent::new(alloc, CONFIG, shards, Spread)?,
+            workers,
+            answers: Vec::new(alloc),
+            made: 0,
+            told: 0,
+            answered: 0,
+            rounds: 0,
+        })
+    }
+
+    /// Runs a round at a moment, with the answers to what the user was told of in the last one and
+    /// so many new requests.
+    ///
+    /// # Errors
+    ///
+    /// A round that is refused, and want of memory.
+    pub fn round<R: Threads + Sync>(
+        &mut self,
+        rt: &R,
+        moment: u64,
+        requests: u64,
+    ) -> Result<(), TrialFault> {
+        let workers = self.workers;
+        if workers == 0 || workers > MOST_WORKERS {
+            return Err(TrialFault::Words);
+        }
+        let round = Round {
+            moment,
+            events: self.events(requests)?,
+        };
+        let outputs = self.agent.run_round(rt, &round, workers, &Open)?;
+        self.rounds = self.rounds.saturating_add(1);
+        for output in &outputs {
+            self.take(output)?;
+        }
+        Ok(())
+    }
+
+    /// What came of the requests.
+    ///
+    /// # Errors
+    ///
+    /// `Count`, where the user wasn't told of each request, not each was answered, or not as many
+    /// are held as are to be.
+    pub fn served(&self, held: u64) -> Result<Served, TrialFault> {
+        let (transactions, calls) = self.agent.live();
+        let transactions = u64::try_from(transactions).unwrap_or(u64::MAX);
+        let calls = u64::try_from(calls).unwrap_or(u64::MAX);
+        expect("requests told", self.made, self.told)?;
+        expect("answers", self.made, self.answered)?;
+        expect("transactions held", held, transactions)?;
+        expect("calls held", held, calls)?;
+        Ok(Served {
+            told: self.told,
+            answered: self.answered,
+            ended: self.made.saturating_sub(transactions),
+            held: transactions,
+            rounds: self.rounds,
+        })
+    }
+
+    // The events of the next round.
+    fn events(&mut self, requests: u64) -> Result<Series<Event>, AllocError> {
+        let mut events = mem::replace(&mut self.answers, Vec::new(self.alloc));
+        for _ in 0..requests {
+            self.made = self.made.saturating_add(1);
+            events.push(options_of(self.alloc, self.made)?)?;
+        }
+        Ok(Series::from_vec(events))
+    }
+
+    // Counts an output, and answers a request that the user is told of.
+    fn take(&mut self, output: &Output) -> Result<(), TrialFault> {
+        match output {
+            Output::Send { bytes, .. } => {
+                if is_answer(bytes.as_slice()) {
+                    self.answered = self.answered.saturating_add(1);
+                }
+            }
+            Output::Notice(notice) => {
+                if let Some(answer) = answer_to(self.alloc, notice)? {
+                    self.told = self.told.saturating_add(1);
+                    self.answers.push(answer)?;
+                }
+            }
+            Output::Dropped { .. } => {}
+        }
+        Ok(())
+    }
+}
+
+fn is_answer(text: &[u8]) -> bool {
+    text.starts_with(ANSWER)
+}
+
+// The answer to what the user is told, where that is a request.
+fn answer_to(alloc: Global, notice: &Notice) -> Result<Option<Event>, AllocError> {
+    let Notice::Request { call_id, id, .. } = notice else {
+        return Ok(None);
+    };
+    let Some(reason) = Reason::new(Text::copy_of(alloc, REASON)?) else {
+        return Ok(None);
+    };
+    Ok(Some(Event::Command(UserCommand::Respond(Respond {
+        call_id: call_id.clone()?,
+        id: *id,
+        status: OK,
+        reliability: Reliability::Plain,
+        body: Text::from_vec(Vec::new(alloc)),
+        reason,
+    }))))
+}

@@ -1,0 +1,76 @@
+//! Tries the program `ua` and the core below it: stored cases, and one kind of work so often as the
+//! words ask for, which is measured from outside. With no words it does what the gate runs.
+#![tactic(auto)]
+
+mod case;
+mod cases;
+mod difference;
+mod digits;
+mod fault;
+mod load;
+mod messages;
+mod options;
+mod tally;
+mod words;
+mod work;
+
+use fault::TrialFault;
+use std::env;
+use std::io::{self, Write};
+use std::net::Net;
+use std::process::ExitCode;
+use std::random::RandomSource;
+use std::rt::Files;
+use std::thread::Threads;
+use std::time::Clock;
+use words::{Task, task_of};
+use work::done;
+
+const SUCCESS: u8 = 0;
+
+/// What is done where no words are given: the cases of the folder that the program runs in, and a
+/// small load.
+const TASKS: [Task<'static>; 2] = [
+    Task::Cases { folder: "." },
+    Task::Transactions { held: 10, more: 10 },
+];
+
+fn main(rt: HostRuntime) -> ExitCode {
+    let end = match own_words(&rt) {
+        Ok(words) => tried(&rt, &words, &mut rt.stdout()),
+        Err(error) => Err(TrialFault::from(error)),
+    };
+    let status = match end {
+        Ok(()) => SUCCESS,
+        Err(fault) => {
+            let _ = writeln!(rt.stderr(), "sip_trials: {fault}");
+            fault.status()
+        }
+    };
+    ExitCode::from(status)
+}
+
+// The program's words, without its own name.
+fn own_words(rt: &HostRuntime) -> io::Result<Vec<String>> {
+    let words = env::args(rt)?.skip(1).collect(rt.alloc())?;
+    Ok(words)
+}
+
+// Does what the words ask for, and says what was counted.
+fn tried<R, W: Write>(rt: &R, words: &[String], output: &mut W) -> Result<(), TrialFault>
+where
+    R: Files + AllocGlobal + Threads + Clock + Net + RandomSource + Sync + Clone + Drop,
+{
+    let words: Vec<&str> = words.iter().map(|word| word.as_str()).collect(rt.alloc())?;
+    if words.is_empty() {
+        for task in TASKS {
+            writeln!(output, "{}", done(rt, task)?)?;
+        }
+        return Ok(());
+    }
+    let Some(task) = task_of(&words) else {
+        return Err(TrialFault::Words);
+    };
+    writeln!(output, "{}", done(rt, task)?)?;
+    Ok(())
+}

@@ -1,0 +1,73 @@
+//! What was counted.
+
+use crate::fault::TrialFault;
+use std::fmt;
+
+/// What a trial counted.
+#[derive(Clone, Copy)]
+pub enum Tally {
+    /// Cases that ended and wrote what they are to.
+    Cases(u64),
+    /// Messages that were read, and their bytes.
+    Read { messages: u64, bytes: u64 },
+    /// Answers that were written, and their bytes.
+    Answered { answers: u64, bytes: u64 },
+    /// What came of requests.
+    Served(Served),
+}
+
+/// What came of the requests of a load.
+#[derive(Clone, Copy)]
+pub struct Served {
+    /// The user was told of so many.
+    pub told: u64,
+    /// So many 200 were sent.
+    pub answered: u64,
+    /// So many have ended.
+    pub ended: u64,
+    /// So many are held.
+    pub held: u64,
+    /// So many rounds passed.
+    pub rounds: u64,
+}
+
+impl fmt::Display for Tally {
+    fn fmt<W: fmt::Write>(&self, f: &mut fmt::Formatter<W>) -> fmt::Result {
+        match self {
+            Tally::Cases(cases) => write!(f, "{cases} cases, 0 differ"),
+            Tally::Read { messages, bytes } => write!(f, "{messages} read of {bytes} bytes"),
+            Tally::Answered { answers, bytes } => {
+                write!(f, "{answers} answers written of {bytes} bytes")
+            }
+            Tally::Served(
+                Served {
+                    told,
+                    answered,
+                    ended,
+                    held,
+                    rounds,
+                },
+            ) => write!(
+                f,
+                "{told} told, {answered} answered, {ended} ended, {held} held, {rounds} rounds"
+            ),
+        }
+    }
+}
+
+/// That a count is what was asked for.
+///
+/// # Errors
+///
+/// `Count` where it isn't.
+pub fn expect(what: &'static str, wanted: u64, given: u64) -> Result<(), TrialFault> {
+    if given == wanted {
+        Ok(())
+    } else {
+        Err(TrialFault::Count {
+            what,
+            wanted,
+            given,
+        })
+    }
+}
