@@ -6,7 +6,6 @@ mod files;
 mod reading;
 mod reliable;
 mod shards;
-mod transactions;
 mod two_agents;
 mod udp;
 mod workers;
