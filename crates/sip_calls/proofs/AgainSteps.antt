@@ -1,6 +1,7 @@
 -- Each input of a call: what was heard after it for an INVITE in a life of a dialog.
 use Rattle.std.proofs.Common.{◌≡◌, ℕ, Bool, true, false, List, [], refl, sym, subst}
 use Rattle.std.specs.Prelude.{Option, None, Some}
+use Rattle.sip_model.specs.Machine.{Timed}
 use Rattle.sip_message.specs.declared.id.Id.{Id}
 use Rattle.sip_reliable.specs.Inbound.{in_order}
 use Rattle.sip_transactions.specs.declared.output.Kind.{Kind}
@@ -21,8 +22,7 @@ use Rattle.sip_clients.proofs.Hearing.{heard_in_order}
 use Rattle.sip_calls.specs.declared.call.Call.{Call}
 use Rattle.sip_calls.specs.declared.calls.Calls.{Calls}
 use Rattle.sip_calls.specs.declared.calls.CallInput.{CallInput}
-use Rattle.sip_calls.specs.declared.calls.Happening.{Happening}
-use Rattle.sip_calls.specs.declared.calls.Happening.TheVariants.{Tick, Item as AnItem}
+use Rattle.sip_calls.specs.declared.calls.CallInput.TheVariants.{Tick, Item as AnItem}
 use Rattle.sip_calls.specs.Call.{call_step, command_taken, event_of, first_command_taken, kept, lost_taken, new_call, served_taken, up_taken}
 use Rattle.sip_calls.specs.Provisionals.{EventsDiffer, came, done, event_in, event_of_kind, number_in, number_of, number_up, shown, side_held}
 use Rattle.sip_calls.specs.Sides.{CallTaken, side_of, ticked}
@@ -146,44 +146,44 @@ module _ (life : DialogLife) (invite : Id) where
       subst (λ (side : Side). Result event number before side taken.1)
       (sym (kept_side taken.0)) step
 
-  by_happening : (calls : Calls) (state : Option Call) (happening : Happening) (now : ℕ)
-      → AreApart (side_held state).clients → Once (event_in happening) (side_held state).clients
-      → KeptStep (event_in happening)
-      (number_in (InTheDialog invite) life happening (side_held state)) (side_held state).clients
-      (call_step calls state happening now)
-  by_happening calls None Tick now apart once =
+  by_input : (calls : Calls) (state : Option Call) (input : CallInput) (now : ℕ)
+      → AreApart (side_held state).clients → Once (event_in input) (side_held state).clients
+      → KeptStep (event_in input)
+      (number_in (InTheDialog invite) life input (side_held state)) (side_held state).clients
+      (call_step calls state input now)
+  by_input calls None Tick now apart once =
       silent None [] (side_held None) [] (keeps_same life invite None [] apart)
-  by_happening calls (Some call) Tick now apart once =
+  by_input calls (Some call) Tick now apart once =
       kept_step None None call.clients (ticked call now) (tick_step call now apart)
-  by_happening calls None (AnItem id (Up up)) now apart once =
+  by_input calls None (AnItem id (Up up)) now apart once =
       let call = new_call calls.local in
       kept_step (event_of_kind id up.kind)
       (number_up (InTheDialog invite) life up.id up.kind (side_of call)) call.clients
       (up_taken call (event_of calls id now) up up.kind)
       (up_step call calls id now up up.kind apart once)
-  by_happening calls None (AnItem id (User command)) now apart once =
+  by_input calls None (AnItem id (User command)) now apart once =
       let call = new_call calls.local in
       kept_step (Some id) None call.clients
       (first_command_taken call (event_of calls id now) command)
       (first_command_step call calls id now command apart)
-  by_happening calls (Some call) (AnItem id (Up up)) now apart once =
+  by_input calls (Some call) (AnItem id (Up up)) now apart once =
       kept_step (event_of_kind id up.kind)
       (number_up (InTheDialog invite) life up.id up.kind (side_of call)) call.clients
       (up_taken call (event_of calls id now) up up.kind)
       (up_step call calls id now up up.kind apart once)
-  by_happening calls (Some call) (AnItem id (User command)) now apart once =
+  by_input calls (Some call) (AnItem id (User command)) now apart once =
       kept_step (Some id) None call.clients (command_taken call (event_of calls id now) command)
       (command_step call calls id now command apart)
 
-  pub again_in_order : (calls : Calls) (inputs : List CallInput) → EventsDiffer inputs
+  pub again_in_order : (calls : Calls) (inputs : List (Timed CallInput)) → EventsDiffer inputs
       → shown calls (InTheDialog invite) life inputs
       ≡ in_order (came calls (InTheDialog invite) life inputs)
   again_in_order calls inputs differ =
       heard_in_order (λ state input. (done calls (InTheDialog invite) life state input).0)
-      (λ input. event_in input.happening) (number_of calls (InTheDialog invite) life)
+      (λ timed. event_in timed.input) (number_of calls (InTheDialog invite) life)
       (λ state input. told_of (number_of calls (InTheDialog invite) life state input)
       (done calls (InTheDialog invite) life state input).1)
       (λ state. ear_of life invite (side_held state).clients)
       (λ state. AreApart (side_held state).clients) invite
-      (λ state input apart once. by_happening calls state input.happening input.now apart once)
+      (λ state timed apart once. by_input calls state timed.input timed.moment apart once)
       inputs None (none_apart is_client) differ refl

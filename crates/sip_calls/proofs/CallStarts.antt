@@ -20,8 +20,8 @@ pub use Rattle.sip_clients.proofs.FewStarts.{One}
 use Rattle.sip_clients.proofs.FewStarts.{ack_none, invite_one, lost_none, plain_one, prack_one, request_one, response_one, tick_none}
 use Rattle.sip_calls.specs.declared.call.Call.{Call}
 use Rattle.sip_calls.specs.declared.calls.Calls.{Calls}
-use Rattle.sip_calls.specs.declared.calls.Happening.{Happening}
-use Rattle.sip_calls.specs.declared.calls.Happening.TheVariants.{Tick, Item as AnItem}
+use Rattle.sip_calls.specs.declared.calls.CallInput.{CallInput}
+use Rattle.sip_calls.specs.declared.calls.CallInput.TheVariants.{Tick, Item as AnItem}
 use Rattle.sip_calls.specs.Call.{call_step, command_taken, event_of, first_command_taken, lost_taken, new_call, served_taken, up_taken}
 use Rattle.sip_calls.specs.Provisionals.{event_in, event_of_kind}
 use Rattle.sip_calls.specs.Sides.{side_of, ticked}
@@ -80,8 +80,8 @@ tick_starts_none call now =
     none_of_both first.1 (over_notices now (first.0).dialogs call.clients)
     (tick_starts (call.served).state now) (tick_none now (first.0).dialogs call.clients)
 
-pub call_starts : (calls : Calls) (state : Option Call) (happening : Happening) (now : ℕ)
-    → StartsBy (event_in happening) (call_step calls state happening now).1
+pub call_starts : (calls : Calls) (state : Option Call) (input : CallInput) (now : ℕ)
+    → StartsBy (event_in input) (call_step calls state input now).1
 call_starts calls None Tick now = refl
 call_starts calls (Some call) Tick now = tick_starts_none call now
 call_starts calls None (AnItem id (Up up)) now =

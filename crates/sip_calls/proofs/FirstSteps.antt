@@ -1,6 +1,7 @@
 -- Each input of a call: what was heard after it in a life of a dialog for the first INVITE.
 use Rattle.std.proofs.Common.{◌≡◌, ℕ, Bool, true, false, not, List, [], refl, sym, subst}
 use Rattle.std.specs.Prelude.{Option, None, Some}
+use Rattle.sip_model.specs.Machine.{Timed}
 use Rattle.sip_message.specs.declared.id.Id.{Id}
 use Rattle.sip_reliable.specs.Inbound.{in_order}
 use Rattle.sip_transactions.specs.declared.output.Kind.{Kind}
@@ -25,8 +26,7 @@ use Rattle.sip_clients.proofs.Hearing.{heard_in_order}
 use Rattle.sip_calls.specs.declared.call.Call.{Call}
 use Rattle.sip_calls.specs.declared.calls.Calls.{Calls}
 use Rattle.sip_calls.specs.declared.calls.CallInput.{CallInput}
-use Rattle.sip_calls.specs.declared.calls.Happening.{Happening}
-use Rattle.sip_calls.specs.declared.calls.Happening.TheVariants.{Tick, Item as AnItem}
+use Rattle.sip_calls.specs.declared.calls.CallInput.TheVariants.{Tick, Item as AnItem}
 use Rattle.sip_calls.specs.Call.{call_step, command_taken, event_of, first_command_taken, kept, lost_taken, new_call, served_taken, up_taken}
 use Rattle.sip_calls.specs.Provisionals.{EventsDiffer, came, done, event_in, event_of_kind, number_in, number_of, number_up, shown, side_held}
 use Rattle.sip_calls.specs.Sides.{CallTaken, side_of, ticked}
@@ -135,40 +135,40 @@ module _ (life : DialogLife) where
       subst (λ (side : Side). ResultOf life event before side.dialogs number taken.1)
       (sym (kept_side taken.0)) step
 
-  by_happening : (calls : Calls) (state : Option Call) (happening : Happening) (now : ℕ)
+  by_input : (calls : Calls) (state : Option Call) (input : CallInput) (now : ℕ)
       → AreApart (side_held state).dialogs
-      → KeptStep (event_in happening) (number_in OfTheCall life happening (side_held state))
-      (side_held state).dialogs (call_step calls state happening now)
-  by_happening calls None Tick now apart =
+      → KeptStep (event_in input) (number_in OfTheCall life input (side_held state))
+      (side_held state).dialogs (call_step calls state input now)
+  by_input calls None Tick now apart =
       silent life None [] [] [] (leads_same (λ x. None ≡ Some x) [] apart)
-  by_happening calls (Some call) Tick now apart =
+  by_input calls (Some call) Tick now apart =
       kept_step None None (dialogs_of call) (ticked call now) (tick_step call now apart)
-  by_happening calls None (AnItem id (Up up)) now apart =
+  by_input calls None (AnItem id (Up up)) now apart =
       let call = new_call calls.local in
       kept_step (event_of_kind id up.kind) (number_up OfTheCall life up.id up.kind (side_of call))
       (dialogs_of call) (up_taken call (event_of calls id now) up up.kind)
       (up_step call calls id now up up.kind apart)
-  by_happening calls None (AnItem id (User command)) now apart =
+  by_input calls None (AnItem id (User command)) now apart =
       let call = new_call calls.local in
       kept_step (Some id) None (dialogs_of call)
       (first_command_taken call (event_of calls id now) command)
       (first_command_step call calls id now command apart)
-  by_happening calls (Some call) (AnItem id (Up up)) now apart =
+  by_input calls (Some call) (AnItem id (Up up)) now apart =
       kept_step (event_of_kind id up.kind) (number_up OfTheCall life up.id up.kind (side_of call))
       (dialogs_of call) (up_taken call (event_of calls id now) up up.kind)
       (up_step call calls id now up up.kind apart)
-  by_happening calls (Some call) (AnItem id (User command)) now apart =
+  by_input calls (Some call) (AnItem id (User command)) now apart =
       kept_step (Some id) None (dialogs_of call)
       (command_taken call (event_of calls id now) command)
       (command_step call calls id now command apart)
 
-  pub first_in_order : (calls : Calls) (inputs : List CallInput) → EventsDiffer inputs
+  pub first_in_order : (calls : Calls) (inputs : List (Timed CallInput)) → EventsDiffer inputs
       → shown calls OfTheCall life inputs ≡ in_order (came calls OfTheCall life inputs)
   first_in_order calls inputs differ =
       heard_in_order (λ state input. (done calls OfTheCall life state input).0)
-      (λ input. event_in input.happening) (number_of calls OfTheCall life)
+      (λ timed. event_in timed.input) (number_of calls OfTheCall life)
       (λ state input. told_of (number_of calls OfTheCall life state input)
       (done calls OfTheCall life state input).1) (λ state. ear life (side_held state).dialogs)
       (λ state. AreApart (side_held state).dialogs) life.born
-      (λ state input apart _. by_happening calls state input.happening input.now apart) inputs None
+      (λ state timed apart _. by_input calls state timed.input timed.moment apart) inputs None
       (none_apart is_named) differ refl

@@ -3,7 +3,7 @@
 use Rattle.std.specs.Prelude.{ℕ, Bool, true, false, List, [], ◌∷◌, Option, None, Some, if◌then◌else◌}
 use Rattle.sip_message.specs.declared.addr.Addr.{Addr}
 use Rattle.sip_message.specs.declared.id.Id.{Id}
-use Rattle.sip_model.specs.Machine.{Machine}
+use Rattle.sip_model.specs.Machine.{Machine, Timed, ticks_of}
 use Rattle.sip_transactions.specs.declared.output.Kind.{Kind}
 use Rattle.sip_transactions.specs.declared.output.Kind.TheVariants as kind
 use Rattle.sip_transactions.specs.declared.output.Up.{Up as AnUp}
@@ -25,8 +25,7 @@ use Rattle.sip_clients.specs.declared.event.Event.{Event}
 use Rattle.sip_calls.specs.declared.call.Call.{Call}
 use Rattle.sip_calls.specs.declared.calls.Calls.{Calls}
 use Rattle.sip_calls.specs.declared.calls.CallInput.{CallInput}
-use Rattle.sip_calls.specs.declared.calls.Happening.{Happening}
-use Rattle.sip_calls.specs.declared.calls.Happening.TheVariants.{Tick, Item as AnItem}
+use Rattle.sip_calls.specs.declared.calls.CallInput.TheVariants.{Tick, Item as AnItem}
 pub use Rattle.sip_calls.specs.Sides.{CallTaken, by_clients, by_server, followed, holds_any, next_due, side_of, ticked}
 
 -- a call after what happens to it, `None` if it isn't held, and what it gives
@@ -116,7 +115,7 @@ item_taken call event (Up up) = up_taken call event up up.kind
 item_taken call event (User command) = command_taken call event command
 
 -- what happens to a call
-abbrev pub call_step : Calls → Option Call → Happening → ℕ → Taken
+abbrev pub call_step : Calls → Option Call → CallInput → ℕ → Taken
 call_step calls None Tick now = (None, [])
 call_step calls None (AnItem id item) now =
     kept (first_item_taken (new_call calls.local) (event_of calls id now) item)
@@ -125,14 +124,14 @@ call_step calls (Some call) (AnItem id item) now =
     kept (item_taken call (event_of calls id now) item)
 
 -- one machine for every Call-ID
-abbrev pub call_machine : Calls → Machine (List ℕ) Call CallInput CallOut
+abbrev pub call_machine : Calls → Machine (List ℕ) Call (Timed CallInput) CallOut
 call_machine calls =
-    record { step = λ key state input. call_step calls state input.happening input.now }
+    record { step = λ key state timed. call_step calls state timed.input timed.moment }
 
 -- the moment at which something is due of a call; one under which nothing is held is over at once
 abbrev pub call_due : Call → Option ℕ
 call_due call = if holds_any call then next_due call else Some 0
 
 -- the input of a tick
-abbrev pub tick_input : ℕ → CallInput
-tick_input now = record { now = now; happening = Tick }
+abbrev pub tick_input : ℕ → Timed CallInput
+tick_input = ticks_of Tick

@@ -3,6 +3,7 @@
 use Rattle.std.specs.Prelude.{◌≡◌, ◌≢◌, ℕ, List, [], ◌∷◌, ◌++◌, Option, None, Some, AllPairs, filter_map}
 use Rattle.std.specs.List.{IsDistinct}
 use Rattle.std.specs.Option.{option_and_then, option_to_list}
+use Rattle.sip_model.specs.Machine.{Timed}
 use Rattle.sip_message.specs.declared.id.Id.{Id}
 pub use Rattle.sip_reliable.specs.Inbound.{IsConsecutive, in_order}
 use Rattle.sip_transactions.specs.declared.output.Kind.{Kind}
@@ -17,8 +18,7 @@ pub use Rattle.sip_clients.specs.Provisionals.{AnInvite, in_life, number_for, to
 use Rattle.sip_calls.specs.declared.call.Call.{Call}
 use Rattle.sip_calls.specs.declared.calls.Calls.{Calls}
 use Rattle.sip_calls.specs.declared.calls.CallInput.{CallInput}
-use Rattle.sip_calls.specs.declared.calls.Happening.{Happening}
-use Rattle.sip_calls.specs.declared.calls.Happening.TheVariants.{Tick, Item as AnItem}
+use Rattle.sip_calls.specs.declared.calls.CallInput.TheVariants.{Tick, Item as AnItem}
 use Rattle.sip_calls.specs.Call.{call_step}
 use Rattle.sip_calls.specs.Sides.{side_of}
 
@@ -29,7 +29,7 @@ number_up invite life id (kind.Response response) side =
     option_and_then (number_for invite life id response) (client_at id side.clients)
 number_up invite life id _ side = None
 
-abbrev pub number_in : AnInvite → DialogLife → Happening → Side → Option ℕ
+abbrev pub number_in : AnInvite → DialogLife → CallInput → Side → Option ℕ
 number_in invite life (AnItem event (Up up)) side = number_up invite life up.id up.kind side
 number_in invite life _ side = None
 
@@ -42,30 +42,30 @@ side_held (Some call) = side_of call
 
 module _ (calls : Calls) (invite : AnInvite) (life : DialogLife) where
   -- the call after an input, and what it gives
-  abbrev pub done : Option Call → CallInput → Option Call × List CallOut
-  done call input = call_step calls call input.happening input.now
+  abbrev pub done : Option Call → Timed CallInput → Option Call × List CallOut
+  done call timed = call_step calls call timed.input timed.moment
 
-  abbrev pub number_of : Option Call → CallInput → Option ℕ
-  number_of call input = in_life (lives (side_held (done call input).0).dialogs life)
-      (number_in invite life input.happening (side_held call))
+  abbrev pub number_of : Option Call → Timed CallInput → Option ℕ
+  number_of call timed = in_life (lives (side_held (done call timed).0).dialogs life)
+      (number_in invite life timed.input (side_held call))
 
   -- the RSeqs that came, in order
-  abbrev pub came_from : Option Call → List CallInput → List ℕ
+  abbrev pub came_from : Option Call → List (Timed CallInput) → List ℕ
   came_from call [] = []
   came_from call (input ∷ inputs) =
       option_to_list (number_of call input) ++ came_from (done call input).0 inputs
 
   -- those of the responses that the user is told of, in order
-  abbrev pub shown_from : Option Call → List CallInput → List ℕ
+  abbrev pub shown_from : Option Call → List (Timed CallInput) → List ℕ
   shown_from call [] = []
   shown_from call (input ∷ inputs) =
       told_of (number_of call input) (done call input).1 ++ shown_from (done call input).0 inputs
 
   -- over all inputs of a call, of which nothing was held before
-  abbrev pub came : List CallInput → List ℕ
+  abbrev pub came : List (Timed CallInput) → List ℕ
   came inputs = came_from None inputs
 
-  abbrev pub shown : List CallInput → List ℕ
+  abbrev pub shown : List (Timed CallInput) → List ℕ
   shown inputs = shown_from None inputs
 
 -- ---- events
@@ -79,20 +79,20 @@ event_of_kind id kind.Timeout = None
 event_of_kind id kind.Failed = None
 
 -- the event of a message or of a command
-abbrev pub event_in : Happening → Option Id
+abbrev pub event_in : CallInput → Option Id
 event_in Tick = None
 event_in (AnItem id (Up up)) = event_of_kind id up.kind
 event_in (AnItem id (User command)) = Some id
 
 -- messages and commands come of different events
-abbrev pub EventsDiffer : List CallInput → Type 0
-EventsDiffer inputs = IsDistinct is_id (filter_map (λ input. event_in input.happening) inputs)
+abbrev pub EventsDiffer : List (Timed CallInput) → Type 0
+EventsDiffer inputs = IsDistinct is_id (filter_map (λ timed. event_in timed.input) inputs)
 
 -- ---- the laws
 
 -- A law of the numbers that came, and of those shown, to an INVITE in a life of a dialog.
 abbrev pub OfEachLife : (List ℕ → List ℕ → Type 0) → Type 0
-OfEachLife Law = (calls : Calls) (inputs : List CallInput) → EventsDiffer inputs
+OfEachLife Law = (calls : Calls) (inputs : List (Timed CallInput)) → EventsDiffer inputs
     → (invite : AnInvite) (life : DialogLife)
     → Law (came calls invite life inputs) (shown calls invite life inputs)
 

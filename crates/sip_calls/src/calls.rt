@@ -1,8 +1,9 @@
 //! The machine of one call: what each of its inputs makes of it, and what it gives.
 
-ghost use Rattle.std.specs.Prelude.{◌≡◌, ◌≤◌, ◌^◌, nat_le, IfOk};
+ghost use Rattle.std.specs.Prelude.{◌≡◌, ◌≤◌, ◌^◌, IfOk};
 ghost use Rattle.sip_calls.specs.Call as spec;
-ghost use Rattle.sip_calls.specs.Call.{call_due, call_machine, call_step, tick_input};
+ghost use Rattle.sip_calls.specs.declared.calls.CallInput.TheVariants.{Tick};
+ghost use Rattle.sip_calls.specs.Call.{call_due, call_machine, call_step};
 ghost use Rattle.sip_calls.specs.Idle.{ticks_are_idle};
 ghost use Rattle.std.proofs.lemmas.Map.Lookups.{exact_bytes};
 
@@ -25,18 +26,11 @@ pub struct Calls {
 
 /// What happens to a call.
 #[derive(Drop)]
-pub enum Happening {
-    /// A moment has come.
+pub enum CallInput {
+    /// Time has gone on.
     Tick,
     /// An item of the event of this id.
     Item(Id, Item),
-}
-
-/// What happens to a call, and the moment of it in ms.
-#[derive(Drop)]
-pub struct CallInput {
-    pub now: u64,
-    pub happening: Happening,
 }
 
 impl StateMachine for Calls {
@@ -50,11 +44,9 @@ impl StateMachine for Calls {
 
     ghost machine = { call_machine };
 
-    ghost tick = { tick_input };
+    ghost tick = { Tick };
 
     ghost due = { call_due };
-
-    ghost admits = { λ input. nat_le input.now (2 ^ 62) };
 
     ghost exact = { exact_bytes };
 
@@ -62,13 +54,8 @@ impl StateMachine for Calls {
 
     ghost idle = { ticks_are_idle };
 
-    fn tick_at(&self, moment: u64) -> CallInput
-        ensures { result ≡ tick_input moment }
-    {
-        CallInput {
-            now: moment,
-            happening: Happening::Tick,
-        }
+    fn tick_input(&self) -> CallInput {
+        CallInput::Tick
     }
 
     fn due_of(&self, state: &Call) -> Option<u64> {
@@ -84,25 +71,25 @@ impl StateMachine for Calls {
         alloc: Global,
         key: &CallId,
         state: Option<Call>,
+        moment: u64,
         input: CallInput,
     ) -> Result<(Option<Call>, Vec<CallOut>), AllocError>
-        requires { input.now ≤ 2 ^ 62 }
+        requires { moment ≤ 2 ^ 62 }
         ensures next { IfOk result (λ after. after.0
-            ≡ (call_step self.now state input.happening input.now).0) }
+            ≡ (call_step self.now state input moment).0) }
         ensures adds { IfOk result (λ after. after.1.items
-            ≡ (call_step self.now state input.happening input.now).1) }
+            ≡ (call_step self.now state input moment).1) }
     {
-        let now = input.now;
-        match (state, input.happening) {
-            (None, Happening::Tick) => Ok((None, Vec::new(alloc))),
-            (Some(call), Happening::Tick) => tick(call, now),
-            (None, Happening::Item(id, item)) => {
+        match (state, input) {
+            (None, CallInput::Tick) => Ok((None, Vec::new(alloc))),
+            (Some(call), CallInput::Tick) => tick(call, moment),
+            (None, CallInput::Item(id, item)) => {
                 let mut call = self.new_call(alloc);
-                let outs = take_first(alloc, &mut call, self.event(id, now), item)?;
+                let outs = take_first(alloc, &mut call, self.event(id, moment), item)?;
                 Ok((kept(call), outs))
             }
-            (Some(mut call), Happening::Item(id, item)) => {
-                let outs = take_next(alloc, &mut call, self.event(id, now), item)?;
+            (Some(mut call), CallInput::Item(id, item)) => {
+                let outs = take_next(alloc, &mut call, self.event(id, moment), item)?;
                 Ok((kept(call), outs))
             }
         }
@@ -202,7 +189,7 @@ fn take_up(alloc: Global, call: &mut Call, event: Event, up: Up) -> Result<Vec<C
     let Kind::Response(response) = kind else {
         unreachable!();
     };
-    call.response(event, id, call_id, response)
+    call.response(event, id, call_id, response.into_inner())
 }
 
 // A transaction is lost: that is told, and then what ends with it ends.

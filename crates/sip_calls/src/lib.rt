@@ -7,7 +7,7 @@ mod laws;
 mod shard;
 
 pub use call::Call;
-pub use calls::{CallInput, Calls, Happening};
+pub use calls::{CallInput, Calls};
 pub use laws::provisionals_shown_in_order;
 pub use shard::CallShard;
 pub use sip_clients::{Client, Clients, names_differ};

@@ -7,7 +7,7 @@ ghost use Rattle.sip_served.specs.Command.{call_of_item};
 ghost use Rattle.sip_calls.specs.Call.{call_machine, tick_input};
 
 use crate::call::Call;
-use crate::calls::{CallInput, Calls, Happening};
+use crate::calls::{CallInput, Calls};
 use sip_message::{Addr, CallId, Id};
 use sip_model::{ShardFault, Table};
 use sip_served::{CallOut, Item};
@@ -93,8 +93,7 @@ impl CallShard {
             (call_of_item item) (item_input id item now) outs.items) }
     {
         let call_id = self.table.check(item.call_id().clone())?;
-        let happening = Happening::Item(id, item);
         self.table
-            .handle(&self.calls, call_id, CallInput { now, happening })
+            .handle(&self.calls, call_id, now, CallInput::Item(id, item))
     }
 }

@@ -11,7 +11,7 @@ use crate::service::{Sending, Service};
 use sip_message::{CallId, Key, Message, write};
 use sip_served::request::is_invite;
 use sip_served::{CallOut, DialogLife, DialogName, Notice, Refusal};
-use sip_text::Text;
+use sip_text::{Boxed, Text};
 use sip_transactions::Command;
 use std::alloc::{AllocError, Global};
 
@@ -175,7 +175,7 @@ pub(crate) fn start_command(
     let method = client.request.method().clone()?;
     let key = Key::client(alloc, branch.as_slice(), method)?;
     let call_id = client.request.call_id.clone()?;
-    let message = client.request.clone()?;
+    let message = Boxed::new(alloc, client.request.clone()?)?;
     Ok(CallOut::Command(
         event.id,
         Command::Start {

@@ -1,11 +1,12 @@
--- A phase without items at a moment at which nothing is due: nothing changes, and nothing is said.
-use Rattle.std.proofs.Common.{◌≡◌, ℕ, Bool, false, cond, List, [], ◌∷◌, map, refl, sym, ◌∙◌, ap}
-use Rattle.std.specs.Prelude.{Option, None, Some, IfSome, filter}
+-- A phase without items and without a tick, or at a moment at which nothing is due: nothing changes,
+-- and nothing is said.
+use Rattle.std.proofs.Common.{◌≡◌, ℕ, Bool, true, false, cond, List, [], ◌∷◌, map, refl, sym, ◌∙◌, ap}
+use Rattle.std.specs.Prelude.{Option, Some, filter}
 use Rattle.std.specs.declared.cmp.Ordering.{Ordering}
 use Rattle.sip_timers.specs.Queue.{is_due}
-use Rattle.sip_model.specs.Machine.{Machine, IsIdle, adds, due_of}
+use Rattle.sip_model.specs.Machine.{Machine, Timed, IsIdle, adds, due_of}
 use Rattle.sip_model.specs.Table.{state_in, IsCalm}
-use Rattle.sip_model.specs.Phase.{DealsPhase}
+use Rattle.sip_model.specs.Phase.{DealsPhase, phase_at}
 use Rattle.sip_model.specs.Told.{speaks, told_ticks}
 
 module _ {K S I O : Type 0} (machine : Machine K S I O) (due : S → Option ℕ) (now : ℕ) (input : I)
@@ -20,23 +21,23 @@ module _ {K S I O : Type 0} (machine : Machine K S I O) (due : S → Option ℕ)
       (ap (λ r. speaks r.1) (idle k (states k) (calm k)))
       ∙ says_nothing ks
 
-pub idle_phase : {K S I O : Type 0} (cmp : K → K → Ordering) (machine : Machine K S I O)
-    (due : S → Option ℕ) (tick : ℕ → I) → ((now : ℕ) → IsIdle machine due now (tick now))
-    → (entries : List (K × S)) (moment : Option ℕ)
-    → IfSome moment (λ now. IsCalm due (state_in cmp entries) now)
+pub idle_phase : {K S I O : Type 0} (cmp : K → K → Ordering)
+    (machine : Machine K S (Timed I) O) (due : S → Option ℕ) (tick : ℕ → Timed I) → ((now : ℕ) → IsIdle machine due now (tick now))
+    → (entries : List (K × S)) (now : ℕ) (ticks : Bool)
+    → (ticks ≡ true → IsCalm due (state_in cmp entries) now)
     → DealsPhase cmp machine tick (Some entries) (Some entries)
-    (record { moment = moment; items = [] }) [] []
-idle_phase cmp machine due tick idle entries None calm = record {
+    (phase_at now ticks []) [] []
+idle_phase cmp machine due tick idle entries now false calm = record {
   sound = refl;
   states = λ key. refl;
   ticks_told = λ keys covers. refl;
   items_told = refl;
 }
-idle_phase cmp machine due tick idle entries (Some now) calm = record {
+idle_phase cmp machine due tick idle entries now true calm = record {
   sound = refl;
   states = λ key.
-      sym (ap (λ r. r.0) (idle now key (state_in cmp entries key) (calm key)));
+      sym (ap (λ r. r.0) (idle now key (state_in cmp entries key) (calm refl key)));
   ticks_told = λ keys covers.
-      sym (says_nothing machine due now (tick now) (idle now) (state_in cmp entries) calm keys);
+      sym (says_nothing machine due now (tick now) (idle now) (state_in cmp entries) (calm refl) keys);
   items_told = refl;
 }

@@ -1,9 +1,8 @@
 -- Items, each given to its key in turn: what has been dealt, and what is left.
-use Rattle.std.proofs.Common.{◌≡◌, ℕ, List, [], ◌∷◌, ◌++◌, map, refl, sym, ◌∙◌, ap, append_assoc, All}
+use Rattle.std.proofs.Common.{◌≡◌, ℕ, List, [], ◌∷◌, ◌++◌, map, refl, sym, ◌∙◌, ap, append_assoc}
 use Rattle.std.specs.Prelude.{Option, cond}
 use Rattle.std.specs.declared.cmp.Ordering.{Ordering}
 use Rattle.std.specs.BTreeMap.{is_at}
-use Rattle.std.proofs.lemmas.List.Elements.{All-tail}
 use Rattle.sip_model.specs.declared.item.Item.{Item}
 use Rattle.sip_timers.specs.Queue.{moment}
 use Rattle.sip_model.specs.Machine.{Machine, next, adds, due_of}
@@ -13,9 +12,8 @@ use Rattle.sip_model.proofs.Ordered.{by_bool}
 
 -- items over `all` of which `rest` are left: the states now, and what was told
 pub record ItemsLeft {K S I O : Type 0} (cmp : K → K → Ordering) (machine : Machine K S I O)
-    (due : S → Option ℕ) (Admits : I → Type 0) (old : K → Option S) (all rest : List (Item K I))
-    (states : K → Option S) (dues : List (K × ℕ)) (told : List (ℕ × List O)) : Type 0 where
-  pub admitted : All (λ item. Admits item.input) rest
+    (due : S → Option ℕ) (old : K → Option S) (all rest : List (Item K I)) (states : K → Option S)
+    (dues : List (K × ℕ)) (told : List (ℕ × List O)) : Type 0 where
   pub stepped_so_far : (q : K) → states_then cmp machine states rest q
       ≡ states_then cmp machine old all q
   pub armed : AreDues cmp due states dues
@@ -23,29 +21,27 @@ pub record ItemsLeft {K S I O : Type 0} (cmp : K → K → Ordering) (machine : 
       ≡ map by_place (told_items cmp machine old all)
 
 module _ {K S I O : Type 0} {cmp : K → K → Ordering} (machine : Machine K S I O)
-    (due : S → Option ℕ) (Admits : I → Type 0) where
+    (due : S → Option ℕ) where
   pub items_left_at_first : (old : K → Option S) (all : List (Item K I)) (dues : List (K × ℕ))
-      → All (λ item. Admits item.input) all → AreDues cmp due old dues
-      → ItemsLeft cmp machine due Admits old all all old dues []
-  items_left_at_first old all dues admitted armed =
-      record { admitted = admitted; stepped_so_far = λ q. refl; armed = armed; said = refl }
+      → AreDues cmp due old dues → ItemsLeft cmp machine due old all all old dues []
+  items_left_at_first old all dues armed =
+      record { stepped_so_far = λ q. refl; armed = armed; said = refl }
 
   pub items_left_more : (old : K → Option S) (all rest : List (Item K I)) (item : Item K I)
       (states newer : K → Option S) (dues later : List (K × ℕ)) (told : List (ℕ × List O))
       (outputs : List O)
-      → ItemsLeft cmp machine due Admits old all (item ∷ rest) states dues told
+      → ItemsLeft cmp machine due old all (item ∷ rest) states dues told
       → ((q : K) → newer q ≡ cond (is_at (cmp item.key) q)
       (next machine item.key (states item.key) item.input) (states q))
       → ((q : K) → moment cmp later q
       ≡ cond (is_at (cmp item.key) q)
       (due_of due (next machine item.key (states item.key) item.input)) (moment cmp dues q))
       → outputs ≡ adds machine item.key (states item.key) item.input
-      → ItemsLeft cmp machine due Admits old all rest newer later
+      → ItemsLeft cmp machine due old all rest newer later
       (told ++ (item.place, outputs) ∷ [])
   items_left_more old all rest item states newer dues later told outputs left steps arms says =
       let same : newer ≡ stepped cmp machine states item = λ i q. steps q i in
       record {
-        admitted = All-tail (λ i. Admits i.input) item rest left.admitted;
         stepped_so_far =
             λ q. ap (λ s. states_then cmp machine s rest q) same ∙ left.stepped_so_far q;
         armed = λ q. by_bool (is_at (cmp item.key) q)

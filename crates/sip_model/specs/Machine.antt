@@ -2,6 +2,18 @@
 use Rattle.std.specs.Prelude.{◌≡◌, ℕ, false, List, [], ◌∷◌, ◌++◌, Option, None, Some, IsSome}
 use Rattle.sip_timers.specs.Queue.{is_due}
 
+-- an input, and its moment in ms
+pub record Timed (I : Type 0) : Type 0 where
+  pub moment : ℕ
+  pub input : I
+
+abbrev pub given_at : {I : Type 0} → ℕ → I → Timed I
+given_at now input = record { moment = now; input = input }
+
+-- the input of a tick at each moment
+abbrev pub ticks_of : {I : Type 0} → I → ℕ → Timed I
+ticks_of tick now = given_at now tick
+
 -- one step of each key's machine, from a state or from none: the state after it, and the outputs
 -- that it adds
 pub record Machine (K S I O : Type 0) : Type 0 where

@@ -1,12 +1,12 @@
 -- Phases: what the machines of all keys are given together, and what they say to it.
-use Rattle.std.specs.Prelude.{◌≡◌, ℕ, List, [], ◌∷◌, ◌++◌, Option, None, Some, IsSome, cond, map, filter, option_to_list}
+use Rattle.std.specs.Prelude.{◌≡◌, ℕ, Bool, List, [], ◌∷◌, ◌++◌, Option, None, Some, IsSome, cond, if◌then◌else◌, map, filter, option_to_list}
 use Rattle.std.specs.declared.cmp.Ordering.{Ordering}
 use Rattle.std.specs.BTreeMap.{is_at}
 use Rattle.std.specs.List.{flat_map, fold}
 use Rattle.std.specs.FinMap as finite
 use Rattle.std.specs.FinSet.{FinSet}
 use Rattle.sip_model.specs.declared.item.Item.{Item}
-use Rattle.sip_model.specs.Machine.{Machine, next, adds, state_after}
+use Rattle.sip_model.specs.Machine.{Machine, Timed, given_at, next, adds, state_after}
 use Rattle.sip_model.specs.Table.{Held, Covers, state_at}
 use Rattle.sip_model.specs.Told.{told_ticks}
 
@@ -14,6 +14,19 @@ use Rattle.sip_model.specs.Told.{told_ticks}
 pub record Phase (K I : Type 0) : Type 0 where
   pub moment : Option ℕ
   pub items : List (Item K I)
+
+-- an item at a moment in ms
+abbrev pub timed_item : {K I : Type 0} → ℕ → Item K I → Item K (Timed I)
+timed_item now item =
+    record { place = item.place; key = item.key; input = given_at now item.input }
+
+abbrev pub timed_items : {K I : Type 0} → ℕ → List (Item K I) → List (Item K (Timed I))
+timed_items now items = map (timed_item now) items
+
+-- a phase at a moment in ms, with a tick or without
+abbrev pub phase_at : {K I : Type 0} → ℕ → Bool → List (Item K I) → Phase K (Timed I)
+phase_at now ticks items =
+    record { moment = if ticks then Some now else None; items = timed_items now items }
 
 -- what is said in a phase: by each key to the tick, in key order; and by each item, beside its
 -- place and its key

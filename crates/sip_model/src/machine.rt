@@ -1,9 +1,9 @@
 //! The machine of one key, as code.
 
-ghost use Rattle.std.specs.Prelude.{◌≡◌, ℕ, Bool, List, Option, IfOk, IsOk, IsTrue};
+ghost use Rattle.std.specs.Prelude.{◌≡◌, ◌≤◌, ◌^◌, ℕ, List, Option, IfOk, IsOk};
 ghost use Rattle.std.proofs.lemmas.Map.Lookups.{CmpEqualImpliesEq};
 ghost use Rattle.sip_timers.specs.Queue.{IsClonedAlike};
-ghost use Rattle.sip_model.specs.Machine.{Machine, IsIdle, next, adds};
+ghost use Rattle.sip_model.specs.Machine.{Machine, Timed, IsIdle, given_at, next, adds};
 
 use std::alloc::{AllocError, Global};
 
@@ -18,35 +18,34 @@ pub trait StateMachine {
     type Output: Drop;
 
     /// The machine that `step` computes.
-    ghost machine: { Self → Machine Self.Key Self.State Self.Input Self.Output };
+    ghost machine: { Self → Machine Self.Key Self.State (Timed Self.Input) Self.Output };
 
-    /// The input of a tick at a moment, in ms.
-    ghost tick: { ℕ → Self.Input };
+    /// The input of a tick.
+    ghost tick: { Self.Input };
 
     /// The moment in ms at which something is due of a state, if ever.
     ghost due: { Self.State → Option ℕ };
 
-    /// What an input has to meet, as a bound on its moment.
-    ghost admits: { Self.Input → Bool };
-
-    fn tick_at(&self, moment: u64) -> Self::Input
-        ensures { result ≡ tick moment };
+    fn tick_input(&self) -> Self::Input
+        ensures { result ≡ tick };
 
     fn due_of(&self, state: &Self::State) -> Option<u64>
         ensures { result ≡ due state.now };
 
+    /// What an input at a moment in ms makes of a key's state, and what it adds.
     fn step(
         &self,
         alloc: Global,
         key: &Self::Key,
         state: Option<Self::State>,
+        moment: u64,
         input: Self::Input,
     ) -> Result<(Option<Self::State>, Vec<Self::Output>), AllocError>
-        requires { IsTrue (admits input) }
+        requires { moment ≤ 2 ^ 62 }
         ensures next { IfOk result (λ after. after.0
-            ≡ next (machine self.now) key.now state input) }
+            ≡ next (machine self.now) key.now state (given_at moment input)) }
         ensures adds { IfOk result (λ after. after.1.items
-            ≡ adds (machine self.now) key.now state input) };
+            ≡ adds (machine self.now) key.now state (given_at moment input)) };
 
     /// Keys that compare equal are one key.
     ghost exact: { CmpEqualImpliesEq Self.Key.cmp };
@@ -55,5 +54,5 @@ pub trait StateMachine {
     ghost copies: { (key : Self.Key) → IsClonedAlike Self.Key.is_clone key };
 
     /// Where nothing is due, a tick does nothing.
-    ghost idle: { (self : Self) (moment : ℕ) → IsIdle (machine self) due moment (tick moment) };
+    ghost idle: { (self : Self) (moment : ℕ) → IsIdle (machine self) due moment (given_at moment tick) };
 }

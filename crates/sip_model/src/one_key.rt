@@ -1,40 +1,44 @@
 //! One input of one key, among the states that are held and their due moments.
 
-ghost use Rattle.std.specs.Prelude.{◌≡◌, Option, None, Some, true, IfOk, IfSome, OnOk, IsTrue, cond};
+ghost use Rattle.std.specs.Prelude.{◌≡◌, ◌≤◌, ◌^◌, Option, None, Some, true, IfOk, IfSome, OnOk, cond};
 ghost use Rattle.std.specs.declared.cmp.Ordering.TheVariants.{Equal};
 ghost use Rattle.std.specs.Option.{option_copied};
 ghost use Rattle.std.specs.BTreeMap.{get, is_at};
 ghost use Rattle.sip_timers.specs.Queue.{moment};
-ghost use Rattle.sip_model.specs.Machine.{next, adds, due_of};
+ghost use Rattle.sip_model.specs.Machine.{given_at, next, adds, due_of};
 
 use crate::machine::StateMachine;
 use sip_timers::Queue;
 use std::alloc::{AllocError, Global};
 use std::collections::BTreeMap;
 
-/// Gives one key an input, and answers what its machine says.
+/// Gives one key an input at a moment in ms, and answers what its machine says.
 pub(crate) fn step_key<M: StateMachine>(
     alloc: Global,
     machine: &M,
     states: &mut BTreeMap<M::Key, M::State>,
     dues: &mut Queue<M::Key>,
     key: &M::Key,
+    now: u64,
     input: M::Input,
 ) -> Result<Vec<M::Output>, AllocError>
-    requires { IsTrue (M.admits input) }
+    requires { now ≤ 2 ^ 62 }
     ensures states { OnOk result ((q : M.Key) → get M.Key.cmp states.new q
         ≡ cond (is_at (M.Key.cmp key.now) q)
-        (next (M.machine machine.now) key.now (get M.Key.cmp states.old key.now) input)
+        (next (M.machine machine.now) key.now (get M.Key.cmp states.old key.now)
+        (given_at now input))
         (get M.Key.cmp states.old q)) }
     ensures dues { OnOk result ((q : M.Key) → moment M.Key.cmp dues.new q
         ≡ cond (is_at (M.Key.cmp key.now) q)
         (due_of M.due (next (M.machine machine.now) key.now
-        (get M.Key.cmp states.old key.now) input)) (moment M.Key.cmp dues.old q)) }
+        (get M.Key.cmp states.old key.now) (given_at now input)))
+        (moment M.Key.cmp dues.old q)) }
     ensures added { IfOk result (λ outputs. outputs.items
-        ≡ adds (M.machine machine.now) key.now (get M.Key.cmp states.old key.now) input) }
+        ≡ adds (M.machine machine.now) key.now (get M.Key.cmp states.old key.now)
+        (given_at now input)) }
 {
     let (held, state) = taken(states, key);
-    let (after, outputs) = machine.step(alloc, key, state, input)?;
+    let (after, outputs) = machine.step(alloc, key, state, now, input)?;
     rearm::<M>(dues, key, due_moment(machine, after.as_ref()))?;
     put_back::<M>(states, key, held, after)?;
     Ok(outputs)

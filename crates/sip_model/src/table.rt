@@ -1,11 +1,11 @@
 //! The table of the held keys.
 
-ghost use Rattle.std.specs.Prelude.{◌≡◌, ℕ, List, Option, Some, None, [], IfOk, IfSome, OnOk, OnErr, IsTrue, cond, length, true, count_by, is_some, IsErr, IsSome, All};
-ghost use Rattle.std.specs.Option.{option_copied, option_map, option_map_or};
+ghost use Rattle.std.specs.Prelude.{◌≡◌, ◌≤◌, ◌^◌, ℕ, List, Option, Some, None, [], IfOk, OnOk, OnErr, IsTrue, cond, length, true, count_by, is_some, IsErr, IsSome};
+ghost use Rattle.std.specs.Option.{option_copied, option_map};
 ghost use Rattle.std.specs.BTreeMap.{get, is_at, BTreeMap};
-ghost use Rattle.sip_model.specs.Machine.{next, adds};
+ghost use Rattle.sip_model.specs.Machine.{given_at, next, adds, ticks_of};
 ghost use Rattle.sip_model.specs.Table.{AreDues, Held, IsCalm, state_at, state_in, entries_of, Covers, StepsKey, StepsAll};
-ghost use Rattle.sip_model.specs.Phase.{AddsPhase, DealsPhase};
+ghost use Rattle.sip_model.specs.Phase.{AddsPhase, DealsPhase, phase_at};
 ghost use Rattle.sip_model.specs.Told.{groups};
 ghost use Rattle.sip_model.specs.History.{AddsInput, AddsInputs};
 
@@ -62,14 +62,13 @@ impl<M: StateMachine> Model for Live<M> {
 }
 
 impl<M: StateMachine> Live<M> {
-    // Whether nothing is due at the moment, or there is none.
-    fn is_calm(&self, moment: Option<u64>) -> bool
-        ensures { IsTrue result → IfSome moment
-            (λ now. IsCalm M.due (state_in M.Key.cmp self.now) now) }
+    // Whether there is no tick at the moment, or nothing is due at it.
+    fn is_calm(&self, now: u64, ticks: bool) -> bool
+        ensures { IsTrue result → ticks ≡ true → IsCalm M.due (state_in M.Key.cmp self.now) now }
     {
-        match (moment, self.dues.next_due()) {
-            (Some(now), Some(due)) => now < due,
-            (None, _) | (_, None) => true,
+        match self.dues.next_due() {
+            Some(due) if ticks => now < due,
+            _ => true,
         }
     }
 
@@ -167,25 +166,35 @@ impl<M: StateMachine> Table<M> {
         Ok(value)
     }
 
-    /// Gives one key an input, and answers what its machine says.
+    /// Gives one key an input at a moment in ms, and answers what its machine says.
     pub fn handle(
         &mut self,
         machine: &M,
         key: M::Key,
+        now: u64,
         input: M::Input,
     ) -> Result<Vec<M::Output>, ShardFault>
-        requires { IsTrue (M.admits input) }
+        requires { now ≤ 2 ^ 62 }
         ensures broken { self.old ≡ None → result ≡ Err ShardFault.Broken }
         ensures only_broken { result ≡ Err ShardFault.Broken → self.old ≡ None }
         ensures err { OnErr result (self.new ≡ None) }
         ensures step { IfOk result (λ outputs.
-            StepsKey M.Key.cmp (M.machine machine.now) self.old self.new key input outputs.items) }
+            StepsKey M.Key.cmp (M.machine machine.now) self.old self.new key (given_at now input)
+            outputs.items) }
         ensures histories { IfOk result
             (λ outputs. AddsInput M.Key.cmp
-            (M.machine machine.now) self.old self.new key input outputs.items) }
+            (M.machine machine.now) self.old self.new key (given_at now input) outputs.items) }
     {
         let (mut states, mut dues) = self.live.take().ok_or(ShardFault::Broken)?.apart();
-        let outputs = step_key(self.alloc, machine, &mut states, &mut dues, &key, input)?;
+        let outputs = step_key(
+            self.alloc,
+            machine,
+            &mut states,
+            &mut dues,
+            &key,
+            now,
+            input,
+        )?;
         self.live = Some(Live { states, dues });
         Ok(outputs)
     }
@@ -193,16 +202,16 @@ impl<M: StateMachine> Table<M> {
     /// Gives every held key the input of a tick at a moment in ms, in key order. Only those are
     /// looked at of which something is due.
     pub fn tick(&mut self, machine: &M, now: u64) -> Result<Vec<M::Output>, ShardFault>
-        requires { IsTrue (M.admits (M.tick now)) }
+        requires { now ≤ 2 ^ 62 }
         ensures broken { self.old ≡ None → result ≡ Err ShardFault.Broken }
         ensures only_broken { result ≡ Err ShardFault.Broken → self.old ≡ None }
         ensures err { OnErr result (self.new ≡ None) }
         ensures step { IfOk result (λ outputs.
             StepsAll M.Key.cmp (M.machine machine.now) self.old self.new
-            (M.tick now) outputs.items) }
+            (given_at now M.tick) outputs.items) }
         ensures histories { IfOk result
             (λ outputs. AddsInputs M.Key.cmp (M.machine machine.now) self.old self.new
-            (M.tick now) outputs.items) }
+            (given_at now M.tick) outputs.items) }
     {
         let (mut states, mut dues) = self.live.take().ok_or(ShardFault::Broken)?.apart();
         let told = tick_due(self.alloc, machine, &mut states, &mut dues, now)?;
@@ -211,43 +220,44 @@ impl<M: StateMachine> Table<M> {
         Ok(outputs)
     }
 
-    /// Whether a phase without items changes nothing and says nothing: nothing is due at its moment
-    /// in ms, or it has none. Takes no memory.
-    pub fn is_idle(&self, _machine: &M, moment: Option<u64>) -> bool
-        ensures phases { IsTrue result → AddsPhase M.Key.cmp (M.machine _machine.now) M.tick
-            self.now self.now (record { moment = moment; items = [] }) [] [] }
+    /// Whether a phase without items at a moment in ms, with a tick or without, changes nothing and
+    /// says nothing. Takes no memory.
+    pub fn is_idle(&self, _machine: &M, now: u64, ticks: bool) -> bool
+        ensures phases { IsTrue result
+            → AddsPhase M.Key.cmp (M.machine _machine.now) (ticks_of M.tick)
+            self.now self.now (phase_at now ticks []) [] [] }
     {
         match &self.live {
             None => false,
-            Some(live) => live.is_calm(moment),
+            Some(live) => live.is_calm(now, ticks),
         }
     }
 
-    /// Gives every key the tick of a moment in ms, where there is one, and then each item to its
+    /// Gives every key a tick at a moment in ms, where the phase has one, and then each item to its
     /// key, in their order.
     pub fn deal(
         &mut self,
         machine: &M,
-        moment: Option<u64>,
+        now: u64,
+        ticks: bool,
         items: Vec<Item<M::Key, M::Input>>,
     ) -> Result<Replies<M::Key, M::Output>, ShardFault>
-        requires moment { IsTrue (option_map_or (λ now. M.admits (M.tick now)) moment true) }
-        requires items { All (λ item. IsTrue (M.admits item.input)) items.items }
+        requires { now ≤ 2 ^ 62 }
         ensures broken { self.old ≡ None → result ≡ Err ShardFault.Broken }
         ensures only_broken { result ≡ Err ShardFault.Broken → self.old ≡ None }
         ensures err { OnErr result (self.new ≡ None) }
         ensures step { IfOk result (λ replies.
-            DealsPhase M.Key.cmp (M.machine machine.now) M.tick self.old self.new
-            (record { moment = moment; items = items.items }) (groups replies.ticks.items)
+            DealsPhase M.Key.cmp (M.machine machine.now) (ticks_of M.tick) self.old self.new
+            (phase_at now ticks items.items) (groups replies.ticks.items)
             (groups replies.items.items)) }
         ensures phases { IfOk result (λ replies.
-            AddsPhase M.Key.cmp (M.machine machine.now) M.tick self.old self.new
-            (record { moment = moment; items = items.items }) (groups replies.ticks.items)
+            AddsPhase M.Key.cmp (M.machine machine.now) (ticks_of M.tick) self.old self.new
+            (phase_at now ticks items.items) (groups replies.ticks.items)
             (groups replies.items.items)) }
     {
         let (mut states, mut dues) = self.live.take().ok_or(ShardFault::Broken)?.apart();
-        let ticks = tick_if(self.alloc, machine, &mut states, &mut dues, moment)?;
-        let items = deal_items(self.alloc, machine, &mut states, &mut dues, items)?;
+        let ticks = tick_if(self.alloc, machine, &mut states, &mut dues, now, ticks)?;
+        let items = deal_items(self.alloc, machine, &mut states, &mut dues, now, items)?;
         self.live = Some(Live { states, dues });
         Ok(Replies { ticks, items })
     }

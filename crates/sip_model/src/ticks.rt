@@ -1,10 +1,9 @@
 //! A tick of every key of which something is due.
 
-ghost use Rattle.std.specs.Prelude.{◌≡◌, List, IfOk, OnOk, IsTrue, true};
-ghost use Rattle.std.specs.Option.{option_map_or};
+ghost use Rattle.std.specs.Prelude.{◌≡◌, ◌≤◌, ◌^◌, List, IfOk, OnOk, Some, None, if◌then◌else◌};
 ghost use Rattle.std.specs.List.{flat_map};
 ghost use Rattle.std.specs.BTreeMap.{get};
-ghost use Rattle.sip_model.specs.Machine.{next};
+ghost use Rattle.sip_model.specs.Machine.{given_at, next, ticks_of};
 ghost use Rattle.sip_model.specs.Table.{AreDues, Covers, state_in};
 ghost use Rattle.sip_model.specs.Phase.{ticked, told_tick};
 ghost use Rattle.sip_model.specs.Told.{groups, told_ticks, with_said};
@@ -24,50 +23,60 @@ pub(crate) fn tick_due<M: StateMachine>(
     dues: &mut Queue<M::Key>,
     now: u64,
 ) -> Result<Vec<(M::Key, Vec<M::Output>)>, AllocError>
-    requires admitted { IsTrue (M.admits (M.tick now)) }
+    requires moment { now ≤ 2 ^ 62 }
     requires armed { AreDues M.Key.cmp M.due (get M.Key.cmp states.old) dues.old }
     ensures states { OnOk result ((q : M.Key)
         → get M.Key.cmp states.new q ≡ next (M.machine machine.now) q (get M.Key.cmp states.old q)
-        (M.tick now)) }
+        (given_at now M.tick)) }
     ensures armed { OnOk result (AreDues M.Key.cmp M.due (get M.Key.cmp states.new) dues.new) }
     ensures told { IfOk result (λ told. (keys : List M.Key)
         → Covers M.Key.cmp keys (get M.Key.cmp states.old)
         → groups told.items ≡ told_ticks (M.machine machine.now) (get M.Key.cmp states.old)
-        (M.tick now) keys) }
+        (given_at now M.tick) keys) }
 {
     let Ok(due) = dues.take_due(now) else {
         return Err(AllocError);
     };
     let mut told = Vec::new(alloc);
     for key in due {
-        let outputs = step_key(alloc, machine, states, dues, &key, machine.tick_at(now))?;
+        let outputs = step_key(
+            alloc,
+            machine,
+            states,
+            dues,
+            &key,
+            now,
+            machine.tick_input(),
+        )?;
         tell(&mut told, key, outputs)?;
     }
     Ok(told)
 }
 
-/// The same where there is a moment; otherwise nothing is said.
+/// The same where there is a tick; otherwise nothing is said.
 pub(crate) fn tick_if<M: StateMachine>(
     alloc: Global,
     machine: &M,
     states: &mut BTreeMap<M::Key, M::State>,
     dues: &mut Queue<M::Key>,
-    moment: Option<u64>,
+    now: u64,
+    ticks: bool,
 ) -> Result<Vec<(M::Key, Vec<M::Output>)>, AllocError>
-    requires admitted { IsTrue (option_map_or (λ now. M.admits (M.tick now)) moment true) }
+    requires moment { now ≤ 2 ^ 62 }
     requires armed { AreDues M.Key.cmp M.due (get M.Key.cmp states.old) dues.old }
     ensures states { OnOk result ((q : M.Key)
-        → get M.Key.cmp states.new q ≡ ticked M.Key.cmp (M.machine machine.now) M.tick
-        (get M.Key.cmp states.old) moment q) }
+        → get M.Key.cmp states.new q ≡ ticked M.Key.cmp (M.machine machine.now)
+        (ticks_of M.tick) (get M.Key.cmp states.old) (if ticks then Some now else None) q) }
     ensures armed { OnOk result (AreDues M.Key.cmp M.due (get M.Key.cmp states.new) dues.new) }
     ensures told { IfOk result (λ told. (keys : List M.Key)
         → Covers M.Key.cmp keys (get M.Key.cmp states.old)
-        → groups told.items ≡ told_tick M.Key.cmp (M.machine machine.now) M.tick
-        (get M.Key.cmp states.old) moment keys) }
+        → groups told.items ≡ told_tick M.Key.cmp (M.machine machine.now)
+        (ticks_of M.tick) (get M.Key.cmp states.old) (if ticks then Some now else None) keys) }
 {
-    match moment {
-        None => Ok(Vec::new(alloc)),
-        Some(now) => tick_due(alloc, machine, states, dues, now),
+    if ticks {
+        tick_due(alloc, machine, states, dues, now)
+    } else {
+        Ok(Vec::new(alloc))
     }
 }
 

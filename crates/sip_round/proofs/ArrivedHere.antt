@@ -1,18 +1,17 @@
 -- The arrivals of a round are placed, and so are their parts.
 use Rattle.std.proofs.Common.{◌≡◌, ℕ, zero, suc, List, [], ◌∷◌, refl, ◌∙◌, ap}
-use Rattle.std.specs.List.{flat_map}
 use Rattle.sip_message.specs.declared.addr.Addr.{Addr}
 use Rattle.sip_message.specs.declared.id.Id.{Id}
 use Rattle.sip_message.specs.declared.key.Key.{Key}
 use Rattle.sip_model.specs.declared.item.Item.{Item}
-use Rattle.sip_transactions.specs.declared.input.Timed.{Timed}
+use Rattle.sip_transactions.specs.declared.input.Input.{Input}
 use Rattle.sip_round.specs.declared.arrival.Arrival.{Arrival}
 use Rattle.sip_round.specs.declared.round.Event.{Event}
 use Rattle.sip_round.specs.declared.waiting.Waiting.{Waiting}
 use Rattle.sip_round.specs.Arrivals.{arrivals_from}
 use Rattle.sip_round.specs.Steps.Arrived.{ArePlaced, IsArrived}
 use Rattle.sip_round.specs.Parts.{cut_by}
-use Rattle.sip_round.specs.Phases.{first_phase, transaction_item}
+use Rattle.sip_round.specs.Phases.{transaction_items}
 use Rattle.sip_round.specs.Steps.Waiting.{all_waiting}
 
 placed_from : (local : Addr) (round place : ℕ) (events : List Event)
@@ -20,22 +19,22 @@ placed_from : (local : Addr) (round place : ℕ) (events : List Event)
 placed_from local round place [] = tt
 placed_from local round place (e ∷ es) = (refl, placed_from local round (suc place) es)
 
-pub arrived_here : (owner : ℕ → Key → ℕ) (n count now : ℕ) (local : Addr) (round : ℕ)
-    (events given : List Event) (arrivals : List (Id × Arrival)) (items : List (Item Key Timed))
-    (parts : List (List (Item Key Timed))) (waiting : List (Id × Waiting))
+pub arrived_here : (owner : ℕ → Key → ℕ) (n count : ℕ) (local : Addr) (round : ℕ)
+    (events given : List Event) (arrivals : List (Id × Arrival)) (items : List (Item Key Input))
+    (parts : List (List (Item Key Input))) (waiting : List (Id × Waiting))
     → n ≡ count → given ≡ events → arrivals ≡ arrivals_from local round 1 given
-    → items ≡ flat_map (λ a. transaction_item now a.0 a.1) arrivals → waiting ≡ all_waiting arrivals
+    → items ≡ transaction_items arrivals → waiting ≡ all_waiting arrivals
     → parts ≡ cut_by (owner n) zero n items
-    → IsArrived (owner count) count now (arrivals_from local round 1 events) parts waiting
-arrived_here owner n count now local round events given arrivals items parts waiting same_count
+    → IsArrived (owner count) count (arrivals_from local round 1 events) parts waiting
+arrived_here owner n count local round events given arrivals items parts waiting same_count
     same_events are items_are waiting_are parts_are =
     let here : arrivals ≡ arrivals_from local round 1 events =
     are ∙ ap (arrivals_from local round 1) same_events in
     record {
       placed = placed_from local round 1 events;
       parts_are = parts_are ∙ ap (cut_by (owner n) zero n)
-          (items_are ∙ ap (flat_map (λ a. transaction_item now a.0 a.1)) here)
+          (items_are ∙ ap transaction_items here)
           ∙ ap (λ k. cut_by (owner k) zero k
-          (first_phase now (arrivals_from local round 1 events)).items) same_count;
+          (transaction_items (arrivals_from local round 1 events))) same_count;
       waiting_are = waiting_are ∙ ap all_waiting here;
     }

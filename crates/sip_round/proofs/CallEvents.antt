@@ -10,11 +10,11 @@ use Rattle.sip_message.specs.declared.id.Id.{Id}
 use Rattle.sip_message.specs.declared.key.Key.{Key}
 use Rattle.sip_message.specs.Key.{key_cmp}
 use Rattle.sip_model.specs.declared.item.Item as model
-use Rattle.sip_model.specs.Machine.{adds, next}
-use Rattle.sip_model.specs.Phase.{Phase, history, inputs_of, keys_of_phases, own_inputs, states_after, stepped, told_items}
+use Rattle.sip_model.specs.Machine.{adds, next, Timed}
+use Rattle.sip_model.specs.Phase.{Phase, history, inputs_of, keys_of_phases, own_inputs, states_after, stepped, told_items, timed_items}
 use Rattle.sip_model.specs.Told.{speaks}
 use Rattle.sip_model.proofs.Ordered.{by_bool}
-use Rattle.sip_transactions.specs.declared.input.Timed.{Timed}
+use Rattle.sip_transactions.specs.declared.input.Input.{Input}
 use Rattle.sip_transactions.specs.declared.life.Life.{Life}
 use Rattle.sip_transactions.specs.declared.output.Out.{Out}
 use Rattle.sip_transactions.specs.Machine.{tick_at, transaction_machine}
@@ -23,7 +23,7 @@ use Rattle.sip_served.specs.declared.item.Item.{Item}
 use Rattle.sip_calls.specs.declared.calls.CallInput.{CallInput}
 use Rattle.sip_calls.specs.Call.{tick_input}
 use Rattle.sip_calls.specs.CallShard.{call_cmp, item_input}
-use Rattle.sip_calls.specs.declared.calls.Happening.TheVariants.{Item as AnItem}
+use Rattle.sip_calls.specs.declared.calls.CallInput.TheVariants.{Item as AnItem}
 use Rattle.sip_calls.specs.Provisionals.{EventsDiffer, event_in}
 use Rattle.sip_round.specs.declared.arrival.Arrival.{Arrival}
 use Rattle.sip_round.specs.declared.arrival.Arrival.TheVariants as arrival
@@ -33,7 +33,7 @@ use Rattle.sip_round.specs.declared.round.Round.{Round}
 use Rattle.sip_round.specs.Answers.{Past, arrivals, first, items_of_round, no_past, past_after, past_from, past_of, said_by_transactions, second}
 use Rattle.sip_round.specs.Arrivals.{arrival_of, arrivals_from}
 use Rattle.sip_round.specs.Outputs.{joined, outs_of, raised_of, said_at, user_items}
-use Rattle.sip_round.specs.Phases.{call_items, transaction_item}
+use Rattle.sip_round.specs.Phases.{call_items, transaction_item, transaction_items}
 use Rattle.sip_round.proofs.Climbing.{Climbs, climbs_from_less}
 use Rattle.sip_round.proofs.EventsRise.{Places, Rise, places_from, rise_after, rise_apart}
 use Rattle.sip_round.proofs.FewUps.{Few, events_of, few_ups, no_ups, raised}
@@ -43,8 +43,8 @@ use Rattle.sip_round.proofs.FewUps.{Few, events_of, few_ups, no_ups, raised}
 abbrev pub item_event : Id × Item → Option Id
 item_event item = event_in (AnItem item.0 item.1)
 
-abbrev input_event : CallInput → Option Id
-input_event input = event_in input.happening
+abbrev input_event : Timed CallInput → Option Id
+input_event timed = event_in timed.input
 
 raised_append : (id : Id) (xs ys : List Out) → raised id (xs ++ ys) ≡ raised id xs ++ raised id ys
 raised_append id xs ys =
@@ -67,7 +67,7 @@ ticks_raise id now states (key ∷ keys) =
 abbrev TellsAt : ℕ → List ((ℕ × Key) × List Out) → List Out
 TellsAt place told = joined (filter (λ said. nat_eq (said.0).0 place) told)
 
-none_later : (place from : ℕ) (states : Key → Option Life) (items : List (model.Item Key Timed))
+none_later : (place from : ℕ) (states : Key → Option Life) (items : List (model.Item Key (Timed Input)))
     → suc place ≤ from → Climbs from (map (λ item. item.place) items)
     → TellsAt place (told_items key_cmp transaction_machine states items) ≡ []
 none_later place from states [] less climbs = refl
@@ -89,7 +89,7 @@ none_later place from states (item ∷ items) less climbs =
     apart x y above = grind (arith, common_steps, above)
 
 few_at : (id : Id) (place from : ℕ) (states : Key → Option Life)
-    (items : List (model.Item Key Timed)) → Climbs from (map (λ item. item.place) items)
+    (items : List (model.Item Key (Timed Input))) → Climbs from (map (λ item. item.place) items)
     → Few id (raised id (TellsAt place (told_items key_cmp transaction_machine states items)))
 few_at id place from states [] climbs = inl refl
 few_at id place from states (item ∷ items) climbs =
@@ -151,24 +151,25 @@ arrivals_placed said few local round place (event ∷ events) =
     (arrivals_placed said few local round (suc place) events))
 
 -- the places of what goes to transactions climb
-one_climbs : (now round place : ℕ) (a : Arrival) (rest : List (model.Item Key Timed))
-    → Climbs (suc place) (map (λ item. item.place) rest)
-    → Climbs place (map (λ item. item.place)
-    (transaction_item now (record { round = round; place = place }) a ++ rest))
+one_climbs : (now round place : ℕ) (a : Arrival) (rest : List (model.Item Key Input))
+    → Climbs (suc place) (map (λ item. item.place) (timed_items now rest))
+    → Climbs place (map (λ item. item.place) (timed_items now
+    (transaction_item (record { round = round; place = place }) a ++ rest)))
 one_climbs now round place (arrival.Transaction key input) rest climbs = (omega arith, climbs)
 one_climbs now round place (arrival.Dropped why) rest climbs =
-    climbs_from_less place (suc place) (map (λ item. item.place) rest) (omega arith) climbs
+    climbs_from_less place (suc place) (map (λ item. item.place) (timed_items now rest)) (omega arith)
+    climbs
 one_climbs now round place (arrival.User command) rest climbs =
-    climbs_from_less place (suc place) (map (λ item. item.place) rest) (omega arith) climbs
+    climbs_from_less place (suc place) (map (λ item. item.place) (timed_items now rest)) (omega arith)
+    climbs
 
 arrivals_climb : (now : ℕ) (local : Addr) (round place : ℕ) (events : List Event)
     → Climbs place (map (λ item. item.place)
-    (flat_map (λ a. transaction_item now a.0 a.1) (arrivals_from local round place events)))
+    (timed_items now (transaction_items (arrivals_from local round place events))))
 arrivals_climb now local round place [] = tt
 arrivals_climb now local round place (event ∷ events) =
     one_climbs now round place (arrival_of local (record { round = round; place = place }) event)
-    (flat_map (λ a. transaction_item now a.0 a.1)
-    (arrivals_from local round (suc place) events))
+    (transaction_items (arrivals_from local round (suc place) events))
     (arrivals_climb now local round (suc place) events)
 
 pub round_placed : (config : Config) (number : ℕ) (past : Past) (round : Round)
@@ -210,10 +211,11 @@ one_stays round place (Some id) whole part keeps places =
 
 own_placed : (key : List ℕ) (now at round place : ℕ) (items : List (Id × Item))
     → Places round place (events_of items)
-    → Places round place (filter_map input_event (inputs_of call_cmp (call_items now at items) key))
+    → Places round place (filter_map input_event (inputs_of call_cmp
+    (timed_items now (call_items at items)) key))
 own_placed key now at round place [] places = tt
 own_placed key now at round place (item ∷ items) places =
-    let rest = call_items now (suc at) items in
+    let rest = timed_items now (call_items (suc at) items) in
     let own : Bool → List Id = λ b.
     filter_map input_event (map (λ i. i.input)
     (cond b ((record {
@@ -234,12 +236,12 @@ own_placed key now at round place (item ∷ items) places =
 -- ---- over rounds
 
 module _ (config : Config) (key : List ℕ) where
-  abbrev events_in : List (Phase (List ℕ) CallInput) → List Id
+  abbrev events_in : List (Phase (List ℕ) (Timed CallInput)) → List Id
   events_in phases = filter_map input_event (history call_cmp tick_input phases key)
 
   -- the phases of later rounds, whose events rise
   record Later (number : ℕ) (past : Past) (rounds : List Round) : Type 0 where
-    phases : List (Phase (List ℕ) CallInput)
+    phases : List (Phase (List ℕ) (Timed CallInput))
     calls : (past_from config number past rounds).calls ≡ past.calls ++ phases
     rise : Rise number 0 (events_in phases)
 

@@ -6,10 +6,9 @@ use Rattle.std.specs.Option.{option_map, option_to_list}
 use Rattle.sip_message.specs.declared.addr.Addr.{Addr}
 use Rattle.sip_message.specs.declared.id.Id.{Id}
 use Rattle.sip_message.specs.declared.key.Key.{Key}
-use Rattle.sip_model.specs.Machine.{adds}
+use Rattle.sip_model.specs.Machine.{adds, Timed}
 use Rattle.sip_transactions.specs.declared.input.Input.{Input}
 use Rattle.sip_transactions.specs.declared.input.Input.TheVariants.{Tick}
-use Rattle.sip_transactions.specs.declared.input.Timed.{Timed}
 use Rattle.sip_transactions.specs.declared.life.Life.{Life}
 use Rattle.sip_transactions.specs.declared.output.Kind.{Kind}
 use Rattle.sip_transactions.specs.declared.output.Kind.TheVariants as kind
@@ -23,7 +22,7 @@ use Rattle.sip_transactions.specs.Life.{acted_if, life_of, step_for, stepped, st
 use Rattle.sip_transactions.specs.Machine.{tick_at, transaction_machine}
 use Rattle.sip_transactions.specs.Output.{handed_out, made_bytes, outputs_of, send_out, sent_bytes}
 use Rattle.sip_served.specs.declared.item.Item.{Item}
-use Rattle.sip_calls.specs.declared.calls.Happening.TheVariants.{Item as AnItem}
+use Rattle.sip_calls.specs.declared.calls.CallInput.TheVariants.{Item as AnItem}
 use Rattle.sip_calls.specs.Provisionals.{event_in, event_of_kind}
 use Rattle.sip_round.specs.Outputs.{raised_of}
 
@@ -87,7 +86,7 @@ few_by id key held now input (Some step) =
     few_acted id key now input (life_of (role_of key) held input) step
 
 -- to one input
-pub few_ups : (id : Id) (key : Key) (held : Option Life) (timed : Timed)
+pub few_ups : (id : Id) (key : Key) (held : Option Life) (timed : Timed Input)
     → Few id (raised id (adds transaction_machine key held timed))
 unfolding stepped
 few_ups id key held timed =

@@ -1,6 +1,5 @@
 -- A round without events in which nothing is due.
-use Rattle.std.proofs.Common.{◌≡◌, ℕ, ◌<◌, List, [], length, refl, sym, subst}
-use Rattle.std.specs.Prelude.{None, Some}
+use Rattle.std.proofs.Common.{◌≡◌, ℕ, ◌<◌, true, false, List, [], length, refl, sym, subst}
 use Rattle.std.specs.List.{AllByRecursion}
 use Rattle.std.specs.List.Sorted.{IsStrictlySortedBy}
 use Rattle.sip_message.specs.declared.key.Key.{Key}
@@ -31,9 +30,9 @@ pub idle_round : (shared : Calls) (shard_of : List ℕ → ℕ → ℕ) (number 
     → ((key : Key) → owner_of shard_of branch_in (length lives) key < length lives)
     → ((call_id : List ℕ)
     → owner_of shard_of (λ call_id. call_id) (length calls) call_id < length calls)
-    → AllByRecursion (IsIdle key_cmp transaction_machine tick_at (Some round.moment)) lives
-    → AllByRecursion (IsIdle key_cmp transaction_machine tick_at None) lives
-    → AllByRecursion (IsIdle call_cmp (call_machine shared) tick_input (Some round.moment)) calls
+    → AllByRecursion (IsIdle key_cmp transaction_machine tick_at round.moment true) lives
+    → AllByRecursion (IsIdle key_cmp transaction_machine tick_at round.moment false) lives
+    → AllByRecursion (IsIdle call_cmp (call_machine shared) tick_input round.moment true) calls
     → Deals shared shard_of number round (record { transactions = lives; calls = calls })
     (record { transactions = lives; calls = calls }) []
 unfolding IsStrictlySortedBy
@@ -43,14 +42,14 @@ idle_round shared shard_of number round lives calls no_events in_order lives_law
     let of_calls = owner_of shard_of (λ call_id. call_id) (length calls) in
     let first : LedFirst of_lives lives lives number round.moment [] [] [] =
     led_first of_lives lives lives number round.moment [] tt in_order [] []
-    (idle_shards key_cmp transaction_machine tick_at of_lives (Some round.moment) lives_law []
+    (idle_shards key_cmp transaction_machine tick_at of_lives round.moment true lives_law []
     lives lives_within tt first_idle (cut_nothing of_lives 0 lives)) [] [] [] refl refl refl in
     let second = led_second shared of_calls calls calls round.moment [] [] [] [] [] [] [] []
-    (idle_shards call_cmp (call_machine shared) tick_input of_calls (Some round.moment)
+    (idle_shards call_cmp (call_machine shared) tick_input of_calls round.moment true
     calls_law [] calls calls_within tt second_idle (cut_nothing of_calls 0 calls)) refl refl
     refl refl in
     let third = led_third of_lives lives lives round.moment [] [] [] [] [] []
-    (idle_shards key_cmp transaction_machine tick_at of_lives None lives_law []
+    (idle_shards key_cmp transaction_machine tick_at of_lives round.moment false lives_law []
     lives lives_within tt third_idle (cut_nothing of_lives 0 lives)) refl refl in
     deals shard_of number round lives lives lives calls calls [] [] [] [] [] third shared
     (subst (λ (events : List Event). LedFirst of_lives lives lives number round.moment

@@ -1,6 +1,6 @@
 -- A phase in which no shard has an item and nothing is due in any.
-use Rattle.std.proofs.Common.{◌≡◌, ℕ, zero, suc, ◌<◌, List, [], ◌∷◌, length, map, refl, sym, ◌∙◌, ap, subst, arith}
-use Rattle.std.specs.Prelude.{Option, Result, Ok, IfOk}
+use Rattle.std.proofs.Common.{◌≡◌, ℕ, zero, suc, ◌<◌, Bool, List, [], ◌∷◌, length, map, refl, sym, ◌∙◌, ap, subst, arith}
+use Rattle.std.specs.Prelude.{Result, Ok, IfOk}
 use Rattle.std.specs.declared.cmp.Ordering.{Ordering}
 use Rattle.std.specs.Ordering.{nat_cmp}
 use Rattle.std.specs.List.{AllByRecursion, AllZip, flat_map}
@@ -8,13 +8,14 @@ use Rattle.std.specs.List.Sorted.{IsStrictlySortedBy}
 use Rattle.std.proofs.lemmas.List.{nil_from_length, map-id}
 use Rattle.std.proofs.lemmas.List.Sorted.{length_permutation}
 use Rattle.sip_model.specs.declared.item.Item.{Item}
-use Rattle.sip_model.specs.Machine.{Machine}
+use Rattle.sip_model.specs.Machine.{Machine, Timed}
 use Rattle.sip_model.specs.Table.{Held}
 use Rattle.sip_model.specs.Told.{Sorts}
-use Rattle.sip_model.specs.Phase.{AddsPhase}
+use Rattle.sip_model.specs.Phase.{AddsPhase, phase_at}
 use Rattle.sip_model.specs.Shards.{ShardsTellAll}
 use Rattle.sip_round.specs.Parts.{cut_by}
 use Rattle.sip_round.specs.Steps.Dealt.{DealsAll, IsIdle}
+use Rattle.sip_round.proofs.Numbered.{parts_timed, places_timed}
 use Rattle.sip_round.proofs.Together.{deals_all}
 
 -- no outputs
@@ -55,24 +56,27 @@ cut_nothing owner number [] = refl
 cut_nothing {K} {I} owner number (t ∷ ts) =
     ap (λ (more : List (List (Item K I))). [] ∷ more) (cut_nothing owner (suc number) ts)
 
-module _ {K S I O : Type 0} (cmp : K → K → Ordering) (machine : Machine K S I O) (tick : ℕ → I)
-    (owner : K → ℕ) (moment : Option ℕ) (law : ShardsTellAll cmp machine tick) where
+module _ {K S I O : Type 0} (cmp : K → K → Ordering) (machine : Machine K S (Timed I) O)
+    (tick : ℕ → Timed I) (owner : K → ℕ) (now : ℕ) (ticks : Bool)
+    (law : ShardsTellAll cmp machine tick) where
   pub idle_shards : (items : List (Item K I)) (tables : List (Held K S))
       → ((key : K) → owner key < length tables)
       → IsStrictlySortedBy nat_cmp (map (λ item. item.place) items)
-      → AllByRecursion (IsIdle cmp machine tick moment) tables
+      → AllByRecursion (IsIdle cmp machine tick now ticks) tables
       → map (λ (table : Held K S). no_group (Item K I)) tables
       ≡ cut_by owner zero (length tables) items
-      → DealsAll cmp machine tick owner tables tables (record { moment = moment; items = items })
-      [] []
+      → DealsAll cmp machine tick owner tables tables (phase_at now ticks items) [] []
   idle_shards items tables within rising idle parts =
-      deals_all cmp machine tick owner (record { moment = moment; items = items })
-      (by_itself (Unit {0})) (IsIdle cmp machine tick moment) (λ table. table)
+      deals_all cmp machine tick owner (phase_at now ticks items)
+      (by_itself (Unit {0})) (IsIdle cmp machine tick now ticks) (λ table. table)
       (λ table. []) (λ table. table) (λ table. []) (λ table. [])
       (λ table after same is. subst (λ (held : Held K S).
-      AddsPhase cmp machine tick table held (record { moment = moment; items = [] }) [] [])
+      AddsPhase cmp machine tick table held (phase_at now ticks []) [] [])
       is same)
-      law rising tables tables (map-id tables) within parts idle (map Ok tables)
+      law (subst (IsStrictlySortedBy nat_cmp) (sym (places_timed now items)) rising)
+      tables tables (map-id tables) within
+      (parts_timed (λ (table : Held K S). no_group (Item K I)) owner (length tables) now items
+      tables parts) idle (map Ok tables)
       (all_themselves (Unit {0}) tables) tables [] [] [] []
       (record {
         dealt = tables;

@@ -1,6 +1,7 @@
 -- The three phases, and a round of all three.
 use Rattle.std.proofs.Common.{◌≡◌, ℕ, zero, List, [], ◌∷◌, ◌++◌, length, map, refl, sym, ◌∙◌, ap, subst}
 use Rattle.std.specs.List.{flat_map}
+use Rattle.sip_model.specs.Machine.{Timed}
 use Rattle.sip_message.specs.declared.id.Id.{Id}
 use Rattle.sip_message.specs.declared.key.Key.{Key}
 use Rattle.sip_message.specs.Key.{key_cmp, branch_in}
@@ -9,7 +10,7 @@ use Rattle.sip_model.specs.Phase.{Phase, Told, by_place}
 use Rattle.sip_model.specs.Shards.{HoldFrom}
 use Rattle.sip_model.specs.Table.{Held}
 use Rattle.sip_transactions.specs.declared.input.Command.{Command}
-use Rattle.sip_transactions.specs.declared.input.Timed.{Timed}
+use Rattle.sip_transactions.specs.declared.input.Input.{Input}
 use Rattle.sip_transactions.specs.declared.life.Life.{Life}
 use Rattle.sip_transactions.specs.declared.output.Out.{Out}
 use Rattle.sip_transactions.specs.Machine.{transaction_machine, tick_at}
@@ -31,8 +32,9 @@ use Rattle.sip_round.specs.Steps.Dealt.{DealsAll}
 use Rattle.sip_round.specs.Steps.Led.{Deals, LedFirst, LedSecond, LedThird}
 use Rattle.sip_round.specs.Outputs.{all_said, command_of, joined, outs_of, raised_of, said_at, sent_of, shown_of, user_items}
 use Rattle.sip_round.specs.Parts.{owner_of}
-use Rattle.sip_round.specs.Phases.{first_phase, second_phase, third_phase}
+use Rattle.sip_round.specs.Phases.{first_phase, second_phase, third_phase, transaction_items}
 use Rattle.sip_round.specs.Steps.Waiting.{all_waiting, woven}
+use Rattle.sip_round.proofs.Numbered.{places_timed}
 use Rattle.sip_round.proofs.Weaving.{flat_map-map, woven_by_place}
 
 joined_by_place : {K O : Type 0} (told : List ((ℕ × K) × List O))
@@ -57,7 +59,7 @@ module _ (owner : Key → ℕ) (old new : List (Held Key Life)) (number now : �
     (ticks : List (Key × List Out)) (said : List (ℕ × List Out))
     (deals : DealsAll key_cmp transaction_machine tick_at owner old new
     (first_phase now arrived) ticks said) where
-  woven_told : (past : List (Phase Key Timed))
+  woven_told : (past : List (Phase Key (Timed Input)))
       → HoldFrom key_cmp transaction_machine tick_at owner zero old past
       → woven (all_waiting arrived) said
       ≡ map (λ a. (
@@ -68,9 +70,10 @@ module _ (owner : Key → ℕ) (old new : List (Held Key Life)) (number now : �
       )) arrived
   woven_told past hold =
       ap (woven (all_waiting arrived)) (deals.items_told past hold)
-      ∙ woven_by_place now 1 arrived placed
+      ∙ woven_by_place 1 arrived placed
       (said_by_transactions past (first_phase now arrived)).items
-      (law past (first_phase now arrived)).by_place
+      ((law past (first_phase now arrived)).by_place
+      ∙ places_timed now (transaction_items arrived))
 
   pub led_first : (waiting : List (Id × Waiting)) (outputs : List Output) (items : List (Id × Item))
       → waiting ≡ all_waiting arrived

@@ -18,8 +18,8 @@ use Rattle.sip_message.specs.Message.{is_request_message}
 use Rattle.sip_message.specs.MessageKey.{key_at, key_of_message}
 use Rattle.sip_message.specs.Source.{answer_address, stamped}
 use Rattle.sip_model.specs.declared.item.Item as model
-use Rattle.sip_model.specs.Machine.{adds, next}
-use Rattle.sip_model.specs.Phase.{Phase, history, inputs_of, keys_of_phases, own_inputs, states_after, told_items}
+use Rattle.sip_model.specs.Machine.{adds, next, Timed}
+use Rattle.sip_model.specs.Phase.{Phase, history, inputs_of, keys_of_phases, own_inputs, states_after, timed_items, told_items}
 use Rattle.sip_model.specs.Phase as phases
 use Rattle.sip_model.specs.Told.{speaks}
 use Rattle.sip_model.proofs.Ordered.{by_bool}
@@ -28,7 +28,6 @@ use Rattle.sip_transactions.specs.declared.input.Command.{Command}
 use Rattle.sip_transactions.specs.declared.input.Command.TheVariants as command
 use Rattle.sip_transactions.specs.declared.input.Input.{Input}
 use Rattle.sip_transactions.specs.declared.input.Input.TheVariants.{Receive}
-use Rattle.sip_transactions.specs.declared.input.Timed.{Timed}
 use Rattle.sip_transactions.specs.declared.output.DropReason.TheVariants.{NotOurs}
 use Rattle.sip_transactions.specs.Laws.{IsServer, arrival_id, naming_id, same_id}
 use Rattle.sip_transactions.specs.Machine.{tick_at}
@@ -40,7 +39,7 @@ use Rattle.sip_served.specs.declared.item.Item.{Item}
 use Rattle.sip_served.proofs.NoStarts.{start_in, start_of, starts}
 use Rattle.sip_calls.specs.declared.call.Call.{Call}
 use Rattle.sip_calls.specs.declared.calls.Calls.{Calls}
-use Rattle.sip_calls.specs.declared.calls.Happening.TheVariants.{Tick}
+use Rattle.sip_calls.specs.declared.calls.CallInput.TheVariants.{Tick}
 use Rattle.sip_calls.specs.Call.{call_machine, tick_input}
 use Rattle.sip_calls.specs.CallShard.{call_cmp, item_input}
 use Rattle.sip_calls.proofs.CallStarts.{StartsBy, call_starts}
@@ -53,15 +52,15 @@ use Rattle.sip_round.specs.declared.round.Round.{Round}
 use Rattle.sip_round.specs.Answers.{Past, calls_of, first, given_second, items_of_round, no_past, past_after, past_from, past_of, said_by_calls, second, third}
 use Rattle.sip_round.specs.Arrivals.{arrival_of, arrivals_from, datagram_arrival, message_arrival}
 use Rattle.sip_round.specs.Outputs.{command_of, joined}
-use Rattle.sip_round.specs.Phases.{call_items, command_items, transaction_item}
+use Rattle.sip_round.specs.Phases.{call_items, command_items, transaction_item, transaction_items}
 use Rattle.sip_round.proofs.CallEvents.{item_event, round_placed}
 use Rattle.sip_round.proofs.EventsRise.{Places, Rise, places_from, rise_after, rise_apart}
 use Rattle.sip_round.proofs.FewUps.{events_of}
 
-abbrev name_of : Timed → Option Id
+abbrev name_of : Timed Input → Option Id
 name_of timed = naming_id timed.input
 
-abbrev names : Key → List (model.Item Key Timed) → List Id
+abbrev names : Key → List (model.Item Key (Timed Input)) → List Id
 names key items = filter_map name_of (inputs_of key_cmp items key)
 
 IsClient : Key → Type 0
@@ -117,13 +116,13 @@ arrival_named local id (event.Failed k) = inl refl
 arrival_named local id (event.Command command) = tt
 
 -- with one item more
-abbrev with_one : Key → model.Item Key Timed → List (model.Item Key Timed) → Bool → List Id
+abbrev with_one : Key → model.Item Key (Timed Input) → List (model.Item Key (Timed Input)) → Bool → List Id
 with_one k item rest hit = filter_map name_of
     (map (λ i. i.input) (cond hit (item ∷ filter (λ i. is_at (key_cmp i.key) k) rest)
     (filter (λ i. is_at (key_cmp i.key) k) rest)))
 
-placed_more : (round place : ℕ) (k : Key) (item : model.Item Key Timed)
-    (rest : List (model.Item Key Timed))
+placed_more : (round place : ℕ) (k : Key) (item : model.Item Key (Timed Input))
+    (rest : List (model.Item Key (Timed Input)))
     → Named (record { round = round; place = place }) item.key (item.input).input
     → Places round (suc place) (names k rest) → Places round place (names k (item ∷ rest))
 placed_more round place k item rest named places =
@@ -147,8 +146,8 @@ other_side : (k : Key) (branch method : List ℕ) → IsServer k
 other_side (key.Client branch method) b m server hit = absurd server
 other_side (key.Server branch sent_by method) b m server hit = false≢true hit
 
-none_more : (id : Id) (branch method : List ℕ) (item : model.Item Key Timed)
-    (rest : List (model.Item Key Timed)) → Named id item.key (item.input).input
+none_more : (id : Id) (branch method : List ℕ) (item : model.Item Key (Timed Input))
+    (rest : List (model.Item Key (Timed Input))) → Named id item.key (item.input).input
     → names (key.Client branch method) rest ≡ []
     → names (key.Client branch method) (item ∷ rest) ≡ []
 none_more id branch method item rest named none =
@@ -163,24 +162,23 @@ none_more id branch method item rest named none =
     by_name (inr one) hit = absurd (other_side item.key branch method one.0 hit)
 
 module _ (now : ℕ) (local : Addr) (round : ℕ) where
-  abbrev items_from : ℕ → List Event → List (model.Item Key Timed)
-  items_from place events =
-      flat_map (λ a. transaction_item now a.0 a.1) (arrivals_from local round place events)
+  abbrev items_from : ℕ → List Event → List (model.Item Key Input)
+  items_from place events = transaction_items (arrivals_from local round place events)
 
-  first_more : (place : ℕ) (k : Key) (a : Arrival) (rest : List (model.Item Key Timed))
+  first_more : (place : ℕ) (k : Key) (a : Arrival) (rest : List (model.Item Key Input))
       → ArrivalNamed (record { round = round; place = place }) a
-      → Places round (suc place) (names k rest)
-      → Places round place (names k (transaction_item now
-      (record { round = round; place = place }) a ++ rest))
+      → Places round (suc place) (names k (timed_items now rest))
+      → Places round place (names k (timed_items now (transaction_item
+      (record { round = round; place = place }) a ++ rest)))
   first_more place k (arrival.Transaction key input) rest named places =
-      placed_more round place k _ rest named places
+      placed_more round place k _ (timed_items now rest) named places
   first_more place k (arrival.Dropped why) rest named places =
-      places_from round place (suc place) (names k rest) (omega arith) places
+      places_from round place (suc place) (names k (timed_items now rest)) (omega arith) places
   first_more place k (arrival.User command) rest named places =
-      places_from round place (suc place) (names k rest) (omega arith) places
+      places_from round place (suc place) (names k (timed_items now rest)) (omega arith) places
 
   first_placed : (place : ℕ) (k : Key) (events : List Event)
-      → Places round place (names k (items_from place events))
+      → Places round place (names k (timed_items now (items_from place events)))
   first_placed place k [] = tt
   first_placed place k (e ∷ events) =
       first_more place k (arrival_of local (record { round = round; place = place }) e)
@@ -189,16 +187,16 @@ module _ (now : ℕ) (local : Addr) (round : ℕ) where
       (first_placed (suc place) k events)
 
   first_none_more : (id : Id) (branch method : List ℕ) (a : Arrival)
-      (rest : List (model.Item Key Timed)) → ArrivalNamed id a
-      → names (key.Client branch method) rest ≡ []
-      → names (key.Client branch method) (transaction_item now id a ++ rest) ≡ []
+      (rest : List (model.Item Key Input)) → ArrivalNamed id a
+      → names (key.Client branch method) (timed_items now rest) ≡ []
+      → names (key.Client branch method) (timed_items now (transaction_item id a ++ rest)) ≡ []
   first_none_more id branch method (arrival.Transaction key input) rest named none =
-      none_more id branch method _ rest named none
+      none_more id branch method _ (timed_items now rest) named none
   first_none_more id branch method (arrival.Dropped why) rest named none = none
   first_none_more id branch method (arrival.User command) rest named none = none
 
   first_none : (place : ℕ) (branch method : List ℕ) (events : List Event)
-      → names (key.Client branch method) (items_from place events) ≡ []
+      → names (key.Client branch method) (timed_items now (items_from place events)) ≡ []
   first_none place branch method [] = refl
   first_none place branch method (e ∷ events) =
       let id : Id = record { round = round; place = place } in
@@ -226,12 +224,12 @@ AllClients started = AllByRecursion (λ s. IsClient s.1) started
 third_more : (round : ℕ) (k : Key) (now at place : ℕ) (id : Id) (c : Command)
     (rest : List (Id × Command))
     → ((low : ℕ) → Places round low (ids (order_starts rest))
-    → Places round low (names k (command_items now (suc at) rest)))
+    → Places round low (names k (timed_items now (command_items (suc at) rest))))
     → Places round place (ids (order_starts ((id, c) ∷ rest)))
-    → Places round place (names k (command_items now at ((id, c) ∷ rest)))
+    → Places round place (names k (timed_items now (command_items at ((id, c) ∷ rest))))
 third_more round k now at place id (command.Start key call_id message to) rest keeps places =
-    let items = command_items now (suc at) rest in
-    let item : model.Item Key Timed =
+    let items = timed_items now (command_items (suc at) rest) in
+    let item : model.Item Key (Timed Input) =
     record {
       place = at;
       key = key;
@@ -244,8 +242,8 @@ third_more round k now at place id (command.Start key call_id message to) rest k
     (keeps place (places_from round place (suc id.place) (ids (order_starts rest))
     (omega (arith, places.1)) places.2)))
 third_more round k now at place id (command.Answer key message) rest keeps places =
-    let items = command_items now (suc at) rest in
-    let item : model.Item Key Timed =
+    let items = timed_items now (command_items (suc at) rest) in
+    let item : model.Item Key (Timed Input) =
     record { place = at; key = key; input = order id (command.Answer key message) now } in
     by_bool (is_at (key_cmp key) k)
     (λ hit. subst (Places round place) (sym (ap (with_one k item items) hit)) (keeps place places))
@@ -254,7 +252,7 @@ third_more round k now at place id (command.Answer key message) rest keeps place
 
 third_placed : (round : ℕ) (k : Key) (now at place : ℕ) (orders : List (Id × Command))
     → Places round place (ids (order_starts orders))
-    → Places round place (names k (command_items now at orders))
+    → Places round place (names k (timed_items now (command_items at orders)))
 third_placed round k now at place [] places = tt
 third_placed round k now at place (c ∷ rest) places =
     third_more round k now at place c.0 c.1 rest
@@ -270,11 +268,11 @@ client_side (key.Server branch sent_by method) server is client hit = absurd cli
 third_none_more : (k : Key) → IsServer k
     → (now at : ℕ) (id : Id) (c : Command) (rest : List (Id × Command))
     → AllClients (order_starts ((id, c) ∷ rest))
-    → (AllClients (order_starts rest) → names k (command_items now (suc at) rest) ≡ [])
-    → names k (command_items now at ((id, c) ∷ rest)) ≡ []
+    → (AllClients (order_starts rest) → names k (timed_items now (command_items (suc at) rest)) ≡ [])
+    → names k (timed_items now (command_items at ((id, c) ∷ rest))) ≡ []
 third_none_more k server now at id (command.Start key call_id message to) rest clients none =
-    let items = command_items now (suc at) rest in
-    let item : model.Item Key Timed =
+    let items = timed_items now (command_items (suc at) rest) in
+    let item : model.Item Key (Timed Input) =
     record {
       place = at;
       key = key;
@@ -284,15 +282,15 @@ third_none_more k server now at id (command.Start key call_id message to) rest c
     (λ hit. absurd (client_side key k server clients.0 hit))
     (λ miss. ap (with_one k item items) miss ∙ none clients.1)
 third_none_more k server now at id (command.Answer key message) rest clients none =
-    let items = command_items now (suc at) rest in
-    let item : model.Item Key Timed =
+    let items = timed_items now (command_items (suc at) rest) in
+    let item : model.Item Key (Timed Input) =
     record { place = at; key = key; input = order id (command.Answer key message) now } in
     by_bool (is_at (key_cmp key) k)
     (λ hit. ap (with_one k item items) hit ∙ none clients)
     (λ miss. ap (with_one k item items) miss ∙ none clients)
 
 third_none : (k : Key) → IsServer k → (now at : ℕ) (orders : List (Id × Command))
-    → AllClients (order_starts orders) → names k (command_items now at orders) ≡ []
+    → AllClients (order_starts orders) → names k (timed_items now (command_items at orders)) ≡ []
 third_none k server now at [] clients = refl
 third_none k server now at (c ∷ rest) clients =
     third_none_more k server now at c.0 c.1 rest clients (third_none k server now (suc at) rest)
@@ -324,7 +322,7 @@ module _ (calls : Calls) (round : ℕ) where
   items_begin : (now at place : ℕ) (states : List ℕ → Option Call) (items : List (Id × Item))
       → Places round place (events_of items)
       → Begun round place (starts (joined
-      (told_items call_cmp (call_machine calls) states (call_items now at items))))
+      (told_items call_cmp (call_machine calls) states (timed_items now (call_items at items)))))
   items_begin now at place states [] places = record { placed = tt; clients = tt }
   items_begin now at place states (i ∷ items) places =
       let key = call_of_item i.1 in
@@ -333,10 +331,10 @@ module _ (calls : Calls) (round : ℕ) where
       (call_machine calls) states record { place = at; key = key; input = input } in
       let outs = adds (call_machine calls) key (states key) input in
       let later = joined (told_items call_cmp (call_machine calls) after
-      (call_items now (suc at) items)) in
+      (timed_items now (call_items (suc at) items))) in
       subst (Begun round place) (sym (filter_map-append start_in outs later))
       (begun_then place (item_event i) outs (events_of items) (starts later)
-      (call_starts calls (states key) input.happening now) places
+      (call_starts calls (states key) input.input now) places
       (λ low. items_begin now (suc at) low after items))
 
   ticks_begin : (now : ℕ) (states : List ℕ → Option Call) (keys : List (List ℕ))
@@ -381,16 +379,17 @@ both_placed config (key.Client branch method) number past round =
     let begun = subst (Begun number 1) (sym (starts_ordered outs))
     (round_begins config number past round) in
     let places = third_placed number k round.moment 0 1 orders begun.placed in
-    subst (λ xs. Places number 0 (xs ++ names k (command_items round.moment 0 orders)))
+    subst (λ xs. Places number 0 (xs ++ names k (timed_items round.moment (command_items 0 orders))))
     (sym (first_none round.moment config.local number 1 branch method round.events))
-    (places_from number 0 1 (names k (command_items round.moment 0 orders)) (omega arith) places)
+    (places_from number 0 1 (names k (timed_items round.moment (command_items 0 orders))) (omega arith) places)
 both_placed config (key.Server branch sent_by method) number past round =
     let k : Key = key.Server branch sent_by method in
     let outs = given_second config number past round in
     let orders = flat_map command_of outs in
     let begun = subst (Begun number 1) (sym (starts_ordered outs))
     (round_begins config number past round) in
-    let items = items_from round.moment config.local number 1 round.events in
+    let items = timed_items round.moment
+    (items_from round.moment config.local number 1 round.events) in
     subst (λ ys. Places number 0 (names k items ++ ys))
     (sym (third_none k tt round.moment 0 orders begun.clients))
     (subst (Places number 0) (sym (append-nil (names k items)))
@@ -398,12 +397,12 @@ both_placed config (key.Server branch sent_by method) number past round =
     (first_placed round.moment config.local number 1 k round.events)))
 
 module _ (config : Config) (k : Key) where
-  abbrev names_in : List (Phase Key Timed) → List Id
+  abbrev names_in : List (Phase Key (Timed Input)) → List Id
   names_in all = filter_map name_of (history key_cmp tick_at all k)
 
   -- the phases of later rounds, whose names rise
   record Later (number : ℕ) (past : Past) (rounds : List Round) : Type 0 where
-    more : List (Phase Key Timed)
+    more : List (Phase Key (Timed Input))
     transactions : (past_from config number past rounds).transactions ≡ past.transactions ++ more
     rise : Rise number 0 (names_in more)
 

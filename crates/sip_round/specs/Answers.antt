@@ -2,12 +2,13 @@
 -- in stamp order.
 use Rattle.std.specs.Prelude.{suc, ◌≡◌, ℕ, ◌+◌, zero, List, [], ◌∷◌, ◌++◌, length, Option, Some, None}
 use Rattle.std.specs.List.{flat_map}
+use Rattle.sip_model.specs.Machine.{Timed}
 use Rattle.sip_message.specs.declared.id.Id.{Id}
 use Rattle.sip_message.specs.declared.key.Key.{Key}
 use Rattle.sip_message.specs.Key.{key_cmp, branch_in}
 use Rattle.sip_model.specs.Phase.{Phase, Told, told_next}
 use Rattle.sip_model.specs.Shards.{HoldFrom}
-use Rattle.sip_transactions.specs.declared.input.Timed.{Timed}
+use Rattle.sip_transactions.specs.declared.input.Input.{Input}
 use Rattle.sip_transactions.specs.declared.output.Out.{Out}
 use Rattle.sip_transactions.specs.Machine.{transaction_machine, tick_at}
 use Rattle.sip_served.specs.declared.item.Item.{Item}
@@ -33,15 +34,15 @@ calls_of config = record { local = config.local; seed = config.seed }
 
 -- all phases that the transactions and the calls were led through, oldest first
 pub record Past : Type 0 where
-  pub transactions : List (Phase Key Timed)
-  pub calls : List (Phase (List ℕ) CallInput)
+  pub transactions : List (Phase Key (Timed Input))
+  pub calls : List (Phase (List ℕ) (Timed CallInput))
 
 -- ---- one phase, after others
 
-abbrev pub said_by_transactions : List (Phase Key Timed) → Phase Key Timed → Told Key Out
+abbrev pub said_by_transactions : List (Phase Key (Timed Input)) → Phase Key (Timed Input) → Told Key Out
 said_by_transactions = told_next key_cmp transaction_machine tick_at
 
-abbrev pub said_by_calls : Calls → List (Phase (List ℕ) CallInput) → Phase (List ℕ) CallInput
+abbrev pub said_by_calls : Calls → List (Phase (List ℕ) (Timed CallInput)) → Phase (List ℕ) (Timed CallInput)
     → Told (List ℕ) CallOut
 said_by_calls calls = told_next call_cmp (call_machine calls) tick_input
 
@@ -64,20 +65,20 @@ module _ (config : Config) (number : ℕ) (past : Past) (round : Round) where
   abbrev pub arrivals : List (Id × Arrival)
   arrivals = arrivals_from config.local number 1 round.events
 
-  unfoldable pub first : Phase Key Timed
+  unfoldable pub first : Phase Key (Timed Input)
   first = first_phase round.moment arrivals
 
   unfoldable pub items_of_round : List (Id × Item)
   items_of_round = items_first number (said_by_transactions past.transactions first) arrivals
 
-  unfoldable pub second : Phase (List ℕ) CallInput
+  unfoldable pub second : Phase (List ℕ) (Timed CallInput)
   second = second_phase round.moment items_of_round
 
   unfoldable pub given_second : List CallOut
   given_second = all_said (said_by_calls (calls_of config) past.calls second)
 
   -- the commands for transactions, in the order in which the calls give them
-  unfoldable pub third : Phase Key Timed
+  unfoldable pub third : Phase Key (Timed Input)
   third = third_phase round.moment (flat_map command_of given_second)
 
   -- all phases so far: the transactions had two in this round
@@ -142,12 +143,12 @@ refused config rounds = refused_from config.first 0 0 rounds
 
 -- each shard's tables hold the states that the past leaves of the keys that the cut names for it,
 -- and nothing else: transactions are cut by their branch, calls by their Call-ID
-abbrev pub HoldTransactions : (List ℕ → ℕ → ℕ) → ShardTables → List (Phase Key Timed) → Type 0
+abbrev pub HoldTransactions : (List ℕ → ℕ → ℕ) → ShardTables → List (Phase Key (Timed Input)) → Type 0
 HoldTransactions shard_of shards past =
     HoldFrom key_cmp transaction_machine tick_at
     (owner_of shard_of branch_in (length shards.transactions)) zero shards.transactions past
 
-abbrev pub HoldCalls : Calls → (List ℕ → ℕ → ℕ) → ShardTables → List (Phase (List ℕ) CallInput)
+abbrev pub HoldCalls : Calls → (List ℕ → ℕ → ℕ) → ShardTables → List (Phase (List ℕ) (Timed CallInput))
     → Type 0
 HoldCalls calls shard_of shards past =
     HoldFrom call_cmp (call_machine calls) tick_input

@@ -5,9 +5,9 @@ use Rattle.sip_message.specs.declared.id.Id.{Id}
 use Rattle.sip_message.specs.Key.{key_cmp}
 use Rattle.sip_message.specs.declared.key.Key.{Key}
 use Rattle.sip_model.specs.Laws.{said_from}
-use Rattle.sip_model.specs.Machine.{IsLife, adds, outputs_from, state_after}
+use Rattle.sip_model.specs.Machine.{IsLife, adds, outputs_from, state_after, Timed}
 use Rattle.sip_model.specs.Phase.{history}
-use Rattle.sip_transactions.specs.declared.input.Timed.{Timed}
+use Rattle.sip_transactions.specs.declared.input.Input.{Input}
 use Rattle.sip_transactions.specs.declared.output.Out.{Out}
 use Rattle.sip_transactions.specs.Laws.{IsServer, carries, id_of, requests_in}
 use Rattle.sip_transactions.specs.Machine.{transaction_machine, tick_at}
@@ -22,7 +22,7 @@ use Rattle.sip_round.specs.declared.round.Round.{Round}
 use Rattle.sip_round.specs.Answers.{calls_of, past_of}
 
 -- all that a transaction is given in rounds, oldest first
-abbrev pub inputs_of : Config → List Round → Key → List Timed
+abbrev pub inputs_of : Config → List Round → Key → List (Timed Input)
 inputs_of config rounds key = history key_cmp tick_at (past_of config rounds).transactions key
 
 -- all that the phases of rounds say of a transaction, in order
@@ -32,8 +32,8 @@ said_of config rounds key =
 
 -- what rounds say of a transaction is what comes before a life, what its first input adds, what the
 -- rest of it adds, and what comes after; its request comes up with the first input, and not again
-pub record OneRequestSaid (said : List Out) (key : Key) (before : List Timed) (first : Timed)
-    (rest after : List Timed) : Type 0 where
+pub record OneRequestSaid (said : List Out) (key : Key) (before : List (Timed Input)) (first : Timed Input)
+    (rest after : List (Timed Input)) : Type 0 where
   pub said_in_order : said ≡ outputs_from transaction_machine key None before
       ++ (adds transaction_machine key (state_after transaction_machine key before) first
       ++ (outputs_from transaction_machine key
@@ -48,7 +48,7 @@ pub record OneRequestSaid (said : List Out) (key : Key) (before : List Timed) (f
 -- each life of a server transaction hands its request up once, by its first input
 abbrev pub OneRequestInLives : Config → List Round → Type 0
 OneRequestInLives config rounds =
-    (key : Key) → IsServer key → (before : List Timed) (first : Timed) (rest after : List Timed)
+    (key : Key) → IsServer key → (before : List (Timed Input)) (first : Timed Input) (rest after : List (Timed Input))
     → inputs_of config rounds key ≡ before ++ (first ∷ (rest ++ after))
     → IsLife transaction_machine key before first rest
     → OneRequestSaid (said_of config rounds key) key before first rest after
@@ -60,7 +60,7 @@ OneRequestInEachLife = (config : Config) (rounds : List Round) → OneRequestInL
 -- nothing is handed up under the id of a life after it has ended
 abbrev pub NothingAfterEnds : Config → List Round → Type 0
 NothingAfterEnds config rounds =
-    (key : Key) (before : List Timed) (first : Timed) (rest after : List Timed) (id : Id)
+    (key : Key) (before : List (Timed Input)) (first : Timed Input) (rest after : List (Timed Input)) (id : Id)
     → inputs_of config rounds key ≡ before ++ (first ∷ (rest ++ after))
     → IsLife transaction_machine key before first rest
     → state_after transaction_machine key (before ++ first ∷ rest) ≡ None
@@ -74,7 +74,7 @@ NothingAfterEachEnd = (config : Config) (rounds : List Round) → NothingAfterEn
 -- ---- calls
 
 -- all that a call is given in rounds, oldest first
-abbrev pub call_inputs_of : Config → List Round → List ℕ → List CallInput
+abbrev pub call_inputs_of : Config → List Round → List ℕ → List (Timed CallInput)
 call_inputs_of config rounds call_id =
     history call_cmp tick_input (past_of config rounds).calls call_id
 

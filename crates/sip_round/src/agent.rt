@@ -245,7 +245,7 @@ impl<C: Cut + Drop> Agent<C> {
         ensures { IfOk result (λ arrived.
             IfSome self.now.shards (λ shards.
             IsArrived (owner_of (C.shard_of self.now.cut) branch_in (length shards.transactions))
-            (length shards.transactions) round.now.moment
+            (length shards.transactions)
             (arrivals_from self.now.calls.local self.now.next_round 1 round.now.events)
             (map (λ part. part.items) arrived.parts.items) arrived.waiting.items)) }
     {
@@ -254,7 +254,7 @@ impl<C: Cut + Drop> Agent<C> {
         };
         let events = round.events.as_slice();
         let arrivals = arrivals_of(self.alloc, self.calls.local, self.next_round, events)?;
-        let (items, waiting) = split(self.alloc, round.moment, arrivals)?;
+        let (items, waiting) = split(self.alloc, arrivals)?;
         let parts = parts_of(self.alloc, &self.cut, items, shards.count())?;
         Ok(Arrived { parts, waiting })
     }
@@ -273,7 +273,7 @@ impl<C: Cut + Drop> Agent<C> {
         requires moment { round.now.moment ≤ 2 ^ 62 }
         requires arrived { IfSome self.old.shards
             (λ shards. IsArrived (owner_of (C.shard_of self.old.cut) branch_in
-            (length shards.transactions)) (length shards.transactions) round.now.moment
+            (length shards.transactions)) (length shards.transactions)
             (arrivals_from self.old.calls.local self.old.next_round 1 round.now.events)
             (map (λ part. part.items) arrived.parts.items) arrived.waiting.items) }
         ensures calls { self.new.calls ≡ self.old.calls }

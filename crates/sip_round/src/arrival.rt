@@ -8,6 +8,7 @@ use crate::round::Event;
 use sip_message::{Addr, Id, Key, Message, ReadFault, key_of, stamp_source};
 use sip_reader::read;
 use sip_served::UserCommand;
+use sip_text::Boxed;
 use sip_transactions::{DropReason, Input, is_stray};
 use std::alloc::{AllocError, Global};
 
@@ -89,6 +90,7 @@ fn taken(
         reply_to = stamp_source(alloc, &mut message, from)?;
     }
     let key = key_of(alloc, &message)?;
+    let message = Boxed::new(alloc, message)?;
     let input = Input::Receive {
         id,
         message,

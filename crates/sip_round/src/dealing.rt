@@ -1,8 +1,8 @@
 //! The work of one shard in a phase.
 
-ghost use Rattle.std.specs.Prelude.{List, IfOk, IsTrue, All, true};
-ghost use Rattle.std.specs.Option.{option_map_or};
-ghost use Rattle.sip_model.specs.Phase.{AddsPhase};
+ghost use Rattle.std.specs.Prelude.{◌≤◌, ◌^◌, List, IfOk};
+ghost use Rattle.sip_model.specs.Machine.{ticks_of};
+ghost use Rattle.sip_model.specs.Phase.{AddsPhase, phase_at};
 ghost use Rattle.sip_model.specs.Told.{groups};
 
 use sip_model::{Item, Replies, ShardFault, StateMachine, Table};
@@ -13,10 +13,10 @@ use sip_workers::Job;
 pub(crate) struct Dealing<M: StateMachine> {
     pub(crate) machine: M,
     pub(crate) table: Table<M>,
-    pub(crate) moment: Option<u64>,
+    pub(crate) now: u64,
+    pub(crate) ticks: bool,
     pub(crate) items: Vec<Item<M::Key, M::Input>>,
-    ghost moment_admitted: { IsTrue (option_map_or (λ now. M.admits (M.tick now)) moment true) },
-    ghost items_admitted: { All (λ item. IsTrue (M.admits item.input)) items.items },
+    ghost in_bounds: { now ≤ 2 ^ 62 },
 }
 
 /// A shard's table after a phase, and what was said in it.
@@ -30,18 +30,19 @@ impl<M: StateMachine + Drop> Job for Dealing<M> {
     type Done = Result<Dealt<M>, ShardFault>;
 
     ghost gives = { λ job done. IfOk done
-        (λ dealt. AddsPhase M.Key.cmp (M.machine job.machine) M.tick job.table dealt.table
-        (record { moment = job.moment; items = job.items.items }) (groups dealt.replies.ticks.items)
+        (λ dealt. AddsPhase M.Key.cmp (M.machine job.machine) (ticks_of M.tick) job.table
+        dealt.table (phase_at job.now job.ticks job.items.items) (groups dealt.replies.ticks.items)
         (groups dealt.replies.items.items)) };
 
     fn run(self) -> Result<Dealt<M>, ShardFault> {
         let Dealing {
             machine,
             mut table,
-            moment,
+            now,
+            ticks,
             items,
         } = self;
-        let replies = table.deal(&machine, moment, items)?;
+        let replies = table.deal(&machine, now, ticks, items)?;
         Ok(Dealt { table, replies })
     }
 }

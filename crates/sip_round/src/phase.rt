@@ -1,10 +1,11 @@
 //! A phase of all shards.
 
-ghost use Rattle.std.specs.Prelude.{◌≡◌, ◌<◌, ◌≤◌, ℕ, List, [], IfOk, IsTrue, All, true, map, vec_len, length};
-ghost use Rattle.std.specs.Option.{option_map_or};
+ghost use Rattle.std.specs.Prelude.{◌≡◌, ◌<◌, ◌≤◌, ◌^◌, ℕ, List, [], IfOk, IsTrue, map, vec_len, length};
 ghost use Rattle.std.specs.List.{AllByRecursion};
 ghost use Rattle.std.specs.List.Sorted.{IsStrictlySortedBy};
 ghost use Rattle.std.specs.Ordering.{nat_cmp};
+ghost use Rattle.sip_model.specs.Machine.{ticks_of};
+ghost use Rattle.sip_model.specs.Phase.{phase_at};
 ghost use Rattle.sip_model.specs.Told.{groups};
 ghost use Rattle.sip_model.specs.declared.item.Item.{Item as AnItem};
 ghost use Rattle.sip_workers.specs.Ran.{IsNumbered};
@@ -17,7 +18,7 @@ use sip_workers::{Gate, NoMemory, Piece, dones_in_order, gather, run_pieces};
 use std::alloc::{AllocError, Global};
 use std::thread::Threads;
 
-/// Deals with a phase: each shard with its part, on up to so many workers. Gives the tables back,
+/// Deals with a phase at a moment in ms, with a tick or without: each shard with its part, on up to so many workers. Gives the tables back,
 /// in order, and what was said, in the order of keys and of places.
 ///
 /// # Errors
@@ -28,7 +29,8 @@ pub(crate) fn deal_phase<R: Threads + Sync, M: StateMachine + Copy + Send, G: Ga
     alloc: Global,
     machine: M,
     tables: Vec<Table<M>>,
-    moment: Option<u64>,
+    now: u64,
+    ticks: bool,
     parts: Vec<Vec<Item<M::Key, M::Input>>>,
     workers: usize,
     gate: &G,
@@ -40,25 +42,23 @@ where
     M::Output: Send,
     requires some { 0 < workers }
     requires most { workers ≤ 64 }
-    requires moment { IsTrue (option_map_or (λ now. M.admits (M.tick now)) moment true) }
-    requires items { All (λ part. All (λ item. IsTrue (M.admits item.input)) part.items)
-        parts.items }
+    requires moment { now ≤ 2 ^ 62 }
     requires count { vec_len parts ≡ vec_len tables }
     ensures { IfOk result (λ dealt. (owner : M.Key → ℕ) (items : List (AnItem M.Key M.Input))
         → ((key : M.Key) → owner key < length tables.items)
         → map (λ part. part.items) parts.items ≡ cut_by owner 0 (length tables.items) items
         → IsStrictlySortedBy nat_cmp (map (λ item. item.place) items)
-        → DealsAll M.Key.cmp (M.machine machine) M.tick owner tables.items dealt.0.items
-        (record { moment = moment; items = items }) (groups dealt.1.ticks.items)
+        → DealsAll M.Key.cmp (M.machine machine) (ticks_of M.tick) owner tables.items
+        dealt.0.items (phase_at now ticks items) (groups dealt.1.ticks.items)
         (groups dealt.1.items.items)) }
 {
     laws_of_phases(&machine);
-    if have_no_items(&parts) && are_idle(&machine, moment, &tables) {
+    if have_no_items(&parts) && are_idle(&machine, now, ticks, &tables) {
         let (ticks, items) = (Vec::new(alloc), Vec::new(alloc));
         return Ok((tables, Replies { ticks, items }));
     }
     dones_in_order::<Dealing<M>>();
-    let pieces = pieces_of(alloc, machine, tables, moment, parts)?;
+    let pieces = pieces_of(alloc, machine, tables, now, ticks, parts)?;
     let dones = run_pieces(rt, alloc, pieces, workers, gate)?;
     let (tables, replies) = apart(alloc, gather(alloc, dones)?)?;
     let Replies { ticks, items } = replies;
@@ -67,18 +67,21 @@ where
     Ok((tables, Replies { ticks, items }))
 }
 
-/// Whether nothing is due in any of these tables at the moment in ms, if there is one.
+/// Whether nothing is due in any of these tables at the moment in ms, or the phase has no tick.
 pub(crate) fn are_idle<M: StateMachine>(
     machine: &M,
-    moment: Option<u64>,
+    now: u64,
+    ticks: bool,
     tables: &[Table<M>],
 ) -> bool
     ensures { IsTrue result → AllByRecursion
-        (IsIdle M.Key.cmp (M.machine machine.now) M.tick moment) tables.now }
+        (IsIdle M.Key.cmp (M.machine machine.now) (ticks_of M.tick) now ticks) tables.now }
 {
     match tables {
         [] => true,
-        [table, others @ ..] => table.is_idle(machine, moment) && are_idle(machine, moment, others),
+        [table, others @ ..] => {
+            table.is_idle(machine, now, ticks) && are_idle(machine, now, ticks, others)
+        }
     }
 }
 
@@ -97,12 +100,11 @@ fn pieces_of<M: StateMachine + Copy>(
     alloc: Global,
     machine: M,
     tables: Vec<Table<M>>,
-    moment: Option<u64>,
+    now: u64,
+    ticks: bool,
     parts: Vec<Vec<Item<M::Key, M::Input>>>,
 ) -> Result<Vec<Piece<Dealing<M>>>, AllocError>
-    requires moment { IsTrue (option_map_or (λ now. M.admits (M.tick now)) moment true) }
-    requires items { All (λ part. All (λ item. IsTrue (M.admits item.input)) part.items)
-        parts.items }
+    requires moment { now ≤ 2 ^ 62 }
     requires count { vec_len parts ≡ vec_len tables }
     ensures numbered { IfOk result (λ pieces. IsNumbered pieces.items) }
     ensures tables { IfOk result (λ pieces. map (λ piece. piece.job.table) pieces.items
@@ -110,7 +112,8 @@ fn pieces_of<M: StateMachine + Copy>(
     ensures parts { IfOk result (λ pieces. map (λ piece. piece.job.items.items) pieces.items
         ≡ map (λ part. part.items) parts.items) }
     ensures shared { IfOk result (λ pieces.
-        AllByRecursion (λ piece. (piece.job.machine ≡ machine) × (piece.job.moment ≡ moment))
+        AllByRecursion (λ piece. (piece.job.machine ≡ machine) × (piece.job.now ≡ now)
+        × (piece.job.ticks ≡ ticks))
         pieces.items) }
 {
     let mut pieces = Vec::with_capacity(alloc, tables.len())?;
@@ -123,7 +126,8 @@ fn pieces_of<M: StateMachine + Copy>(
         let job = Dealing {
             machine,
             table,
-            moment,
+            now,
+            ticks,
             items,
         };
         pieces.push(Piece { shard, job })?;

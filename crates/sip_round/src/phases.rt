@@ -1,6 +1,6 @@
 //! The three phases of a round.
 
-ghost use Rattle.std.specs.Prelude.{◌≡◌, ◌<◌, ◌≤◌, ◌^◌, ℕ, List, IfOk, IsTrue, All, length, map, nat_le};
+ghost use Rattle.std.specs.Prelude.{◌≡◌, ◌<◌, ◌≤◌, ◌^◌, ℕ, List, IfOk, length, map};
 ghost use Rattle.sip_message.specs.Key.{branch_in};
 ghost use Rattle.sip_message.specs.declared.id.Id.{Id as AnId};
 ghost use Rattle.sip_round.specs.declared.arrival.Arrival.{Arrival as AnArrival};
@@ -21,7 +21,7 @@ use sip_calls::Calls;
 use sip_message::{Cut, Id, Key};
 use sip_model::{self as model, Table, laws_of_phases};
 use sip_served::Item;
-use sip_transactions::{Command, Timed, Transactions};
+use sip_transactions::{Command, Input, Transactions};
 use sip_workers::{Gate, NoMemory};
 use std::alloc::Global;
 use std::thread::Threads;
@@ -39,7 +39,7 @@ pub(crate) struct Ground<'a, R, C, G> {
 
 /// What arrived in a round: the part of each shard, and what waits for what the transactions say.
 pub(crate) struct Arrived {
-    pub(crate) parts: Vec<Vec<model::Item<Key, Timed>>>,
+    pub(crate) parts: Vec<Vec<model::Item<Key, Input>>>,
     pub(crate) waiting: Vec<(Id, Waiting)>,
 }
 
@@ -53,7 +53,7 @@ impl Drop for Arrived {
 }
 
 impl Arrived {
-    fn apart(self) -> (Vec<Vec<model::Item<Key, Timed>>>, Vec<(Id, Waiting)>)
+    fn apart(self) -> (Vec<Vec<model::Item<Key, Input>>>, Vec<(Id, Waiting)>)
         ensures { result ≡ (self.parts, self.waiting) }
     {
         let Arrived { parts, waiting } = self;
@@ -76,7 +76,7 @@ impl<'a, R: Threads + Sync, C: Cut, G: Gate> Ground<'a, R, C, G> {
         requires most { self.now.workers ≤ 64 }
         requires moment { round.now.moment ≤ 2 ^ 62 }
         requires arrived { IsArrived (owner_of (C.shard_of self.now.cut.now) branch_in
-            (length shards.transactions)) (length shards.transactions) round.now.moment
+            (length shards.transactions)) (length shards.transactions)
             (arrivals_from calls.local number 1 round.now.events)
             (map (λ part. part.items) arrived.parts.items) arrived.waiting.items }
         ensures { IfOk result (λ led. Deals calls
@@ -109,12 +109,12 @@ impl<'a, R: Threads + Sync, C: Cut, G: Gate> Ground<'a, R, C, G> {
         requires moment { now ≤ 2 ^ 62 }
         requires arrived { (arrivals : List (AnId × AnArrival))
             × IsArrived (owner_of (C.shard_of self.now.cut.now) branch_in (length tables.items))
-            (length tables.items) now arrivals
+            (length tables.items) arrivals
             (map (λ part. part.items) arrived.parts.items) arrived.waiting.items }
         requires shards { 0 < length tables.items }
         ensures { IfOk result (λ led. (arrivals : List (AnId × AnArrival))
             → IsArrived (owner_of (C.shard_of self.now.cut.now) branch_in (length tables.items))
-            (length tables.items) now arrivals
+            (length tables.items) arrivals
             (map (λ part. part.items) arrived.parts.items) arrived.waiting.items
             → LedFirst (owner_of (C.shard_of self.now.cut.now) branch_in (length tables.items))
             tables.items led.0.items number now arrivals led.1.items led.2.items) }
@@ -126,7 +126,8 @@ impl<'a, R: Threads + Sync, C: Cut, G: Gate> Ground<'a, R, C, G> {
             self.alloc,
             Transactions,
             tables,
-            Some(now),
+            now,
+            true,
             parts,
             self.workers,
             self.gate,
@@ -154,14 +155,15 @@ impl<'a, R: Threads + Sync, C: Cut, G: Gate> Ground<'a, R, C, G> {
             tables.items led.0.items now items.items outputs.old.items outputs.new.items
             led.1.items) }
     {
-        let items = call_items(self.alloc, now, items)?;
+        let items = call_items(self.alloc, items)?;
         let parts = parts_of(self.alloc, self.cut, items, tables.len())?;
         let (tables, replies) = deal_phase(
             self.rt,
             self.alloc,
             calls,
             tables,
-            Some(now),
+            now,
+            true,
             parts,
             self.workers,
             self.gate,
@@ -189,14 +191,15 @@ impl<'a, R: Threads + Sync, C: Cut, G: Gate> Ground<'a, R, C, G> {
             (owner_of (C.shard_of self.now.cut.now) branch_in (length tables.items)) tables.items
             led.items now commands.items outputs.old.items outputs.new.items) }
     {
-        let items = command_items(self.alloc, now, commands)?;
+        let items = command_items(self.alloc, commands)?;
         let parts = parts_of(self.alloc, self.cut, items, tables.len())?;
         let (tables, replies) = deal_phase(
             self.rt,
             self.alloc,
             Transactions,
             tables,
-            None,
+            now,
+            false,
             parts,
             self.workers,
             self.gate,

@@ -1,6 +1,6 @@
 //! The tables of all shards.
 
-ghost use Rattle.std.specs.Prelude.{◌≡◌, ◌<◌, ◌≤◌, ℕ, List, None, Some, [], IfOk, IsTrue, All, count_by, is_some, length, sum_by, vec_len};
+ghost use Rattle.std.specs.Prelude.{◌≡◌, ◌<◌, ◌≤◌, ℕ, List, Some, [], IfOk, IsTrue, All, count_by, is_some, length, sum_by, true, false, vec_len};
 ghost use Rattle.std.specs.List.{AllByRecursion};
 ghost use Rattle.sip_calls.specs.Call.{call_machine, tick_input};
 ghost use Rattle.sip_calls.specs.CallShard.{call_cmp};
@@ -52,7 +52,8 @@ impl Shards {
     ghost use Rattle.sip_model.specs.Phase.{Phase};
     ghost use Rattle.sip_round.specs.AgentState.{ShardTables, AreShards};
     ghost use Rattle.sip_round.specs.Answers.{HoldCalls, HoldTransactions};
-    ghost use Rattle.sip_transactions.specs.declared.input.Timed.{Timed};
+    ghost use Rattle.sip_model.specs.Machine.{Timed};
+    ghost use Rattle.sip_transactions.specs.declared.input.Input.{Input};
 
     /// So many shards that hold nothing.
     pub(crate) fn new(alloc: Global, shards: usize) -> Result<Shards, AllocError>
@@ -113,10 +114,10 @@ impl Shards {
         requires calls { All (λ table. table ≡ Some []) others.calls }
         ensures count { IfOk result (λ moved. length moved.transactions
             ≡ length others.transactions) }
-        ensures transactions { IfOk result (λ moved. (past : List (Phase Key Timed))
+        ensures transactions { IfOk result (λ moved. (past : List (Phase Key (Timed Input)))
             → HoldTransactions (C.shard_of cut.now) self past
             → HoldTransactions (C.shard_of cut.now) moved past) }
-        ensures calls { IfOk result (λ moved. (past : List (Phase (List ℕ) CallInput))
+        ensures calls { IfOk result (λ moved. (past : List (Phase (List ℕ) (Timed CallInput)))
             → HoldCalls calls.now (C.shard_of cut.now) self past
             → HoldCalls calls.now (C.shard_of cut.now) moved past) }
     {
@@ -140,15 +141,15 @@ impl Shards {
     pub(crate) fn are_idle(&self, calls: &Calls, moment: u64) -> bool
         ensures shards { AreShards self.now }
         ensures first { IsTrue result → AllByRecursion
-            (IsIdle key_cmp transaction_machine tick_at (Some moment)) self.now.transactions }
+            (IsIdle key_cmp transaction_machine tick_at moment true) self.now.transactions }
         ensures second { IsTrue result → AllByRecursion
-            (IsIdle call_cmp (call_machine calls.now) tick_input (Some moment)) self.now.calls }
+            (IsIdle call_cmp (call_machine calls.now) tick_input moment true) self.now.calls }
         ensures third { IsTrue result → AllByRecursion
-            (IsIdle key_cmp transaction_machine tick_at None) self.now.transactions }
+            (IsIdle key_cmp transaction_machine tick_at moment false) self.now.transactions }
     {
-        are_idle(&Transactions, Some(moment), &self.transactions)
-            && are_idle(&Transactions, None, &self.transactions)
-            && are_idle(calls, Some(moment), &self.calls)
+        are_idle(&Transactions, moment, true, &self.transactions)
+            && are_idle(&Transactions, moment, false, &self.transactions)
+            && are_idle(calls, moment, true, &self.calls)
     }
 
     /// How many transactions and how many calls are held.

@@ -1,11 +1,11 @@
 //! Arrivals, split into the inputs of transactions and what waits for what these say.
 
-ghost use Rattle.std.specs.Prelude.{◌≡◌, ◌≤◌, ◌^◌, ◌++◌, IfOk, OnOk};
+ghost use Rattle.std.specs.Prelude.{◌≡◌, ◌++◌, IfOk, OnOk};
 ghost use Rattle.std.specs.List.{flat_map};
 ghost use Rattle.std.specs.Vec.Iter.{into_iter_items};
 ghost use Rattle.sip_model.specs.Told.{groups};
 ghost use Rattle.sip_round.specs.Outputs.{joined, raised_of, sent_of};
-ghost use Rattle.sip_round.specs.Phases.{transaction_item};
+ghost use Rattle.sip_round.specs.Phases.{transaction_item, transaction_items};
 ghost use Rattle.sip_round.specs.Steps.Waiting.{all_waiting, items_waiting, outs_next, said_rest, waiting_of, woven};
 
 use crate::arrival::Arrival;
@@ -14,7 +14,7 @@ use crate::outs::part;
 use sip_message::{Id, Key};
 use sip_model::{self as model, Replies, joined};
 use sip_served::{Item, UserCommand};
-use sip_transactions::{DropReason, Out, Timed};
+use sip_transactions::{DropReason, Input, Out};
 use std::alloc::{AllocError, Global};
 use std::vec::IntoIter;
 
@@ -29,20 +29,18 @@ pub(crate) enum Waiting {
     User(UserCommand),
 }
 
-/// The inputs of transactions at this moment in ms, and what is left of the arrivals.
+/// The inputs of transactions, and what is left of the arrivals.
 pub(crate) fn split(
     alloc: Global,
-    now: u64,
     arrivals: Vec<(Id, Arrival)>,
-) -> Result<(Vec<model::Item<Key, Timed>>, Vec<(Id, Waiting)>), AllocError>
-    ensures items { IfOk result (λ both. both.0.items
-        ≡ flat_map (λ a. transaction_item now a.0 a.1) arrivals.items) }
+) -> Result<(Vec<model::Item<Key, Input>>, Vec<(Id, Waiting)>), AllocError>
+    ensures items { IfOk result (λ both. both.0.items ≡ transaction_items arrivals.items) }
     ensures waiting { IfOk result (λ both. both.1.items ≡ all_waiting arrivals.items) }
 {
     let mut items = Vec::with_capacity(alloc, arrivals.len())?;
     let mut waiting = Vec::with_capacity(alloc, arrivals.len())?;
     for (id, arrival) in arrivals {
-        let left = set_out(now, id, arrival, &mut items)?;
+        let left = set_out(id, arrival, &mut items)?;
         waiting.push((id, left))?;
     }
     Ok((items, waiting))
@@ -50,19 +48,17 @@ pub(crate) fn split(
 
 // Puts the input of an arrival on its way, and gives what is left of it.
 fn set_out(
-    now: u64,
     id: Id,
     arrival: Arrival,
-    items: &mut Vec<model::Item<Key, Timed>>,
+    items: &mut Vec<model::Item<Key, Input>>,
 ) -> Result<Waiting, AllocError>
     ensures items { OnOk result (items.new.items ≡ items.old.items
-        ++ transaction_item now id arrival) }
+        ++ transaction_item id arrival) }
     ensures left { IfOk result (λ left. left ≡ waiting_of arrival) }
 {
     match arrival {
         Arrival::Transaction(key, input) => {
             let place = id.place as usize;
-            let input = Timed { moment: now, input };
             items.push(model::Item { place, key, input })?;
             Ok(Waiting::Transaction)
         }

@@ -27,7 +27,7 @@ pub(crate) fn acknowledged_invite(ack: &Message, requests: &[HeldRequest]) -> Op
 fn awaits_ack(held: &HeldRequest) -> bool
     ensures { result ≡ spec.awaits_ack held.now }
 {
-    is_invite(&held.request) && is_repeated(held)
+    is_invite(held.request.get()) && is_repeated(held)
 }
 
 fn is_repeated(held: &HeldRequest) -> bool
@@ -43,9 +43,9 @@ fn is_repeated(held: &HeldRequest) -> bool
 fn is_ack_of(ack: &Message, held: &HeldRequest) -> bool
     ensures { result ≡ spec.is_ack_of ack.now held.now }
 {
-    token_eq(ack.to.tag(), local_tag(&held.request, &held.tag))
-        && token_eq(ack.from.tag(), held.request.from.tag())
-        && ack.cseq.number == held.request.cseq.number
+    token_eq(ack.to.tag(), local_tag(held.request.get(), &held.tag))
+        && token_eq(ack.from.tag(), held.request.get().from.tag())
+        && ack.cseq.number == held.request.get().cseq.number
 }
 
 /// The ACK of the 2xx to the INVITE of this id came.

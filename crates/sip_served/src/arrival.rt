@@ -14,14 +14,14 @@ use crate::request::{
 };
 use sip_message::{Addr, CallId, Id, Key, Message, RAck, Token};
 use sip_reliable::Outbound;
-use sip_text::token_eq;
+use sip_text::{Boxed, token_eq};
 
 /// A request that came up, with all that comes up with it.
 pub(crate) struct Arrival {
     pub(crate) key: Key,
     pub(crate) id: Id,
     pub(crate) call_id: CallId,
-    pub(crate) request: Message,
+    pub(crate) request: Boxed<Message>,
     /// Where its answers go.
     pub(crate) reply_to: Addr,
     /// The To tag that its responses get where it has none.
@@ -44,7 +44,7 @@ impl Arrival {
             reply_to,
             tag,
         } = self;
-        let ledger = Outbound::new(FIRST_RSEQ, supports_100rel(&request));
+        let ledger = Outbound::new(FIRST_RSEQ, supports_100rel(request.get()));
         HeldRequest {
             id,
             key,
@@ -184,9 +184,9 @@ fn is_in_dialog(held: &HeldRequest, name: &DialogName, born: Id) -> bool
 fn is_named_by(held: &HeldRequest, rack: &RAck) -> bool
     ensures { result ≡ arrival.is_named_by rack.now held.now }
 {
-    is_invite(&held.request)
-        && rack.method == held.request.cseq.method
-        && held.request.cseq.number == rack.cseq
+    is_invite(held.request.get())
+        && rack.method == held.request.get().cseq.method
+        && held.request.get().cseq.number == rack.cseq
         && held.ledger.waits_for(rack.rseq)
 }
 
@@ -200,9 +200,9 @@ fn merges(requests: &[HeldRequest], request: &Message) -> bool
 fn is_merged(held: &HeldRequest, request: &Message) -> bool
     ensures { result ≡ arrival.is_merged request.now held.now }
 {
-    token_eq(held.request.from.tag(), request.from.tag())
-        && held.request.cseq.number == request.cseq.number
-        && held.request.cseq.method == request.cseq.method
+    token_eq(held.request.get().from.tag(), request.from.tag())
+        && held.request.get().cseq.number == request.cseq.number
+        && held.request.get().cseq.method == request.cseq.method
 }
 
 // Whether it requires an option that the agent doesn't know.

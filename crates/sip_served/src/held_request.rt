@@ -10,7 +10,7 @@ pub struct HeldRequest {
     pub id: Id,
     /// The key of its transaction.
     pub key: Key,
-    pub request: Message,
+    pub request: Boxed<Message>,
     /// Where its answers go.
     pub reply_to: Addr,
     /// The To tag that its responses get where the request has none.

@@ -28,6 +28,7 @@ use crate::respond::{answer_to, dialogs_answered, note_answer, note_dialog, refu
 use crate::tick::{is_kept, next_due, tick_requests};
 use indexmap::IndexMap;
 use sip_message::{Addr, CallId, Id, Message, Token};
+use sip_text::Boxed;
 use sip_transactions::{Command, Kind, Up};
 use std::alloc::{AllocError, Global};
 use std::marker::Model;
@@ -131,7 +132,7 @@ impl Holdings {
                 reply_to,
                 tag,
             }),
-            Kind::Ack(ack) => self.ack(call_id, ack),
+            Kind::Ack(ack) => self.ack(call_id, ack.get()),
             Kind::Response(_) => Ok(Vec::new(self.alloc)),
             Kind::Timeout => tell(self.alloc, Notice::Timeout { call_id, id }),
             Kind::Failed => tell(self.alloc, Notice::Failed { call_id, id }),
@@ -143,12 +144,12 @@ impl Holdings {
         ensures { IfOk result (λ outs. (self.new, outs.items)
             ≡ arrived.request_taken self.old arrival) }
     {
-        let name = dialog_name(self.alloc, &arrival.request, &arrival.tag)?;
+        let name = dialog_name(self.alloc, arrival.request.get(), &arrival.tag)?;
         let case = case_of(
             self.requests.as_slice(),
             &self.dialogs,
             &name,
-            &arrival.request,
+            arrival.request.get(),
         );
         self.by_case(case, name, arrival)
     }
@@ -168,15 +169,15 @@ impl Holdings {
             ArrivalCase::NoDialog => no_such_dialog(self.alloc, &arrival),
             ArrivalCase::OutOfOrder => out_of_order(self.alloc, &arrival),
             ArrivalCase::Acknowledges(invite, rseq) => {
-                self.note(&name, &arrival.request)?;
+                self.note(&name, arrival.request.get())?;
                 self.prack(arrival, invite, rseq)
             }
             ArrivalCase::AcknowledgesNothing => {
-                self.note(&name, &arrival.request)?;
+                self.note(&name, arrival.request.get())?;
                 no_such_dialog(self.alloc, &arrival)
             }
             ArrivalCase::ForUser => {
-                self.note(&name, &arrival.request)?;
+                self.note(&name, arrival.request.get())?;
                 self.for_user(name, arrival)
             }
         }
@@ -202,7 +203,7 @@ impl Holdings {
             call_id: arrival.call_id.clone()?,
             id: invite,
             rseq,
-            body: arrival.request.body.clone()?,
+            body: arrival.request.get().body.clone()?,
         }))?;
         prack(&mut self.requests, invite, rseq);
         Ok(outs)
@@ -213,7 +214,7 @@ impl Holdings {
         ensures { IfOk result (λ outs. (self.new, outs.items)
             ≡ arrived.for_user self.old name arrival) }
     {
-        let ends = is_inside(&arrival.request) && is_bye(&arrival.request);
+        let ends = is_inside(arrival.request.get()) && is_bye(arrival.request.get());
         let held = self.hold(&name, arrival)?;
         if !ends {
             return Ok(held);
@@ -228,7 +229,7 @@ impl Holdings {
             ≡ arrived.request_held self.old name.now arrival) }
     {
         let notice = notice_of_request(self.alloc, &arrival)?;
-        let dialog = own_dialog(&self.dialogs, &arrival.request, name)?;
+        let dialog = own_dialog(&self.dialogs, arrival.request.get(), name)?;
         // Most calls hold one request, and a list that grows by itself begins with four places.
         if self.requests.is_empty() {
             self.requests.reserve_exact(1)?;
@@ -238,10 +239,10 @@ impl Holdings {
     }
 
     // An ACK.
-    fn ack(&mut self, call_id: CallId, ack: Message) -> Result<Vec<CallOut>, AllocError>
-        ensures { IfOk result (λ outs. (self.new, outs.items) ≡ ack_taken self.old call_id ack) }
+    fn ack(&mut self, call_id: CallId, ack: &Message) -> Result<Vec<CallOut>, AllocError>
+        ensures { IfOk result (λ outs. (self.new, outs.items) ≡ ack_taken self.old call_id ack.now) }
     {
-        let Some(invite) = acknowledged_invite(&ack, self.requests.as_slice()) else {
+        let Some(invite) = acknowledged_invite(ack, self.requests.as_slice()) else {
             return Ok(Vec::new(self.alloc));
         };
         let body = ack.body.clone()?;
@@ -302,7 +303,7 @@ impl Holdings {
         let (id, key) = (held.id, held.key.clone()?);
         note_dialog(self.alloc, held, event, &respond)?;
         note_answer(self.alloc, held, &respond, &response, now)?;
-        let message = response;
+        let message = Boxed::new(self.alloc, response)?;
         let command = CallOut::Command(id, Command::Answer { key, message });
         joined(one(self.alloc, command)?, ends)
     }
@@ -313,7 +314,7 @@ impl Holdings {
         ensures { IfOk result (λ outs. (self.new, outs.items) ≡ tick_taken self.old now) }
     {
         let mut outs = Vec::new(self.alloc);
-        tick_requests(&mut self.requests, now, &mut outs)?;
+        tick_requests(self.alloc, &mut self.requests, now, &mut outs)?;
         remove_over(&mut self.requests, now);
         Ok(outs)
     }

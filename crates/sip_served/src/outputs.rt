@@ -14,7 +14,7 @@ use crate::notice::Notice;
 use crate::request::local_tag;
 use crate::unsupported::unsupported;
 use sip_message::{Header, Message, Reason, StatusCode, response_to};
-use sip_text::Text;
+use sip_text::{Boxed, Text};
 use sip_transactions::Command;
 use std::alloc::{AllocError, Global};
 
@@ -45,10 +45,11 @@ pub(crate) fn tell(alloc: Global, notice: Notice) -> Result<Vec<CallOut>, AllocE
     one(alloc, CallOut::Notice(notice))
 }
 
-fn command_for(arrival: &Arrival, message: Message) -> Result<CallOut, AllocError>
+fn command_for(alloc: Global, arrival: &Arrival, message: Message) -> Result<CallOut, AllocError>
     ensures { IfOk result (λ out. out ≡ arrived.command_for arrival.now message) }
 {
     let key = arrival.key.clone()?;
+    let message = Boxed::new(alloc, message)?;
     Ok(CallOut::Command(arrival.id, Command::Answer { key, message }))
 }
 
@@ -66,7 +67,7 @@ fn response_with(
 {
     let reason = Reason::from_text(Text::copy_of(alloc, reason)?);
     let status = StatusCode::from_code(status);
-    response_to(alloc, &arrival.request, status, reason, &arrival.tag)
+    response_to(alloc, arrival.request.get(), status, reason, &arrival.tag)
 }
 
 /// The agent's own answer to a request.
@@ -82,7 +83,11 @@ pub(crate) fn reply(
     ensures { IfOk result (λ out. out ≡ arrived.command_for arrival.now
         (response_of arrival.now.request status reason.now arrival.now.tag)) }
 {
-    command_for(arrival, response_with(alloc, arrival, status, reason)?)
+    command_for(
+        alloc,
+        arrival,
+        response_with(alloc, arrival, status, reason)?,
+    )
 }
 
 /// The agent's own answer to a request, alone.
@@ -139,7 +144,7 @@ pub(crate) fn bad_extension(alloc: Global, arrival: &Arrival) -> Result<Vec<Call
 {
     one(
         alloc,
-        command_for(arrival, bad_extension_response(alloc, arrival)?)?,
+        command_for(alloc, arrival, bad_extension_response(alloc, arrival)?)?,
     )
 }
 
@@ -149,7 +154,7 @@ fn bad_extension_response(alloc: Global, arrival: &Arrival) -> Result<Message, A
         (filter is_unknown_option arrival.now.request.require))
         (response_of arrival.now.request 420 (codes "Bad Extension") arrival.now.tag)) }
 {
-    let header = unsupported(alloc, arrival.request.require.as_slice())?;
+    let header = unsupported(alloc, arrival.request.get().require.as_slice())?;
     let mut response = response_with(alloc, arrival, 420, b"Bad Extension")?;
     add_header(&mut response, header)?;
     Ok(response)
@@ -166,7 +171,7 @@ pub(crate) fn notice_of_request(alloc: Global, arrival: &Arrival) -> Result<Noti
     ensures { IfOk result (λ notice. notice
         ≡ request_notice arrival.now.id arrival.now.call_id arrival.now.request arrival.now.tag) }
 {
-    let request = &arrival.request;
+    let request = arrival.request.get();
     Ok(Notice::Request {
         call_id: arrival.call_id.clone()?,
         id: arrival.id,

@@ -65,7 +65,7 @@ fn is_user_status(status: u16) -> bool
 fn may_be_reliable(held: &HeldRequest, status: u16) -> bool
     ensures { result ≡ spec.may_be_reliable held.now status }
 {
-    is_invite(&held.request) && is_provisional(status) && supports_100rel(&held.request)
+    is_invite(held.request.get()) && is_provisional(status) && supports_100rel(held.request.get())
 }
 
 /// Whether the answer is sent reliably.
@@ -73,7 +73,7 @@ pub(crate) fn is_sent_reliably(held: &HeldRequest, respond: &Respond) -> bool
     ensures { result ≡ spec.is_sent_reliably held.now respond.now }
 {
     may_be_reliable(held, respond.status)
-        && (is_reliable(respond.reliability) || requires_100rel(&held.request))
+        && (is_reliable(respond.reliability) || requires_100rel(held.request.get()))
 }
 
 fn is_reliable(reliability: Reliability) -> bool
@@ -89,7 +89,7 @@ fn is_reliable(reliability: Reliability) -> bool
 pub(crate) fn is_of_dialog(held: &HeldRequest, status: u16) -> bool
     ensures { result ≡ spec.is_of_dialog held.now status }
 {
-    is_invite(&held.request) && (is_provisional(status) || is_success(status))
+    is_invite(held.request.get()) && (is_provisional(status) || is_success(status))
 }
 
 fn has_ended(dialogs: &Dialogs, held: &HeldRequest) -> bool
@@ -137,9 +137,9 @@ pub(crate) fn answer_to(
 {
     let status = StatusCode::from_code(respond.status);
     let reason = respond.reason.clone()?;
-    let mut response = response_to(alloc, &held.request, status, reason, &held.tag)?;
+    let mut response = response_to(alloc, held.request.get(), status, reason, &held.tag)?;
     if is_of_dialog(held, respond.status) {
-        set_routes(alloc, local, &held.request, &mut response)?;
+        set_routes(alloc, local, held.request.get(), &mut response)?;
     }
     if is_sent_reliably(held, respond) {
         set_rseq(alloc, held.ledger.next_number().ok(), &mut response)?;
@@ -225,7 +225,7 @@ fn finish(
     ensures { OnOk result (held.new ≡ spec.finished response.now status now held.old) }
 {
     held.ledger.close();
-    if is_invite(&held.request) && is_success(status) {
+    if is_invite(held.request.get()) && is_success(status) {
         held.success = Some(success_sent(Boxed::new(alloc, response.clone()?)?, now));
     }
     held.removal = Some(now + u64::from(LIFETIME));
@@ -265,7 +265,7 @@ pub(crate) fn dialogs_answered(
         return Ok(Vec::new(alloc));
     }
     if confirms_dialog(held, respond.status) {
-        let name = dialog_name(alloc, &held.request, &held.tag)?;
+        let name = dialog_name(alloc, held.request.get(), &held.tag)?;
         confirm(dialogs, &name, response)?;
         return Ok(Vec::new(alloc));
     }
@@ -279,19 +279,19 @@ pub(crate) fn dialogs_answered(
 pub(crate) fn makes_dialog(held: &HeldRequest, status: u16) -> bool
     ensures { result ≡ spec.makes_dialog held.now status }
 {
-    is_of_dialog(held, status) && !is_inside(&held.request) && held.dialog.is_none()
+    is_of_dialog(held, status) && !is_inside(held.request.get()) && held.dialog.is_none()
 }
 
 fn confirms_dialog(held: &HeldRequest, status: u16) -> bool
     ensures { result ≡ spec.confirms_dialog held.now status }
 {
-    is_of_dialog(held, status) && is_success(status) && !is_inside(&held.request)
+    is_of_dialog(held, status) && is_success(status) && !is_inside(held.request.get())
 }
 
 fn rejects(held: &HeldRequest, status: u16) -> bool
     ensures { result ≡ spec.rejects held.now status }
 {
-    is_invite(&held.request) && FIRST_REJECTING <= status
+    is_invite(held.request.get()) && FIRST_REJECTING <= status
 }
 
 fn make_dialog(
@@ -307,7 +307,7 @@ fn make_dialog(
         ≡ insert_entry is_named dialogs.old.entries (dialog_name held.now.request held.now.tag)
         (spec.made_dialog event held.now status)) }
 {
-    let name = dialog_name(alloc, &held.request, &held.tag)?;
+    let name = dialog_name(alloc, held.request.get(), &held.tag)?;
     let made = made_dialog(alloc, event, held, StatusCode::from_code(status))?;
     dialogs.insert(name, made)?;
     Ok(())
@@ -323,7 +323,7 @@ fn made_dialog(
 {
     let tag = held.tag.clone()?;
     Ok(HeldDialog {
-        dialog: Dialog::from_request(alloc, &held.request, tag, status)?,
+        dialog: Dialog::from_request(alloc, held.request.get(), tag, status)?,
         address: held.reply_to,
         made_by: held.id,
         born: event,
@@ -342,18 +342,22 @@ pub(crate) fn note_dialog(
     ensures { OnOk result (held.new ≡ spec.with_dialog event respond.now held.old) }
 {
     if makes_dialog(held, respond.status) {
-        let name = dialog_name(alloc, &held.request, &held.tag)?;
+        let name = dialog_name(alloc, held.request.get(), &held.tag)?;
         held.dialog = Some(DialogLife { name, born: event });
     }
     Ok(())
 }
 
 /// The command by which an answer goes to the transaction of its request.
-pub(crate) fn answer_command(held: &HeldRequest, response: &Message) -> Result<CallOut, AllocError>
+pub(crate) fn answer_command(
+    alloc: Global,
+    held: &HeldRequest,
+    response: &Message,
+) -> Result<CallOut, AllocError>
     ensures { IfOk result (λ out. out ≡ call_out.Command held.now.id
         (Answer held.now.key response.now)) }
 {
     let key = held.key.clone()?;
-    let message = response.clone()?;
+    let message = Boxed::new(alloc, response.clone()?)?;
     Ok(CallOut::Command(held.id, Command::Answer { key, message }))
 }

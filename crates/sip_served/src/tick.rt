@@ -15,10 +15,11 @@ use crate::respond::answer_command;
 use sip_reliable::Tick;
 use sip_timers::earlier;
 use sip_transactions::T2;
-use std::alloc::AllocError;
+use std::alloc::{AllocError, Global};
 
 /// Does what is due of each held request at the moment `now`, in ms.
 pub(crate) fn tick_requests(
+    alloc: Global,
     requests: &mut Vec<HeldRequest>,
     now: u64,
     outs: &mut Vec<CallOut>,
@@ -30,24 +31,34 @@ pub(crate) fn tick_requests(
         ++ flat_map (λ held. (spec.request_ticked now held).1) requests.old.items) }
 {
     for held in requests.iter_mut() {
-        tick_request(held, now, outs)?;
+        tick_request(alloc, held, now, outs)?;
     }
     Ok(())
 }
 
 // First the 2xx, and then the reliable provisional response.
-fn tick_request(held: &mut HeldRequest, now: u64, outs: &mut Vec<CallOut>) -> Result<(), AllocError>
+fn tick_request(
+    alloc: Global,
+    held: &mut HeldRequest,
+    now: u64,
+    outs: &mut Vec<CallOut>,
+) -> Result<(), AllocError>
     requires { now ≤ 2 ^ 62 }
     ensures held { OnOk result (held.new ≡ (spec.request_ticked now held.old).0) }
     ensures outs { OnOk result (outs.new.items ≡ outs.old.items
         ++ (spec.request_ticked now held.old).1) }
 {
-    tick_success(held, now, outs)?;
-    tick_provisional(held, now, outs)
+    tick_success(alloc, held, now, outs)?;
+    tick_provisional(alloc, held, now, outs)
 }
 
 // What is due of the 2xx to an INVITE.
-fn tick_success(held: &mut HeldRequest, now: u64, outs: &mut Vec<CallOut>) -> Result<(), AllocError>
+fn tick_success(
+    alloc: Global,
+    held: &mut HeldRequest,
+    now: u64,
+    outs: &mut Vec<CallOut>,
+) -> Result<(), AllocError>
     requires { now ≤ 2 ^ 62 }
     ensures held { OnOk result (held.new ≡ (spec.success_ticked now held.old).0) }
     ensures outs { OnOk result (outs.new.items ≡ outs.old.items
@@ -59,7 +70,7 @@ fn tick_success(held: &mut HeldRequest, now: u64, outs: &mut Vec<CallOut>) -> Re
     match success_answer(success, now) {
         Tick::Nothing => Ok(()),
         Tick::Again => {
-            outs.push(answer_command(held, success.response.get())?)?;
+            outs.push(answer_command(alloc, held, success.response.get())?)?;
             repeat_success(held, now);
             Ok(())
         }
@@ -115,13 +126,14 @@ fn no_ack(held: &HeldRequest) -> Result<Notice, AllocError>
     ensures { IfOk result (λ notice. notice ≡ notices.NoAck held.now.request.call_id held.now.id) }
 {
     Ok(Notice::NoAck {
-        call_id: held.request.call_id.clone()?,
+        call_id: held.request.get().call_id.clone()?,
         id: held.id,
     })
 }
 
 // What is due of the reliable provisional response that waits.
 fn tick_provisional(
+    alloc: Global,
     held: &mut HeldRequest,
     now: u64,
     outs: &mut Vec<CallOut>,
@@ -135,10 +147,11 @@ fn tick_provisional(
         return Ok(());
     }
     let tick = held.ledger.tick(now);
-    tell_provisional(held, tick, outs)
+    tell_provisional(alloc, held, tick, outs)
 }
 
 fn tell_provisional(
+    alloc: Global,
     held: &HeldRequest,
     tick: Tick,
     outs: &mut Vec<CallOut>,
@@ -152,7 +165,7 @@ fn tell_provisional(
     };
     match tick {
         Tick::Nothing => {}
-        Tick::Again => outs.push(answer_command(held, response.get())?)?,
+        Tick::Again => outs.push(answer_command(alloc, held, response.get())?)?,
         Tick::GivenUp => outs.push(CallOut::Notice(no_prack(held)?))?,
     }
     Ok(())
@@ -163,7 +176,7 @@ fn no_prack(held: &HeldRequest) -> Result<Notice, AllocError>
         ≡ notices.NoPrack held.now.request.call_id held.now.id) }
 {
     Ok(Notice::NoPrack {
-        call_id: held.request.call_id.clone()?,
+        call_id: held.request.get().call_id.clone()?,
         id: held.id,
     })
 }

@@ -12,11 +12,10 @@ use Rattle.sip_message.specs.declared.key.Key.{Key}
 use Rattle.sip_message.specs.declared.message.Message.{Message}
 use Rattle.sip_message.specs.declared.start_line.StartLine.{StartLine}
 use Rattle.sip_message.specs.declared.start_line.StartLine.TheVariants as start
-use Rattle.sip_model.specs.Machine.{outputs_from}
+use Rattle.sip_model.specs.Machine.{outputs_from, Timed}
 use Rattle.sip_model.proofs.History.{state_after-push}
 use Rattle.sip_transactions.specs.declared.input.Input.{Input}
 use Rattle.sip_transactions.specs.declared.input.Input.TheVariants.{Tick, Receive, Start, Answer, Failed}
-use Rattle.sip_transactions.specs.declared.input.Timed.{Timed}
 use Rattle.sip_transactions.specs.declared.life.Life.{Life}
 use Rattle.sip_transactions.specs.declared.output.Out.{Out}
 use Rattle.sip_transactions.specs.declared.step.Step.{Step}
@@ -155,7 +154,7 @@ begun_other id key now (Receive i message reply_to) step trigger triggered passe
     (subst (λ t. response_needs_life None t step ≡ true) same passed)
 
 -- one input
-input_other : (id : Id) (key : Key) (held : Option Life) (timed : Timed) → OtherLife id held
+input_other : (id : Id) (key : Key) (held : Option Life) (timed : Timed Input) → OtherLife id held
     → OtherName id (naming_id timed.input) → Other id (stepped key held timed)
 input_other id key (Some life) timed other named =
     by_step (Other id) key (Some life) timed (record { life = other; said = refl })
@@ -167,7 +166,7 @@ input_other id key None timed other named =
     (responses_in_tables (role_of key)) None row.trigger step row.row) named)
 
 -- all later inputs
-later_other : (id : Id) (key : Key) (held : Option Life) (inputs : List Timed) → OtherLife id held
+later_other : (id : Id) (key : Key) (held : Option Life) (inputs : List (Timed Input)) → OtherLife id held
     → AllByRecursion (λ timed. OtherName id (naming_id timed.input)) inputs
     → list_any (carries id) (outputs_from transaction_machine key held inputs) ≡ false
 later_other id key held [] other named = refl
@@ -178,7 +177,7 @@ later_other id key held (timed ∷ inputs) other named =
     ∙ or_none _ _ one.said (later_other id key (stepped key held timed).0 inputs one.life named.1)
 
 -- ---- distinct names
-abbrev names : List Timed → List Id
+abbrev names : List (Timed Input) → List Id
 names inputs = filter_map (λ timed. naming_id timed.input) inputs
 
 distinct_later : (xs : List Id) (id : Id) (ys : List Id) → IsDistinct same_id (xs ++ id ∷ ys)
@@ -199,7 +198,7 @@ named_first : (id : Id) (name : Option Id) (later : List Id)
 named_first id None later all = (tt, all)
 named_first id (Some name) later all = (all.0, all.1)
 
-named_apart : (id : Id) (inputs : List Timed)
+named_apart : (id : Id) (inputs : List (Timed Input))
     → AllByRecursion (λ name. same_id id name ≡ false) (names inputs)
     → AllByRecursion (λ timed. OtherName id (naming_id timed.input)) inputs
 named_apart id [] all = tt
@@ -233,7 +232,7 @@ begun_names key now (Receive i message reply_to) step trigger triggered passed g
     receive_names key now i message reply_to message.start step _
     (subst (λ t. response_needs_life None t step ≡ true) same passed) goes_on
 
-first_names : (key : Key) (first : Timed) → IsSome (stepped key None first).0
+first_names : (key : Key) (first : Timed Input) → IsSome (stepped key None first).0
     → naming_id first.input ≡ id_of first.input
 first_names key first =
     by_step (λ after. IsSome after.0 → naming_id first.input ≡ id_of first.input) key None first

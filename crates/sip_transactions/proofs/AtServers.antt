@@ -11,7 +11,8 @@ use Rattle.sip_message.specs.Written.{written}
 use Rattle.sip_transactions.specs.declared.life.Life.{Life}
 use Rattle.sip_transactions.specs.declared.output.Out.TheVariants.{Send}
 use Rattle.sip_transactions.specs.declared.input.Input.TheVariants as input
-use Rattle.sip_transactions.specs.declared.input.Timed.{Timed}
+use Rattle.sip_transactions.specs.declared.input.Input.{Input}
+use Rattle.sip_model.specs.Machine.{Timed}
 use Rattle.sip_transactions.specs.declared.state.Role.{Role}
 use Rattle.sip_transactions.specs.declared.state.Role.TheVariants.{InviteClient, Client, InviteServer, Server}
 use Rattle.sip_transactions.specs.declared.state.State.{State}
@@ -51,7 +52,7 @@ server_role (key.Server branch sent_by method) server =
     (λ miss. ap (λ b. is_server (cond b InviteServer Server)) miss)
 
 -- an input of a life by the row that fits it
-by_row : (key : Key) (life : Life) (timed : Timed) (trigger : Trigger) (row : Option Step)
+by_row : (key : Key) (life : Life) (timed : Timed Input) (trigger : Trigger) (row : Option Step)
     → trigger_of (Some life) timed.moment timed.input ≡ Some trigger
     → row_of (rows_of (role_of key)) (Some life.state) trigger ≡ row
     → stepped key (Some life) timed ≡ stepped_by key (Some life) timed.moment timed.input row
@@ -207,7 +208,7 @@ acted_end : (key : Key) (life : Life) (moment : ℕ)
 unfolding ends life_after
 acted_end key life moment = refl
 
-by_nothing : (key : Key) (life : Life) (timed : Timed)
+by_nothing : (key : Key) (life : Life) (timed : Timed Input)
     → trigger_of (Some life) timed.moment timed.input ≡ None
     → stepped key (Some life) timed ≡ (Some life, [])
 unfolding stepped step_for

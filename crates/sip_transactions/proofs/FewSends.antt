@@ -19,11 +19,10 @@ use Rattle.sip_message.specs.declared.start_line.StartLine.TheVariants as start
 use Rattle.sip_message.specs.Ack.{ack_of}
 use Rattle.sip_message.specs.Message.{is_request_message, is_request_line}
 use Rattle.sip_message.specs.Written.{written, head_text, start_text, identity_text, routes_text, extensions_text, content_text, via_line, number_line}
-use Rattle.sip_model.specs.Machine.{outputs_from, IsWithinLife}
+use Rattle.sip_model.specs.Machine.{outputs_from, IsWithinLife, Timed}
 use Rattle.sip_model.proofs.History.{state_after-push}
 use Rattle.sip_transactions.specs.declared.input.Input.{Input}
 use Rattle.sip_transactions.specs.declared.input.Input.TheVariants.{Tick, Receive, Start, Answer, Failed}
-use Rattle.sip_transactions.specs.declared.input.Timed.{Timed}
 use Rattle.sip_transactions.specs.declared.life.Life.{Life}
 use Rattle.sip_transactions.specs.declared.output.Out.{Out}
 use Rattle.sip_transactions.specs.declared.state.Role.{Role}
@@ -608,7 +607,7 @@ module _ (role : Role) (client : is_client role ≡ true) (key : Key) (text : Li
       (sym (latest-made life.request (message_in input)))
       (repeated life now handed pace (arrived_in input) fit f)
 
-  input_few : (life : Life) (timed : Timed) → role_of key ≡ role → Fit role text life
+  input_few : (life : Life) (timed : Timed Input) → role_of key ≡ role → Fit role text life
       → Few role text (room life) (stepped key (Some life) timed)
   unfolding FitAfter
   input_few life timed own fit =
@@ -620,7 +619,7 @@ module _ (role : Role) (client : is_client role ≡ true) (key : Key) (text : Li
       (Some life.state) row.trigger step
       (subst (λ r. row_of (rows_of r) (Some life.state) row.trigger ≡ Some step) own row.row)))
 
-  rest_few : (state : Option Life) (inputs : List Timed) → role_of key ≡ role
+  rest_few : (state : Option Life) (inputs : List (Timed Input)) → role_of key ≡ role
       → IsWithinLife transaction_machine key state inputs → FitAfter role text state
       → sends_of text (outputs_from transaction_machine key state inputs) ≤ budget role state
   unfolding FitAfter
@@ -709,7 +708,7 @@ few_sends branch method before now id call_id request to rest life line same =
     let text = written request in
     let invite : keeps_request role ≡ true → first_of text ≡ Some 73 =
     λ keeping. request_first request line (same ∙ invite_method branch method keeping) in
-    let first : Timed = record { moment = now; input = Start id call_id request to } in
+    let first : Timed Input = record { moment = now; input = Start id call_id request to } in
     let one : Few role text (1 + most_repeats role) (stepped k None first) =
     by_step (Few role text (1 + most_repeats role)) k None first
     (record { few = omega arith; fit = tt })

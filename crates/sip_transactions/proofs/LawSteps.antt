@@ -14,7 +14,8 @@ use Rattle.sip_message.specs.declared.start_line.StartLine.{StartLine}
 use Rattle.sip_message.specs.declared.start_line.StartLine.TheVariants as start
 use Rattle.sip_transactions.specs.declared.input.Command.{Command}
 use Rattle.sip_transactions.specs.declared.input.Command.TheVariants as command
-use Rattle.sip_transactions.specs.declared.input.Timed.{Timed}
+use Rattle.sip_transactions.specs.declared.input.Input.{Input}
+use Rattle.sip_model.specs.Machine.{Timed}
 use Rattle.sip_transactions.specs.declared.life.Life.{Life}
 use Rattle.sip_transactions.specs.declared.output.Out.{Out}
 use Rattle.sip_transactions.specs.declared.state.State.{State}
@@ -36,13 +37,13 @@ use Rattle.sip_transactions.specs.Shard.{order}
 use Rattle.sip_transactions.proofs.RowFacts.{by_test, table_passes, row_passes}
 
 -- ---- the row of an input
-pub record RowFor (key : Key) (held : Option Life) (timed : Timed) (step : Step) : Type 0 where
+pub record RowFor (key : Key) (held : Option Life) (timed : Timed Input) (step : Step) : Type 0 where
   pub trigger : Trigger
   pub triggered : trigger_of held timed.moment timed.input ≡ Some trigger
   pub row : row_of (rows_of (role_of key)) (option_map (λ life. life.state) held) trigger
       ≡ Some step
 
-row_for : (key : Key) (held : Option Life) (timed : Timed) (step : Step)
+row_for : (key : Key) (held : Option Life) (timed : Timed Input) (step : Step)
     → step_for key held timed.moment timed.input ≡ Some step → RowFor key held timed step
 unfolding step_for
 row_for key held timed step found =
@@ -57,7 +58,7 @@ by_option G None none some = none refl
 by_option G (Some x) none some = some x refl
 
 -- an input does nothing, or what its row says
-pub by_step : (G : Option Life × List Out → Type 0) (key : Key) (held : Option Life) (timed : Timed)
+pub by_step : (G : Option Life × List Out → Type 0) (key : Key) (held : Option Life) (timed : Timed Input)
     → G (held, []) → ((step : Step) → RowFor key held timed step
     → G (acted_if key timed.moment timed.input (life_of (role_of key) held timed.input) step))
     → G (stepped key held timed)

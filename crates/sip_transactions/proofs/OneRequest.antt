@@ -8,11 +8,10 @@ use Rattle.sip_message.specs.declared.key.Key.{Key}
 use Rattle.sip_message.specs.declared.message.Message.{Message}
 use Rattle.sip_message.specs.declared.start_line.StartLine.{StartLine}
 use Rattle.sip_message.specs.declared.start_line.StartLine.TheVariants as start
-use Rattle.sip_model.specs.Machine.{state_after, outputs_from, IsWithinLife}
+use Rattle.sip_model.specs.Machine.{state_after, outputs_from, IsWithinLife, Timed}
 use Rattle.sip_model.proofs.History.{state_after-push}
 use Rattle.sip_transactions.specs.declared.input.Input.{Input}
 use Rattle.sip_transactions.specs.declared.input.Input.TheVariants.{Tick, Receive, Start, Answer, Failed}
-use Rattle.sip_transactions.specs.declared.input.Timed.{Timed}
 use Rattle.sip_transactions.specs.declared.life.Life.{Life}
 use Rattle.sip_transactions.specs.declared.output.Kind.TheVariants as kind
 use Rattle.sip_transactions.specs.declared.step.Step.{Step}
@@ -104,7 +103,7 @@ begins_once key now (Receive id message reply_to) step trigger triggered passed 
     (and-left (is_message step.handed) (is_request trigger) request)
     (ap is_request same ∙ and-right (is_message step.handed) (is_request trigger) request)
 
-pub first_once : (key : Key) → IsServer key → (first : Timed) → IsSome (stepped key None first).0
+pub first_once : (key : Key) → IsServer key → (first : Timed Input) → IsSome (stepped key None first).0
     → requests_in (stepped key None first).1 ≡ 1
 first_once key server first =
     by_step (λ after. IsSome after.0 → requests_in after.1 ≡ 1) key None first
@@ -146,7 +145,7 @@ later_once key life up.Message now (Receive id message reply_to) trigger trigger
     later_receive key life message reply_to message.start refl
     (ap (λ t. not (is_request t)) same ∙ passed)
 
-pub held_silent : (key : Key) (life : Life) (timed : Timed)
+pub held_silent : (key : Key) (life : Life) (timed : Timed Input)
     → requests_in (stepped key (Some life) timed).1 ≡ 0
 held_silent key life timed =
     by_step (λ after. requests_in after.1 ≡ 0) key (Some life) timed refl
@@ -155,7 +154,7 @@ held_silent key life timed =
     (row_passes later_not_handed_up (rows_of (role_of key)) (later_in_tables (role_of key))
     (Some life.state) row.trigger step row.row))
 
-rest_silent : (key : Key) (state : Option Life) (inputs : List Timed)
+rest_silent : (key : Key) (state : Option Life) (inputs : List (Timed Input))
     → IsWithinLife transaction_machine key state inputs
     → requests_in (outputs_from transaction_machine key state inputs) ≡ 0
 rest_silent key state [] within = refl

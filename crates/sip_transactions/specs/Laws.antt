@@ -11,11 +11,10 @@ use Rattle.sip_message.specs.declared.addr.Addr.{Addr}
 use Rattle.sip_message.specs.declared.message.Message.{Message}
 use Rattle.sip_message.specs.Message.{is_request_message}
 use Rattle.sip_message.specs.Written.{written}
-use Rattle.sip_model.specs.Machine.{adds, state_after, outputs_from, IsLife}
+use Rattle.sip_model.specs.Machine.{adds, state_after, outputs_from, IsLife, Timed}
 use Rattle.sip_transactions.specs.declared.input.Command.{Command}
 use Rattle.sip_transactions.specs.declared.input.Input.{Input}
 use Rattle.sip_transactions.specs.declared.input.Input.TheVariants.{Tick, Receive, Start, Answer, Failed}
-use Rattle.sip_transactions.specs.declared.input.Timed.{Timed}
 use Rattle.sip_transactions.specs.declared.life.Life.{Life}
 use Rattle.sip_transactions.specs.declared.output.Kind.{Kind}
 use Rattle.sip_transactions.specs.declared.output.Kind.TheVariants as kind
@@ -69,7 +68,7 @@ requests_in outs = count_by is_request_up outs
 -- a life of a server key hands its request up once, by its first input
 abbrev pub OneRequestUp : Type 0
 OneRequestUp = (key : Key) → IsServer key
-    → (before : List Timed) (first : Timed) (rest : List Timed)
+    → (before : List (Timed Input)) (first : Timed Input) (rest : List (Timed Input))
     → IsLife transaction_machine key before first rest
     → (requests_in (adds transaction_machine key (state_after transaction_machine key before) first)
     ≡ 1)
@@ -107,7 +106,7 @@ carries id (out.Dropped place reason) = false
 
 -- where ids differ, nothing is handed up under a life's id after the life has ended
 abbrev pub NothingAfterTheEnd : Type 0
-NothingAfterTheEnd = (key : Key) (before : List Timed) (first : Timed) (rest after : List Timed)
+NothingAfterTheEnd = (key : Key) (before : List (Timed Input)) (first : Timed Input) (rest after : List (Timed Input))
     (id : Id) → IsLife transaction_machine key before first rest
     → state_after transaction_machine key (before ++ first ∷ rest) ≡ None
     → id_of first.input ≡ Some id
@@ -138,8 +137,8 @@ sends_of bytes outs = count_by (is_send_of bytes) outs
 -- a life that is begun by a start with a request of its key's method sends that request so often at
 -- most
 abbrev pub FewSends : Type 0
-FewSends = (branch method : List ℕ) (before : List Timed) (now : ℕ) (id : Id) (call_id : List ℕ)
-    (request : Message) (to : Addr) (rest : List Timed)
+FewSends = (branch method : List ℕ) (before : List (Timed Input)) (now : ℕ) (id : Id) (call_id : List ℕ)
+    (request : Message) (to : Addr) (rest : List (Timed Input))
     → IsLife transaction_machine (key.Client branch method) before
     (record { moment = now; input = Start id call_id request to }) rest
     → is_request_message request ≡ true → request.cseq.method ≡ method

@@ -9,7 +9,7 @@ use Rattle.sip_transactions.specs.declared.state.Role.TheVariants.{InviteClient,
 use Rattle.sip_transactions.specs.declared.state.State.TheVariants.{Trying}
 use Rattle.sip_transactions.specs.declared.input.Input.{Input}
 use Rattle.sip_transactions.specs.declared.input.Input.TheVariants.{Tick, Receive, Start, Answer, Failed}
-use Rattle.sip_transactions.specs.declared.input.Timed.{Timed}
+use Rattle.sip_model.specs.Machine.{Timed}
 use Rattle.sip_transactions.specs.declared.life.Life.{Life}
 use Rattle.sip_transactions.specs.declared.output.Out.{Out}
 use Rattle.sip_transactions.specs.declared.step.Step.{Step}
@@ -101,6 +101,6 @@ stepped_by key held now input None = (held, [])
 stepped_by key held now input (Some step) =
     acted_if key now input (life_of (role_of key) held input) step
 
-unfoldable pub stepped : Key → Option Life → Timed → Option Life × List Out
+unfoldable pub stepped : Key → Option Life → Timed Input → Option Life × List Out
 stepped key held timed =
     stepped_by key held timed.moment timed.input (step_for key held timed.moment timed.input)

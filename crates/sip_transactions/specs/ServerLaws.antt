@@ -7,7 +7,8 @@ use Rattle.sip_message.specs.declared.message.Message.{Message}
 use Rattle.sip_transactions.specs.declared.life.Life.{Life}
 use Rattle.sip_transactions.specs.declared.output.Out.TheVariants.{Send}
 use Rattle.sip_transactions.specs.declared.input.Input.TheVariants as input
-use Rattle.sip_transactions.specs.declared.input.Timed.{Timed}
+use Rattle.sip_transactions.specs.declared.input.Input.{Input}
+use Rattle.sip_model.specs.Machine.{Timed}
 use Rattle.sip_transactions.specs.declared.state.Role.TheVariants as role
 use Rattle.sip_transactions.specs.declared.state.State.{State}
 use Rattle.sip_transactions.specs.declared.state.State.TheVariants.{Calling, Trying, Proceeding, Completed, Accepted, Confirmed}
@@ -65,7 +66,7 @@ is_final (Some (on.Answer class.Success)) = true
 is_final (Some (on.Answer class.Failure)) = true
 
 -- the user's answer, as an input
-abbrev pub answering : Id → Message → ℕ → Timed
+abbrev pub answering : Id → Message → ℕ → Timed Input
 answering id response now = record { moment = now; input = input.Answer id response }
 
 -- A life of the server of another request than INVITE ends at the first tick from 64*T1 after its

@@ -10,7 +10,8 @@ use Rattle.sip_message.specs.Message.{is_request_message}
 use Rattle.sip_transactions.specs.declared.input.Command.{Command}
 use Rattle.sip_transactions.specs.declared.input.Command.TheVariants as command
 use Rattle.sip_transactions.specs.declared.input.Input.TheVariants.{Receive, Start, Answer, Failed}
-use Rattle.sip_transactions.specs.declared.input.Timed.{Timed}
+use Rattle.sip_transactions.specs.declared.input.Input.{Input}
+use Rattle.sip_model.specs.Machine.{Timed, given_at}
 use Rattle.sip_transactions.specs.declared.life.Life.{Life}
 use Rattle.sip_model.specs.Table.{Held, state_at}
 
@@ -28,17 +29,20 @@ abbrev pub is_stray : Addr → Message → Bool
 is_stray local message = not (is_request_message message) && not (is_sent_by_of message local)
 
 -- a message that came, a command and a failure, as inputs of one transaction
-abbrev pub receipt : Id → Message → Addr → ℕ → Timed
-receipt id message reply_to now = record { moment = now; input = Receive id message reply_to }
+abbrev pub receipt : Id → Message → Addr → ℕ → Timed Input
+receipt id message reply_to now = given_at now (Receive id message reply_to)
 
-abbrev pub failure : Id → ℕ → Timed
-failure id now = record { moment = now; input = Failed id }
+abbrev pub failure : Id → ℕ → Timed Input
+failure id now = given_at now (Failed id)
 
 abbrev pub command_key : Command → Key
 command_key (command.Start key call_id message to) = key
 command_key (command.Answer key message) = key
 
-abbrev pub order : Id → Command → ℕ → Timed
-order id (command.Start key call_id message to) now =
-    record { moment = now; input = Start id call_id message to }
-order id (command.Answer key message) now = record { moment = now; input = Answer id message }
+-- what a command is to its transaction
+abbrev pub asked_by : Id → Command → Input
+asked_by id (command.Start key call_id message to) = Start id call_id message to
+asked_by id (command.Answer key message) = Answer id message
+
+abbrev pub order : Id → Command → ℕ → Timed Input
+order id command now = given_at now (asked_by id command)

@@ -3,6 +3,7 @@
 ghost use Rattle.std.specs.Prelude.{◌≡◌};
 
 use sip_message::{Addr, CallId, Id, Key, Message};
+use sip_text::Boxed;
 
 /// What the user of the transactions asks.
 pub enum Command {
@@ -10,25 +11,24 @@ pub enum Command {
     Start {
         key: Key,
         call_id: CallId,
-        message: Message,
+        message: Boxed<Message>,
         to: Addr,
     },
     /// Answers a server transaction's request with a response.
     Answer {
         key: Key,
-        message: Message,
+        message: Boxed<Message>,
     },
 }
 
 impl Command {
-    ghost use Rattle.sip_transactions.specs.Shard.{command_key, order};
+    ghost use Rattle.sip_transactions.specs.Shard.{command_key, asked_by};
 
-    /// The key of its transaction, and what it is to that one: an input of this id at the moment
-    /// `now`, in ms.
-    pub fn addressed(self, id: Id, now: u64) -> (Key, Timed)
-        ensures { result ≡ (command_key self, order id self now) }
+    /// The key of its transaction, and what it is to that one: an input of this id.
+    pub fn addressed(self, id: Id) -> (Key, Input)
+        ensures { result ≡ (command_key self, asked_by id self) }
     {
-        let (key, input) = match self {
+        match self {
             Command::Start {
                 key,
                 call_id,
@@ -44,8 +44,7 @@ impl Command {
                 },
             ),
             Command::Answer { key, message } => (key, Input::Answer { id, message }),
-        };
-        (key, Timed { moment: now, input })
+        }
     }
 }
 
@@ -71,20 +70,20 @@ pub enum Input {
     /// A message came. A response to it goes to `reply_to`.
     Receive {
         id: Id,
-        message: Message,
+        message: Boxed<Message>,
         reply_to: Addr,
     },
     /// The user starts the transaction.
     Start {
         id: Id,
         call_id: CallId,
-        message: Message,
+        message: Boxed<Message>,
         to: Addr,
     },
     /// The user answers.
     Answer {
         id: Id,
-        message: Message,
+        message: Boxed<Message>,
     },
     /// A send failed.
     Failed {
@@ -103,13 +102,13 @@ impl Input {
         match self {
             Input::Receive { message, .. }
             | Input::Start { message, .. }
-            | Input::Answer { message, .. } => Some(message),
+            | Input::Answer { message, .. } => Some(message.get()),
             Input::Tick | Input::Failed { .. } => None,
         }
     }
 
     /// The message that came, if one did, and where a response to it goes.
-    pub(crate) fn into_arrived(self) -> Option<(Message, Addr)>
+    pub(crate) fn into_arrived(self) -> Option<(Boxed<Message>, Addr)>
         ensures { result ≡ arrived_in self }
     {
         match self {
@@ -121,11 +120,4 @@ impl Input {
             Input::Tick | Input::Start { .. } | Input::Answer { .. } | Input::Failed { .. } => None,
         }
     }
-}
-
-/// An input with its moment, in milliseconds.
-#[derive(Drop)]
-pub struct Timed {
-    pub moment: u64,
-    pub input: Input,
 }

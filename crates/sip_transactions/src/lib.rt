@@ -16,7 +16,7 @@ mod stray;
 mod timers;
 mod trigger;
 
-pub use input::{Command, Input, Timed};
+pub use input::{Command, Input};
 pub use machine::Transactions;
 pub use output::{DropReason, Kind, Out, Up};
 pub use shard::Shard;

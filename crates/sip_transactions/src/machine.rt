@@ -7,7 +7,7 @@ ghost use Rattle.sip_transactions.specs.Timers.{IsTimely};
 ghost use Rattle.sip_transactions.specs.Repeats.{RepeatsInTime};
 ghost use Rattle.sip_transactions.specs.Output.{outputs_of};
 
-use crate::input::{Input, Timed};
+use crate::input::Input;
 use crate::life::Life;
 use crate::made::made_bytes;
 use crate::output::Out;
@@ -55,7 +55,7 @@ fn act(
     life: Life,
     step: Step,
     made: Option<Text>,
-    arrived: Option<(Message, Addr)>,
+    arrived: Option<(Boxed<Message>, Addr)>,
 ) -> Result<After, AllocError>
     requires bound { now ≤ 2 ^ 62 }
     requires timely { IsTimely step.due now life.timers }
@@ -110,9 +110,9 @@ fn begin(alloc: Global, key: &Key, now: u64, input: Input, step: Step) -> Result
             to,
         } => {
             let keeps = keeps_request(role_of(key));
-            let request = if keeps { Some(&message) } else { None };
-            let made = made_bytes(alloc, request, step.sent, Some(&message))?;
-            let request = kept_request(alloc, keeps, message)?;
+            let request = if keeps { Some(message.get()) } else { None };
+            let made = made_bytes(alloc, request, step.sent, Some(message.get()))?;
+            let request = if keeps { Some(message) } else { None };
             act(
                 alloc,
                 key,
@@ -124,21 +124,6 @@ fn begin(alloc: Global, key: &Key, now: u64, input: Input, step: Step) -> Result
             )
         }
         Input::Tick | Input::Answer { .. } | Input::Failed { .. } => Ok((None, Vec::new(alloc))),
-    }
-}
-
-// The message, where the client keeps it.
-fn kept_request(
-    alloc: Global,
-    keeps: bool,
-    message: Message,
-) -> Result<Option<Boxed<Message>>, AllocError>
-    ensures { IfOk result (λ kept. kept ≡ (if keeps then Some message else None)) }
-{
-    if keeps {
-        Ok(Some(Boxed::new(alloc, message)?))
-    } else {
-        Ok(None)
     }
 }
 
@@ -157,7 +142,7 @@ fn arrive(
     key: &Key,
     now: u64,
     id: Id,
-    message: Message,
+    message: Boxed<Message>,
     reply_to: Addr,
     step: Step,
 ) -> Result<After, AllocError>
@@ -180,7 +165,7 @@ fn pass(
     alloc: Global,
     key: &Key,
     id: Id,
-    message: Message,
+    message: Boxed<Message>,
     reply_to: Addr,
     step: Step,
 ) -> Result<After, AllocError>
@@ -200,7 +185,7 @@ fn begin_by_message(
     key: &Key,
     now: u64,
     id: Id,
-    message: Message,
+    message: Boxed<Message>,
     reply_to: Addr,
     step: Step,
 ) -> Result<After, AllocError>
@@ -211,8 +196,8 @@ fn begin_by_message(
     ensures adds { IfOk result (λ after. after.1.items
         ≡ (acted_at_arrival key.now now id message reply_to step).1) }
 {
-    let made = made_bytes(alloc, None, step.sent, Some(&message))?;
-    let life = Life::new(id, message.call_id.clone()?, reply_to, None);
+    let made = made_bytes(alloc, None, step.sent, Some(message.get()))?;
+    let life = Life::new(id, message.get().call_id.clone()?, reply_to, None);
     act(alloc, key, now, life, step, made, Some((message, reply_to)))
 }
 
@@ -221,9 +206,11 @@ fn begin_by_message(
 pub struct Transactions;
 
 impl StateMachine for Transactions {
-    ghost use Rattle.std.specs.Prelude.{◌^◌, nat_le};
+    ghost use Rattle.std.specs.Prelude.{◌^◌};
+    ghost use Rattle.sip_model.specs.Machine.{given_at};
+    ghost use Rattle.sip_transactions.specs.declared.input.Input.TheVariants.{Tick};
     ghost use Rattle.sip_transactions.specs.Keys.{exact_keys};
-    ghost use Rattle.sip_transactions.specs.Machine.{transaction_machine, tick_at, life_due};
+    ghost use Rattle.sip_transactions.specs.Machine.{transaction_machine, life_due};
     ghost use Rattle.sip_transactions.specs.Idle.{ticks_are_idle};
     ghost use Rattle.sip_transactions.specs.Life.{stepped};
 
@@ -231,23 +218,18 @@ impl StateMachine for Transactions {
 
     type State = Life;
 
-    type Input = Timed;
+    type Input = Input;
 
     type Output = Out;
 
     ghost machine = { λ _. transaction_machine };
 
-    ghost tick = { tick_at };
+    ghost tick = { Tick };
 
     ghost due = { life_due };
 
-    ghost admits = { λ timed. nat_le timed.moment (2 ^ 62) };
-
-    fn tick_at(&self, moment: u64) -> Timed {
-        Timed {
-            moment,
-            input: Input::Tick,
-        }
+    fn tick_input(&self) -> Input {
+        Input::Tick
     }
 
     fn due_of(&self, state: &Life) -> Option<u64> {
@@ -260,19 +242,19 @@ impl StateMachine for Transactions {
         alloc: Global,
         key: &Key,
         state: Option<Life>,
-        input: Timed,
+        moment: u64,
+        input: Input,
     ) -> Result<(Option<Life>, Vec<Out>), AllocError>
-        requires { input.moment ≤ 2 ^ 62 }
-        ensures next { IfOk result (λ after. after.0 ≡ (stepped key.now state input).0) }
-        ensures adds { IfOk result (λ after. after.1.items ≡ (stepped key.now state input).1) }
+        requires { moment ≤ 2 ^ 62 }
+        ensures next { IfOk result (λ after. after.0 ≡ (stepped key.now state (given_at moment input)).0) }
+        ensures adds { IfOk result (λ after. after.1.items ≡ (stepped key.now state (given_at moment input)).1) }
     {
-        let Timed { moment: now, input } = input;
-        let Some(step) = step_for(key, &state, now, &input) else {
+        let Some(step) = step_for(key, &state, moment, &input) else {
             return Ok((state, Vec::new(alloc)));
         };
         match state {
-            None => begin(alloc, key, now, input, step),
-            Some(life) => go_on(alloc, key, now, input, life, step),
+            None => begin(alloc, key, moment, input, step),
+            Some(life) => go_on(alloc, key, moment, input, life, step),
         }
     }
 

@@ -1,17 +1,17 @@
 //! What a transaction says.
 
 use sip_message::{Addr, CallId, Id, Key, Message, ReadFault};
-use sip_text::Text;
+use sip_text::{Boxed, Text};
 
 /// What is handed up to the call.
 #[derive(Drop)]
 pub enum Kind {
     /// The request that began the transaction, and where its answers go.
-    Request(Message, Addr),
+    Request(Boxed<Message>, Addr),
     /// An ACK.
-    Ack(Message),
+    Ack(Boxed<Message>),
     /// A response.
-    Response(Message),
+    Response(Boxed<Message>),
     /// No final response came in time, or no ACK.
     Timeout,
     /// A send failed.

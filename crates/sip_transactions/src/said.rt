@@ -10,7 +10,7 @@ use crate::output::{DropReason, Kind, Out, Up};
 use crate::step::{Handed, Sent, Step};
 use crate::trigger::is_ack;
 use sip_message::{Addr, CallId, Id, Key, Message, StartLine};
-use sip_text::Text;
+use sip_text::{Boxed, Text};
 use std::alloc::{AllocError, Global};
 
 /// What a row at a life says of a message that came, if one did, where it made a message of these
@@ -22,7 +22,7 @@ pub(crate) fn said(
     life: &Life,
     step: Step,
     made: Option<Text>,
-    arrived: Option<(Message, Addr)>,
+    arrived: Option<(Boxed<Message>, Addr)>,
 ) -> Result<Vec<Out>, AllocError>
     ensures { IfOk result (λ outputs. outputs.items
         ≡ outputs_of key.now life.now step made arrived) }
@@ -45,7 +45,7 @@ pub(crate) fn passed_on(
     alloc: Global,
     key: &Key,
     id: Id,
-    message: Message,
+    message: Boxed<Message>,
     reply_to: Addr,
     handed: Handed,
 ) -> Result<Vec<Out>, AllocError>
@@ -65,7 +65,7 @@ pub(crate) fn passed_on(
 fn pass_on(
     key: &Key,
     id: Id,
-    message: Message,
+    message: Boxed<Message>,
     reply_to: Addr,
     handed: Handed,
 ) -> Result<Option<Out>, AllocError>
@@ -76,11 +76,16 @@ fn pass_on(
         Handed::Nothing => Ok(None),
         Handed::NoTransaction => Ok(Some(no_transaction(id))),
         Handed::Message => {
-            let call_id = message.call_id.clone()?;
+            let call_id = message.get().call_id.clone()?;
             Ok(Some(up_out(key, id, call_id, kind_of(message, reply_to))?))
         }
-        Handed::Timeout => Ok(Some(up_out(key, id, message.call_id.clone()?, Kind::Timeout)?)),
-        Handed::Failed => Ok(Some(up_out(key, id, message.call_id.clone()?, Kind::Failed)?)),
+        Handed::Timeout => Ok(Some(up_out(
+            key,
+            id,
+            message.get().call_id.clone()?,
+            Kind::Timeout,
+        )?)),
+        Handed::Failed => Ok(Some(up_out(key, id, message.get().call_id.clone()?, Kind::Failed)?)),
     }
 }
 
@@ -90,7 +95,7 @@ fn hand_up(
     key: &Key,
     life: &Life,
     handed: Handed,
-    arrived: Option<(Message, Addr)>,
+    arrived: Option<(Boxed<Message>, Addr)>,
 ) -> Result<Option<Out>, AllocError>
     ensures { IfOk result (λ out. out ≡ handed_out key.now life.now handed arrived) }
 {
@@ -125,11 +130,11 @@ fn no_transaction(id: Id) -> Out
     }
 }
 
-fn kind_of(message: Message, reply_to: Addr) -> Kind
+fn kind_of(message: Boxed<Message>, reply_to: Addr) -> Kind
     ensures { result ≡ kind_of message.start message reply_to }
 {
-    match &message.start {
-        StartLine::Request { .. } if is_ack(&message) => Kind::Ack(message),
+    match &message.get().start {
+        StartLine::Request { .. } if is_ack(message.get()) => Kind::Ack(message),
         StartLine::Request { .. } => Kind::Request(message, reply_to),
         StartLine::Response { .. } => Kind::Response(message),
     }

@@ -7,7 +7,7 @@ ghost use Rattle.sip_message.specs.Key.{key_cmp};
 ghost use Rattle.sip_message.specs.MessageKey.{key_of_message};
 ghost use Rattle.sip_transactions.specs.Machine.{transaction_machine, tick_at};
 
-use crate::input::{Command, Input, Timed};
+use crate::input::{Command, Input};
 use crate::life::Life;
 use crate::machine::Transactions;
 use crate::output::{DropReason, Out};
@@ -15,6 +15,7 @@ use crate::state::State;
 use crate::stray::is_stray;
 use sip_message::{Addr, Id, Key, Message, key_of};
 use sip_model::{ShardFault, Table};
+use sip_text::Boxed;
 use std::alloc::{AllocError, Global};
 use std::marker::Model;
 
@@ -115,13 +116,13 @@ impl Shard {
             return self.table.check(not_ours(self.alloc, id));
         }
         let key = self.table.check(key_of(self.alloc, &message))?;
+        let message = self.table.check(Boxed::new(self.alloc, message))?;
         let input = Input::Receive {
             id,
             message,
             reply_to,
         };
-        self.table
-            .handle(&Transactions, key, Timed { moment: now, input })
+        self.table.handle(&Transactions, key, now, input)
     }
 
     /// Does what the user asks of a transaction. The id is that of the request that is started or
@@ -139,8 +140,8 @@ impl Shard {
             (λ outs. AddsInput key_cmp transaction_machine self.old.held self.new.held
             (command_key command) (order id command now) outs.items) }
     {
-        let (key, input) = command.addressed(id, now);
-        self.table.handle(&Transactions, key, input)
+        let (key, input) = command.addressed(id);
+        self.table.handle(&Transactions, key, now, input)
     }
 
     /// Lets a transaction know that one of its sends failed.
@@ -158,9 +159,8 @@ impl Shard {
             (failure id now) outs.items) }
     {
         let key = self.table.check(key.clone())?;
-        let input = Input::Failed { id };
         self.table
-            .handle(&Transactions, key, Timed { moment: now, input })
+            .handle(&Transactions, key, now, Input::Failed { id })
     }
 }
 

@@ -61,9 +61,9 @@ pub fn trigger_of(held: &Option<Life>, now: u64, input: &Input) -> Option<Trigge
 {
     match input {
         Input::Tick => tick_of(now, held),
-        Input::Receive { message, .. } => Some(arrival_of(message)),
+        Input::Receive { message, .. } => Some(arrival_of(message.get())),
         Input::Start { .. } => Some(Trigger::Start),
-        Input::Answer { message, .. } => answer_of(message),
+        Input::Answer { message, .. } => answer_of(message.get()),
         Input::Failed { .. } => Some(Trigger::Failed),
     }
 }

@@ -3,11 +3,11 @@ use Rattle.std.specs.Prelude.{◌≡◌, ℕ, zero, suc, List, [], ◌∷◌}
 use Rattle.sip_message.specs.declared.id.Id.{Id}
 use Rattle.sip_message.specs.declared.key.Key.{Key}
 use Rattle.sip_model.specs.declared.item.Item.{Item}
-use Rattle.sip_transactions.specs.declared.input.Timed.{Timed}
+use Rattle.sip_transactions.specs.declared.input.Input.{Input}
 use Rattle.sip_round.specs.declared.arrival.Arrival.{Arrival}
 use Rattle.sip_round.specs.declared.waiting.Waiting.{Waiting}
 use Rattle.sip_round.specs.Parts.{cut_by}
-use Rattle.sip_round.specs.Phases.{first_phase}
+use Rattle.sip_round.specs.Phases.{transaction_items}
 use Rattle.sip_round.specs.Steps.Waiting.{all_waiting}
 
 -- arrivals of consecutive places, from this one on
@@ -16,8 +16,8 @@ ArePlaced place [] = Unit {0}
 ArePlaced place (a ∷ rest) = ((a.0).place ≡ place) × ArePlaced (suc place) rest
 
 -- the parts of so many shards, and what waits, are those of these arrivals
-pub record IsArrived (owner : Key → ℕ) (shards now : ℕ) (arrivals : List (Id × Arrival))
-    (parts : List (List (Item Key Timed))) (waiting : List (Id × Waiting)) : Type 0 where
+pub record IsArrived (owner : Key → ℕ) (shards : ℕ) (arrivals : List (Id × Arrival))
+    (parts : List (List (Item Key Input))) (waiting : List (Id × Waiting)) : Type 0 where
   pub placed : ArePlaced 1 arrivals
-  pub parts_are : parts ≡ cut_by owner zero shards (first_phase now arrivals).items
+  pub parts_are : parts ≡ cut_by owner zero shards (transaction_items arrivals)
   pub waiting_are : waiting ≡ all_waiting arrivals

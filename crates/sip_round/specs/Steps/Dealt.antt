@@ -1,10 +1,10 @@
 -- Phases of all shards.
-use Rattle.std.specs.Prelude.{◌≡◌, ℕ, zero, List, [], ◌∷◌, ◌++◌, length, map, Option, Result, Ok}
+use Rattle.std.specs.Prelude.{◌≡◌, ℕ, zero, List, [], ◌∷◌, ◌++◌, length, map, Bool, Result, Ok}
 use Rattle.std.specs.List.{flat_map}
 use Rattle.std.specs.declared.cmp.Ordering.{Ordering}
-use Rattle.sip_model.specs.Machine.{Machine}
+use Rattle.sip_model.specs.Machine.{Machine, Timed}
 use Rattle.sip_model.specs.Table.{Held}
-use Rattle.sip_model.specs.Phase.{Phase, AddsPhase, by_place, told_next}
+use Rattle.sip_model.specs.Phase.{Phase, AddsPhase, by_place, phase_at, told_next}
 use Rattle.sip_model.specs.Shards.{HoldFrom}
 
 -- the tables of all shards before and after a phase, and what was said in it: they are as many as
@@ -22,10 +22,10 @@ pub record DealsAll {K S I O : Type 0} (cmp : K → K → Ordering) (machine : M
       → items ≡ map by_place (told_next cmp machine tick phases phase).items
 
 -- a phase without items changes nothing in the table, and nothing is said
-abbrev pub IsIdle : {K S I O : Type 0} → (K → K → Ordering) → Machine K S I O → (ℕ → I) → Option ℕ
-    → Held K S → Type 0
-IsIdle cmp machine tick moment table =
-    AddsPhase cmp machine tick table table (record { moment = moment; items = [] }) [] []
+abbrev pub IsIdle : {K S I O : Type 0} → (K → K → Ordering) → Machine K S (Timed I) O
+    → (ℕ → Timed I) → ℕ → Bool → Held K S → Type 0
+IsIdle cmp machine tick now ticks table =
+    AddsPhase cmp machine tick table table (phase_at now ticks []) [] []
 
 -- the dones of all shards, none of which met want of memory, taken apart: their tables in order,
 -- and all that was said, shard by shard

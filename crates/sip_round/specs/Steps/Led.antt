@@ -2,6 +2,7 @@
 -- before.
 use Rattle.std.specs.Prelude.{◌≡◌, ℕ, zero, List, [], ◌∷◌, ◌++◌, length}
 use Rattle.std.specs.List.{flat_map}
+use Rattle.sip_model.specs.Machine.{Timed}
 use Rattle.sip_message.specs.declared.id.Id.{Id}
 use Rattle.sip_message.specs.declared.key.Key.{Key}
 use Rattle.sip_message.specs.Key.{key_cmp}
@@ -9,7 +10,7 @@ use Rattle.sip_model.specs.Phase.{Phase}
 use Rattle.sip_model.specs.Shards.{HoldFrom}
 use Rattle.sip_model.specs.Table.{Held}
 use Rattle.sip_transactions.specs.declared.input.Command.{Command}
-use Rattle.sip_transactions.specs.declared.input.Timed.{Timed}
+use Rattle.sip_transactions.specs.declared.input.Input.{Input}
 use Rattle.sip_transactions.specs.declared.life.Life.{Life}
 use Rattle.sip_transactions.specs.Machine.{transaction_machine, tick_at}
 use Rattle.sip_served.specs.declared.item.Item.{Item}
@@ -28,41 +29,41 @@ use Rattle.sip_round.specs.Outputs.{sent_of, shown_of, command_of, all_said}
 use Rattle.sip_round.specs.Phases.{first_phase, second_phase, third_phase}
 
 module _ (owner : Key → ℕ) (old new : List (Held Key Life)) where
-  abbrev pub HoldLives : List (Held Key Life) → List (Phase Key Timed) → Type 0
+  abbrev pub HoldLives : List (Held Key Life) → List (Phase Key (Timed Input)) → Type 0
   HoldLives tables past = HoldFrom key_cmp transaction_machine tick_at owner zero tables past
 
   pub record LedFirst (number now : ℕ) (arrivals : List (Id × Arrival)) (outputs : List Output)
       (items : List (Id × Item)) : Type 0 where
     pub count : length new ≡ length old
-    pub stands : (past : List (Phase Key Timed)) → HoldLives old past
+    pub stands : (past : List (Phase Key (Timed Input))) → HoldLives old past
         → HoldLives new (past ++ first_phase now arrivals ∷ [])
-    pub sent : (past : List (Phase Key Timed)) → HoldLives old past
+    pub sent : (past : List (Phase Key (Timed Input))) → HoldLives old past
         → outputs ≡ sent_first (said_by_transactions past (first_phase now arrivals)) arrivals
-    pub raised : (past : List (Phase Key Timed)) → HoldLives old past
+    pub raised : (past : List (Phase Key (Timed Input))) → HoldLives old past
         → items ≡ items_first number (said_by_transactions past (first_phase now arrivals)) arrivals
 
   pub record LedThird (now : ℕ) (commands : List (Id × Command))
       (before outputs : List Output) : Type 0 where
     pub count : length new ≡ length old
-    pub stands : (past : List (Phase Key Timed)) → HoldLives old past
+    pub stands : (past : List (Phase Key (Timed Input))) → HoldLives old past
         → HoldLives new (past ++ third_phase now commands ∷ [])
-    pub sent : (past : List (Phase Key Timed)) → HoldLives old past
+    pub sent : (past : List (Phase Key (Timed Input))) → HoldLives old past
         → outputs ≡ before ++ flat_map sent_of
         (all_said (said_by_transactions past (third_phase now commands)))
 
 module _ (shared : Calls) (owner : List ℕ → ℕ) (old new : List (Held (List ℕ) Call)) where
-  abbrev pub HoldAll : List (Held (List ℕ) Call) → List (Phase (List ℕ) CallInput) → Type 0
+  abbrev pub HoldAll : List (Held (List ℕ) Call) → List (Phase (List ℕ) (Timed CallInput)) → Type 0
   HoldAll tables past = HoldFrom call_cmp (call_machine shared) tick_input owner zero tables past
 
   pub record LedSecond (now : ℕ) (items : List (Id × Item)) (before outputs : List Output)
       (commands : List (Id × Command)) : Type 0 where
     pub count : length new ≡ length old
-    pub stands : (past : List (Phase (List ℕ) CallInput)) → HoldAll old past
+    pub stands : (past : List (Phase (List ℕ) (Timed CallInput))) → HoldAll old past
         → HoldAll new (past ++ second_phase now items ∷ [])
-    pub shown : (past : List (Phase (List ℕ) CallInput)) → HoldAll old past
+    pub shown : (past : List (Phase (List ℕ) (Timed CallInput))) → HoldAll old past
         → outputs ≡ before ++ flat_map shown_of
         (all_said (said_by_calls shared past (second_phase now items)))
-    pub commanded : (past : List (Phase (List ℕ) CallInput)) → HoldAll old past
+    pub commanded : (past : List (Phase (List ℕ) (Timed CallInput))) → HoldAll old past
         → commands ≡ flat_map command_of
         (all_said (said_by_calls shared past (second_phase now items)))
 

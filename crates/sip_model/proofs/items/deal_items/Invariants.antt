@@ -1,6 +1,6 @@
-use Rattle.std.specs.Prelude.{IsTrue}
 use Rattle.std.specs.BTreeMap.{get}
 use Rattle.std.specs.Vec.Iter.{into_iter_items}
+use Rattle.sip_model.specs.Phase.{timed_items}
 use Rattle.sip_model.specs.Told.{groups}
 use Rattle.sip_model.proofs.ItemsLeft.{ItemsLeft}
 use Rattle.sip_model.proofs.items.deal_items.Given as goal
@@ -8,6 +8,6 @@ use Rattle.sip_model.proofs.items.deal_items.Given as goal
 abbrev pub invariant-loop-place : goal.invariant-loop-place
 invariant-loop-place g l =
     ItemsLeft g.M.Key.Ord.cmp (g.M.StateMachine.machine l.machine) g.M.StateMachine.due
-    (λ input. IsTrue (g.M.StateMachine.admits input)) (get g.M.Key.Ord.cmp l.fn.states)
-    l.fn.items.items (into_iter_items l.place-iterator) (get g.M.Key.Ord.cmp l.states) l.dues
+    (get g.M.Key.Ord.cmp l.fn.states) (timed_items l.now l.fn.items.items)
+    (timed_items l.now (into_iter_items l.place-iterator)) (get g.M.Key.Ord.cmp l.states) l.dues
     (groups l.told.items)

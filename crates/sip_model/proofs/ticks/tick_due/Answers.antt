@@ -5,6 +5,7 @@ use Rattle.std.specs.List.{list_any}
 use Rattle.std.specs.List.Sorted.{IsStrictlySortedBy}
 use Rattle.std.specs.Vec.Iter.{into_iter_items}
 use Rattle.sip_timers.specs.Queue.{due_keys}
+use Rattle.sip_model.specs.Machine.{given_at}
 use Rattle.sip_model.specs.Told.{groups}
 use Rattle.sip_model.proofs.Tick.{TickLeft, tick_left_more, told_by_due}
 use Rattle.sip_model.proofs.ticks.tick_due.Goals as goal
@@ -14,7 +15,7 @@ loop-key-preserved g c =
     let cmp = g.M.Key.Ord.cmp in
     let machine = g.M.StateMachine.machine c.args.machine.now in
     let due = g.M.StateMachine.due in
-    let input = g.M.StateMachine.tick c.args.now in
+    let input = given_at c.args.now g.M.StateMachine.tick in
     let old = get cmp c.args.states.now in
     let all = due_keys c.args.now c.args.dues.now in
     let left : TickLeft cmp machine due input old all
@@ -27,8 +28,8 @@ loop-key-preserved g c =
     all (into_iter_items c.next.new.self) c.in-Some.key (get cmp c.loop-key.states)
     (get cmp c.step_key.new.states)
     c.loop-key.dues c.step_key.new.dues
-    (groups c.loop-key.told.items) c.in_ok-outputs.outputs.items c.tick_at.result left
-    c.tick_at.ensures c.in_ok-outputs.ensures.states c.in_ok-outputs.ensures.dues
+    (groups c.loop-key.told.items) c.in_ok-outputs.outputs.items (given_at c.args.now c.tick_input.result)
+    left (ap (given_at c.args.now) c.tick_input.ensures) c.in_ok-outputs.ensures.states c.in_ok-outputs.ensures.dues
     c.in_ok-outputs.ensures.added in
     rw c.in_ok-tell.ensures more
 
@@ -37,7 +38,7 @@ returns-clause-told g c =
     let cmp = g.M.Key.Ord.cmp in
     let machine = g.M.StateMachine.machine c.args.machine.now in
     let due = g.M.StateMachine.due in
-    let input = g.M.StateMachine.tick c.args.now in
+    let input = given_at c.args.now g.M.StateMachine.tick in
     let old = get cmp c.args.states.now in
     let all = due_keys c.args.now c.args.dues.now in
     let left = c.loop-key.key-iterator in

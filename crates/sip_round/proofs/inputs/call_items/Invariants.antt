@@ -5,5 +5,5 @@ use Rattle.sip_round.proofs.inputs.call_items.Given as goal
 
 abbrev pub invariant-loop-id : goal.invariant-loop-id
 invariant-loop-id l = l.made.items
-    ++ call_items l.now (length l.made.items) (into_iter_items l.id-iterator)
-    ≡ call_items l.now 0 l.fn.items.items
+    ++ call_items (length l.made.items) (into_iter_items l.id-iterator)
+    ≡ call_items 0 l.fn.items.items

@@ -5,5 +5,5 @@ use Rattle.sip_round.proofs.inputs.command_items.Given as goal
 
 abbrev pub invariant-loop-id : goal.invariant-loop-id
 invariant-loop-id l = l.made.items
-    ++ command_items l.now (length l.made.items) (into_iter_items l.id-iterator)
-    ≡ command_items l.now 0 l.fn.commands.items
+    ++ command_items (length l.made.items) (into_iter_items l.id-iterator)
+    ≡ command_items 0 l.fn.commands.items

@@ -7,5 +7,6 @@ pub returns : goal.returns
 returns c =
     let header =
     c.in_ok-header.ensures ∙ ap (λ (options : List (List ℕ)). unsupported
-    (filter is_unknown_option options)) c.as_slice.ensures in
+    (filter is_unknown_option options))
+    (c.as_slice.ensures ∙ ap (λ request. request.require) c.get.ensures) in
     c.in_ok-add_header.ensures ∙ (λ i. with_header (header i) (c.in_ok-response.ensures i))

@@ -9,5 +9,6 @@ returns-in_ok-up_out-in-Message c =
       c.in-Message.is,
       c.in_ok-up_out-in-Message.ensures,
       c.in_ok-call_id-in-Message.ensures.cases,
+      c.get.ensures,
       c.kind_of.ensures,
     ) refl

@@ -1,5 +1,6 @@
 use Rattle.std.proofs.Common.{◌≡◌, rules, sym, subst, Some}
-use Rattle.sip_model.specs.Phase.{Phase, DealsPhase}
+use Rattle.sip_model.specs.Machine.{ticks_of}
+use Rattle.sip_model.specs.Phase.{Phase, DealsPhase, phase_at}
 use Rattle.sip_model.specs.Table.{Held}
 use Rattle.sip_model.specs.Told.{groups}
 use Rattle.sip_model.proofs.Phases.{deals_phase, adds_phase}
@@ -9,9 +10,9 @@ pub returns-clause-step : goal.returns-clause-step
 returns-clause-step g c =
     let cmp = g.M.Key.Ord.cmp in
     let machine = g.M.StateMachine.machine c.args.machine.now in
-    let tick = g.M.StateMachine.tick in
+    let tick = ticks_of g.M.StateMachine.tick in
     let same : c.args.self.now ≡ Some c.apart-states.result.0.entries = search rules in
-    let phase : Phase _ _ = record { moment = c.args.moment; items = c.args.items.items } in
+    let phase = phase_at c.args.now c.args.ticks c.args.items.items in
     let step : DealsPhase cmp machine tick (Some c.apart-states.result.0.entries)
     (Some c.deal_items.new.states.entries) phase (groups c.in_ok-ticks.ticks.items)
     (groups c.in_ok-items.items.items) =
@@ -27,5 +28,6 @@ returns-clause-step g c =
 pub returns-clause-phases : goal.returns-clause-phases
 returns-clause-phases g c =
     adds_phase g.met.M.Key.Ord.total g.met.M.StateMachine.exact
-    (g.M.StateMachine.machine c.args.machine.now) g.M.StateMachine.due g.M.StateMachine.tick
+    (g.M.StateMachine.machine c.args.machine.now) g.M.StateMachine.due
+    (ticks_of g.M.StateMachine.tick)
     (g.met.M.StateMachine.idle c.args.machine.now) _ _ _ _ _ (returns-clause-step g c)

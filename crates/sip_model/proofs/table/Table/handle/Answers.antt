@@ -1,4 +1,5 @@
 use Rattle.std.proofs.Common.{rules, Some}
+use Rattle.sip_model.specs.Machine.{given_at}
 use Rattle.sip_model.specs.Table.{StepsKey}
 use Rattle.sip_model.proofs.History.{adds_input}
 use Rattle.sip_model.proofs.table.Table.handle.Goals as goal
@@ -7,6 +8,7 @@ pub returns-clause-histories : goal.returns-clause-histories
 returns-clause-histories g c =
     let step : StepsKey g.M.Key.Ord.cmp
     (g.M.StateMachine.machine c.args.machine.now) c.args.self.now
-    (Some c.step_key.new.states.entries) c.args.key c.args.input c.in_ok-outputs.outputs.items =
+    (Some c.step_key.new.states.entries) c.args.key (given_at c.args.now c.args.input)
+    c.in_ok-outputs.outputs.items =
     search rules in
     adds_input g.met.M.StateMachine.exact g.met.M.Key.Ord.total _ _ _ _ _ step

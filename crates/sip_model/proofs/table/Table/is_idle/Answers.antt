@@ -1,5 +1,6 @@
 use Rattle.std.proofs.Common.{◌≡◌, Some, [], rules, subst, sym}
-use Rattle.sip_model.specs.Phase.{AddsPhase}
+use Rattle.sip_model.specs.Machine.{ticks_of}
+use Rattle.sip_model.specs.Phase.{AddsPhase, phase_at}
 use Rattle.sip_model.specs.Table.{Held}
 use Rattle.sip_model.proofs.IdlePhase.{idle_phase}
 use Rattle.sip_model.proofs.Phases.{adds_phase}
@@ -11,14 +12,15 @@ returns-in-Some g c = record {
       let cmp = g.M.Key.Ord.cmp in
       let machine = g.M.StateMachine.machine c.args._machine.now in
       let due = g.M.StateMachine.due in
-      let tick = g.M.StateMachine.tick in
+      let tick = ticks_of g.M.StateMachine.tick in
       let idle = g.met.M.StateMachine.idle c.args._machine.now in
       let entries = c.in-Some.live in
       let same : c.args.self.now ≡ Some entries = search rules in
       let adds : AddsPhase cmp machine tick (Some entries) (Some entries)
-      (record { moment = c.args.moment; items = [] }) [] [] =
+      (phase_at c.args.now c.args.ticks []) [] [] =
       adds_phase g.met.M.Key.Ord.total g.met.M.StateMachine.exact machine due tick idle _ _ _ _ _
-      (idle_phase cmp machine due tick idle entries c.args.moment (c.is_calm.ensures calm)) in
+      (idle_phase cmp machine due tick idle entries c.args.now c.args.ticks
+      (c.is_calm.ensures calm)) in
       subst (λ (held : Held _ _). AddsPhase cmp machine tick held held
-      (record { moment = c.args.moment; items = [] }) [] []) (sym same) adds;
+      (phase_at c.args.now c.args.ticks []) [] []) (sym same) adds;
 }

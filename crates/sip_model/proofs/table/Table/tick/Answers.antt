@@ -1,4 +1,5 @@
 use Rattle.std.proofs.Common.{◌≡◌, rules, refl, sym, subst, Some}
+use Rattle.sip_model.specs.Machine.{given_at}
 use Rattle.sip_model.specs.Table.{Held, StepsAll, state_at}
 use Rattle.sip_model.proofs.History.{adds_inputs}
 use Rattle.sip_model.proofs.Tick.{joined_told}
@@ -8,7 +9,7 @@ pub returns-clause-step : goal.returns-clause-step
 returns-clause-step g c =
     let cmp = g.M.Key.Ord.cmp in
     let machine = g.M.StateMachine.machine c.args.machine.now in
-    let input = g.M.StateMachine.tick c.args.now in
+    let input = given_at c.args.now g.M.StateMachine.tick in
     let same : c.args.self.now ≡ Some c.apart-states.result.0.entries = search rules in
     let step : StepsAll cmp machine (Some c.apart-states.result.0.entries)
     (Some c.tick_due.new.states.entries) input c.in_ok-outputs.outputs.items = record {

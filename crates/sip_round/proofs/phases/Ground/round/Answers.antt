@@ -13,7 +13,7 @@ returns g c =
     let events = c.args.round.now.events in
     let arrived = subst (λ shards.
     IsArrived (owner_of shard_of branch_in (length shards.transactions))
-    (length shards.transactions) c.args.round.now.moment
+    (length shards.transactions)
     (arrivals_from c.args.calls.local c.args.number 1 events)
     (map (λ part. part.items) c.args.arrived.parts.items) c.args.arrived.waiting.items)
     (sym c.apart-transactions.ensures.tables) c.requires.arrived in

@@ -1,21 +1,11 @@
-use Rattle.std.proofs.Common.{◌≡◌, ◌^◌, map, nat_le, IsTrue, sym, ◌∙◌, ap, subst, length, arith}
-use Rattle.std.specs.List.{AllByRecursion}
+use Rattle.std.proofs.Common.{◌≡◌, map, ◌∙◌, ap, subst, length, arith}
 use Rattle.sip_model.specs.Told.{groups}
 use Rattle.sip_round.specs.Parts.{cut_by, owner_of}
 use Rattle.sip_round.specs.Phases.{call_items}
 use Rattle.sip_round.proofs.Climbing.{climbs_in_order}
 use Rattle.sip_round.proofs.Leading.{led_second}
-use Rattle.sip_round.proofs.Numbered.{calls_admitted, calls_climb, in_bounds, parts_admit, parts_counted}
+use Rattle.sip_round.proofs.Numbered.{calls_climb, parts_counted}
 use Rattle.sip_round.proofs.phases.Ground.second_phase.Goals as goal
-
-pub deal_phase-requires-clause-items : goal.deal_phase-requires-clause-items
-deal_phase-requires-clause-items g c = λ lives outlives.
-    parts_admit (λ part. part.items) (λ item. IsTrue (nat_le item.input.now (2 ^ 62)))
-    (owner_of (g.C.Cut.shard_of c.args.self.now.cut.now) (λ call_id. call_id) c.len.result) 0
-    c.len.result c.in_ok-items.items.items c.in_ok-parts.parts.items c.in_ok-parts.ensures
-    (subst (AllByRecursion (λ item. IsTrue (nat_le item.input.now (2 ^ 62))))
-    (sym c.in_ok-items.ensures) (calls_admitted c.args.now 0 c.args.items.items
-    (in_bounds c.args.now c.requires.moment)))
 
 pub deal_phase-requires-clause-count : goal.deal_phase-requires-clause-count
 deal_phase-requires-clause-count g c = λ lives outlives.
@@ -35,13 +25,13 @@ returns g c =
     c.in_ok-said.said.items c.args.outputs.now.items c.part_calls.new.outputs.items
     c.in_ok-commands.commands.items c.part_calls.new.commands.items
     (c.in_ok-tables.ensures (owner_of shard_of (λ call_id. call_id) (length tables))
-    (call_items c.args.now 0 c.args.items.items)
+    (call_items 0 c.args.items.items)
     (λ key. g.met.C.Cut.within c.args.self.now.cut.now key (length tables) c.requires.shards)
     (subst (λ n. map (λ part. part.items) c.in_ok-parts.parts.items
     ≡ cut_by (owner_of shard_of (λ call_id. call_id) n) 0 n c.in_ok-items.items.items) as_many
     c.in_ok-parts.ensures
     ∙ ap (cut_by (owner_of shard_of (λ call_id. call_id) (length tables)) 0 (length tables))
     c.in_ok-items.ensures)
-    (climbs_in_order 0 _ (calls_climb c.args.now 0 c.args.items.items)))
+    (climbs_in_order 0 _ (calls_climb 0 c.args.items.items)))
     c.in_ok-said.ensures c.in_ok-part_calls.ensures.outputs c.in_ok-commands.ensures.items
     c.in_ok-part_calls.ensures.commands

@@ -1,22 +1,12 @@
-use Rattle.std.proofs.Common.{◌≡◌, ◌^◌, map, nat_le, IsTrue, sym, ◌∙◌, ap, subst, length, arith}
-use Rattle.std.specs.List.{AllByRecursion}
+use Rattle.std.proofs.Common.{◌≡◌, map, ◌∙◌, ap, subst, length, arith}
 use Rattle.sip_message.specs.Key.{branch_in}
 use Rattle.sip_model.specs.Told.{groups}
 use Rattle.sip_round.specs.Parts.{cut_by, owner_of}
 use Rattle.sip_round.specs.Phases.{command_items}
 use Rattle.sip_round.proofs.Climbing.{climbs_in_order}
 use Rattle.sip_round.proofs.Leading.{led_third}
-use Rattle.sip_round.proofs.Numbered.{commands_admitted, commands_climb, in_bounds, parts_admit, parts_counted}
+use Rattle.sip_round.proofs.Numbered.{commands_climb, parts_counted}
 use Rattle.sip_round.proofs.phases.Ground.third_phase.Goals as goal
-
-pub deal_phase-requires-clause-items : goal.deal_phase-requires-clause-items
-deal_phase-requires-clause-items g c = λ lives outlives.
-    parts_admit (λ part. part.items) (λ item. IsTrue (nat_le item.input.moment (2 ^ 62)))
-    (owner_of (g.C.Cut.shard_of c.args.self.now.cut.now) branch_in c.len.result) 0 c.len.result
-    c.in_ok-items.items.items c.in_ok-parts.parts.items c.in_ok-parts.ensures
-    (subst (AllByRecursion (λ item. IsTrue (nat_le item.input.moment (2 ^ 62))))
-    (sym c.in_ok-items.ensures) (commands_admitted c.args.now 0 c.args.commands.items
-    (in_bounds c.args.now c.requires.moment)))
 
 pub deal_phase-requires-clause-count : goal.deal_phase-requires-clause-count
 deal_phase-requires-clause-count g c = λ lives outlives.
@@ -35,7 +25,7 @@ returns g c =
     (groups c.in_ok-tables.replies.items.items)
     c.in_ok-joined.field-0.items c.args.outputs.now.items c.send_all.new.outputs.items
     (c.in_ok-tables.ensures (owner_of shard_of branch_in (length tables))
-    (command_items c.args.now 0 c.args.commands.items)
+    (command_items 0 c.args.commands.items)
     (λ key. g.met.C.Cut.within c.args.self.now.cut.now (branch_in key)
     (length tables) c.requires.shards)
     (subst (λ n. map (λ part. part.items) c.in_ok-parts.parts.items
@@ -43,5 +33,5 @@ returns g c =
     c.in_ok-parts.ensures
     ∙ ap (cut_by (owner_of shard_of branch_in (length tables)) 0 (length tables))
     c.in_ok-items.ensures)
-    (climbs_in_order 0 _ (commands_climb c.args.now 0 c.args.commands.items)))
+    (climbs_in_order 0 _ (commands_climb 0 c.args.commands.items)))
     c.in_ok-joined.ensures c.in_ok-send_all.ensures
