@@ -1,11 +1,9 @@
--- A message is the message of its parts.
-use Rattle.std.proofs.Common.{◌≡◌, refl}
-use Rattle.sip_message.specs.declared.message.Message.{Message}
-use Rattle.sip_message.specs.Message.{assembled}
+-- A copied list is the same list.
+use Rattle.std.proofs.Common.{◌≡◌, List, sym, ◌∙◌}
+use Rattle.std.specs.List.{AllZip}
+use Rattle.std.proofs.lemmas.List.Elements.{same_from_all_zip}
 
-pub assembled_again : (m : Message)
-    → assembled (m.start, m.vias, m.from, m.to) (m.contacts, m.record_routes, m.routes)
-    (m.require, m.supported, m.rack, m.others) (m.call_id, m.cseq, m.body) (m.max_forwards, m.rseq)
-    ≡ m
-unfolding assembled
-assembled_again m = refl
+pub copied : {X : Type 0} {xs ys before after : List X} → xs ≡ before → ys ≡ after
+    → AllZip (λ x y. y ≡ x) xs ys → after ≡ before
+copied {xs = xs} {ys = ys} old new same =
+    sym new ∙ same_from_all_zip _ xs ys same (λ x y e. e) ∙ old

@@ -1,13 +1,11 @@
 -- Messages (RFC 3261, section 7).
-use Rattle.std.specs.Prelude.{ℕ, Bool, true, false, List, [], ◌∷◌, ◌++◌, codes, Option, None}
+use Rattle.std.specs.Prelude.{ℕ, Bool, true, false, List, [], ◌∷◌, ◌++◌, codes, None}
 use Rattle.sip_message.specs.declared.start_line.StartLine.{StartLine}
 use Rattle.sip_message.specs.declared.start_line.StartLine.TheVariants.{Request, Response}
 use Rattle.sip_message.specs.declared.header.Header.{Header}
 use Rattle.sip_message.specs.declared.via.Via.{Via}
 use Rattle.sip_message.specs.declared.party.Party.{Party}
-use Rattle.sip_message.specs.declared.name_addr.NameAddr.{NameAddr}
 use Rattle.sip_message.specs.declared.cseq.CSeq.{CSeq}
-use Rattle.sip_message.specs.declared.rack.RAck.{RAck}
 use Rattle.sip_message.specs.declared.message.Message.{Message}
 
 abbrev pub is_request_line : StartLine → Bool
@@ -46,28 +44,4 @@ bare start vias from to call_id cseq = record {
   rack = None;
   others = [];
   body = [];
-}
-
--- a message of its parts
-unfoldable pub assembled : (StartLine × List Via × Party × Party)
-    → (List NameAddr × List NameAddr × List NameAddr)
-    → (List (List ℕ) × List (List ℕ) × Option RAck × List Header) → (List ℕ × CSeq × List ℕ)
-    → (Option ℕ × Option ℕ) → Message
-assembled who routing extensions content numbers = record {
-  start = who.0;
-  vias = who.1;
-  max_forwards = numbers.0;
-  from = who.2;
-  to = who.3;
-  call_id = content.0;
-  cseq = content.1;
-  contacts = routing.0;
-  record_routes = routing.1;
-  routes = routing.2;
-  require = extensions.0;
-  supported = extensions.1;
-  rseq = numbers.1;
-  rack = extensions.2;
-  others = extensions.3;
-  body = content.2;
 }

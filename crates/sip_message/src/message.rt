@@ -152,106 +152,23 @@ impl Clone for Message {
     ghost is_clone = { λ original copy. copy ≡ original };
 
     fn clone(&self) -> Result<Message, AllocError> {
-        let who = self.addressing()?;
-        let routes = self.routing()?;
-        let others = self.extensions()?;
-        let content = self.content()?;
-        Ok(assembled(who, routes, others, content, (self.max_forwards, self.rseq)))
-    }
-}
-
-type Addressing = (StartLine, Vias, Party, Party);
-
-type Routing = (Series<NameAddr>, Series<NameAddr>, Series<NameAddr>);
-
-type Extensions = (Series<Token>, Series<Token>, Option<RAck>, Series<Header>);
-
-type Content = (CallId, CSeq, Text);
-
-#[tactic(auto, unfolding(crate::specs::Message::assembled))]
-fn assembled(
-    who: Addressing,
-    routing: Routing,
-    extensions: Extensions,
-    content: Content,
-    numbers: (Option<u32>, Option<u32>),
-) -> Message
-    ensures { result ≡ message.assembled who routing extensions content numbers }
-{
-    Message {
-        start: who.0,
-        vias: who.1,
-        max_forwards: numbers.0,
-        from: who.2,
-        to: who.3,
-        call_id: content.0,
-        cseq: content.1,
-        contacts: routing.0,
-        record_routes: routing.1,
-        routes: routing.2,
-        require: extensions.0,
-        supported: extensions.1,
-        rseq: numbers.1,
-        rack: extensions.2,
-        others: extensions.3,
-        body: content.2,
-    }
-}
-
-impl Message {
-    fn addressing(&self) -> Result<Addressing, AllocError>
-        ensures { IfOk result (λ c. c ≡ (
-          self.now.start,
-          self.now.vias,
-          self.now.from,
-          self.now.to,
-        )) }
-    {
-        Ok((
-            self.start.clone()?,
-            self.vias.clone()?,
-            self.from.clone()?,
-            self.to.clone()?,
-        ))
-    }
-
-    fn routing(&self) -> Result<(Series<NameAddr>, Series<NameAddr>, Series<NameAddr>), AllocError>
-        ensures { IfOk result (λ c. c ≡ (
-          self.now.contacts,
-          self.now.record_routes,
-          self.now.routes,
-        )) }
-    {
-        Ok((
-            self.contacts.clone()?,
-            self.record_routes.clone()?,
-            self.routes.clone()?,
-        ))
-    }
-
-    fn content(&self) -> Result<Content, AllocError>
-        ensures { IfOk result (λ c. c ≡ (self.now.call_id, self.now.cseq, self.now.body)) }
-    {
-        Ok((
-            self.call_id.clone()?,
-            self.cseq.clone()?,
-            self.body.clone()?,
-        ))
-    }
-
-    fn extensions(&self) -> Result<Extensions, AllocError>
-        ensures { IfOk result (λ c. c ≡ (
-          self.now.require,
-          self.now.supported,
-          self.now.rack,
-          self.now.others,
-        )) }
-    {
-        Ok((
-            self.require.clone()?,
-            self.supported.clone()?,
-            self.rack.clone()?,
-            self.others.clone()?,
-        ))
+        Ok(Message {
+            start: self.start.clone()?,
+            vias: self.vias.clone()?,
+            max_forwards: self.max_forwards,
+            from: self.from.clone()?,
+            to: self.to.clone()?,
+            call_id: self.call_id.clone()?,
+            cseq: self.cseq.clone()?,
+            contacts: self.contacts.clone()?,
+            record_routes: self.record_routes.clone()?,
+            routes: self.routes.clone()?,
+            require: self.require.clone()?,
+            supported: self.supported.clone()?,
+            rseq: self.rseq,
+            rack: self.rack.clone()?,
+            others: self.others.clone()?,
+            body: self.body.clone()?,
+        })
     }
 }
