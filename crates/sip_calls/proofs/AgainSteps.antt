@@ -12,9 +12,10 @@ use Rattle.sip_served.specs.declared.command.UserCommand.TheVariants.{Invite, Pl
 use Rattle.sip_served.specs.declared.held_dialog.DialogLife.{DialogLife}
 use Rattle.sip_served.specs.declared.item.CallOut.{CallOut}
 use Rattle.sip_served.specs.declared.item.Item.TheVariants.{Up, User}
+use Rattle.sip_served.specs.State.{is_id}
 use Rattle.sip_served.proofs.Entries.{none_apart}
 use Rattle.sip_clients.specs.declared.event.Event.{Event}
-use Rattle.sip_clients.specs.Client.{Clients, Side, client_at, is_client}
+use Rattle.sip_clients.specs.Client.{Clients, Side, client_at}
 use Rattle.sip_clients.specs.Provisionals.{InTheDialog, told_of}
 use Rattle.sip_clients.proofs.AgainInvite.{AgainResult, AreApart, Keeps, ear_of, keeps_ack, keeps_invite, keeps_lost, keeps_plain, keeps_prack, keeps_request, keeps_same, keeps_tick, silent_result}
 use Rattle.sip_clients.proofs.AgainSides.{response_again}
@@ -186,4 +187,4 @@ module _ (life : DialogLife) (invite : Id) where
       (λ state. ear_of life invite (side_held state).clients)
       (λ state. AreApart (side_held state).clients) invite
       (λ state timed apart once. by_input calls state timed.input timed.moment apart once)
-      inputs None (none_apart is_client) differ refl
+      inputs None (none_apart is_id) differ refl

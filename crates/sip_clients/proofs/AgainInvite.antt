@@ -1,7 +1,6 @@
 -- What the client side makes of what was heard for an INVITE in a life of a dialog.
 use Rattle.std.proofs.Common.{◌≡◌, ◌⊎◌, inl, inr, ℕ, Bool, true, false, not, ◌&&◌, cond, List, [], ◌∷◌, refl, ap, ◌∙◌}
 use Rattle.std.specs.Prelude.{Option, None, Some, Result, Ok, Err, if◌then◌else◌}
-use Rattle.std.specs.Cmp.{IsEquivalence}
 use Rattle.sip_message.specs.declared.id.Id.{Id}
 use Rattle.sip_served.specs.declared.debt.Debt.{Debt}
 use Rattle.sip_served.specs.declared.debt.Debt.TheVariants.{Ack, Prack}
@@ -22,14 +21,13 @@ use Rattle.sip_clients.specs.declared.answers.SentAck.{SentAck}
 use Rattle.sip_clients.specs.declared.client.Asks.{Asks}
 use Rattle.sip_clients.specs.declared.client.Asks.TheVariants.{First, Again, Inside, Plain}
 use Rattle.sip_clients.specs.declared.client.Client.{Client}
-use Rattle.sip_clients.specs.declared.client.ClientId.{ClientId}
 use Rattle.sip_clients.specs.declared.debts.DebtKind.TheVariants as kind
 use Rattle.sip_clients.specs.declared.event.Event.{Event}
 use Rattle.sip_clients.specs.declared.outputs.Rest.{Rest}
 use Rattle.sip_clients.specs.declared.outputs.Rest.TheVariants.{Stays, Over, Starts}
 use Rattle.sip_clients.specs.declared.service.Service.{Service}
 use Rattle.sip_clients.specs.declared.service.Service.TheVariants.{Sent, Waits, Refused}
-use Rattle.sip_clients.specs.Client.{Clients, Side, client_at, client_for, client_id, is_client}
+use Rattle.sip_clients.specs.Client.{Clients, Side, client_at, client_for}
 use Rattle.sip_clients.specs.Clients.{ack_noted, ack_paid, ack_taken, acked_with, client_changed, invite_taken, lost_of, paid_or_refused, plain_taken, prack_paid, prack_taken, request_taken, settled, with_client, without}
 use Rattle.sip_clients.specs.Commands.{ack_told, debt_for, is_bad_outside, name_in, requested_by}
 use Rattle.sip_clients.specs.Dialogs.{paid_at}
@@ -40,21 +38,8 @@ use Rattle.sip_clients.specs.Tick.{clients_left, is_over}
 use Rattle.sip_clients.proofs.FirstInvite.{id_exact, no_number}
 use Rattle.sip_clients.proofs.Hearing.{Listens, Silent}
 
-and_true : (x y : Bool) → x ≡ true → y ≡ true → (x && y) ≡ true
-and_true x y e f = λ i. e i && f i
-
-abbrev id_of : ClientId → Id
-id_of id = record { round = id.round; place = id.place }
-
-pub client_laws : IsEquivalence is_client
-client_laws = record {
-  refl = λ x. id_laws.refl (id_of x);
-  symm = λ x y. id_laws.symm (id_of x) (id_of y);
-  congr = λ x y z e. id_laws.congr (id_of x) (id_of y) (id_of z) e;
-}
-
 abbrev pub AreApart : Clients → Type 0
-AreApart clients = entries.Apart client_laws clients
+AreApart clients = entries.Apart id_laws clients
 
 -- ---- the ear of an INVITE
 
@@ -161,18 +146,16 @@ module _ (life : DialogLife) (invite : Id) (event : Option Id) where
       → (clients : Clients) → AreApart clients
       → Keeps clients (client_changed id change clients)
   keeps_changed id change same clients apart = record {
-    apart = entries.apart_changed client_laws (client_id id) change clients
-        (client_at id clients) apart;
-    silent = entries.by_change client_laws Found found_same found_none (client_id id)
-        (client_id invite) change (λ client. inr (inl (same client))) clients;
+    apart = entries.apart_changed id_laws id change clients (client_at id clients) apart;
+    silent = entries.by_change id_laws Found found_same found_none id invite change
+        (λ client. inr (inl (same client))) clients;
   }
 
   pub keeps_removed : (id : Id) (clients : Clients) → AreApart clients
       → Keeps clients (without id clients)
   keeps_removed id clients apart = record {
-    apart = entries.apart_removed client_laws (is_client (client_id id)) clients apart;
-    silent = entries.by_removal client_laws Found found_same found_none (client_id id)
-        (client_id invite) clients apart;
+    apart = entries.apart_removed id_laws (is_id id) clients apart;
+    silent = entries.by_removal id_laws Found found_same found_none id invite clients apart;
   }
 
   put_found : (before : Option Client) (client : Client) → Begins → client.heard ≡ None
@@ -187,9 +170,8 @@ module _ (life : DialogLife) (invite : Id) (event : Option Id) where
   pub keeps_started : (id : Id) (client : Client) → event ≡ Some id → client.heard ≡ None
       → (clients : Clients) → AreApart clients → Keeps clients (with_client id client clients)
   keeps_started id client made none clients apart = record {
-    apart = entries.apart_inserted client_laws (client_id id) client clients apart;
-    silent = entries.by_insertion client_laws Found found_same found_none (client_id id)
-        (client_id invite) client clients
+    apart = entries.apart_inserted id_laws id client clients apart;
+    silent = entries.by_insertion id_laws Found found_same found_none id invite client clients
         (λ same. put_found (client_at invite clients) client
         (made ∙ ap (λ x. Some x) (id_exact id invite same)) none);
   }
@@ -279,7 +261,7 @@ module _ (life : DialogLife) (invite : Id) (event : Option Id) where
   pub keeps_tick : (now : ℕ) (clients : Clients) → AreApart clients
       → Keeps clients (clients_left now clients)
   keeps_tick now clients apart = record {
-    apart = entries.apart_filtered client_laws (λ entry. not (is_over now entry.1)) clients apart;
-    silent = entries.by_filter client_laws Found found_same found_none
-        (λ client. not (is_over now client)) (client_id invite) clients apart;
+    apart = entries.apart_filtered id_laws (λ entry. not (is_over now entry.1)) clients apart;
+    silent = entries.by_filter id_laws Found found_same found_none
+        (λ client. not (is_over now client)) invite clients apart;
   }

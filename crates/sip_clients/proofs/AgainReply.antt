@@ -17,7 +17,7 @@ use Rattle.sip_served.specs.Dialogs.{dialog_at, dialog_changed, is_named, lives}
 use Rattle.sip_served.specs.Requests.{is_final, is_inside, is_success}
 use Rattle.sip_served.specs.State.{Dialogs, is_id}
 use Rattle.sip_served.proofs.Entries as entries
-use Rattle.sip_served.proofs.Heard.{Keeps as DialogKeeps, name_laws}
+use Rattle.sip_served.proofs.Heard.{Keeps as DialogKeeps, id_laws, name_laws}
 use Rattle.sip_clients.specs.declared.client.Asks.{Asks}
 use Rattle.sip_clients.specs.declared.client.Asks.TheVariants.{First, Again, Inside, Plain}
 use Rattle.sip_clients.specs.declared.client.Client.{Client}
@@ -27,13 +27,13 @@ use Rattle.sip_clients.specs.declared.reply.Reply.{Reply as Answer}
 use Rattle.sip_clients.specs.declared.reply.ReplyCase.{ReplyCase}
 use Rattle.sip_clients.specs.declared.reply.ReplyCase.TheVariants as reply
 use Rattle.sip_clients.specs.Answers.{has_answer}
-use Rattle.sip_clients.specs.Client.{Clients, Side, client_at, client_id}
+use Rattle.sip_clients.specs.Client.{Clients, Side, client_at}
 use Rattle.sip_clients.specs.Clients.{client_changed, settled}
 use Rattle.sip_clients.specs.Debts.{owing}
 use Rattle.sip_clients.specs.Provisionals.{in_life, is_response, provisional_number, told_of}
 use Rattle.sip_clients.specs.Replied.{Replied, by_case, heard_again, notice, offer_to, prack_owed, reply_taken}
 use Rattle.sip_clients.specs.Reply.{offer_case, reliable_case, reply_case, rseq_of, success_case}
-use Rattle.sip_clients.proofs.AgainInvite.{AgainResult, AreApart, Keeps, StartsUnheard, asks_ear, client_ear, client_laws, ear_of, keeps_settled, said_unheard, silent_then}
+use Rattle.sip_clients.proofs.AgainInvite.{AgainResult, AreApart, Keeps, StartsUnheard, asks_ear, client_ear, ear_of, keeps_settled, said_unheard, silent_then}
 use Rattle.sip_clients.proofs.ClientDialogs.{owing_keeps}
 use Rattle.sip_clients.proofs.FirstInvite.{id_exact, no_number}
 use Rattle.sip_clients.proofs.FirstReply.{Decided, Unheard, decided, told_once}
@@ -243,24 +243,21 @@ module _ (life : DialogLife) (invite : Id) (event : Option Id) (answer : Answer)
         (done.2 ++ (settled answer.event answer.id done.3 changed).1)
 
     left : AreApart changed
-    left = entries.apart_changed client_laws (client_id answer.id) change side.clients
+    left = entries.apart_changed id_laws answer.id change side.clients
         (client_at answer.id side.clients) apart
 
     ear_other : is_id answer.id invite ≡ false → ear changed ≡ ear side.clients
     ear_other other =
-        ap (client_ear life) (entries.found_changed client_laws (client_id answer.id)
-        (client_id invite) change side.clients
+        ap (client_ear life) (entries.found_changed id_laws answer.id invite change side.clients
         ∙ ap (λ b. cond b (option_map change (client_at invite side.clients))
         (client_at invite side.clients)) other)
 
     there : is_id answer.id invite ≡ true → client_at invite side.clients ≡ Some client
-    there same = entries.same_key client_laws (client_id answer.id)
-        (client_id invite) side.clients same ∙ is
+    there same = entries.same_key id_laws answer.id invite side.clients same ∙ is
 
     ear_own : is_id answer.id invite ≡ true → ear changed ≡ client_ear life (Some (change client))
     ear_own same =
-        ap (client_ear life) (entries.found_changed client_laws (client_id answer.id)
-        (client_id invite) change side.clients
+        ap (client_ear life) (entries.found_changed id_laws answer.id invite change side.clients
         ∙ ap (λ b. cond b (option_map change (client_at invite side.clients))
         (client_at invite side.clients)) same ∙ ap (option_map change) (there same))
 

@@ -1,29 +1,22 @@
 -- The client requests of one Call-ID.
-use Rattle.std.specs.Prelude.{Bool, ◌&&◌, ◌==◌, List, [], Option, None}
+use Rattle.std.specs.Prelude.{List, [], Option, None}
 use Rattle.std.specs.Map.{lookup}
 use Rattle.sip_message.specs.declared.addr.Addr.{Addr}
 use Rattle.sip_message.specs.declared.id.Id.{Id}
 use Rattle.sip_message.specs.declared.message.Message.{Message}
 use Rattle.sip_served.specs.declared.item.CallOut.{CallOut}
-use Rattle.sip_served.specs.State.{Dialogs}
+use Rattle.sip_served.specs.State.{Dialogs, is_id}
 use Rattle.sip_clients.specs.declared.client.Asks.{Asks}
 use Rattle.sip_clients.specs.declared.client.Cancelling.TheVariants.{NotAsked}
 use Rattle.sip_clients.specs.declared.client.Client.{Client}
-use Rattle.sip_clients.specs.declared.client.ClientId.{ClientId}
 
-abbrev pub client_id : Id → ClientId
-client_id id = record { round = id.round; place = id.place }
-
-abbrev pub is_client : ClientId → ClientId → Bool
-is_client one other = (one.round == other.round) && (one.place == other.place)
-
--- the held client requests, in the order in which they were sent
+-- the held client requests by the events that sent them, in the order in which they were sent
 abbrev pub Clients : Type 0
-Clients = List (ClientId × Client)
+Clients = List (Id × Client)
 
 -- the client request that the event of this id sent
 abbrev pub client_at : Id → Clients → Option Client
-client_at id clients = lookup (is_client (client_id id)) clients
+client_at id clients = lookup (is_id id) clients
 
 -- a request that was just sent
 abbrev pub client_for : Id → Asks → Message → Addr → Client

@@ -21,7 +21,7 @@ use Rattle.sip_served.specs.declared.refusal.Refusal.{Refusal}
 use Rattle.sip_served.specs.declared.refusal.Refusal.TheVariants.{BadMethod}
 use Rattle.sip_served.specs.Dialogs.{is_named}
 use Rattle.sip_served.specs.Requests.{name_of_tags}
-use Rattle.sip_served.specs.State.{Dialogs}
+use Rattle.sip_served.specs.State.{Dialogs, is_id}
 use Rattle.sip_clients.specs.declared.answers.SentAck.{SentAck}
 use Rattle.sip_clients.specs.declared.client.Asks.{Asks}
 use Rattle.sip_clients.specs.declared.client.Asks.TheVariants.{First, Again, Inside, Plain}
@@ -31,7 +31,7 @@ use Rattle.sip_clients.specs.declared.event.Event.{Event}
 use Rattle.sip_clients.specs.declared.outputs.Rest.{Rest}
 use Rattle.sip_clients.specs.declared.outputs.Rest.TheVariants.{Stays, Over, Starts}
 use Rattle.sip_clients.specs.declared.reply.Reply.{Reply as Answer}
-use Rattle.sip_clients.specs.Client.{Clients, Side, Taken, client_at, client_for, client_id, is_client, quiet}
+use Rattle.sip_clients.specs.Client.{Clients, Side, Taken, client_at, client_for, quiet}
 use Rattle.sip_clients.specs.Commands.{ack_told, debt_for, is_bad_outside, name_in, prack_told, request_told}
 use Rattle.sip_clients.specs.Dialogs.{ended_with}
 use Rattle.sip_clients.specs.Outputs.{refused_notice, start_command}
@@ -41,14 +41,14 @@ use Rattle.sip_clients.specs.Replied.{reply_taken}
 -- the request that the event of this id sent is changed so
 abbrev pub client_changed : Id → (Client → Client) → Clients → Clients
 client_changed id change clients =
-    option_map_or (λ client. set_value (is_client (client_id id)) clients (change client))
+    option_map_or (λ client. set_value (is_id id) clients (change client))
     (client_at id clients) clients
 
 abbrev pub without : Id → Clients → Clients
-without id clients = remove_entry (is_client (client_id id)) clients
+without id clients = remove_entry (is_id id) clients
 
 abbrev pub with_client : Id → Client → Clients → Clients
-with_client id client clients = insert_entry is_client clients (client_id id) client
+with_client id client clients = insert_entry is_id clients id client
 
 -- a request is sent
 abbrev pub started : Event → Client → Clients → Clients × List CallOut

@@ -9,13 +9,6 @@ use sip_reliable::Inbound;
 use sip_served::DialogLife;
 use std::alloc::Global;
 
-/// What a client request is found by: the event that sent it.
-#[derive(Clone, Copy, PartialEq, Eq, Hash)]
-pub struct ClientId {
-    pub round: u64,
-    pub place: u32,
-}
-
 /// What a client request is for.
 pub enum Asks {
     /// The INVITE of a call, whose responses make dialogs (RFC 3261, section 13.2).
@@ -36,6 +29,7 @@ pub enum Cancelling {
 
 /// A request that was sent and whose responses the user is told of.
 pub struct Client {
+    /// The event that sent it, by which it is found.
     pub id: Id,
     pub asks: Asks,
     pub request: Message,

@@ -33,10 +33,10 @@ pub struct Clients {
 
 impl Model for Clients {
     ghost use Rattle.std.specs.Prelude.{List};
+    ghost use Rattle.sip_message.specs.declared.id.Id.{Id};
     ghost use Rattle.sip_clients.specs.declared.client.Client.{Client};
-    ghost use Rattle.sip_clients.specs.declared.client.ClientId.{ClientId};
 
-    ghost Value = { List (ClientId × Client) };
+    ghost Value = { List (Id × Client) };
 
     ghost view = { λ c. c.requests.entries };
 }

@@ -5,7 +5,7 @@ ghost use Rattle.sip_clients.specs.Client.{client_at};
 ghost use Rattle.sip_clients.specs.Clients as spec;
 
 use crate::answers::SentAck;
-use crate::client::{Asks, Client, ClientId};
+use crate::client::{Asks, Client};
 use crate::dialogs::end_with;
 use crate::event::Event;
 use crate::outputs::{Rest, one, start_command};
@@ -17,7 +17,7 @@ use sip_served::{CallOut, Debt, DialogName, Dialogs};
 use std::alloc::{AllocError, Global};
 
 /// The held client requests, in the order in which they were sent.
-pub(crate) type ClientMap = IndexMap<ClientId, Client>;
+pub(crate) type ClientMap = IndexMap<Id, Client>;
 
 /// The name of the dialog that a response makes, or that its request was sent in; None where its
 /// request isn't held.
@@ -29,11 +29,7 @@ pub(crate) fn name_at(
 ) -> Result<Option<DialogName>, AllocError>
     ensures { IfOk result (λ name. name ≡ spec.name_at id response.now clients.now.entries) }
 {
-    let key = ClientId {
-        round: id.round,
-        place: id.place,
-    };
-    let Some(client) = clients.get(&key) else {
+    let Some(client) = clients.get(&id) else {
         return Ok(None);
     };
     Ok(Some(reply_name(alloc, client, response)?))
@@ -68,11 +64,7 @@ pub(crate) fn reply_at(
     ensures rest { IfOk result (λ told. told.1
         ≡ (spec.replied_at reply.now dialogs.old.entries clients.old.entries).3) }
 {
-    let key = ClientId {
-        round: reply.id.round,
-        place: reply.id.place,
-    };
-    let Some(client) = clients.get_mut(&key) else {
+    let Some(client) = clients.get_mut(&reply.id) else {
         return Ok((Vec::new(alloc), Rest::Stays));
     };
     take_reply(alloc, client, dialogs, reply)
@@ -117,11 +109,7 @@ pub(crate) fn start(
 fn hold(clients: &mut ClientMap, id: Id, client: Client) -> Result<(), AllocError>
     ensures { OnOk result (clients.new.entries ≡ spec.with_client id client clients.old.entries) }
 {
-    let key = ClientId {
-        round: id.round,
-        place: id.place,
-    };
-    clients.insert(key, client)?;
+    clients.insert(id, client)?;
     Ok(())
 }
 
@@ -130,11 +118,7 @@ fn take(clients: &mut ClientMap, id: Id) -> Option<Client>
     ensures client { result ≡ client_at id clients.old.entries }
     ensures left { clients.new.entries ≡ spec.without id clients.old.entries }
 {
-    let key = ClientId {
-        round: id.round,
-        place: id.place,
-    };
-    clients.shift_remove(&key)
+    clients.shift_remove(&id)
 }
 
 /// A request is held no more, and what ends with it ends.
@@ -182,11 +166,7 @@ fn note_ack_at(
     ensures { OnOk result (clients.new.entries
         ≡ spec.client_changed invite (spec.acked_with name ack) clients.old.entries) }
 {
-    let key = ClientId {
-        round: invite.round,
-        place: invite.place,
-    };
-    let Some(client) = clients.get_mut(&key) else {
+    let Some(client) = clients.get_mut(&invite) else {
         return Ok(());
     };
     note_ack_in(client, name, ack)

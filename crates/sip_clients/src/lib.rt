@@ -20,7 +20,7 @@ mod service;
 mod tick;
 
 pub use answers::{Answers, SentAck};
-pub use client::{Asks, Cancelling, Client, ClientId};
+pub use client::{Asks, Cancelling, Client};
 pub use clients::Clients;
 pub use event::Event;
 pub use laws::{names_differ, quiet_until_due};
