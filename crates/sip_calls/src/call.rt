@@ -4,13 +4,14 @@ ghost use Rattle.std.specs.Prelude.{◌≡◌, ◌≤◌, ◌^◌, IfOk};
 ghost use Rattle.sip_clients.specs.Clients as clients;
 ghost use Rattle.sip_clients.specs.Name.{name_of};
 ghost use Rattle.sip_clients.specs.Tick.{tick_taken};
+ghost use Rattle.sip_served.specs.Respond.{respond_taken};
 ghost use Rattle.sip_served.specs.Step.{item_taken};
 ghost use Rattle.sip_served.specs.Tick as served;
 ghost use Rattle.sip_calls.specs.Sides as spec;
 
 use sip_clients::{Clients, Event, made_name};
 use sip_message::{CallId, Id, Message};
-use sip_served::{CallOut, DialogBody, DialogRequest, Item, Served};
+use sip_served::{CallOut, DialogBody, DialogRequest, Item, Respond, Served};
 use sip_timers::earlier;
 use std::alloc::{AllocError, Global};
 
@@ -52,6 +53,23 @@ impl Call {
     {
         let tag = made_name(alloc, event.seed, event.id, 0)?;
         match self.served.item(tag, event.id, item, event.moment) {
+            Ok(outs) => Ok(outs),
+            Err(_) => Err(AllocError),
+        }
+    }
+
+    /// The user answers a request.
+    pub(crate) fn respond(
+        &mut self,
+        event: Event,
+        respond: Respond,
+    ) -> Result<Vec<CallOut>, AllocError>
+        requires { event.moment ≤ 2 ^ 62 }
+        ensures { IfOk result (λ outs. (self.new, outs.items)
+            ≡ spec.by_server self.old
+            (respond_taken (self.old.served).state event.id respond event.moment)) }
+    {
+        match self.served.respond(event.id, respond, event.moment) {
             Ok(outs) => Ok(outs),
             Err(_) => Err(AllocError),
         }

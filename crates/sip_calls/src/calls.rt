@@ -243,9 +243,7 @@ fn take_command(
         UserCommand::Invite(invite) => { refuse(alloc, event, &invite.call_id, Refusal::CallInUse) }
         UserCommand::Plain(plain) => refuse(alloc, event, &plain.call_id, Refusal::CallInUse),
         UserCommand::Request(request) => call.request(event, &request),
-        UserCommand::Respond(respond) => {
-            call.serve(alloc, event, Item::User(UserCommand::Respond(respond)))
-        }
+        UserCommand::Respond(respond) => call.respond(event, respond),
         UserCommand::Ack(ack) => call.ack(event, &ack),
         UserCommand::Prack(prack) => call.prack(event, &prack),
         UserCommand::Cancel(_) => Ok(Vec::new(alloc)),

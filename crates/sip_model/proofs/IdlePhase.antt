@@ -1,5 +1,5 @@
--- A phase without items and without a tick, or at a moment at which nothing is due: nothing changes,
--- and nothing is said.
+-- A phase without items that has no tick, or at whose moment nothing is due: nothing changes, and
+-- nothing is said.
 use Rattle.std.proofs.Common.{◌≡◌, ℕ, Bool, true, false, cond, List, [], ◌∷◌, map, refl, sym, ◌∙◌, ap}
 use Rattle.std.specs.Prelude.{Option, Some, filter}
 use Rattle.std.specs.declared.cmp.Ordering.{Ordering}
@@ -22,7 +22,8 @@ module _ {K S I O : Type 0} (machine : Machine K S I O) (due : S → Option ℕ)
       ∙ says_nothing ks
 
 pub idle_phase : {K S I O : Type 0} (cmp : K → K → Ordering)
-    (machine : Machine K S (Timed I) O) (due : S → Option ℕ) (tick : ℕ → Timed I) → ((now : ℕ) → IsIdle machine due now (tick now))
+    (machine : Machine K S (Timed I) O) (due : S → Option ℕ) (tick : ℕ → Timed I)
+    → ((now : ℕ) → IsIdle machine due now (tick now))
     → (entries : List (K × S)) (now : ℕ) (ticks : Bool)
     → (ticks ≡ true → IsCalm due (state_in cmp entries) now)
     → DealsPhase cmp machine tick (Some entries) (Some entries)
@@ -38,6 +39,7 @@ idle_phase cmp machine due tick idle entries now true calm = record {
   states = λ key.
       sym (ap (λ r. r.0) (idle now key (state_in cmp entries key) (calm refl key)));
   ticks_told = λ keys covers.
-      sym (says_nothing machine due now (tick now) (idle now) (state_in cmp entries) (calm refl) keys);
+      sym (says_nothing machine due now (tick now) (idle now) (state_in cmp entries) (calm refl)
+      keys);
   items_told = refl;
 }

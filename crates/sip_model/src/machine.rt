@@ -54,5 +54,6 @@ pub trait StateMachine {
     ghost copies: { (key : Self.Key) → IsClonedAlike Self.Key.is_clone key };
 
     /// Where nothing is due, a tick does nothing.
-    ghost idle: { (self : Self) (moment : ℕ) → IsIdle (machine self) due moment (given_at moment tick) };
+    ghost idle: { (self : Self) (moment : ℕ)
+        → IsIdle (machine self) due moment (given_at moment tick) };
 }

@@ -67,7 +67,8 @@ ticks_raise id now states (key ∷ keys) =
 abbrev TellsAt : ℕ → List ((ℕ × Key) × List Out) → List Out
 TellsAt place told = joined (filter (λ said. nat_eq (said.0).0 place) told)
 
-none_later : (place from : ℕ) (states : Key → Option Life) (items : List (model.Item Key (Timed Input)))
+none_later : (place from : ℕ) (states : Key → Option Life)
+    (items : List (model.Item Key (Timed Input)))
     → suc place ≤ from → Climbs from (map (λ item. item.place) items)
     → TellsAt place (told_items key_cmp transaction_machine states items) ≡ []
 none_later place from states [] less climbs = refl
@@ -157,11 +158,11 @@ one_climbs : (now round place : ℕ) (a : Arrival) (rest : List (model.Item Key 
     (transaction_item (record { round = round; place = place }) a ++ rest)))
 one_climbs now round place (arrival.Transaction key input) rest climbs = (omega arith, climbs)
 one_climbs now round place (arrival.Dropped why) rest climbs =
-    climbs_from_less place (suc place) (map (λ item. item.place) (timed_items now rest)) (omega arith)
-    climbs
+    climbs_from_less place (suc place) (map (λ item. item.place) (timed_items now rest))
+    (omega arith) climbs
 one_climbs now round place (arrival.User command) rest climbs =
-    climbs_from_less place (suc place) (map (λ item. item.place) (timed_items now rest)) (omega arith)
-    climbs
+    climbs_from_less place (suc place) (map (λ item. item.place) (timed_items now rest))
+    (omega arith) climbs
 
 arrivals_climb : (now : ℕ) (local : Addr) (round place : ℕ) (events : List Event)
     → Climbs place (map (λ item. item.place)

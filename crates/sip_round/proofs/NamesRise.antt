@@ -116,7 +116,8 @@ arrival_named local id (event.Failed k) = inl refl
 arrival_named local id (event.Command command) = tt
 
 -- with one item more
-abbrev with_one : Key → model.Item Key (Timed Input) → List (model.Item Key (Timed Input)) → Bool → List Id
+abbrev with_one : Key → model.Item Key (Timed Input) → List (model.Item Key (Timed Input)) → Bool
+    → List Id
 with_one k item rest hit = filter_map name_of
     (map (λ i. i.input) (cond hit (item ∷ filter (λ i. is_at (key_cmp i.key) k) rest)
     (filter (λ i. is_at (key_cmp i.key) k) rest)))
@@ -268,7 +269,8 @@ client_side (key.Server branch sent_by method) server is client hit = absurd cli
 third_none_more : (k : Key) → IsServer k
     → (now at : ℕ) (id : Id) (c : Command) (rest : List (Id × Command))
     → AllClients (order_starts ((id, c) ∷ rest))
-    → (AllClients (order_starts rest) → names k (timed_items now (command_items (suc at) rest)) ≡ [])
+    → (AllClients (order_starts rest)
+    → names k (timed_items now (command_items (suc at) rest)) ≡ [])
     → names k (timed_items now (command_items at ((id, c) ∷ rest))) ≡ []
 third_none_more k server now at id (command.Start key call_id message to) rest clients none =
     let items = timed_items now (command_items (suc at) rest) in
@@ -379,9 +381,10 @@ both_placed config (key.Client branch method) number past round =
     let begun = subst (Begun number 1) (sym (starts_ordered outs))
     (round_begins config number past round) in
     let places = third_placed number k round.moment 0 1 orders begun.placed in
-    subst (λ xs. Places number 0 (xs ++ names k (timed_items round.moment (command_items 0 orders))))
+    let last = timed_items round.moment (command_items 0 orders) in
+    subst (λ xs. Places number 0 (xs ++ names k last))
     (sym (first_none round.moment config.local number 1 branch method round.events))
-    (places_from number 0 1 (names k (timed_items round.moment (command_items 0 orders))) (omega arith) places)
+    (places_from number 0 1 (names k last) (omega arith) places)
 both_placed config (key.Server branch sent_by method) number past round =
     let k : Key = key.Server branch sent_by method in
     let outs = given_second config number past round in

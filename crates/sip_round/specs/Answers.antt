@@ -39,10 +39,12 @@ pub record Past : Type 0 where
 
 -- ---- one phase, after others
 
-abbrev pub said_by_transactions : List (Phase Key (Timed Input)) → Phase Key (Timed Input) → Told Key Out
+abbrev pub said_by_transactions : List (Phase Key (Timed Input)) → Phase Key (Timed Input)
+    → Told Key Out
 said_by_transactions = told_next key_cmp transaction_machine tick_at
 
-abbrev pub said_by_calls : Calls → List (Phase (List ℕ) (Timed CallInput)) → Phase (List ℕ) (Timed CallInput)
+abbrev pub said_by_calls : Calls → List (Phase (List ℕ) (Timed CallInput))
+    → Phase (List ℕ) (Timed CallInput)
     → Told (List ℕ) CallOut
 said_by_calls calls = told_next call_cmp (call_machine calls) tick_input
 
@@ -143,13 +145,14 @@ refused config rounds = refused_from config.first 0 0 rounds
 
 -- each shard's tables hold the states that the past leaves of the keys that the cut names for it,
 -- and nothing else: transactions are cut by their branch, calls by their Call-ID
-abbrev pub HoldTransactions : (List ℕ → ℕ → ℕ) → ShardTables → List (Phase Key (Timed Input)) → Type 0
+abbrev pub HoldTransactions : (List ℕ → ℕ → ℕ) → ShardTables → List (Phase Key (Timed Input))
+    → Type 0
 HoldTransactions shard_of shards past =
     HoldFrom key_cmp transaction_machine tick_at
     (owner_of shard_of branch_in (length shards.transactions)) zero shards.transactions past
 
-abbrev pub HoldCalls : Calls → (List ℕ → ℕ → ℕ) → ShardTables → List (Phase (List ℕ) (Timed CallInput))
-    → Type 0
+abbrev pub HoldCalls : Calls → (List ℕ → ℕ → ℕ) → ShardTables
+    → List (Phase (List ℕ) (Timed CallInput)) → Type 0
 HoldCalls calls shard_of shards past =
     HoldFrom call_cmp (call_machine calls) tick_input
     (owner_of shard_of (λ call_id. call_id) (length shards.calls)) zero shards.calls past

@@ -32,8 +32,8 @@ said_of config rounds key =
 
 -- what rounds say of a transaction is what comes before a life, what its first input adds, what the
 -- rest of it adds, and what comes after; its request comes up with the first input, and not again
-pub record OneRequestSaid (said : List Out) (key : Key) (before : List (Timed Input)) (first : Timed Input)
-    (rest after : List (Timed Input)) : Type 0 where
+pub record OneRequestSaid (said : List Out) (key : Key) (before : List (Timed Input))
+    (first : Timed Input) (rest after : List (Timed Input)) : Type 0 where
   pub said_in_order : said ≡ outputs_from transaction_machine key None before
       ++ (adds transaction_machine key (state_after transaction_machine key before) first
       ++ (outputs_from transaction_machine key
@@ -48,7 +48,8 @@ pub record OneRequestSaid (said : List Out) (key : Key) (before : List (Timed In
 -- each life of a server transaction hands its request up once, by its first input
 abbrev pub OneRequestInLives : Config → List Round → Type 0
 OneRequestInLives config rounds =
-    (key : Key) → IsServer key → (before : List (Timed Input)) (first : Timed Input) (rest after : List (Timed Input))
+    (key : Key) → IsServer key → (before : List (Timed Input)) (first : Timed Input)
+    (rest after : List (Timed Input))
     → inputs_of config rounds key ≡ before ++ (first ∷ (rest ++ after))
     → IsLife transaction_machine key before first rest
     → OneRequestSaid (said_of config rounds key) key before first rest after
@@ -60,7 +61,8 @@ OneRequestInEachLife = (config : Config) (rounds : List Round) → OneRequestInL
 -- nothing is handed up under the id of a life after it has ended
 abbrev pub NothingAfterEnds : Config → List Round → Type 0
 NothingAfterEnds config rounds =
-    (key : Key) (before : List (Timed Input)) (first : Timed Input) (rest after : List (Timed Input)) (id : Id)
+    (key : Key) (before : List (Timed Input)) (first : Timed Input)
+    (rest after : List (Timed Input)) (id : Id)
     → inputs_of config rounds key ≡ before ++ (first ∷ (rest ++ after))
     → IsLife transaction_machine key before first rest
     → state_after transaction_machine key (before ++ first ∷ rest) ≡ None

@@ -18,8 +18,9 @@ use sip_workers::{Gate, NoMemory, Piece, dones_in_order, gather, run_pieces};
 use std::alloc::{AllocError, Global};
 use std::thread::Threads;
 
-/// Deals with a phase at a moment in ms, with a tick or without: each shard with its part, on up to so many workers. Gives the tables back,
-/// in order, and what was said, in the order of keys and of places.
+/// Deals with a phase at a moment in ms, with a tick or without: each shard with its part, on up to
+/// so many workers. Gives the tables back, in order, and what was said, in the order of keys and of
+/// places.
 ///
 /// # Errors
 ///

@@ -32,7 +32,8 @@ where
     requires most { vec_len others ≤ 256 }
     requires empty { All (λ table. table ≡ Some []) others.items }
     ensures count { IfOk result (λ moved. length moved.items ≡ length others.items) }
-    ensures holds { IfOk result (λ moved. (owner : M.Key → ℕ) (phases : List (Phase M.Key (Timed M.Input)))
+    ensures holds { IfOk result (λ moved. (owner : M.Key → ℕ)
+        (phases : List (Phase M.Key (Timed M.Input)))
         → ((key : M.Key) → owner key < length tables.items)
         → HoldFrom M.Key.cmp (M.machine machine.now) (ticks_of M.tick) owner 0
         tables.items phases

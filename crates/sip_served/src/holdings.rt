@@ -240,7 +240,8 @@ impl Holdings {
 
     // An ACK.
     fn ack(&mut self, call_id: CallId, ack: &Message) -> Result<Vec<CallOut>, AllocError>
-        ensures { IfOk result (λ outs. (self.new, outs.items) ≡ ack_taken self.old call_id ack.now) }
+        ensures { IfOk result (λ outs. (self.new, outs.items)
+            ≡ ack_taken self.old call_id ack.now) }
     {
         let Some(invite) = acknowledged_invite(ack, self.requests.as_slice()) else {
             return Ok(Vec::new(self.alloc));
@@ -255,9 +256,14 @@ impl Holdings {
         tell(self.alloc, notice)
     }
 
-    // The user answers a request.
+    /// The user answers a request, in the event of this id, at the moment `now` in ms.
     #[tactic(auto, using(std::proofs::lemmas::Option::slice_get_read))]
-    fn respond(&mut self, event: Id, respond: Respond, now: u64) -> Result<Vec<CallOut>, AllocError>
+    pub(crate) fn respond(
+        &mut self,
+        event: Id,
+        respond: Respond,
+        now: u64,
+    ) -> Result<Vec<CallOut>, AllocError>
         requires { now ≤ 2 ^ 62 }
         ensures { IfOk result (λ outs. (self.new, outs.items)
             ≡ answers.respond_taken self.old event respond now) }

@@ -2,6 +2,7 @@
 
 ghost use Rattle.std.specs.Prelude.{◌≡◌, ◌≤◌, ◌^◌, false, Ok, Err, IfErr, IfOk, IsTrue, if◌then◌else◌};
 
+use crate::command::Respond;
 use crate::dialogs::Dialogs;
 use crate::holdings::Holdings;
 use crate::item::{CallOut, Item};
@@ -34,6 +35,7 @@ impl Served {
     ghost use Rattle.std.specs.Borrow.{sem};
     ghost use Rattle.sip_served.specs.Lending.{ServedLends};
     ghost use Rattle.sip_served.specs.ServerSide.{after, empty_at, lost};
+    ghost use Rattle.sip_served.specs.Respond.{respond_taken};
     ghost use Rattle.sip_served.specs.Step.{holds, item_taken};
     ghost use Rattle.sip_served.specs.Tick.{next_due, tick_taken};
 
@@ -96,6 +98,31 @@ impl Served {
     {
         self.check()?;
         let taken = self.holdings.item(tag, id, item, now);
+        self.keep(taken)
+    }
+
+    /// Takes an answer of the user, of the event of this id, at the moment `now` in ms, as
+    /// [`Served::item`] does; no tag is needed for it.
+    ///
+    /// # Errors
+    ///
+    /// `Broken` after an earlier call answered `NoMemory`.
+    pub fn respond(
+        &mut self,
+        id: Id,
+        respond: Respond,
+        now: u64,
+    ) -> Result<Vec<CallOut>, ShardFault>
+        requires { now ≤ 2 ^ 62 }
+        ensures broken { IsTrue self.old.broken → result ≡ Err ShardFault.Broken }
+        ensures only_broken { result ≡ Err ShardFault.Broken → IsTrue self.old.broken }
+        ensures broken_stays { result ≡ Err ShardFault.Broken → self.new ≡ self.old }
+        ensures no_memory { result ≡ Err ShardFault.NoMemory → self.new ≡ lost self.old }
+        ensures ok { IfOk result (λ outs. (self.new, outs.items)
+            ≡ after self.old (respond_taken self.old.state id respond now)) }
+    {
+        self.check()?;
+        let taken = self.holdings.respond(id, respond, now);
         self.keep(taken)
     }
 

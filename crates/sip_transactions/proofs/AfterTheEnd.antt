@@ -166,7 +166,8 @@ input_other id key None timed other named =
     (responses_in_tables (role_of key)) None row.trigger step row.row) named)
 
 -- all later inputs
-later_other : (id : Id) (key : Key) (held : Option Life) (inputs : List (Timed Input)) → OtherLife id held
+later_other : (id : Id) (key : Key) (held : Option Life) (inputs : List (Timed Input))
+    → OtherLife id held
     → AllByRecursion (λ timed. OtherName id (naming_id timed.input)) inputs
     → list_any (carries id) (outputs_from transaction_machine key held inputs) ≡ false
 later_other id key held [] other named = refl

@@ -37,7 +37,8 @@ use Rattle.sip_transactions.specs.Shard.{order}
 use Rattle.sip_transactions.proofs.RowFacts.{by_test, table_passes, row_passes}
 
 -- ---- the row of an input
-pub record RowFor (key : Key) (held : Option Life) (timed : Timed Input) (step : Step) : Type 0 where
+pub record RowFor (key : Key) (held : Option Life) (timed : Timed Input)
+    (step : Step) : Type 0 where
   pub trigger : Trigger
   pub triggered : trigger_of held timed.moment timed.input ≡ Some trigger
   pub row : row_of (rows_of (role_of key)) (option_map (λ life. life.state) held) trigger
@@ -58,7 +59,8 @@ by_option G None none some = none refl
 by_option G (Some x) none some = some x refl
 
 -- an input does nothing, or what its row says
-pub by_step : (G : Option Life × List Out → Type 0) (key : Key) (held : Option Life) (timed : Timed Input)
+pub by_step : (G : Option Life × List Out → Type 0) (key : Key) (held : Option Life)
+    (timed : Timed Input)
     → G (held, []) → ((step : Step) → RowFor key held timed step
     → G (acted_if key timed.moment timed.input (life_of (role_of key) held timed.input) step))
     → G (stepped key held timed)

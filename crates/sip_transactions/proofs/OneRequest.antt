@@ -103,7 +103,8 @@ begins_once key now (Receive id message reply_to) step trigger triggered passed 
     (and-left (is_message step.handed) (is_request trigger) request)
     (ap is_request same ∙ and-right (is_message step.handed) (is_request trigger) request)
 
-pub first_once : (key : Key) → IsServer key → (first : Timed Input) → IsSome (stepped key None first).0
+pub first_once : (key : Key) → IsServer key → (first : Timed Input)
+    → IsSome (stepped key None first).0
     → requests_in (stepped key None first).1 ≡ 1
 first_once key server first =
     by_step (λ after. IsSome after.0 → requests_in after.1 ≡ 1) key None first

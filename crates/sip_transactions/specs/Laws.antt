@@ -106,7 +106,8 @@ carries id (out.Dropped place reason) = false
 
 -- where ids differ, nothing is handed up under a life's id after the life has ended
 abbrev pub NothingAfterTheEnd : Type 0
-NothingAfterTheEnd = (key : Key) (before : List (Timed Input)) (first : Timed Input) (rest after : List (Timed Input))
+NothingAfterTheEnd = (key : Key) (before : List (Timed Input)) (first : Timed Input)
+    (rest after : List (Timed Input))
     (id : Id) → IsLife transaction_machine key before first rest
     → state_after transaction_machine key (before ++ first ∷ rest) ≡ None
     → id_of first.input ≡ Some id
@@ -137,8 +138,8 @@ sends_of bytes outs = count_by (is_send_of bytes) outs
 -- a life that is begun by a start with a request of its key's method sends that request so often at
 -- most
 abbrev pub FewSends : Type 0
-FewSends = (branch method : List ℕ) (before : List (Timed Input)) (now : ℕ) (id : Id) (call_id : List ℕ)
-    (request : Message) (to : Addr) (rest : List (Timed Input))
+FewSends = (branch method : List ℕ) (before : List (Timed Input)) (now : ℕ) (id : Id)
+    (call_id : List ℕ) (request : Message) (to : Addr) (rest : List (Timed Input))
     → IsLife transaction_machine (key.Client branch method) before
     (record { moment = now; input = Start id call_id request to }) rest
     → is_request_message request ≡ true → request.cseq.method ≡ method

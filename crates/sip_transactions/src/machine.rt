@@ -246,8 +246,10 @@ impl StateMachine for Transactions {
         input: Input,
     ) -> Result<(Option<Life>, Vec<Out>), AllocError>
         requires { moment ≤ 2 ^ 62 }
-        ensures next { IfOk result (λ after. after.0 ≡ (stepped key.now state (given_at moment input)).0) }
-        ensures adds { IfOk result (λ after. after.1.items ≡ (stepped key.now state (given_at moment input)).1) }
+        ensures next { IfOk result (λ after. after.0
+            ≡ (stepped key.now state (given_at moment input)).0) }
+        ensures adds { IfOk result (λ after. after.1.items
+            ≡ (stepped key.now state (given_at moment input)).1) }
     {
         let Some(step) = step_for(key, &state, moment, &input) else {
             return Ok((state, Vec::new(alloc)));

@@ -28,8 +28,10 @@ loop-key-preserved g c =
     all (into_iter_items c.next.new.self) c.in-Some.key (get cmp c.loop-key.states)
     (get cmp c.step_key.new.states)
     c.loop-key.dues c.step_key.new.dues
-    (groups c.loop-key.told.items) c.in_ok-outputs.outputs.items (given_at c.args.now c.tick_input.result)
-    left (ap (given_at c.args.now) c.tick_input.ensures) c.in_ok-outputs.ensures.states c.in_ok-outputs.ensures.dues
+    (groups c.loop-key.told.items) c.in_ok-outputs.outputs.items
+    (given_at c.args.now c.tick_input.result)
+    left (ap (given_at c.args.now) c.tick_input.ensures)
+    c.in_ok-outputs.ensures.states c.in_ok-outputs.ensures.dues
     c.in_ok-outputs.ensures.added in
     rw c.in_ok-tell.ensures more
 

@@ -69,7 +69,8 @@ returns-then-are_idle g c = λ owner items within parts rising.
     let tables = c.args.tables.items in
     let none = subst (λ ps. AllByRecursion (λ part. part.items ≡ []) ps) c.deref.ensures.value
     (c.have_no_items.ensures c.if-have_no_items.true) in
-    let still = subst (λ held. AllByRecursion (IsIdle cmp machine tick c.args.now c.args.ticks) held)
+    let still =
+    subst (λ held. AllByRecursion (IsIdle cmp machine tick c.args.now c.args.ticks) held)
     c.deref-then-have_no_items.ensures.value (c.are_idle.ensures c.if-are_idle.true) in
     let idle = idle_shards cmp machine tick owner c.args.now c.args.ticks
     c.laws_of_phases.ensures.shards_tell_all items tables within rising still
