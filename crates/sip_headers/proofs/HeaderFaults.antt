@@ -1,6 +1,5 @@
 -- The first fault of header lines is the one that is told.
-use Rattle.std.proofs.Common.{◌≡◌, ◌<◌, ◌⊎◌, inl, inr, ℕ, zero, suc, Bool, true, false, ◌&&◌, ◌||◌, ltb, List, [], ◌∷◌, ◌++◌, map, length, get_or, cond, Option, Some, None, Result, Ok, Err, find, refl, sym, ap, subst, ◌∙◌, arith}
-use Rattle.std.specs.Prelude.{is_none}
+use Rattle.std.proofs.Common.{◌≡◌, ◌<◌, ◌⊎◌, inl, inr, ℕ, zero, suc, Bool, true, false, ◌&&◌, ◌||◌, ltb, List, [], ◌∷◌, ◌++◌, map, length, get_or, cond, Option, Some, None, Result, Ok, find, refl, sym, ap, subst, ◌∙◌, arith}
 use Rattle.std.specs.List.{AllZip, AllByRecursion, filter, list_any}
 use Rattle.std.proofs.lemmas.Bool.{or_parts, ltb-false, ltb-true}
 use Rattle.std.proofs.lemmas.Option.{same_Some, none-some}
@@ -10,19 +9,19 @@ use Rattle.sip_parts.specs.declared.header_name.HeaderName.TheVariants as name
 use Rattle.sip_message.specs.declared.fault.ReadFault.{ReadFault}
 use Rattle.sip_message.specs.declared.fault.ReadFault.TheVariants as fault
 use Rattle.sip_message.specs.declared.header.Header.{Header}
-use Rattle.sip_headers.specs.Complete.{first_fault, headers_in, unless_fault, headers_of}
+use Rattle.sip_headers.specs.Complete.{draft_with, first_fault, unless_fault, faultless}
 use Rattle.sip_headers.specs.Draft.{draft_of}
 use Rattle.sip_headers.specs.Faults.{IsFirst, NoneHolds, Decides, HasBadValue, HasBadHeader, HeaderCondition, header_faults}
-use Rattle.sip_headers.specs.Headers.{IsOther, AreHeaders}
+use Rattle.sip_headers.specs.Headers.{Headers, IsOther, AreHeaders}
 use Rattle.sip_headers.specs.Presence.{slot_presence, list_presence, presence_of, is_unfit, has_bad_header, missing, repeated}
 use Rattle.sip_headers.specs.Section.{IsDraftOf, has_no_values, values, others_of}
 use Rattle.sip_headers.specs.Slot.{HasBad, IsSlot, IsList}
 use Rattle.sip_headers.specs.declared.draft.Draft.{Draft}
-use Rattle.sip_headers.specs.declared.headers.Headers.{Headers}
 use Rattle.sip_headers.specs.declared.slot.Slot.{Slot}
 use Rattle.sip_headers.specs.declared.slot.Slot.TheVariants.{Absent, Once, Twice, Bad}
+use Rattle.sip_headers.proofs.Completes.{is_there}
 use Rattle.sip_headers.proofs.Drafts.{is_draft}
-use Rattle.sip_headers.proofs.HeaderSets.{lines_are, no_good_lines, others_are, others_list_from, fault_from, complete_headers, headers_again}
+use Rattle.sip_headers.proofs.HeaderSets.{lines_are, no_good_lines, others_are, others_list_from, fault_from, complete_headers}
 use Rattle.sip_headers.proofs.Presences.{fits, missing_is, repeated_is}
 
 -- ---- the first of several faults
@@ -230,10 +229,6 @@ zip_some [] (o ∷ os) all = absurd all
 zip_some (k ∷ kept) [] all = absurd all
 zip_some (k ∷ kept) (o ∷ os) all = ((k, all.0), zip_some kept os all.1)
 
-is_there : {X : Type 0} (o : Option X) → is_none o ≡ false → (x : X) × (o ≡ Some x)
-is_there None e = absurd cc
-is_there (Some x) e = (x, refl)
-
 bad_true : (lines : List (List ℕ)) → has_bad_header (draft_of lines) ≡ true → HasBadHeader lines
 bad_true lines e =
     let d = draft_of lines in
@@ -271,7 +266,7 @@ decided_from : (lines : List (List ℕ)) (b : Bool) (m r : Option HeaderName)
     → has_bad_header (draft_of lines) ≡ b → missing (draft_of lines) ≡ m
     → repeated (draft_of lines) ≡ r
     → Decides (HeaderCondition lines) header_faults
-    (unless_fault (cond b (Some fault.BadHeader) (first_fault m r)) (headers_in (draft_of lines)))
+    (unless_fault (cond b (Some fault.BadHeader) (first_fault m r)) (draft_of lines))
 decided_from lines true m r bad none single = inl (refl, bad_true lines bad)
 decided_from lines false (Some h) r bad none single =
     inr (
@@ -298,54 +293,42 @@ decided_from lines false None None bad none single =
     (missing_tells lines) headers (sym (missing_is lines bad) ∙ none) in
     let no_repeated = found_nothing (HeaderCondition lines) fault.Repeated
     (λ x. is_single (entry x).kind) (λ x. ltb 1 (length (values x lines)))
-    (repeated_tells lines) headers (sym (repeated_is lines bad) ∙ single) in
-    let all = complete_headers lines bad none single in
-    let found : unless_fault None (headers_in (draft_of lines)) ≡ Ok all.0 =
-    sym (ap (λ o. unless_fault o (headers_in (draft_of lines)))
-    (fault_from (draft_of lines) false None None bad none single))
-    ∙ headers_again all.0 lines all.1 in
-    subst (λ (r : Result Headers ReadFault). Decides (HeaderCondition lines) header_faults r)
-    (sym found) (
+    (repeated_tells lines) headers (sym (repeated_is lines bad) ∙ single) in (
       bad_false lines bad,
       none_both (HeaderCondition lines) missing_faults repeated_faults no_missing no_repeated,
     )
 
 pub decided : (lines : List (List ℕ))
-    → Decides (HeaderCondition lines) header_faults (headers_of (draft_of lines))
+    → Decides (HeaderCondition lines) header_faults (faultless (draft_of lines))
 decided lines =
     let d = draft_of lines in
-    subst (λ o. Decides (HeaderCondition lines) header_faults (unless_fault o (headers_in d)))
+    subst (λ o. Decides (HeaderCondition lines) header_faults (unless_fault o d))
     (sym (fault_from d (has_bad_header d) (missing d) (repeated d) refl refl refl))
     (decided_from lines (has_bad_header d) (missing d) (repeated d) refl refl refl)
 
-found_from : (lines : List (List ℕ)) (h : Headers) (b : Bool) (m r : Option HeaderName)
+-- a draft of lines that has no fault, and what it holds
+abbrev Holds : List (List ℕ) → Draft → Type 0
+Holds lines d = (h : Headers) × AreHeaders h lines × (d ≡ draft_with h)
+
+found_from : (lines : List (List ℕ)) (d : Draft) (b : Bool) (m r : Option HeaderName)
     → has_bad_header (draft_of lines) ≡ b → missing (draft_of lines) ≡ m
-    → repeated (draft_of lines) ≡ r → headers_of (draft_of lines) ≡ Ok h → AreHeaders h lines
-found_from lines h true m r bad none single e =
-    let f : ◌≡◌ {A = Result Headers ReadFault} (Err fault.BadHeader) (Ok h) =
-    sym (ap (λ o. unless_fault o (headers_in (draft_of lines)))
-    (fault_from (draft_of lines) true m r bad none single)) ∙ e in
-    absurd cc
-found_from lines h false (Some n) r bad none single e =
-    let f : ◌≡◌ {A = Result Headers ReadFault} (Err (fault.Missing n)) (Ok h) =
-    sym (ap (λ o. unless_fault o (headers_in (draft_of lines)))
-    (fault_from (draft_of lines) false (Some n) r bad none single)) ∙ e in
-    absurd cc
-found_from lines h false None (Some n) bad none single e =
-    let f : ◌≡◌ {A = Result Headers ReadFault} (Err (fault.Repeated n)) (Ok h) =
-    sym (ap (λ o. unless_fault o (headers_in (draft_of lines)))
-    (fault_from (draft_of lines) false None (Some n) bad none single)) ∙ e in
-    absurd cc
-found_from lines h false None None bad none single e =
-    let all = complete_headers lines bad none single in
-    let same : all.0 ≡ h = same_Ok all.0 h (sym (headers_again all.0 lines all.1) ∙ e) in
-    subst (λ (g : Headers). AreHeaders g lines) same all.1
+    → repeated (draft_of lines) ≡ r
+    → unless_fault (cond b (Some fault.BadHeader) (first_fault m r)) (draft_of lines) ≡ Ok d
+    → Holds lines d
+found_from lines d true m r bad none single e = absurd cc
+found_from lines d false (Some n) r bad none single e = absurd cc
+found_from lines d false None (Some n) bad none single e = absurd cc
+found_from lines d false None None bad none single e =
+    subst (λ (f : Draft). Holds lines f) (same_Ok (draft_of lines) d e)
+    (complete_headers lines bad none single)
   where
-    same_Ok : (x y : Headers) → ◌≡◌ {A = Result Headers ReadFault} (Ok x) (Ok y) → x ≡ y
+    same_Ok : (x y : Draft) → ◌≡◌ {A = Result Draft ReadFault} (Ok x) (Ok y) → x ≡ y
     same_Ok x y p = cc
 
-pub headers_take : (lines : List (List ℕ)) (h : Headers) → headers_of (draft_of lines) ≡ Ok h
-    → AreHeaders h lines
-headers_take lines h e =
-    let d = draft_of lines in
-    found_from lines h (has_bad_header d) (missing d) (repeated d) refl refl refl e
+pub headers_take : (lines : List (List ℕ)) (d : Draft) → faultless (draft_of lines) ≡ Ok d
+    → Holds lines d
+headers_take lines d e =
+    let f = draft_of lines in
+    found_from lines d (has_bad_header f) (missing f) (repeated f) refl refl refl
+    (ap (λ o. unless_fault o f)
+    (sym (fault_from f (has_bad_header f) (missing f) (repeated f) refl refl refl)) ∙ e)

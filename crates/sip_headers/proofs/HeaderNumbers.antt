@@ -9,16 +9,17 @@ use Rattle.sip_text.specs.Forms.{each}
 use Rattle.sip_text.proofs.Separators.{and_then_some}
 use Rattle.sip_message.specs.declared.message.Message.{Message}
 use Rattle.sip_message.specs.declared.rack.RAck.{RAck}
-use Rattle.sip_message.specs.declared.start_line.StartLine.{StartLine}
 use Rattle.sip_message.specs.declared.via.Via.{Via}
 use Rattle.sip_values.specs.declared.numeral.Numeral.{Numeral}
 use Rattle.sip_values.specs.declared.numeral.Numeral.TheVariants.{Number, NotANumber}
 use Rattle.sip_values.specs.declared.sequence.RAckDraft.{RAckDraft}
 use Rattle.sip_values.specs.declared.via.ViaDraft.{ViaDraft}
 use Rattle.sip_text.specs.Options.{◌>>=◌}
-use Rattle.sip_headers.specs.Numbers.{via_draft, rack_draft, headers_with, rack_words, port_words, number_words, is_number, is_port, are_numbers, known, known_if, known_both, known_rack, known_port, numbers_in, via_with, rack_with, message_with}
-use Rattle.sip_headers.specs.declared.headers.Headers.{Headers}
-use Rattle.sip_headers.specs.declared.headers.Numbers.{Numbers}
+use Rattle.sip_headers.specs.Complete.{slot_of, draft_with}
+use Rattle.sip_headers.specs.Headers.{Headers}
+use Rattle.sip_headers.specs.Numbers.{via_draft, rack_draft, headers_with, rack_words, port_words, number_words, is_number, is_port, are_numbers, known, known_slot, known_both, known_rack, known_port, numbers_in, via_with, rack_with, message_with}
+use Rattle.sip_headers.specs.declared.numbers.Numbers.{Numbers}
+use Rattle.sip_headers.specs.declared.slot.Slot.TheVariants.{Once}
 
 -- ---- when there are numbers
 
@@ -44,45 +45,48 @@ known_some : (word : Numeral) → is_some (known word) ≡ list_all is_number (w
 known_some (Number n) = refl
 known_some NotANumber = refl
 
-known_if_some : (word : Option Numeral)
-    → is_some (known_if word) ≡ list_all is_number (option_to_list word)
-known_if_some None = refl
-known_if_some (Some (Number n)) = refl
-known_if_some (Some NotANumber) = refl
+known_slot_some : (word : Option Numeral)
+    → is_some (known_slot (slot_of word)) ≡ list_all is_number (option_to_list word)
+known_slot_some None = refl
+known_slot_some (Some (Number n)) = refl
+known_slot_some (Some NotANumber) = refl
 
 known_both_some : (a b : Numeral) → is_some (known_both a b) ≡ list_all is_number (a ∷ (b ∷ []))
 known_both_some (Number a) (Number b) = refl
 known_both_some (Number a) NotANumber = refl
 known_both_some NotANumber b = refl
 
-known_rack_some : (rack : Option RAckDraft)
-    → is_some (known_rack rack) ≡ list_all is_number (flat_map rack_words (option_to_list rack))
+known_rack_some : (rack : Option RAckDraft) → is_some (known_rack (slot_of rack))
+    ≡ list_all is_number (flat_map rack_words (option_to_list rack))
 known_rack_some None = refl
 known_rack_some (Some rack) = known_both_some rack.rseq rack.cseq
 
-numbers_some : (h : Headers) → is_some (numbers_in h) ≡ list_all is_number (number_words h)
+numbers_some : (h : Headers)
+    → is_some (numbers_in (draft_with h)) ≡ list_all is_number (number_words h)
 unfolding numbers_in
 numbers_some h =
     then_some is_number (known h.cseq.number) (h.cseq.number ∷ []) _
     (option_to_list h.max_forwards
     ++ (option_to_list h.rseq ++ (flat_map rack_words (option_to_list h.rack)
     ++ option_to_list h.content_length))) (known_some h.cseq.number)
-    (λ cseq. then_some is_number (known_if h.max_forwards) (option_to_list h.max_forwards) _
+    (λ cseq. then_some is_number (known_slot (slot_of h.max_forwards))
+    (option_to_list h.max_forwards) _
     (option_to_list h.rseq ++ (flat_map rack_words (option_to_list h.rack)
-    ++ option_to_list h.content_length)) (known_if_some h.max_forwards)
-    (λ max_forwards. then_some is_number (known_if h.rseq) (option_to_list h.rseq) _
+    ++ option_to_list h.content_length)) (known_slot_some h.max_forwards)
+    (λ max_forwards. then_some is_number (known_slot (slot_of h.rseq)) (option_to_list h.rseq) _
     (flat_map rack_words (option_to_list h.rack) ++ option_to_list h.content_length)
-    (known_if_some h.rseq)
-    (λ rseq. then_some is_number (known_rack h.rack) (flat_map rack_words (option_to_list h.rack)) _
+    (known_slot_some h.rseq)
+    (λ rseq. then_some is_number (known_rack (slot_of h.rack))
+    (flat_map rack_words (option_to_list h.rack)) _
     (option_to_list h.content_length) (known_rack_some h.rack)
-    (λ rack. mapped_some (known_if h.content_length)
+    (λ rack. mapped_some (known_slot (slot_of h.content_length))
     (λ content_length. record {
       max_forwards = max_forwards;
       cseq = cseq;
       rseq = rseq;
       rack = rack;
       content_length = content_length;
-    }) ∙ known_if_some h.content_length))))
+    }) ∙ known_slot_some h.content_length))))
 
 port_bound : (n : ℕ) → is_some (cond (ltb 65535 n) None (Some (Some n))) ≡ (ltb n (2 ^ 16) && true)
 port_bound n =
@@ -123,19 +127,20 @@ some_value (Some x) e = (x, refl)
 pub record HasNumbers (h : Headers) : Type 0 where
   pub numbers : Numbers
   pub vias : List Via
-  pub numbers_are : numbers_in h ≡ Some numbers
+  pub numbers_are : numbers_in (draft_with h) ≡ Some numbers
   pub vias_are : each via_with h.vias ≡ Some vias
 
 pub numbers_there : (h : Headers) → are_numbers h ≡ true → HasNumbers h
 numbers_there h e =
     let both = and_parts (list_all is_port (port_words h.vias))
     (list_all is_number (number_words h)) e in
-    let numbers = some_value (numbers_in h) (numbers_some h ∙ both.1) in
+    let numbers = some_value (numbers_in (draft_with h)) (numbers_some h ∙ both.1) in
     let vias = some_value (each via_with h.vias) (vias_some h.vias ∙ both.0) in
     record { numbers = numbers.0; vias = vias.0; numbers_are = numbers.1; vias_are = vias.1 }
 
 pub are_all_numbers : (h : Headers) (numbers : Numbers) (vias : List Via)
-    → numbers_in h ≡ Some numbers → each via_with h.vias ≡ Some vias → are_numbers h ≡ true
+    → numbers_in (draft_with h) ≡ Some numbers → each via_with h.vias ≡ Some vias
+    → are_numbers h ≡ true
 are_all_numbers h numbers vias e f =
     and_from _ _ (sym (vias_some h.vias) ∙ ap is_some f) (sym (numbers_some h) ∙ ap is_some e)
 
@@ -145,19 +150,20 @@ known_is : (word : Numeral) (n : ℕ) → known word ≡ Some n → Number n ≡
 known_is (Number m) n e = ap (λ x. Number x) (sym (same_Some m n e))
 known_is NotANumber n e = absurd cc
 
-known_if_is : (word : Option Numeral) (n : Option ℕ) → known_if word ≡ Some n
+known_slot_is : (word : Option Numeral) (n : Option ℕ) → known_slot (slot_of word) ≡ Some n
     → option_map Number n ≡ word
-known_if_is None n e = ap (option_map Number) (sym (same_Some None n e))
-known_if_is (Some (Number m)) n e = ap (option_map Number) (sym (same_Some (Some m) n e))
-known_if_is (Some NotANumber) n e = absurd cc
+known_slot_is None n e = ap (option_map Number) (sym (same_Some None n e))
+known_slot_is (Some (Number m)) n e = ap (option_map Number) (sym (same_Some (Some m) n e))
+known_slot_is (Some NotANumber) n e = absurd cc
 
 known_rack_is : (rack : Option RAckDraft) (numbers : Option (ℕ × ℕ))
-    → known_rack rack ≡ Some numbers → option_map rack_draft (rack_with rack numbers) ≡ rack
+    → known_rack (slot_of rack) ≡ Some numbers
+    → option_map rack_draft (rack_with (slot_of rack) numbers) ≡ rack
 known_rack_is None numbers e = refl
 known_rack_is (Some rack) numbers e =
     let a = and_then_some _ (known rack.rseq) numbers e in
     let b = and_then_some _ (known rack.cseq) numbers a.2 in
-    ap (λ ns. option_map rack_draft (rack_with (Some rack) ns))
+    ap (λ ns. option_map rack_draft (rack_with (Once rack) ns))
     (sym (same_Some (Some (a.0, b.0)) numbers b.2))
     ∙ (λ i. Some (record {
       rseq = known_is rack.rseq a.0 a.1 i;
@@ -203,38 +209,53 @@ vias_are (draft ∷ drafts) vias e =
     ap (map via_draft) (sym (same_Some (a.0 ∷ b.0) vias b.2))
     ∙ (λ i. via_is draft a.0 a.1 i ∷ vias_are drafts b.0 b.1 i)
 
--- the headers are those of the message with these numbers
-pub numbered : (h : Headers) (start : StartLine) (vias : List Via) (numbers : Numbers)
-    (body : List ℕ) → numbers_in h ≡ Some numbers → each via_with h.vias ≡ Some vias
-    → h ≡ headers_with (message_with start vias numbers h body) numbers.content_length
+-- what each number was read from
+pub record AreKnown (h : Headers) (numbers : Numbers) : Type 0 where
+  pub cseq : known h.cseq.number ≡ Some numbers.cseq
+  pub max_forwards : known_slot (slot_of h.max_forwards) ≡ Some numbers.max_forwards
+  pub rseq : known_slot (slot_of h.rseq) ≡ Some numbers.rseq
+  pub rack : known_rack (slot_of h.rack) ≡ Some numbers.rack
+  pub content_length : known_slot (slot_of h.content_length) ≡ Some numbers.content_length
+
+pub are_known : (h : Headers) (numbers : Numbers) → numbers_in (draft_with h) ≡ Some numbers
+    → AreKnown h numbers
 unfolding numbers_in
-numbered h start vias numbers body e f =
+are_known h numbers e =
     let a = and_then_some _ (known h.cseq.number) numbers e in
-    let b = and_then_some _ (known_if h.max_forwards) numbers a.2 in
-    let c = and_then_some _ (known_if h.rseq) numbers b.2 in
-    let d = and_then_some _ (known_rack h.rack) numbers c.2 in
-    let g = and_then_some _ (known_if h.content_length) numbers d.2 in
-    let same : ◌≡◌ {A = Numbers} (record
-    { max_forwards = b.0; cseq = a.0; rseq = c.0; rack = d.0; content_length = g.0 }) numbers =
-    same_Some _ numbers g.2 in
-    sym ((λ i. headers_with (message_with start vias (sym same i) h body)
-    (sym same i).content_length) ∙ (λ i. record {
-      vias = vias_are h.vias vias f i;
-      max_forwards = known_if_is h.max_forwards b.0 b.1 i;
+    let b = and_then_some _ (known_slot (slot_of h.max_forwards)) numbers a.2 in
+    let c = and_then_some _ (known_slot (slot_of h.rseq)) numbers b.2 in
+    let d = and_then_some _ (known_rack (slot_of h.rack)) numbers c.2 in
+    let g = and_then_some _ (known_slot (slot_of h.content_length)) numbers d.2 in
+    subst (λ (ns : Numbers). AreKnown h ns) (same_Some _ numbers g.2)
+    (record { cseq = a.1; max_forwards = b.1; rseq = c.1; rack = d.1; content_length = g.1 })
+
+-- the headers are those of the message with these numbers
+pub numbered : (h : Headers) (numbers : Numbers) (m : Message)
+    → numbers_in (draft_with h) ≡ Some numbers → each via_with h.vias ≡ Some m.vias
+    → message_with m.start m.vias numbers (draft_with h) m.body ≡ Some m
+    → h ≡ headers_with m numbers.content_length
+numbered h numbers m e f made =
+    let are = are_known h numbers e in
+    sym (λ i. record {
+      vias = vias_are h.vias m.vias f i;
+      max_forwards = known_slot_is h.max_forwards numbers.max_forwards are.max_forwards i;
       from = h.from;
       to = h.to;
       call_id = h.call_id;
-      cseq = record { number = known_is h.cseq.number a.0 a.1 i; method = h.cseq.method };
+      cseq = record {
+        number = known_is h.cseq.number numbers.cseq are.cseq i;
+        method = h.cseq.method;
+      };
       contacts = h.contacts;
       record_routes = h.record_routes;
       routes = h.routes;
       require = h.require;
       supported = h.supported;
-      rseq = known_if_is h.rseq c.0 c.1 i;
-      rack = known_rack_is h.rack d.0 d.1 i;
-      content_length = known_if_is h.content_length g.0 g.1 i;
+      rseq = known_slot_is h.rseq numbers.rseq are.rseq i;
+      rack = known_rack_is h.rack numbers.rack are.rack i;
+      content_length = known_slot_is h.content_length numbers.content_length are.content_length i;
       others = h.others;
-    }))
+    }) ∙ ap (λ (n : Message). headers_with n numbers.content_length) (same_Some _ m made)
 
 -- ---- and the other way round
 
@@ -250,17 +271,17 @@ numbers_with m length = record {
   content_length = length;
 }
 
-if_again : (n : Option ℕ) → known_if (option_map Number n) ≡ Some n
+if_again : (n : Option ℕ) → known_slot (slot_of (option_map Number n)) ≡ Some n
 if_again None = refl
 if_again (Some n) = refl
 
 rack_again : (rack : Option RAck)
-    → known_rack (option_map rack_draft rack) ≡ Some (option_map rack_numbers rack)
+    → known_rack (slot_of (option_map rack_draft rack)) ≡ Some (option_map rack_numbers rack)
 rack_again None = refl
 rack_again (Some rack) = refl
 
 pub numbers_again : (m : Message) (length : Option ℕ)
-    → numbers_in (headers_with m length) ≡ Some (numbers_with m length)
+    → numbers_in (draft_with (headers_with m length)) ≡ Some (numbers_with m length)
 unfolding numbers_in
 numbers_again m length =
     rw (if_again m.max_forwards, if_again m.rseq, rack_again m.rack, if_again length) refl
@@ -296,26 +317,16 @@ ports_again m length e =
     (list_all is_number (number_words (headers_with m length))) e).0
 
 rack_same : (rack : Option RAck)
-    → rack_with (option_map rack_draft rack) (option_map rack_numbers rack) ≡ rack
+    → rack_with (slot_of (option_map rack_draft rack)) (option_map rack_numbers rack) ≡ rack
 rack_same None = refl
 rack_same (Some rack) = refl
 
 pub message_again : (m : Message) (length : Option ℕ)
-    → message_with m.start m.vias (numbers_with m length) (headers_with m length) m.body ≡ m
-message_again m length = λ i. record m { rack = rack_same m.rack i }
+    → message_with m.start m.vias (numbers_with m length) (draft_with (headers_with m length))
+    m.body ≡ Some m
+message_again m length = λ i. Some (record m { rack = rack_same m.rack i })
 
--- ---- of each by itself
-
-pub content_length_is : (h : Headers) (numbers : Numbers) → numbers_in h ≡ Some numbers
-    → known_if h.content_length ≡ Some numbers.content_length
-unfolding numbers_in
-content_length_is h numbers e =
-    let a = and_then_some _ (known h.cseq.number) numbers e in
-    let b = and_then_some _ (known_if h.max_forwards) numbers a.2 in
-    let c = and_then_some _ (known_if h.rseq) numbers b.2 in
-    let d = and_then_some _ (known_rack h.rack) numbers c.2 in
-    let g = and_then_some _ (known_if h.content_length) numbers d.2 in
-    g.1 ∙ ap (λ (n : Numbers). Some n.content_length) (same_Some _ numbers g.2)
+-- ---- of the first Via
 
 abbrev pub HasParameters : ViaDraft → List Via → Type 0
 HasParameters draft [] = ⊥

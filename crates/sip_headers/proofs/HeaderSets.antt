@@ -1,5 +1,5 @@
 -- The headers of lines are those of their draft.
-use Rattle.std.proofs.Common.{◌≡◌, ◌⊎◌, inl, inr, ◌^◌, ℕ, Bool, true, false, ◌&&◌, ◌||◌, List, [], ◌∷◌, ◌++◌, cond, Option, Some, None, Ok, fold, find, is_some, refl, sym, ap, subst, ◌∙◌, append_assoc}
+use Rattle.std.proofs.Common.{◌≡◌, ◌⊎◌, inl, inr, ◌^◌, ℕ, Bool, true, false, ◌&&◌, ◌||◌, List, [], ◌∷◌, ◌++◌, cond, Option, Some, None, Ok, fold, find, refl, sym, ap, subst, ◌∙◌, append_assoc}
 use Rattle.std.specs.Prelude.{is_none}
 use Rattle.std.specs.List.{AllZip, AllByRecursion, flat_map, list_any}
 use Rattle.std.proofs.lemmas.List.{append-nil}
@@ -16,18 +16,16 @@ use Rattle.sip_parts.specs.declared.header_name.HeaderName.TheVariants as name
 use Rattle.sip_message.specs.declared.fault.ReadFault.TheVariants as fault
 use Rattle.sip_message.specs.declared.header.Header.{Header}
 use Rattle.sip_values.proofs.Rows.{numeral_reads, party_reads, name_addrs_reads, vias_reads, tokens_reads, call_id_reads, cseq_reads, rack_reads}
-use Rattle.sip_headers.specs.Complete.{once, at_most_once, slot_of, IsComplete, draft_with, headers_in, fault_in, first_fault, unless_fault, or_bad, headers_of}
+use Rattle.sip_headers.specs.Complete.{slot_of, draft_with, fault_in, first_fault, unless_fault, faultless}
 use Rattle.sip_headers.specs.Draft.{long_name, other_from, no_draft, draft_of}
 use Rattle.sip_headers.specs.HeaderLine.{line_from, IsHeaderLine, class_by_name, class_by_parts}
-use Rattle.sip_headers.specs.Headers.{One, AtMostOne, Many, IsSomeHeaderLine, IsOther, AreHeaders}
+use Rattle.sip_headers.specs.Headers.{Headers, One, AtMostOne, Many, IsSomeHeaderLine, IsOther, AreHeaders}
 use Rattle.sip_headers.specs.Presence.{slot_presence, list_presence, presence_of, is_nowhere, is_repeated, is_unfit, has_bad_header, missing, repeated}
 use Rattle.sip_headers.specs.Section.{is_bad_class, has_bad_line, values, others_of, IsDraftOf}
 use Rattle.sip_headers.specs.Slot.{met, listed, slot_from, list_from, IsSlot}
 use Rattle.sip_headers.specs.declared.draft.Draft.{Draft}
-use Rattle.sip_headers.specs.declared.headers.Headers.{Headers}
-use Rattle.sip_headers.specs.declared.slot.Slot.{Slot}
-use Rattle.sip_headers.specs.declared.slot.Slot.TheVariants.{Absent, Once, Twice, Bad}
-use Rattle.sip_headers.proofs.Completes.{complete_of, via_there}
+use Rattle.sip_headers.specs.declared.slot.Slot.TheVariants.{Absent, Once}
+use Rattle.sip_headers.proofs.Completes.{headers_there, via_there}
 use Rattle.sip_headers.proofs.Drafts.{fold-with_line, is_draft}
 use Rattle.sip_headers.proofs.Presences.{list_never_repeated}
 
@@ -236,14 +234,6 @@ drafted h lines is =
 
 -- ---- a draft with headers has no fault
 
-held : {X : Type 0} (o : Option X) → at_most_once (slot_of o) ≡ Some o
-held None = refl
-held (Some x) = refl
-
-pub headers_in_with : (h : Headers) → headers_in (draft_with h) ≡ Some h
-unfolding headers_in
-headers_in_with h = rw (held h.max_forwards, held h.rseq, held h.rack, held h.content_length) refl
-
 none_any : {A : Type 0} (p : A → Bool) (xs : List A) → AllByRecursion (λ x. p x ≡ false) xs
     → list_any p xs ≡ false
 none_any p [] all = refl
@@ -385,88 +375,52 @@ fault_from d b m r e f g =
     ∙ ap (λ x. cond b (Some fault.BadHeader) (first_fault x (repeated d))) f
     ∙ ap (λ x. cond b (Some fault.BadHeader) (first_fault m x)) g
 
-pub no_fault : (h : Headers) → (h.vias ≡ [] → ⊥) → headers_of (draft_with h) ≡ Ok h
+pub no_fault : (h : Headers) → (h.vias ≡ [] → ⊥) → faultless (draft_with h) ≡ Ok (draft_with h)
 no_fault h some =
-    ap (λ o. unless_fault o (headers_in (draft_with h)))
+    ap (λ o. unless_fault o (draft_with h))
     (fault_from (draft_with h) false None None (no_bad_header h) (none_missing h some)
     (none_repeated h))
-    ∙ ap or_bad (headers_in_with h)
 
 pub headers_again : (h : Headers) (lines : List (List ℕ)) → AreHeaders h lines
-    → headers_of (draft_of lines) ≡ Ok h
-headers_again h lines is = ap headers_of (drafted h lines is) ∙ no_fault h is.some_via
+    → faultless (draft_of lines) ≡ Ok (draft_with h)
+headers_again h lines is = ap faultless (drafted h lines is) ∙ no_fault h is.some_via
+
+-- ---- lines have headers in one way
+
+same_slot : {X : Type 0} (o p : Option X) → slot_of o ≡ slot_of p → o ≡ p
+same_slot None None e = refl
+same_slot (Some x) None e = absurd cc
+same_slot None (Some y) e = absurd cc
+same_slot (Some x) (Some y) e = let same : x ≡ y = cc in ap (λ z. Some z) same
+
+same_once : {X : Type 0} (x y : X) → Once x ≡ Once y → x ≡ y
+same_once x y e = cc
+
+same_headers : (g h : Headers) → draft_with g ≡ draft_with h → g ≡ h
+same_headers g h e = λ i. record {
+  vias = same_Some g.vias h.vias (λ j. (e j).vias) i;
+  max_forwards = same_slot g.max_forwards h.max_forwards (λ j. (e j).max_forwards) i;
+  from = same_once g.from h.from (λ j. (e j).from) i;
+  to = same_once g.to h.to (λ j. (e j).to) i;
+  call_id = same_once g.call_id h.call_id (λ j. (e j).call_id) i;
+  cseq = same_once g.cseq h.cseq (λ j. (e j).cseq) i;
+  contacts = same_Some g.contacts h.contacts (λ j. (e j).contacts) i;
+  record_routes = same_Some g.record_routes h.record_routes (λ j. (e j).record_routes) i;
+  routes = same_Some g.routes h.routes (λ j. (e j).routes) i;
+  require = same_Some g.require h.require (λ j. (e j).require) i;
+  supported = same_Some g.supported h.supported (λ j. (e j).supported) i;
+  rseq = same_slot g.rseq h.rseq (λ j. (e j).rseq) i;
+  rack = same_slot g.rack h.rack (λ j. (e j).rack) i;
+  content_length = same_slot g.content_length h.content_length (λ j. (e j).content_length) i;
+  others = same_Some g.others h.others (λ j. (e j).others) i;
+}
+
+pub only_headers : (g h : Headers) (lines : List (List ℕ)) → AreHeaders g lines
+    → AreHeaders h lines → g ≡ h
+only_headers g h lines is also =
+    same_headers g h (sym (drafted g lines is) ∙ drafted h lines also)
 
 -- ---- a draft without a fault has headers
-
-unwrapped : {X : Type 0} (o : Option X) → is_some o ≡ true → (x : X) × (o ≡ Some x)
-unwrapped None e = absurd cc
-unwrapped (Some x) e = (x, refl)
-
-once_of : {X : Type 0} (s : Slot X) (x : X) → once s ≡ Some x → s ≡ Once x
-once_of Absent x e = absurd cc
-once_of (Once y) x e = ap (λ z. Once z) (same_Some y x e)
-once_of Twice x e = absurd cc
-once_of Bad x e = absurd cc
-
-open_of : {X : Type 0} (s : Slot X) (o : Option X) → at_most_once s ≡ Some o → s ≡ slot_of o
-open_of Absent o e = ap slot_of (same_Some None o e)
-open_of (Once y) o e = ap slot_of (same_Some (Some y) o e)
-open_of Twice o e = absurd cc
-open_of Bad o e = absurd cc
-
-pub all_of : (d : Draft) → IsComplete d → (h : Headers) × (d ≡ draft_with h)
-all_of d is =
-    let vias = unwrapped d.vias is.vias in
-    let max_forwards = unwrapped (at_most_once d.max_forwards) is.max_forwards in
-    let from = unwrapped (once d.from) is.from in
-    let to = unwrapped (once d.to) is.to in
-    let call_id = unwrapped (once d.call_id) is.call_id in
-    let cseq = unwrapped (once d.cseq) is.cseq in
-    let contacts = unwrapped d.contacts is.contacts in
-    let record_routes = unwrapped d.record_routes is.record_routes in
-    let routes = unwrapped d.routes is.routes in
-    let require = unwrapped d.require is.require in
-    let supported = unwrapped d.supported is.supported in
-    let rseq = unwrapped (at_most_once d.rseq) is.rseq in
-    let rack = unwrapped (at_most_once d.rack) is.rack in
-    let content_length = unwrapped (at_most_once d.content_length) is.content_length in
-    let others = unwrapped d.others is.others in (
-      record {
-        vias = vias.0;
-        max_forwards = max_forwards.0;
-        from = from.0;
-        to = to.0;
-        call_id = call_id.0;
-        cseq = cseq.0;
-        contacts = contacts.0;
-        record_routes = record_routes.0;
-        routes = routes.0;
-        require = require.0;
-        supported = supported.0;
-        rseq = rseq.0;
-        rack = rack.0;
-        content_length = content_length.0;
-        others = others.0;
-      },
-      λ i. record {
-        is_bad = is.no_bad i;
-        vias = vias.1 i;
-        max_forwards = open_of d.max_forwards max_forwards.0 max_forwards.1 i;
-        from = once_of d.from from.0 from.1 i;
-        to = once_of d.to to.0 to.1 i;
-        call_id = once_of d.call_id call_id.0 call_id.1 i;
-        cseq = once_of d.cseq cseq.0 cseq.1 i;
-        contacts = contacts.1 i;
-        record_routes = record_routes.1 i;
-        routes = routes.1 i;
-        require = require.1 i;
-        supported = supported.1 i;
-        rseq = open_of d.rseq rseq.0 rseq.1 i;
-        rack = open_of d.rack rack.0 rack.1 i;
-        content_length = open_of d.content_length content_length.0 content_length.1 i;
-        others = others.1 i;
-      },
-    )
 
 pub headers_are : (h : Headers) (lines : List (List ℕ)) → draft_of lines ≡ draft_with h
     → (h.vias ≡ [] → ⊥) → AreHeaders h lines
@@ -496,9 +450,9 @@ headers_are h lines same some =
 
 pub complete_headers : (lines : List (List ℕ)) → has_bad_header (draft_of lines) ≡ false
     → missing (draft_of lines) ≡ None → repeated (draft_of lines) ≡ None
-    → (h : Headers) × AreHeaders h lines
+    → (h : Headers) × AreHeaders h lines × (draft_of lines ≡ draft_with h)
 complete_headers lines bad none single =
-    let all = all_of (draft_of lines) (complete_of (draft_of lines) bad none single) in
+    let all = headers_there (draft_of lines) bad none single in
     let there = via_there (draft_of lines) none in
     let some : all.0.vias ≡ [] → ⊥ = λ (e : all.0.vias ≡ []).
     let nowhere : is_nowhere (list_presence (draft_of lines).vias) ≡ true =
@@ -506,4 +460,4 @@ complete_headers lines bad none single =
     ∙ ap (λ vs. is_nowhere (list_presence (Some vs))) e in
     let f : true ≡ false = sym nowhere ∙ there in
     cc in
-    (all.0, headers_are all.0 lines all.1 some)
+    (all.0, headers_are all.0 lines all.1 some, all.1)

@@ -1,6 +1,5 @@
 -- The headers of a message: what its header lines say together, where each value is in its header's
--- form and none is missing or stands too often (RFC 3261, sections 7.3 and 20). Words stand in the
--- places of numbers.
+-- form and none is missing or stands too often (RFC 3261, sections 7.3 and 20).
 use Rattle.std.specs.Prelude.{◌≡◌, ◌^◌, ℕ, IsTrue, List, [], ◌∷◌, Option, Some}
 use Rattle.std.specs.List.{AllZip, AllByRecursion}
 use Rattle.std.specs.Option.{option_to_list}
@@ -8,15 +7,38 @@ use Rattle.sip_parts.specs.HeaderValue.{is_header_value}
 use Rattle.sip_parts.specs.OtherName.{is_other_name}
 use Rattle.sip_parts.specs.declared.header_name.HeaderName.TheVariants as name
 use Rattle.sip_message.specs.declared.header.Header.{Header}
+use Rattle.sip_message.specs.declared.name_addr.NameAddr.{NameAddr}
+use Rattle.sip_message.specs.declared.party.Party.{Party}
 use Rattle.sip_values.specs.Address.{AreNameAddrs, IsPartyText}
 use Rattle.sip_values.specs.Numeral.{IsNumeral}
 use Rattle.sip_values.specs.Sequence.{AreTokens, IsCallId, IsCSeqText, IsRAckText}
 use Rattle.sip_values.specs.ViaValue.{AreVias}
+use Rattle.sip_values.specs.declared.numeral.Numeral.{Numeral}
+use Rattle.sip_values.specs.declared.sequence.CSeqDraft.{CSeqDraft}
+use Rattle.sip_values.specs.declared.sequence.RAckDraft.{RAckDraft}
+use Rattle.sip_values.specs.declared.via.ViaDraft.{ViaDraft}
 use Rattle.sip_headers.specs.Draft.{long_name}
 use Rattle.sip_headers.specs.HeaderLine.{IsHeaderLine}
 use Rattle.sip_headers.specs.Section.{values, others_of}
 use Rattle.sip_headers.specs.Slot.{IsList}
-use Rattle.sip_headers.specs.declared.headers.Headers.{Headers}
+
+-- words in the places of numbers
+pub record Headers : Type 0 where
+  pub vias : List ViaDraft
+  pub max_forwards : Option Numeral
+  pub from : Party
+  pub to : Party
+  pub call_id : List ℕ
+  pub cseq : CSeqDraft
+  pub contacts : List NameAddr
+  pub record_routes : List NameAddr
+  pub routes : List NameAddr
+  pub require : List (List ℕ)
+  pub supported : List (List ℕ)
+  pub rseq : Option Numeral
+  pub rack : Option RAckDraft
+  pub content_length : Option Numeral
+  pub others : List Header
 
 -- ---- how often a header's lines stand
 

@@ -11,8 +11,12 @@ use Rattle.sip_values.specs.declared.numeral.Numeral.TheVariants.{Number, NotANu
 use Rattle.sip_values.specs.declared.sequence.RAckDraft.{RAckDraft}
 use Rattle.sip_values.specs.declared.via.ViaDraft.{ViaDraft}
 use Rattle.sip_text.specs.Options.{◌>>=◌}
-use Rattle.sip_headers.specs.declared.headers.Headers.{Headers}
-use Rattle.sip_headers.specs.declared.headers.Numbers.{Numbers}
+use Rattle.sip_headers.specs.Complete.{once}
+use Rattle.sip_headers.specs.Headers.{Headers}
+use Rattle.sip_headers.specs.declared.draft.Draft.{Draft}
+use Rattle.sip_headers.specs.declared.numbers.Numbers.{Numbers}
+use Rattle.sip_headers.specs.declared.slot.Slot.{Slot}
+use Rattle.sip_headers.specs.declared.slot.Slot.TheVariants.{Absent, Once, Twice, Bad}
 
 -- ---- the headers of a message, with its numbers in their places
 
@@ -81,27 +85,33 @@ abbrev pub known : Numeral → Option ℕ
 known (Number n) = Some n
 known NotANumber = None
 
-abbrev pub known_if : Option Numeral → Option (Option ℕ)
-known_if None = Some None
-known_if (Some word) = known word >>= λ n. Some (Some n)
+-- of a header that stands at most once
+abbrev pub known_slot : Slot Numeral → Option (Option ℕ)
+known_slot Absent = Some None
+known_slot (Once word) = known word >>= λ n. Some (Some n)
+known_slot Twice = None
+known_slot Bad = None
 
 abbrev pub known_both : Numeral → Numeral → Option (Option (ℕ × ℕ))
 known_both one other = known one >>= λ a. known other >>= λ b. Some (Some (a, b))
 
-abbrev pub known_rack : Option RAckDraft → Option (Option (ℕ × ℕ))
-known_rack None = Some None
-known_rack (Some rack) = known_both rack.rseq rack.cseq
+abbrev pub known_rack : Slot RAckDraft → Option (Option (ℕ × ℕ))
+known_rack Absent = Some None
+known_rack (Once rack) = known_both rack.rseq rack.cseq
+known_rack Twice = None
+known_rack Bad = None
 
-unfoldable pub numbers_in : Headers → Option Numbers
-numbers_in h = do
-  cseq ← known h.cseq.number
-  max_forwards ← known_if h.max_forwards
-  rseq ← known_if h.rseq
-  rack ← known_rack h.rack
-  content_length ← known_if h.content_length
+unfoldable pub numbers_in : Draft → Option Numbers
+numbers_in d = do
+  cseq ← once d.cseq
+  number ← known cseq.number
+  max_forwards ← known_slot d.max_forwards
+  rseq ← known_slot d.rseq
+  rack ← known_rack d.rack
+  content_length ← known_slot d.content_length
   Some (record {
     max_forwards = max_forwards;
-    cseq = cseq;
+    cseq = number;
     rseq = rseq;
     rack = rack;
     content_length = content_length;
@@ -123,29 +133,39 @@ via_with via = known_port via.port >>= λ port.
 
 -- ---- the message
 
-abbrev pub rack_with : Option RAckDraft → Option (ℕ × ℕ) → Option RAck
-rack_with (Some rack) (Some numbers) =
+abbrev pub rack_with : Slot RAckDraft → Option (ℕ × ℕ) → Option RAck
+rack_with (Once rack) (Some numbers) =
     Some (record { rseq = numbers.0; cseq = numbers.1; method = rack.method })
-rack_with None numbers = None
-rack_with (Some rack) None = None
+rack_with slot numbers = None
 
--- a message with these headers and numbers
-abbrev pub message_with : StartLine → List Via → Numbers → Headers → List ℕ → Message
-message_with start vias numbers h body = record {
-  start = start;
-  vias = vias;
-  max_forwards = numbers.max_forwards;
-  from = h.from;
-  to = h.to;
-  call_id = h.call_id;
-  cseq = record { number = numbers.cseq; method = h.cseq.method };
-  contacts = h.contacts;
-  record_routes = h.record_routes;
-  routes = h.routes;
-  require = h.require;
-  supported = h.supported;
-  rseq = numbers.rseq;
-  rack = rack_with h.rack numbers.rack;
-  others = h.others;
-  body = body;
-}
+-- a message with the headers of a draft, these Via values and these numbers
+abbrev pub message_with : StartLine → List Via → Numbers → Draft → List ℕ → Option Message
+message_with start vias numbers d body = do
+  from ← once d.from
+  to ← once d.to
+  call_id ← once d.call_id
+  cseq ← once d.cseq
+  contacts ← d.contacts
+  record_routes ← d.record_routes
+  routes ← d.routes
+  require ← d.require
+  supported ← d.supported
+  others ← d.others
+  Some (record {
+    start = start;
+    vias = vias;
+    max_forwards = numbers.max_forwards;
+    from = from;
+    to = to;
+    call_id = call_id;
+    cseq = record { number = numbers.cseq; method = cseq.method };
+    contacts = contacts;
+    record_routes = record_routes;
+    routes = routes;
+    require = require;
+    supported = supported;
+    rseq = numbers.rseq;
+    rack = rack_with d.rack numbers.rack;
+    others = others;
+    body = body;
+  })

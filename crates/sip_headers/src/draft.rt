@@ -1,12 +1,13 @@
 //! All header lines of a message, by header.
-ghost use Rattle.std.specs.Prelude.{◌≡◌, IfOk, OnOk, Some};
+ghost use Rattle.std.specs.Prelude.{◌≡◌, IfOk, OnOk, Some, true, is_some};
 ghost use Rattle.sip_headers.specs.Complete as complete;
 ghost use Rattle.sip_headers.specs.Draft as drafts;
+ghost use Rattle.sip_headers.specs.Numbers as numbered;
 
 use crate::header_line::{LineClass, class_of};
-use crate::headers::Headers;
+use crate::numbers::{Numbers, rack_with};
 use crate::slot::{Slot, listed, meet, meet_list};
-use sip_message::{Header, NameAddr, Party, ReadFault};
+use sip_message::{CSeq, Header, Message, NameAddr, Party, StartLine, Vias};
 use sip_parts::{CallId, HeaderName, HeaderValue, OtherName, Token};
 use sip_text::{Series, Text, token_eq};
 use sip_values::{
@@ -145,30 +146,21 @@ impl Draft {
         Ok(())
     }
 
-    /// The headers of these lines.
-    ///
-    /// # Errors
-    ///
-    /// BadHeader where a line is no header line, or a value isn't in its header's form; Missing for
-    /// the first header that isn't there; Repeated for the first that is there twice.
-    pub fn into_headers(self) -> Result<Headers, ReadFault>
-        ensures { result ≡ complete.headers_of self }
-    {
-        match self.fault() {
-            Some(fault) => Err(fault),
-            None => Ok(self.into_all()),
-        }
-    }
-
-    #[tactic(auto, unfolding(crate::specs::Complete::headers_in))]
-    fn into_all(self) -> Headers
+    /// The message with these headers, Via values and numbers.
+    pub(crate) fn into_message(
+        self,
+        start: StartLine,
+        vias: Vias,
+        numbers: Numbers,
+        body: Text,
+    ) -> Message
         requires { complete.IsComplete self }
-        ensures { complete.headers_in self ≡ Some result }
+        ensures { numbered.message_with start vias numbers self body ≡ Some result }
     {
         let Draft {
             is_bad: _,
-            vias,
-            max_forwards,
+            vias: _,
+            max_forwards: _,
             from,
             to,
             call_id,
@@ -178,27 +170,45 @@ impl Draft {
             routes,
             require,
             supported,
-            rseq,
+            rseq: _,
             rack,
-            content_length,
+            content_length: _,
             others,
         } = self;
-        Headers {
-            vias: vias.unwrap(),
-            max_forwards: max_forwards.into_at_most_once(),
+        let CSeqDraft { number: _, method } = cseq.into_once();
+        Message {
+            start,
+            vias,
+            max_forwards: numbers.max_forwards,
             from: from.into_once(),
             to: to.into_once(),
             call_id: call_id.into_once(),
-            cseq: cseq.into_once(),
+            cseq: CSeq {
+                number: numbers.cseq,
+                method,
+            },
             contacts: contacts.unwrap(),
             record_routes: record_routes.unwrap(),
             routes: routes.unwrap(),
             require: require.unwrap(),
             supported: supported.unwrap(),
-            rseq: rseq.into_at_most_once(),
-            rack: rack.into_at_most_once(),
-            content_length: content_length.into_at_most_once(),
+            rseq: numbers.rseq,
+            rack: rack_with(rack, numbers.rack),
             others: others.unwrap(),
+            body,
+        }
+    }
+}
+
+impl<T: Drop> Slot<T> {
+    /// The value of the one line.
+    fn into_once(self) -> T
+        requires { is_some (complete.once self) ≡ true }
+        ensures { complete.once self ≡ Some result }
+    {
+        match self {
+            Slot::Once(value) => value,
+            _ => unreachable!(),
         }
     }
 }

@@ -1,12 +1,12 @@
 //! What a draft says of the lines that it was made of.
 ghost use Rattle.std.specs.Prelude.{◌≡◌, ℕ, List, Ok, false};
-ghost use Rattle.sip_headers.specs.Complete.{headers_of};
+ghost use Rattle.sip_headers.specs.Complete.{draft_with, faultless};
 ghost use Rattle.sip_headers.specs.Draft.{draft_of};
 ghost use Rattle.sip_headers.specs.Faults.{Decides, HeaderCondition, header_faults};
-ghost use Rattle.sip_headers.specs.Headers.{AreHeaders};
+ghost use Rattle.sip_headers.specs.Headers.{AreHeaders, Headers};
 ghost use Rattle.sip_headers.specs.Presence as presence;
 ghost use Rattle.sip_headers.specs.Section.{IsDraftOf, missing_in, repeated_in};
-ghost use Rattle.sip_headers.specs.declared.headers.Headers.{Headers};
+ghost use Rattle.sip_headers.specs.declared.draft.Draft.{Draft};
 
 /// A draft to which the lines were added one after the other has the values of each header.
 pub fn what_is_gathered()
@@ -26,13 +26,13 @@ pub fn what_is_repeated()
         presence.repeated (draft_of lines) ≡ repeated_in lines }
 {}
 
-/// The headers of a draft to which the lines were added are those of the lines; and where there are
-/// none, the fault is the first whose condition holds.
+/// A draft to which the lines were added has no fault where the lines have headers, and holds just
+/// these; otherwise the fault is the first whose condition holds.
 pub fn what_headers_are()
-    ensures found { (lines : List (List ℕ)) (h : Headers) → headers_of (draft_of lines) ≡ Ok h
-        → AreHeaders h lines }
+    ensures found { (lines : List (List ℕ)) (d : Draft) → faultless (draft_of lines) ≡ Ok d
+        → (h : Headers) × AreHeaders h lines × (d ≡ draft_with h) }
     ensures only { (lines : List (List ℕ)) (h : Headers) → AreHeaders h lines
-        → headers_of (draft_of lines) ≡ Ok h }
+        → faultless (draft_of lines) ≡ Ok (draft_with h) }
     ensures fault { (lines : List (List ℕ))
-        → Decides (HeaderCondition lines) header_faults (headers_of (draft_of lines)) }
+        → Decides (HeaderCondition lines) header_faults (faultless (draft_of lines)) }
 {}

@@ -2,17 +2,19 @@
 #![tactic(auto)]
 
 mod draft;
+mod faultless;
 mod faults;
 mod folding;
 mod header_line;
-mod headers;
 mod laws;
+mod numbers;
 mod slot;
 
 pub use draft::Draft;
+pub use faultless::Faultless;
 pub use faults::Presence;
 pub use folding::{Whole, gather, whole_line};
 pub use header_line::{LineClass, class_of};
-pub use headers::{Headers, Numbers, with_ports};
 pub use laws::{what_headers_are, what_is_gathered, what_is_missing, what_is_repeated};
+pub use numbers::{Numbers, with_ports};
 pub use slot::{Slot, meet, meet_list};

@@ -15,28 +15,28 @@ use Rattle.sip_message.specs.declared.via.Via.{Via}
 use Rattle.sip_values.specs.declared.numeral.Numeral.{Numeral}
 use Rattle.sip_values.specs.declared.numeral.Numeral.TheVariants.{Number, NotANumber}
 use Rattle.sip_values.specs.declared.via.ViaDraft.{ViaDraft}
-use Rattle.sip_headers.specs.Complete.{headers_of}
+use Rattle.sip_headers.specs.Complete.{slot_of, draft_with, faultless}
 use Rattle.sip_headers.specs.Draft.{draft_of}
 use Rattle.sip_headers.specs.Faults.{IsFirst, NoneHolds, Decides, HeaderCondition, header_faults}
 use Rattle.sip_headers.specs.Folding.{Section, section_at, onto_section}
-use Rattle.sip_headers.specs.Headers.{AreHeaders}
-use Rattle.sip_headers.specs.Numbers.{are_numbers, numbers_in, known_if, via_with}
-use Rattle.sip_headers.specs.declared.headers.Headers.{Headers}
-use Rattle.sip_headers.specs.declared.headers.Numbers.{Numbers}
+use Rattle.sip_headers.specs.Headers.{Headers, AreHeaders}
+use Rattle.sip_headers.specs.Numbers.{are_numbers, numbers_in, known_slot, via_with}
+use Rattle.sip_headers.specs.declared.draft.Draft.{Draft}
+use Rattle.sip_headers.specs.declared.numbers.Numbers.{Numbers}
 use Rattle.sip_headers.proofs.HeaderFaults.{decided, headers_take, first_more, first_behind, none_both}
-use Rattle.sip_headers.proofs.HeaderNumbers.{numbers_there, are_all_numbers, content_length_is, via_parameters}
-use Rattle.sip_headers.proofs.HeaderSets.{headers_again}
+use Rattle.sip_headers.proofs.HeaderNumbers.{numbers_there, are_all_numbers, are_known, via_parameters}
+use Rattle.sip_headers.proofs.HeaderSets.{only_headers}
 use Rattle.sip_reader.specs.declared.first_line.FirstLine.{FirstLine}
 use Rattle.sip_reader.specs.declared.first_line.FirstLine.TheVariants as first
 use Rattle.sip_reader.specs.Faults.{WithLines, WithHeaders, HasOldBranch, HasOtherMethod, IsTruncated, LineCondition, Condition, faults}
-use Rattle.sip_reader.specs.ReadMessage.{◌>>=◌, or_fault, good_vias, vias_of, start_line_of, body_of, message_of_headers, message_of_lines, message_of_section, message_in, message_at}
+use Rattle.sip_reader.specs.ReadMessage.{◌>>=◌, or_fault, good_vias, vias_of, start_line_of, body_of, message_of_draft, message_of_lines, message_of_section, message_in, message_at}
 use Rattle.sip_reader.specs.ReadStart.{start_at}
 use Rattle.sip_reader.specs.SkippedEnds.{without_line_ends}
 use Rattle.sip_reader.specs.Spells.{Spells}
 use Rattle.sip_reader.specs.StartLine.{SpellsStart}
 use Rattle.sip_reader.proofs.Layouts.{Laid, laid_takes, laid_again}
 use Rattle.sip_reader.proofs.Making.{some_start, first_of, first_spelled, other_method, own_method, body_short, body_long}
-use Rattle.sip_reader.proofs.Outcomes.{same_Ok, no_such, step_decides, step_again}
+use Rattle.sip_reader.proofs.Outcomes.{no_such, step_decides, step_again}
 use Rattle.sip_values.proofs.Pieces.{by_bool}
 use Rattle.sip_reader.proofs.Spelled.{then_body, then_start, then_branch, spelled_again}
 use Rattle.sip_reader.proofs.StartLines.{SpellsFirst, start_reads}
@@ -46,18 +46,17 @@ use Rattle.sip_reader.proofs.StartLines.{SpellsFirst, start_reads}
 abbrev last_faults : List ReadFault
 last_faults = fault.BadNumber ∷ (fault.OldBranch ∷ (fault.MethodMismatch ∷ (fault.Truncated ∷ [])))
 
-only_headers : (P : Headers → Type 0) (h : Headers) (lines : List (List ℕ)) → AreHeaders h lines
+only_these : (P : Headers → Type 0) (h : Headers) (lines : List (List ℕ)) → AreHeaders h lines
     → WithHeaders P lines → P h
-only_headers P h lines is has =
-    subst P (same_Ok has.0 h (sym (headers_again has.0 lines has.1) ∙ headers_again h lines is))
-    has.2
+only_these P h lines is has = subst P (only_headers has.0 h lines has.1 is) has.2
 
 record IsRead (start : List ℕ) (lines : List (List ℕ)) (line : FirstLine)
     (h : Headers) : Type 0 where
   pub start_is : start_at start ≡ Some line
   pub headers_are : AreHeaders h lines
 
-truncated : (word : Option Numeral) (count : Option ℕ) (rest : List ℕ) → known_if word ≡ Some count
+truncated : (word : Option Numeral) (count : Option ℕ) (rest : List ℕ)
+    → known_slot (slot_of word) ≡ Some count
     → (n : ℕ) × (count ≡ Some n) × (length rest < n) → IsTruncated word rest
 truncated None count rest e short =
     let f : ◌≡◌ {A = Option (Option ℕ)} (Some None) (Some (Some short.0)) =
@@ -70,7 +69,8 @@ truncated (Some (Number n)) count rest e short =
     omega (arith, same, short.2)
 
 not_truncated : (word : Option Numeral) (count : Option ℕ) (rest body : List ℕ)
-    → known_if word ≡ Some count → body_of rest count ≡ Some body → IsTruncated word rest → ⊥
+    → known_slot (slot_of word) ≡ Some count → body_of rest count ≡ Some body
+    → IsTruncated word rest → ⊥
 not_truncated None count rest body e f short = short
 not_truncated (Some NotANumber) count rest body e f short = short
 not_truncated (Some (Number n)) count rest body e f short =
@@ -79,7 +79,7 @@ not_truncated (Some (Number n)) count rest body e f short =
 
 body_decided : (start : List ℕ) (lines : List (List ℕ)) (rest : List ℕ) (line : FirstLine)
     (h : Headers) (numbers : Numbers) (vias : List Via) (says : StartLine)
-    → IsRead start lines line h → numbers_in h ≡ Some numbers
+    → IsRead start lines line h → numbers_in (draft_with h) ≡ Some numbers
     → Decides (LineCondition start lines rest) (fault.Truncated ∷ [])
     (then_body h rest numbers vias says)
 body_decided start lines rest line h numbers vias says is ns =
@@ -89,12 +89,12 @@ body_decided start lines rest line h numbers vias says is ns =
       h,
       is.headers_are,
       truncated h.content_length numbers.content_length rest
-          (content_length_is h numbers ns) (body_short rest numbers.content_length e),
+          (are_known h numbers ns).content_length (body_short rest numbers.content_length e),
     ))
     (λ body e. (
       λ has. not_truncated h.content_length numbers.content_length rest body
-          (content_length_is h numbers ns) e
-          (only_headers (λ g. IsTruncated g.content_length rest) h lines is.headers_are has),
+          (are_known h numbers ns).content_length e
+          (only_these (λ g. IsTruncated g.content_length rest) h lines is.headers_are has),
       tt,
     ))
 
@@ -120,7 +120,7 @@ no_other_method start line method says e f other =
 
 start_decided : (start : List ℕ) (lines : List (List ℕ)) (rest : List ℕ) (line : FirstLine)
     (h : Headers) (numbers : Numbers) (vias : List Via) → IsRead start lines line h
-    → numbers_in h ≡ Some numbers → Decides (LineCondition start lines rest)
+    → numbers_in (draft_with h) ≡ Some numbers → Decides (LineCondition start lines rest)
     (fault.MethodMismatch ∷ (fault.Truncated ∷ [])) (then_start line h rest numbers vias)
 start_decided start lines rest line h numbers vias is ns =
     step_decides (LineCondition start lines rest) fault.MethodMismatch (fault.Truncated ∷ [])
@@ -133,7 +133,7 @@ start_decided start lines rest line h numbers vias is ns =
     ))
     (λ says e. (
       λ has. no_other_method start line h.cseq.method says is.start_is e
-          (only_headers (λ g. HasOtherMethod start g.cseq.method) h lines is.headers_are has),
+          (only_these (λ g. HasOtherMethod start g.cseq.method) h lines is.headers_are has),
       body_decided start lines rest line h numbers vias says is ns,
     ))
 
@@ -166,7 +166,7 @@ good_some vias good false e = absurd cc
 
 branch_decided : (start : List ℕ) (lines : List (List ℕ)) (rest : List ℕ) (line : FirstLine)
     (h : Headers) (numbers : Numbers) (vias : List Via) → IsRead start lines line h
-    → numbers_in h ≡ Some numbers → each via_with h.vias ≡ Some vias
+    → numbers_in (draft_with h) ≡ Some numbers → each via_with h.vias ≡ Some vias
     → Decides (LineCondition start lines rest)
     (fault.OldBranch ∷ (fault.MethodMismatch ∷ (fault.Truncated ∷ [])))
     (then_branch line h rest numbers vias)
@@ -181,7 +181,7 @@ branch_decided start lines rest line h numbers vias is ns vs =
     ))
     (λ good e. (
       λ has. no_old_branch h.vias vias vs (good_some vias good (are_vias vias) e).0
-          (only_headers (λ g. HasOldBranch g.vias) h lines is.headers_are has),
+          (only_these (λ g. HasOldBranch g.vias) h lines is.headers_are has),
       start_decided start lines rest line h numbers good is ns,
     ))
 
@@ -193,12 +193,12 @@ assoc None f = refl
 assoc (Some vs) f = refl
 
 in_stages : (line : FirstLine) (h : Headers) (rest : List ℕ)
-    → message_of_headers line h rest
-    ≡ (or_fault fault.BadNumber (numbers_in h) >>= λ numbers.
+    → message_of_draft line (draft_with h) rest
+    ≡ (or_fault fault.BadNumber (numbers_in (draft_with h)) >>= λ numbers.
     or_fault fault.BadNumber (each via_with h.vias) >>= λ vias.
     then_branch line h rest numbers vias)
-unfolding message_of_headers vias_of
-in_stages line h rest = by (numbers_in h)
+unfolding message_of_draft vias_of
+in_stages line h rest = by (numbers_in (draft_with h))
   where
     by : (o : Option Numbers) → (or_fault fault.BadNumber o >>= λ numbers.
         (or_fault fault.BadNumber (each via_with h.vias) >>= λ vs.
@@ -210,13 +210,14 @@ in_stages line h rest = by (numbers_in h)
     by (Some numbers) = assoc (each via_with h.vias) (λ vias. then_start line h rest numbers vias)
 
 bad_numbers : (line : FirstLine) (h : Headers) (rest : List ℕ) → are_numbers h ≡ false
-    → message_of_headers line h rest ≡ Err fault.BadNumber
+    → message_of_draft line (draft_with h) rest ≡ Err fault.BadNumber
 bad_numbers line h rest e =
-    in_stages line h rest ∙ by (numbers_in h) (each via_with h.vias) refl refl
+    in_stages line h rest ∙ by (numbers_in (draft_with h)) (each via_with h.vias) refl refl
   where
-    by : (o : Option Numbers) (p : Option (List Via)) → numbers_in h ≡ o → each via_with h.vias ≡ p
-        → (or_fault fault.BadNumber o >>= λ numbers. or_fault fault.BadNumber p >>= λ vias.
-        then_branch line h rest numbers vias) ≡ Err fault.BadNumber
+    by : (o : Option Numbers) (p : Option (List Via)) → numbers_in (draft_with h) ≡ o
+        → each via_with h.vias ≡ p → (or_fault fault.BadNumber o >>= λ numbers.
+        or_fault fault.BadNumber p >>= λ vias. then_branch line h rest numbers vias)
+        ≡ Err fault.BadNumber
     by None p f g = refl
     by (Some numbers) None f g = refl
     by (Some numbers) (Some vias) f g =
@@ -224,13 +225,15 @@ bad_numbers line h rest e =
 
 headers_decided : (start : List ℕ) (lines : List (List ℕ)) (rest : List ℕ) (line : FirstLine)
     (h : Headers) → IsRead start lines line h
-    → Decides (LineCondition start lines rest) last_faults (message_of_headers line h rest)
+    → Decides (LineCondition start lines rest) last_faults
+    (message_of_draft line (draft_with h) rest)
 headers_decided start lines rest line h is =
     by_bool (are_numbers h) (λ r. are_numbers h ≡ r
-    → Decides (LineCondition start lines rest) last_faults (message_of_headers line h rest))
+    → Decides (LineCondition start lines rest) last_faults
+    (message_of_draft line (draft_with h) rest))
     (λ t e. let there = numbers_there h e in
     subst (λ (r : Result Message ReadFault). Decides (LineCondition start lines rest) last_faults r)
-    (sym (in_stages line h rest ∙ step_again fault.BadNumber (numbers_in h)
+    (sym (in_stages line h rest ∙ step_again fault.BadNumber (numbers_in (draft_with h))
     (λ numbers. or_fault fault.BadNumber (each via_with h.vias) >>= λ vias.
     then_branch line h rest numbers vias) there.numbers there.numbers_are
     ∙ step_again fault.BadNumber (each via_with h.vias)
@@ -238,7 +241,7 @@ headers_decided start lines rest line h is =
     (no_such (LineCondition start lines rest) fault.BadNumber
     (fault.OldBranch ∷ (fault.MethodMismatch ∷ (fault.Truncated ∷ [])))
     (then_branch line h rest there.numbers there.vias)
-    (λ has. true≢false (sym e ∙ only_headers
+    (λ has. true≢false (sym e ∙ only_these
     (λ g. are_numbers g ≡ false) h lines is.headers_are has))
     (branch_decided start lines rest line h there.numbers there.vias is there.numbers_are
     there.vias_are)))
@@ -293,14 +296,17 @@ more_decided {X = X} C es more (Ok x) f is next = onto (f x) (next x refl)
 
 lines_decided : (start : List ℕ) (lines : List (List ℕ)) (rest : List ℕ) (line : FirstLine)
     → start_at start ≡ Some line → Decides (LineCondition start lines rest) line_faults
-    (headers_of (draft_of lines) >>= λ h. message_of_headers line h rest)
+    (faultless (draft_of lines) >>= λ d. message_of_draft line d rest)
 lines_decided start lines rest line e =
     more_decided (LineCondition start lines rest) header_faults last_faults
-    (headers_of (draft_of lines)) (λ h. message_of_headers line h rest)
+    (faultless (draft_of lines)) (λ d. message_of_draft line d rest)
     (told_decides (HeaderCondition lines) (LineCondition start lines rest) header_faults
-    (headers_of (draft_of lines)) (same_conditions start lines rest) (decided lines))
-    (λ h is. headers_decided start lines rest line h
-    (record { start_is = e; headers_are = headers_take lines h is }))
+    (faultless (draft_of lines)) (same_conditions start lines rest) (decided lines))
+    (λ d is. let held = headers_take lines d is in
+    subst (λ (f : Draft). Decides (LineCondition start lines rest) last_faults
+    (message_of_draft line f rest)) (sym held.2)
+    (headers_decided start lines rest line held.0
+    (record { start_is = e; headers_are = held.1 })))
 
 -- ---- the start line
 
@@ -321,7 +327,7 @@ section_decided : (start : List ℕ) (lines : List (List ℕ)) (rest : List ℕ)
 unfolding message_of_lines
 section_decided start lines rest =
     step_decides (LineCondition start lines rest) fault.BadStartLine line_faults (start_at start)
-    (λ line. headers_of (draft_of lines) >>= λ h. message_of_headers line h rest)
+    (λ line. faultless (draft_of lines) >>= λ d. message_of_draft line d rest)
     (λ e. no_start start e)
     (λ line e. let some = some_start line start (start_reads.takes start line e) in
     (λ none. none some.0 some.1 some.2, lines_decided start lines rest line e))

@@ -28,7 +28,7 @@ use Rattle.sip_values.specs.ViaValue.{vias_from}
 use Rattle.sip_values.specs.declared.numeral.Numeral.{Numeral}
 use Rattle.sip_values.specs.declared.numeral.Numeral.TheVariants.{Number}
 use Rattle.sip_values.specs.declared.via.ViaDraft.{ViaDraft}
-use Rattle.sip_headers.specs.Complete.{slot_of, draft_with, headers_of}
+use Rattle.sip_headers.specs.Complete.{slot_of, draft_with, faultless}
 use Rattle.sip_headers.specs.Draft.{no_draft}
 use Rattle.sip_headers.specs.Numbers.{via_draft, rack_draft, headers_with, port_words, is_number, is_port, are_numbers}
 use Rattle.sip_headers.specs.Slot.{met, listed}
@@ -38,7 +38,7 @@ use Rattle.sip_headers.specs.declared.slot.Slot.TheVariants.{Absent, Once}
 use Rattle.sip_headers.proofs.Folds.{ends_here}
 use Rattle.sip_headers.proofs.HeaderSets.{no_fault}
 use Rattle.sip_reader.specs.Layout.{IsFull}
-use Rattle.sip_reader.specs.ReadMessage.{◌>>=◌, message_of_headers, message_of_lines, message_in, message_at}
+use Rattle.sip_reader.specs.ReadMessage.{◌>>=◌, message_of_draft, message_of_lines, message_in, message_at}
 use Rattle.sip_reader.specs.ReadStart.{start_at}
 use Rattle.sip_message.specs.Rules.{IsStartLine, IsParty, IsNameAddr, IsRAck, IsVia, IsOtherHeader, IsMessage}
 use Rattle.sip_reader.specs.SkippedEnds.{without_line_ends}
@@ -594,10 +594,10 @@ lines_again m is =
     let line = first_of m.start m.cseq.method in
     let h = headers_with m (Some (length m.body)) in
     step_again fault.BadStartLine (start_at text)
-    (λ says. headers_of (whole m) >>= λ g. message_of_headers says g m.body) line
+    (λ says. faultless (whole m) >>= λ d. message_of_draft says d m.body) line
     (start_reads.again text line (first_spelled m.start m.cseq.method text
     (start_spelled m.start m.cseq.method is.start is.method)))
-    ∙ result_again (headers_of (whole m)) (λ g. message_of_headers line g m.body) h
+    ∙ result_again (faultless (whole m)) (λ d. message_of_draft line d m.body) (whole m)
     (no_fault h (some_vias m.vias is.top))
     ∙ made_again m (Some (length m.body)) m.body (good_numbers m (Some (length m.body)) is) is.top
     (body_again m.body (Some (length m.body)) m.body ([], sym (append-nil m.body), refl))

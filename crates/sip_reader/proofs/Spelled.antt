@@ -1,6 +1,7 @@
 -- What reading gives is what the text spells.
 use Rattle.std.proofs.Common.{◌≡◌, ℕ, ◌≤◌, Bool, true, false, cond, ltb, List, [], ◌∷◌, map, length, Option, Some, None, Result, Ok, Err, refl, sym, ap, subst, ◌∙◌}
 use Rattle.std.proofs.lemmas.Bool.{ltb-false, le-ltb}
+use Rattle.std.proofs.lemmas.Option.{same_Some}
 use Rattle.sip_text.specs.Forms.{each}
 use Rattle.sip_text.specs.Line.{line_at}
 use Rattle.sip_message.specs.Via.{are_vias}
@@ -10,18 +11,17 @@ use Rattle.sip_message.specs.declared.message.Message.{Message}
 use Rattle.sip_message.specs.declared.start_line.StartLine.{StartLine}
 use Rattle.sip_message.specs.declared.via.Via.{Via}
 use Rattle.sip_values.specs.declared.via.ViaDraft.{ViaDraft}
-use Rattle.sip_headers.specs.Complete.{headers_of}
+use Rattle.sip_headers.specs.Complete.{draft_with, faultless}
 use Rattle.sip_headers.specs.Draft.{draft_of}
 use Rattle.sip_headers.specs.Folding.{Section, section_at, onto_section}
-use Rattle.sip_headers.specs.Headers.{AreHeaders}
+use Rattle.sip_headers.specs.Headers.{Headers, AreHeaders}
 use Rattle.sip_headers.specs.Numbers.{headers_with, are_numbers, numbers_in, via_with, via_draft, message_with}
-use Rattle.sip_headers.specs.declared.headers.Headers.{Headers}
-use Rattle.sip_headers.specs.declared.headers.Numbers.{Numbers}
+use Rattle.sip_headers.specs.declared.numbers.Numbers.{Numbers}
 use Rattle.sip_headers.proofs.HeaderFaults.{headers_take}
 use Rattle.sip_headers.proofs.HeaderNumbers.{are_all_numbers, numbered, numbers_with, numbers_again, ports_again, message_again}
 use Rattle.sip_headers.proofs.HeaderSets.{headers_again}
 use Rattle.sip_reader.specs.declared.first_line.FirstLine.{FirstLine}
-use Rattle.sip_reader.specs.ReadMessage.{◌>>=◌, or_fault, good_vias, vias_of, start_line_of, body_of, message_of_headers, message_of_lines, message_of_section, message_in, message_at}
+use Rattle.sip_reader.specs.ReadMessage.{◌>>=◌, or_fault, good_vias, vias_of, start_line_of, body_of, message_of_draft, message_of_lines, message_of_section, message_in, message_at}
 use Rattle.sip_reader.specs.ReadStart.{start_at}
 use Rattle.sip_reader.specs.SkippedEnds.{without_line_ends}
 use Rattle.sip_reader.specs.Spells.{Spells}
@@ -36,7 +36,7 @@ use Rattle.sip_reader.proofs.StartLines.{start_reads}
 abbrev pub then_body : Headers → List ℕ → Numbers → List Via → StartLine → Result Message ReadFault
 then_body h rest numbers vias says =
     or_fault fault.Truncated (body_of rest numbers.content_length) >>= λ body.
-    Ok (message_with says vias numbers h body)
+    or_fault fault.BadHeader (message_with says vias numbers (draft_with h) body)
 
 abbrev pub then_start : FirstLine → Headers → List ℕ → Numbers → List Via → Result Message ReadFault
 then_start line h rest numbers vias =
@@ -51,15 +51,12 @@ then_branch line h rest numbers vias =
 -- what a message was made of
 pub record IsMade (line : FirstLine) (h : Headers) (rest : List ℕ) (m : Message) : Type 0 where
   pub numbers : Numbers
-  pub vias : List Via
-  pub says : StartLine
-  pub body : List ℕ
-  pub numbers_are : numbers_in h ≡ Some numbers
-  pub vias_are : each via_with h.vias ≡ Some vias
-  pub branch_is : are_vias vias ≡ true
-  pub start_is : start_line_of line h.cseq.method ≡ Some says
-  pub body_is : body_of rest numbers.content_length ≡ Some body
-  pub same : message_with says vias numbers h body ≡ m
+  pub numbers_are : numbers_in (draft_with h) ≡ Some numbers
+  pub vias_are : each via_with h.vias ≡ Some m.vias
+  pub branch_is : are_vias m.vias ≡ true
+  pub start_is : start_line_of line h.cseq.method ≡ Some m.start
+  pub body_is : body_of rest numbers.content_length ≡ Some m.body
+  pub same : message_with m.start m.vias numbers (draft_with h) m.body ≡ Some m
 
 vias_take : (drafts : List ViaDraft) (vias : List Via) → vias_of drafts ≡ Ok vias
     → (each via_with drafts ≡ Some vias) × (are_vias vias ≡ true)
@@ -75,30 +72,33 @@ vias_take drafts vias e =
     good true vs ws p = (refl, same_Ok vs ws p)
     good false vs ws p = absurd cc
 
+some_ok : {A : Type 0} (e : ReadFault) (o : Option A) (x : A) → or_fault e o ≡ Ok x → o ≡ Some x
+some_ok e None x p = absurd cc
+some_ok e (Some y) x p = ap (λ z. Some z) (same_Ok y x p)
+
 pub made : (line : FirstLine) (h : Headers) (rest : List ℕ) (m : Message)
-    → message_of_headers line h rest ≡ Ok m → IsMade line h rest m
-unfolding message_of_headers
+    → message_of_draft line (draft_with h) rest ≡ Ok m → IsMade line h rest m
+unfolding message_of_draft
 made line h rest m e =
-    let a = step_ok fault.BadNumber (numbers_in h)
+    let a = step_ok fault.BadNumber (numbers_in (draft_with h))
     (λ numbers. vias_of h.vias >>= λ vias. then_start line h rest numbers vias) m e in
     let b = result_ok (vias_of h.vias) (λ vias. then_start line h rest a.0 vias) m a.2 in
     let vias = vias_take h.vias b.0 b.1 in
     let c = step_ok fault.MethodMismatch (start_line_of line h.cseq.method)
     (λ says. then_body h rest a.0 b.0 says) m b.2 in
     let d = step_ok fault.Truncated (body_of rest a.0.content_length)
-    (λ body. Ok (message_with c.0 b.0 a.0 h body)) m c.2 in
+    (λ body. or_fault fault.BadHeader (message_with c.0 b.0 a.0 (draft_with h) body)) m c.2 in
+    let made_is = some_ok fault.BadHeader _ m d.2 in
+    let same = same_Some _ m made_is in
     record {
       numbers = a.0;
-      vias = b.0;
-      says = c.0;
-      body = d.0;
       numbers_are = a.1;
-      vias_are = vias.0;
-      branch_is =
-          vias.1;
-      start_is = c.1;
-      body_is = d.1;
-      same = same_Ok _ m d.2;
+      vias_are = vias.0 ∙ ap (λ (n : Message). Some n.vias) same;
+      branch_is = sym (ap (λ (n : Message). are_vias n.vias) same) ∙ vias.1;
+      start_is = c.1 ∙ ap (λ (n : Message). Some n.start) same;
+      body_is = d.1 ∙ ap (λ (n : Message). Some n.body) same;
+      same = ap (λ (n : Message). message_with n.start n.vias a.0 (draft_with h) n.body) (sym same)
+          ∙ made_is;
     }
 
 sized : (r : Bool) (read : Result Message ReadFault) (m : Message)
@@ -130,31 +130,30 @@ lines_take : (text start : List ℕ) (lines : List (List ℕ)) (rest : List ℕ)
 unfolding message_of_lines
 lines_take text start lines rest m short first after line_is section_is e =
     let a = step_ok fault.BadStartLine (start_at start)
-    (λ says. headers_of (draft_of lines) >>= λ h. message_of_headers says h rest) m e in
-    let b = result_ok (headers_of (draft_of lines)) (λ h. message_of_headers a.0 h rest) m a.2 in
-    let made_is = made a.0 b.0 rest m b.2 in
-    let own : b.0 ≡ headers_with (message_with made_is.says made_is.vias made_is.numbers b.0
-    made_is.body) made_is.numbers.content_length = numbered b.0 made_is.says made_is.vias
-    made_is.numbers made_is.body made_is.numbers_are made_is.vias_are in
-    subst (λ (n : Message). Spells n text) made_is.same (record {
+    (λ says. faultless (draft_of lines) >>= λ d. message_of_draft says d rest) m e in
+    let b = result_ok (faultless (draft_of lines)) (λ d. message_of_draft a.0 d rest) m a.2 in
+    let held = headers_take lines b.0 b.1 in
+    let h = held.0 in
+    let made_is = made a.0 h rest m
+    (ap (λ d. message_of_draft a.0 d rest) (sym held.2) ∙ b.2) in
+    let own : h ≡ headers_with m made_is.numbers.content_length =
+    numbered h made_is.numbers m made_is.numbers_are made_is.vias_are made_is.same in
+    record {
       start = start;
       lines = lines;
       rest = rest;
       content_length = made_is.numbers.content_length;
       short = short;
       laid = laid_takes text first after start lines rest line_is section_is;
-      start_is = start_again_at a.0 b.0 made_is start a.1;
-      headers_are = subst (λ (h : Headers). AreHeaders h lines) own (headers_take lines b.0 b.1);
+      start_is = subst (λ (g : Headers). SpellsStart m.start g.cseq.method start) own
+          (start_takes a.0 h.cseq.method m.start start made_is.start_is
+          (start_reads.takes start a.0 a.1));
+      headers_are = subst (λ (g : Headers). AreHeaders g lines) own held.1;
       numbers_are = ap are_numbers (sym own)
-          ∙ are_all_numbers b.0 made_is.numbers made_is.vias made_is.numbers_are made_is.vias_are;
+          ∙ are_all_numbers h made_is.numbers m.vias made_is.numbers_are made_is.vias_are;
       branch_is = made_is.branch_is;
-      body_is = body_takes rest made_is.numbers.content_length made_is.body made_is.body_is;
-    })
-  where
-    start_again_at : (line : FirstLine) (h : Headers) (is : IsMade line h rest m) (text : List ℕ)
-        → start_at text ≡ Some line → SpellsStart is.says h.cseq.method text
-    start_again_at line h is text p =
-        start_takes line h.cseq.method is.says text is.start_is (start_reads.takes text line p)
+      body_is = body_takes rest made_is.numbers.content_length m.body made_is.body_is;
+    }
 
 pub spelled_takes : (text : List ℕ) (m : Message) → message_at text ≡ Ok m → Spells m text
 unfolding message_in
@@ -181,13 +180,13 @@ vias_again m content_length numbers branch =
 pub made_again : (m : Message) (content_length : Option ℕ) (rest : List ℕ)
     → are_numbers (headers_with m content_length) ≡ true → are_vias m.vias ≡ true
     → body_of rest content_length ≡ Some m.body
-    → message_of_headers (first_of m.start m.cseq.method) (headers_with m content_length) rest
-    ≡ Ok m
-unfolding message_of_headers
+    → message_of_draft (first_of m.start m.cseq.method) (draft_with (headers_with m content_length))
+    rest ≡ Ok m
+unfolding message_of_draft
 made_again m content_length rest numbers branch body =
     let h = headers_with m content_length in
     let line = first_of m.start m.cseq.method in
-    step_again fault.BadNumber (numbers_in h)
+    step_again fault.BadNumber (numbers_in (draft_with h))
     (λ ns. vias_of h.vias >>= λ vs. then_start line h rest ns vs)
     (numbers_with m content_length) (numbers_again m content_length)
     ∙ result_again (vias_of h.vias)
@@ -197,8 +196,9 @@ made_again m content_length rest numbers branch body =
     (λ says. then_body h rest (numbers_with m content_length) m.vias says) m.start
     (start_line_again m.start m.cseq.method)
     ∙ step_again fault.Truncated (body_of rest content_length)
-    (λ b. Ok (message_with m.start m.vias (numbers_with m content_length) h b)) m.body body
-    ∙ ap (λ (n : Message). Ok n) (message_again m content_length)
+    (λ b. or_fault fault.BadHeader
+    (message_with m.start m.vias (numbers_with m content_length) (draft_with h) b)) m.body body
+    ∙ ap (or_fault fault.BadHeader) (message_again m content_length)
 
 lines_again : (m : Message) (text : List ℕ) (is : Spells m text)
     → message_of_lines is.start (draft_of is.lines) is.rest ≡ Ok m
@@ -207,9 +207,10 @@ lines_again m text is =
     let line = first_of m.start m.cseq.method in
     let h = headers_with m is.content_length in
     step_again fault.BadStartLine (start_at is.start)
-    (λ says. headers_of (draft_of is.lines) >>= λ g. message_of_headers says g is.rest) line
+    (λ says. faultless (draft_of is.lines) >>= λ d. message_of_draft says d is.rest) line
     (start_reads.again is.start line (first_spelled m.start m.cseq.method is.start is.start_is))
-    ∙ result_again (headers_of (draft_of is.lines)) (λ g. message_of_headers line g is.rest) h
+    ∙ result_again (faultless (draft_of is.lines)) (λ d. message_of_draft line d is.rest)
+    (draft_with h)
     (headers_again h is.lines is.headers_are)
     ∙ made_again m is.content_length is.rest is.numbers_are is.branch_is
     (body_again is.rest is.content_length m.body is.body_is)

@@ -9,9 +9,8 @@ use Rattle.sip_values.specs.declared.numeral.Numeral.{Numeral}
 use Rattle.sip_values.specs.declared.numeral.Numeral.TheVariants.{Number, NotANumber}
 use Rattle.sip_values.specs.declared.via.ViaDraft.{ViaDraft}
 use Rattle.sip_headers.specs.Faults.{IsFirst, HeaderCondition, header_faults}
-use Rattle.sip_headers.specs.Headers.{AreHeaders}
+use Rattle.sip_headers.specs.Headers.{Headers, AreHeaders}
 use Rattle.sip_headers.specs.Numbers.{are_numbers}
-use Rattle.sip_headers.specs.declared.headers.Headers.{Headers}
 use Rattle.sip_reader.specs.Layout.{Lays}
 use Rattle.sip_reader.specs.StartLine.{IsRequestLine, SpellsStart}
 

@@ -12,12 +12,11 @@ use Rattle.sip_message.specs.declared.start_line.StartLine.{StartLine}
 use Rattle.sip_message.specs.declared.start_line.StartLine.TheVariants as start
 use Rattle.sip_message.specs.declared.via.Via.{Via}
 use Rattle.sip_values.specs.declared.via.ViaDraft.{ViaDraft}
-use Rattle.sip_headers.specs.Complete.{headers_of}
+use Rattle.sip_headers.specs.Complete.{faultless, method_in}
 use Rattle.sip_headers.specs.Draft.{draft_of}
 use Rattle.sip_headers.specs.Folding.{Section, section_at, onto_section}
 use Rattle.sip_headers.specs.Numbers.{numbers_in, via_with, message_with}
 use Rattle.sip_headers.specs.declared.draft.Draft.{Draft}
-use Rattle.sip_headers.specs.declared.headers.Headers.{Headers}
 use Rattle.sip_reader.specs.ReadStart.{start_at}
 use Rattle.sip_reader.specs.SkippedEnds.{without_line_ends}
 use Rattle.sip_reader.specs.declared.first_line.FirstLine.{FirstLine}
@@ -63,19 +62,22 @@ unfoldable pub body_of : List ℕ → Option ℕ → Option (List ℕ)
 body_of text None = Some text
 body_of text (Some n) = if nat_lt (length text) n then None else Some (take n text)
 
-unfoldable pub message_of_headers : FirstLine → Headers → List ℕ → Result Message ReadFault
-message_of_headers line h text = do
-  numbers ← or_fault fault.BadNumber (numbers_in h)
-  vias ← vias_of h.vias
-  start ← or_fault fault.MethodMismatch (start_line_of line h.cseq.method)
+-- of a draft without a fault, which has Via values and a CSeq
+unfoldable pub message_of_draft : FirstLine → Draft → List ℕ → Result Message ReadFault
+message_of_draft line d text = do
+  numbers ← or_fault fault.BadNumber (numbers_in d)
+  drafts ← or_fault fault.BadHeader d.vias
+  vias ← vias_of drafts
+  method ← or_fault fault.BadHeader (method_in d)
+  start ← or_fault fault.MethodMismatch (start_line_of line method)
   body ← or_fault fault.Truncated (body_of text numbers.content_length)
-  Ok (message_with start vias numbers h body)
+  or_fault fault.BadHeader (message_with start vias numbers d body)
 
 unfoldable pub message_of_lines : List ℕ → Draft → List ℕ → Result Message ReadFault
 message_of_lines start_line draft text = do
   start ← or_fault fault.BadStartLine (start_at start_line)
-  headers ← headers_of draft
-  message_of_headers start headers text
+  d ← faultless draft
+  message_of_draft start d text
 
 -- the first line is the start line
 unfoldable pub message_of_section : Option Section → Result Message ReadFault

@@ -10,7 +10,7 @@ ghost use Rattle.sip_reader.specs.Spells.{Spells, Answers};
 use crate::first_line::FirstLine;
 use crate::layout::without_line_ends;
 use crate::start_reader::start_of;
-use sip_headers::{Draft, Headers, Numbers, gather, whole_line, with_ports};
+use sip_headers::{Draft, Faultless, Numbers, gather, whole_line, with_ports};
 use sip_message::{Message, ReadFault, Vias};
 use sip_text::{Series, Text, next_line};
 use sip_values::ViaDraft;
@@ -78,30 +78,29 @@ fn read_section(
     let Some(start) = start_of(alloc, start_line)? else {
         return Err(ReadFault::BadStartLine);
     };
-    let headers = draft.into_headers()?;
-    message_of(alloc, start, headers, rest)
+    message_of(alloc, start, draft.into_faultless()?, rest)
 }
 
-#[tactic(auto, unfolding(crate::specs::ReadMessage::message_of_headers))]
+#[tactic(auto, unfolding(crate::specs::ReadMessage::message_of_draft))]
 fn message_of(
     alloc: Global,
     start: FirstLine,
-    mut headers: Headers,
+    mut draft: Faultless,
     rest: &[u8],
 ) -> Result<Message, ReadFault>
-    ensures { reading.Gives result (reading.message_of_headers start headers rest.now) }
+    ensures { reading.Gives result (reading.message_of_draft start draft rest.now) }
 {
-    let numbers = numbers_of(&headers)?;
-    let vias = vias_of(alloc, headers.take_vias(alloc))?;
-    let start = start.fitting(&headers.cseq.method)?;
+    let numbers = numbers_of(&draft)?;
+    let vias = vias_of(alloc, draft.take_vias(alloc))?;
+    let start = start.fitting(draft.method())?;
     let body = body_of(alloc, rest, numbers.content_length)?;
-    Ok(headers.into_message(start, vias, numbers, body))
+    Ok(draft.into_message(start, vias, numbers, body))
 }
 
-fn numbers_of(headers: &Headers) -> Result<Numbers, ReadFault>
-    ensures { result ≡ reading.or_fault fault.BadNumber (numbers_in headers.now) }
+fn numbers_of(draft: &Faultless) -> Result<Numbers, ReadFault>
+    ensures { result ≡ reading.or_fault fault.BadNumber (numbers_in draft.now) }
 {
-    match headers.numbers() {
+    match draft.numbers() {
         Some(numbers) => Ok(numbers),
         None => Err(ReadFault::BadNumber),
     }

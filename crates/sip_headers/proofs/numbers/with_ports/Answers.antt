@@ -4,7 +4,7 @@ use Rattle.std.specs.Vec.Iter.{into_iter_items}
 use Rattle.sip_text.specs.Forms.{each}
 use Rattle.sip_headers.specs.Numbers.{via_with}
 use Rattle.sip_headers.proofs.Eaches.{behind, each_more, each_stops, each_ends}
-use Rattle.sip_headers.proofs.headers.with_ports.Goals as goal
+use Rattle.sip_headers.proofs.numbers.with_ports.Goals as goal
 
 pub loop-draft-preserved : goal.loop-draft-preserved
 loop-draft-preserved c =

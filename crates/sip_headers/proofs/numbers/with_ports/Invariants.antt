@@ -3,7 +3,7 @@ use Rattle.std.specs.Vec.Iter.{into_iter_items}
 use Rattle.sip_text.specs.Forms.{each}
 use Rattle.sip_headers.specs.Numbers.{via_with}
 use Rattle.sip_headers.proofs.Eaches.{behind}
-use Rattle.sip_headers.proofs.headers.with_ports.Given as goal
+use Rattle.sip_headers.proofs.numbers.with_ports.Given as goal
 
 abbrev pub invariant-loop-draft : goal.invariant-loop-draft
 invariant-loop-draft l =

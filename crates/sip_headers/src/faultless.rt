@@ -1,0 +1,84 @@
+//! Drafts in which no header is missing, repeated or in another form, and the messages that they
+//! become.
+ghost use Rattle.std.specs.Prelude.{◌≡◌, Some, []};
+ghost use Rattle.sip_headers.specs.Complete as complete;
+ghost use Rattle.sip_headers.specs.Numbers as numbered;
+
+use crate::draft::Draft;
+use crate::numbers::Numbers;
+use crate::slot::Slot;
+use sip_message::{Message, ReadFault, StartLine, Vias};
+use sip_parts::Token;
+use sip_text::{Series, Text};
+use sip_values::ViaDraft;
+use std::alloc::Global;
+use std::marker::Model;
+use std::mem;
+
+/// A draft without a fault. A contract sees it as the draft.
+#[derive(Drop)]
+pub struct Faultless {
+    draft: Draft,
+}
+
+impl Model for Faultless {
+    ghost use Rattle.sip_headers.specs.Complete.{IsComplete};
+    ghost use Rattle.sip_headers.specs.declared.draft.Draft.{Draft};
+
+    ghost Value = { Draft };
+
+    ghost view = { λ a. a.draft };
+
+    ghost invariant = { λ a. IsComplete a.draft };
+}
+
+impl Draft {
+    /// The draft, where it has no fault.
+    ///
+    /// # Errors
+    ///
+    /// BadHeader where a line is no header line, or a value isn't in its header's form; Missing for
+    /// the first header that isn't there; Repeated for the first that is there twice.
+    pub fn into_faultless(self) -> Result<Faultless, ReadFault>
+        ensures { result ≡ complete.faultless self }
+    {
+        match self.fault() {
+            Some(fault) => Err(fault),
+            None => Ok(Faultless { draft: self }),
+        }
+    }
+}
+
+impl Faultless {
+    /// The numbers, or None where a word in a number's place isn't one.
+    pub fn numbers(&self) -> Option<Numbers>
+        ensures { result ≡ numbered.numbers_in self.now }
+    {
+        self.draft.numbers()
+    }
+
+    /// The method of the CSeq.
+    pub fn method(&self) -> &Token
+        ensures { complete.method_in self.now ≡ Some result.now }
+    {
+        match &self.draft.cseq {
+            Slot::Once(cseq) => &cseq.method,
+            _ => unreachable!(),
+        }
+    }
+
+    /// Takes the Via values out.
+    pub fn take_vias(&mut self, alloc: Global) -> Series<ViaDraft>
+        ensures taken { self.old.vias ≡ Some result }
+        ensures rest { self.new ≡ record self.old { vias = Some [] } }
+    {
+        mem::replace(&mut self.draft.vias, Some(Series::new(alloc))).unwrap()
+    }
+
+    /// The message with these headers, Via values and numbers.
+    pub fn into_message(self, start: StartLine, vias: Vias, numbers: Numbers, body: Text) -> Message
+        ensures { numbered.message_with start vias numbers self body ≡ Some result }
+    {
+        self.draft.into_message(start, vias, numbers, body)
+    }
+}
