@@ -2,6 +2,7 @@
 use Rattle.std.proofs.Common.{◌≡◌, ◌⊎◌, inl, inr, ℕ, Bool, true, false, not, ◌&&◌, ◌==◌, cond, List, [], ◌++◌, map, refl, sym, ap, subst, ◌∙◌}
 use Rattle.std.specs.Prelude.{Option, None, Some, filter, if◌then◌else◌}
 use Rattle.std.specs.Cmp.{first_so, second_so}
+use Rattle.std.specs.Map.{set_value}
 use Rattle.std.specs.Option.{option_map, option_map_or}
 use Rattle.sip_message.specs.declared.id.Id.{Id}
 use Rattle.sip_model.proofs.Ordered.{by_bool}
@@ -236,30 +237,36 @@ module _ (life : DialogLife) (invite : Id) (event : Option Id) (answer : Answer)
     change client = (reply_taken client side.dialogs answer).0
 
     abbrev pub changed : Clients
-    changed = client_changed answer.id change side.clients
+    changed = set_value (is_id answer.id) side.clients (change client)
+
+    is_changed : client_changed answer.id change side.clients ≡ changed
+    is_changed = ap (λ o. option_map_or (λ client. set_value (is_id answer.id) side.clients
+        (change client)) o side.clients) is
 
     abbrev pub Done : Option ℕ → Replied → Type 0
     Done number done = ResultOf done.1 (settled answer.event answer.id done.3 changed).0 number
         (done.2 ++ (settled answer.event answer.id done.3 changed).1)
 
     left : AreApart changed
-    left = entries.apart_changed id_laws answer.id change side.clients
-        (client_at answer.id side.clients) apart
+    left = entries.apart_changed id_laws answer.id change side.clients (Some client) apart
+
+    abbrev found_by : Bool → Option Client
+    found_by b = cond b (option_map change (client_at invite side.clients))
+        (client_at invite side.clients)
+
+    found_now : client_at invite changed ≡ found_by (is_id answer.id invite)
+    found_now = ap (client_at invite) (sym is_changed)
+        ∙ entries.found_changed id_laws answer.id invite change side.clients
 
     ear_other : is_id answer.id invite ≡ false → ear changed ≡ ear side.clients
-    ear_other other =
-        ap (client_ear life) (entries.found_changed id_laws answer.id invite change side.clients
-        ∙ ap (λ b. cond b (option_map change (client_at invite side.clients))
-        (client_at invite side.clients)) other)
+    ear_other other = ap (client_ear life) (found_now ∙ ap found_by other)
 
     there : is_id answer.id invite ≡ true → client_at invite side.clients ≡ Some client
     there same = entries.same_key id_laws answer.id invite side.clients same ∙ is
 
     ear_own : is_id answer.id invite ≡ true → ear changed ≡ client_ear life (Some (change client))
     ear_own same =
-        ap (client_ear life) (entries.found_changed id_laws answer.id invite change side.clients
-        ∙ ap (λ b. cond b (option_map change (client_at invite side.clients))
-        (client_at invite side.clients)) same ∙ ap (option_map change) (there same))
+        ap (client_ear life) (found_now ∙ ap found_by same ∙ ap (option_map change) (there same))
 
     -- a request that is no INVITE of the life
     no_ear : ((heard : Option ℕ) → asks_ear life client.asks heard ≡ None)

@@ -1,7 +1,7 @@
 -- A response that comes up: what was heard after it for an INVITE in a life of a dialog.
-use Rattle.std.proofs.Common.{◌≡◌, ℕ, Bool, true, false, ◌&&◌, List, [], ◌++◌, refl, sym, subst}
+use Rattle.std.proofs.Common.{◌≡◌, ℕ, Bool, true, false, ◌&&◌, List, [], refl, sym, subst}
 use Rattle.std.specs.Prelude.{Option, None, Some, if◌then◌else◌}
-use Rattle.std.specs.Option.{option_and_then, option_map, option_map_or}
+use Rattle.std.specs.Option.{option_and_then}
 use Rattle.sip_message.specs.declared.id.Id.{Id}
 use Rattle.sip_message.specs.declared.message.Message.{Message}
 use Rattle.sip_served.specs.declared.held_dialog.DialogLife.{DialogLife}
@@ -11,12 +11,10 @@ use Rattle.sip_clients.specs.declared.client.Asks.{Asks}
 use Rattle.sip_clients.specs.declared.client.Asks.TheVariants.{First, Again, Inside, Plain}
 use Rattle.sip_clients.specs.declared.client.Client.{Client}
 use Rattle.sip_clients.specs.declared.event.Event.{Event}
-use Rattle.sip_clients.specs.declared.outputs.Rest.TheVariants.{Stays}
 use Rattle.sip_clients.specs.declared.reply.Reply.{Reply as Answer}
-use Rattle.sip_clients.specs.Client.{Clients, Side, Taken as ClientTaken, client_at}
-use Rattle.sip_clients.specs.Clients.{client_changed, named_taken, reply_name, reply_of, reply_settled, response_taken, settled, status_of}
+use Rattle.sip_clients.specs.Client.{Side, Taken as ClientTaken, client_at}
+use Rattle.sip_clients.specs.Clients.{found_taken, reply_name, reply_of, reply_settled, response_taken, status_of}
 use Rattle.sip_clients.specs.Provisionals.{InTheDialog, is_for, number_for, provisional_number}
-use Rattle.sip_clients.specs.Replied.{Replied, reply_taken}
 use Rattle.sip_clients.proofs.AgainInvite.{AgainResult, AreApart, ear_of, keeps_same, silent_result}
 use Rattle.sip_clients.proofs.AgainReply.{another, invite_replied, no_invite}
 use Rattle.sip_clients.proofs.FirstInvite.{none_in_life}
@@ -44,79 +42,48 @@ module _ (life : DialogLife) (invite : Id) (event : Option Id) (of : Event)
   unchanged = silent_result life invite event side.clients side.clients side.dialogs []
       (keeps_same life invite event side.clients apart)
 
-  abbrev changed : Answer → Clients
-  changed answer =
-      client_changed id (λ client. (reply_taken client side.dialogs answer).0) side.clients
-
-  abbrev AtFound : Answer → Replied → Option ℕ → Type 0
-  AtFound answer done number =
-      AgainResult life invite event side.clients done.1
-      (settled of id done.3 (changed answer)).0 number
-      (done.2 ++ (settled of id done.3 (changed answer)).1)
-
-  settled_at : (status : ℕ) (client : Client) (number : Option ℕ)
-      → client_at id side.clients ≡ Some client
-      → AtFound (answer_for status client)
-      (reply_taken client side.dialogs (answer_for status client)) number
-      → SideResult number (reply_settled (answer_for status client) side)
-  settled_at status client number is result =
-      let answer = answer_for status client in
-      let P : Option Client → Type 0 = λ o. AtFound answer (
-        client,
-        option_map_or (λ client. (reply_taken client side.dialogs answer).1) o side.dialogs,
-        option_map_or (λ client. (reply_taken client side.dialogs answer).2) o [],
-        option_map_or (λ client. (reply_taken client side.dialogs answer).3) o Stays,
-      ) number in
-      subst P (sym is) result
-
   by_life : (status : ℕ) (client : Client) (own : DialogLife)
       → client_at id side.clients ≡ Some (with_asks (Again own) client)
       → (b ours : Bool) → is_id id invite ≡ b
       → (is_named life.name own.name && is_id own.born life.born) ≡ ours
       → SideResult (if b && ours then provisional_number (Some status) response else None)
-      (reply_settled (answer_for status (with_asks (Again own) client)) side)
+      (reply_settled (answer_for status (with_asks (Again own) client))
+      (with_asks (Again own) client) side)
   by_life status client own is false ours same is_ours =
       let found = with_asks (Again own) client in
-      settled_at status found None is
-      (another life invite event (answer_for status found) made side apart once found is same)
+      another life invite event (answer_for status found) made side apart once found is same
   by_life status client own is true false same is_ours =
       let found = with_asks (Again own) client in
-      settled_at status found None is
-      (no_invite life invite event (answer_for status found) made side apart once found is
-      (λ heard i. if is_ours i then Some heard else None))
+      no_invite life invite event (answer_for status found) made side apart once found is
+      (λ heard i. if is_ours i then Some heard else None)
   by_life status client own is true true same is_ours =
       let found = with_asks (Again own) client in
-      settled_at status found (provisional_number (Some status) response) is
-      (invite_replied life invite event
-      (answer_for status found) made side apart once own client is same is_ours)
+      invite_replied life invite event
+      (answer_for status found) made side apart once own client is same is_ours
 
   by_asks : (status : ℕ) (client : Client) (asks : Asks)
       → client_at id side.clients ≡ Some (with_asks asks client)
       → SideResult (number_at (Some status) (with_asks asks client))
-      (reply_settled (answer_for status (with_asks asks client)) side)
+      (reply_settled (answer_for status (with_asks asks client)) (with_asks asks client) side)
   by_asks status client First is =
       let found = with_asks First client in
-      settled_at status found None is
-      (no_invite life invite event (answer_for status found) made side apart once found is
-      (λ heard. refl))
+      no_invite life invite event (answer_for status found) made side apart once found is
+      (λ heard. refl)
   by_asks status client (Again own) is =
       by_life status client own is (is_id id invite)
       (is_named life.name own.name && is_id own.born life.born) refl refl
   by_asks status client (Inside own) is =
       let found = with_asks (Inside own) client in
-      settled_at status found None is
-      (no_invite life invite event (answer_for status found) made side apart once found is
-      (λ heard. refl))
+      no_invite life invite event (answer_for status found) made side apart once found is
+      (λ heard. refl)
   by_asks status client Plain is =
       let found = with_asks Plain client in
-      settled_at status found None is
-      (no_invite life invite event (answer_for status found) made side apart once found is
-      (λ heard. refl))
+      no_invite life invite event (answer_for status found) made side apart once found is
+      (λ heard. refl)
 
   by_client : (status : Option ℕ) (o : Option Client) → client_at id side.clients ≡ o
       → SideResult (option_and_then (number_at status) o)
-      (named_taken of id call_id response status
-      (option_map (λ client. reply_name client.asks client response) o) side)
+      (found_taken of id call_id response status o side)
   by_client None None is = unchanged
   by_client (Some status) None is = unchanged
   by_client None (Some client) is =

@@ -2,8 +2,8 @@
 -- event's id.
 use Rattle.std.proofs.Common.{◌≡◌, ◌⊎◌, inl, inr, ℕ, Bool, true, false, cond, List, [], ◌∷◌, ◌++◌, refl, sym, ap, subst, ◌∙◌, append-nil}
 use Rattle.std.specs.Prelude.{Option, None, Some, Result, Ok, Err, codes, if◌then◌else◌}
-use Rattle.std.specs.Map.{values_of}
-use Rattle.std.specs.Option.{option_map, option_map_or}
+use Rattle.std.specs.Map.{set_value, values_of}
+use Rattle.std.specs.Option.{option_map_or}
 use Rattle.std.specs.Str.{bytes_eq, str_to_ascii_lowercase}
 use Rattle.std.proofs.lemmas.List.Elements.{filter_map-append}
 use Rattle.sip_message.specs.declared.id.Id.{Id}
@@ -20,7 +20,7 @@ use Rattle.sip_served.specs.declared.item.CallOut.{CallOut}
 use Rattle.sip_served.specs.declared.refusal.Refusal.{Refusal}
 use Rattle.sip_served.specs.declared.refusal.Refusal.TheVariants.{BadMethod}
 use Rattle.sip_served.specs.Dialogs.{early_ended, ended_at, lives}
-use Rattle.sip_served.specs.State.{Dialogs}
+use Rattle.sip_served.specs.State.{Dialogs, is_id}
 use Rattle.sip_served.proofs.NoStarts.{early_starts, ended_starts, none_of_all, none_of_both, start_in, starts}
 use Rattle.sip_clients.specs.declared.answers.SentAck.{SentAck}
 use Rattle.sip_clients.specs.declared.client.Asks.{Asks}
@@ -37,7 +37,7 @@ use Rattle.sip_clients.specs.declared.service.Service.{Service}
 use Rattle.sip_clients.specs.declared.service.Service.TheVariants.{Sent, Waits, Refused}
 use Rattle.sip_clients.specs.Answers.{ack_of}
 use Rattle.sip_clients.specs.Client.{Clients, Side, client_at, client_for}
-use Rattle.sip_clients.specs.Clients.{ack_paid, ack_taken, invite_taken, lost_of, named_taken, paid_or_refused, plain_taken, prack_paid, prack_taken, replied_at, reply_name, reply_of, request_taken, response_taken, settled, started, status_of}
+use Rattle.sip_clients.specs.Clients.{ack_paid, ack_taken, found_taken, invite_taken, lost_of, paid_or_refused, plain_taken, prack_paid, prack_taken, reply_name, reply_of, request_taken, response_taken, settled, started, status_of}
 use Rattle.sip_clients.specs.Commands.{bye_ended, debt_for, is_bad_outside, name_in, requested_by}
 use Rattle.sip_clients.specs.Dialogs.{ended_with, own_ended, paid_at}
 use Rattle.sip_clients.specs.Event.{branch_of}
@@ -131,30 +131,24 @@ case_none reply.Told client dialogs answer = refl
 
 -- ---- a response, and a request that is lost
 
-replied_none : (answer : Answer) (dialogs : Dialogs) (o : Option Client)
-    → starts (option_map_or (λ client. (reply_taken client dialogs answer).2) o []) ≡ []
-replied_none answer dialogs None = refl
-replied_none answer dialogs (Some client) =
-    case_none (reply_case client dialogs answer) client dialogs answer
-
-named_one : (event : Event) (id : Id) (call_id : List ℕ) (response : Message) (status : Option ℕ)
-    (name : Option DialogName) (side : Side)
-    → One event.id (starts (named_taken event id call_id response status name side).1)
-named_one event id call_id response None name side = inl refl
-named_one event id call_id response (Some status) None side = inl refl
-named_one event id call_id response (Some status) (Some name) side =
+found_one : (event : Event) (id : Id) (call_id : List ℕ) (response : Message) (status : Option ℕ)
+    (o : Option Client) (side : Side)
+    → One event.id (starts (found_taken event id call_id response status o side).1)
+found_one event id call_id response None o side = inl refl
+found_one event id call_id response (Some status) None side = inl refl
+found_one event id call_id response (Some status) (Some client) side =
+    let name = reply_name client.asks client response in
     let answer = reply_of event id call_id name status response in
-    let done = replied_at answer side.dialogs side.clients in
-    none_then_one event.id done.2 (settled event id done.3 done.0).1
-    (replied_none answer side.dialogs (client_at id side.clients))
-    (settled_one event id done.3 done.0)
+    let done = reply_taken client side.dialogs answer in
+    let clients = set_value (is_id id) side.clients done.0 in
+    none_then_one event.id done.2 (settled event id done.3 clients).1
+    (case_none (reply_case client side.dialogs answer) client side.dialogs answer)
+    (settled_one event id done.3 clients)
 
 pub response_one : (event : Event) (id : Id) (call_id : List ℕ) (response : Message) (side : Side)
     → One event.id (starts (response_taken event id call_id response side).1)
 response_one event id call_id response side =
-    named_one event id call_id response (status_of response.start)
-    (option_map (λ client. reply_name client.asks client response) (client_at id side.clients))
-    side
+    found_one event id call_id response (status_of response.start) (client_at id side.clients) side
 
 pub lost_none : (id : Id) (timed_out : Bool) (o : Option Client) (side : Side)
     → starts (lost_of id timed_out o side).1 ≡ []

@@ -1,7 +1,8 @@
 -- What the client side makes of what was heard in a life of a dialog for the first INVITE.
 use Rattle.std.proofs.Common.{◌≡◌, ℕ, Bool, List, [], refl, sym, subst}
 use Rattle.std.specs.Prelude.{Option, None, Some, Result, Ok, Err, if◌then◌else◌}
-use Rattle.std.specs.Option.{option_and_then, option_map, option_map_or}
+use Rattle.std.specs.Map.{set_value}
+use Rattle.std.specs.Option.{option_and_then}
 use Rattle.sip_message.specs.declared.id.Id.{Id}
 use Rattle.sip_message.specs.declared.message.Message.{Message}
 use Rattle.sip_served.specs.declared.command.DialogBody.{DialogBody}
@@ -11,17 +12,16 @@ use Rattle.sip_served.specs.declared.held_dialog.DialogLife.{DialogLife}
 use Rattle.sip_served.specs.declared.item.CallOut.{CallOut}
 use Rattle.sip_served.specs.declared.refusal.Refusal.{Refusal}
 use Rattle.sip_served.specs.Dialogs.{dialog_at, is_named, lives}
-use Rattle.sip_served.specs.State.{Dialogs}
+use Rattle.sip_served.specs.State.{Dialogs, is_id}
 use Rattle.sip_clients.specs.declared.client.Asks.{Asks}
 use Rattle.sip_clients.specs.declared.client.Asks.TheVariants.{First, Again, Inside, Plain}
 use Rattle.sip_clients.specs.declared.client.Client.{Client}
 use Rattle.sip_clients.specs.declared.event.Event.{Event}
-use Rattle.sip_clients.specs.declared.outputs.Rest.TheVariants.{Stays}
 use Rattle.sip_clients.specs.declared.reply.Reply.{Reply as Answer}
 use Rattle.sip_clients.specs.declared.reply.ReplyCase.{ReplyCase}
 use Rattle.sip_clients.specs.declared.reply.ReplyCase.TheVariants as reply
 use Rattle.sip_clients.specs.Client.{Clients, Side, Taken as ClientTaken, client_at}
-use Rattle.sip_clients.specs.Clients.{ack_paid, ack_taken, lost_of, named_taken, paid_or_refused, prack_paid, prack_taken, reply_name, reply_of, reply_settled, replied_at, request_taken, response_taken, status_of}
+use Rattle.sip_clients.specs.Clients.{ack_paid, ack_taken, found_taken, lost_of, paid_or_refused, prack_paid, prack_taken, reply_name, reply_of, reply_settled, request_taken, response_taken, status_of}
 use Rattle.sip_clients.specs.declared.debts.DebtKind.TheVariants as kind
 use Rattle.sip_clients.specs.Commands.{bye_ended, debt_for, name_in, requested_by, requesting}
 use Rattle.sip_clients.specs.Debts.{paying}
@@ -29,7 +29,7 @@ use Rattle.sip_clients.specs.Replied.{reply_taken}
 use Rattle.sip_clients.specs.Provisionals.{OfTheCall, in_life, is_for, number_for, provisional_number, told_of}
 use Rattle.sip_clients.proofs.ClientDialogs.{bye_leads, ended_leads, heard_number, paying_keeps, requesting_keeps}
 use Rattle.sip_clients.proofs.FirstInvite.{ear_in, no_number, none_in_life, silent_from}
-use Rattle.sip_clients.proofs.FirstReply.{first, first_replied, given, other_replied}
+use Rattle.sip_clients.proofs.FirstReply.{first, first_replied, other_replied}
 use Rattle.sip_served.proofs.Heard.{AreApart, Leads, leads_changed, leads_same, leads_then}
 use Rattle.sip_clients.proofs.Hearing.{Listens}
 
@@ -88,69 +88,45 @@ module _ (life : DialogLife) where
     number_at status client = if is_for OfTheCall life id client client.asks response
         then provisional_number status response else None
 
-    -- all of it, for the request that is found
-    settled_at : (status : ℕ) (client : Client) (number : Option ℕ)
-        → client_at id side.clients ≡ Some client
-        → ((clients : Clients) → ResultOf call side.dialogs
-        (reply_taken client side.dialogs (answer_for status client)).1 number
-        (given (answer_for status client)
-        (reply_taken client side.dialogs (answer_for status client)) clients))
-        → SideResult number (reply_settled (answer_for status client) side)
-    settled_at status client number is result =
-        let answer = answer_for status client in
-        let clients = (replied_at answer side.dialogs side.clients).0 in
-        let P : Option Client → Type 0 =
-        λ o. ResultOf call side.dialogs
-        (option_map_or (λ client. (reply_taken client side.dialogs answer).1) o side.dialogs)
-        number
-        (given answer (
-          client,
-          side.dialogs,
-          option_map_or (λ client. (reply_taken client side.dialogs answer).2) o [],
-          option_map_or (λ client. (reply_taken client side.dialogs answer).3) o Stays,
-        ) clients) in
-        subst P (sym is) (result clients)
+    -- the requests when the response to this one has come
+    abbrev replied : ℕ → Client → Clients
+    replied status client = set_value (is_id id) side.clients
+        (reply_taken client side.dialogs (answer_for status client)).0
 
     by_asks : (status : ℕ) (client : Client) (asks : Asks)
-        → client_at id side.clients ≡ Some (with_asks asks client)
         → SideResult (number_at (Some status) (with_asks asks client))
-        (reply_settled (answer_for status (with_asks asks client)) side)
-    by_asks status client First is =
-        let answer = answer_for status (first client) in
-        settled_at status (first client) (number_at (Some status) (first client)) is
-        (λ clients. first_replied call life client answer side.dialogs apart made clients
-        (is_named life.name answer.name) refl)
-    by_asks status client (Again own) is =
-        settled_at status (with_asks (Again own) client) None is
-        (λ clients. other_replied call life client
-        (answer_for status (with_asks (Again own) client)) side.dialogs apart made
-        (with_asks (Again own) client) clients (unheard_by (Again own) (λ number named. refl)))
-    by_asks status client (Inside own) is =
-        settled_at status (with_asks (Inside own) client) None is
-        (λ clients. other_replied call life client
-        (answer_for status (with_asks (Inside own) client)) side.dialogs apart made
-        (with_asks (Inside own) client) clients (unheard_by (Inside own) (λ number named. refl)))
-    by_asks status client Plain is =
-        settled_at status (with_asks Plain client) None is
-        (λ clients. other_replied call life client
-        (answer_for status (with_asks Plain client)) side.dialogs apart made
-        (with_asks Plain client) clients (unheard_by Plain (λ number named. refl)))
+        (reply_settled (answer_for status (with_asks asks client)) (with_asks asks client) side)
+    by_asks status client First =
+        let found = first client in
+        first_replied call life client (answer_for status found) side.dialogs apart made
+        (replied status found) (is_named life.name (answer_for status found).name) refl
+    by_asks status client (Again own) =
+        let found = with_asks (Again own) client in
+        other_replied call life client (answer_for status found) side.dialogs apart made found
+        (replied status found) (unheard_by (Again own) (λ number named. refl))
+    by_asks status client (Inside own) =
+        let found = with_asks (Inside own) client in
+        other_replied call life client (answer_for status found) side.dialogs apart made found
+        (replied status found) (unheard_by (Inside own) (λ number named. refl))
+    by_asks status client Plain =
+        let found = with_asks Plain client in
+        other_replied call life client (answer_for status found) side.dialogs apart made found
+        (replied status found) (unheard_by Plain (λ number named. refl))
 
-    by_client : (status : Option ℕ) (o : Option Client) → client_at id side.clients ≡ o
+    by_client : (status : Option ℕ) (o : Option Client)
         → SideResult (option_and_then (number_at status) o)
-        (named_taken event id call_id response status
-        (option_map (λ client. reply_name client.asks client response) o) side)
-    by_client None None is = unchanged
-    by_client (Some status) None is = unchanged
-    by_client None (Some client) is =
+        (found_taken event id call_id response status o side)
+    by_client None None = unchanged
+    by_client (Some status) None = unchanged
+    by_client None (Some client) =
         subst (λ number. SideResult number (side, []))
         (sym (none_in_life (is_for OfTheCall life id client client.asks response))) unchanged
-    by_client (Some status) (Some client) is = by_asks status client client.asks is
+    by_client (Some status) (Some client) = by_asks status client client.asks
 
     pub response_step : SideResult
         (option_and_then (number_for OfTheCall life id response) (client_at id side.clients))
         (response_taken event id call_id response side)
-    response_step = by_client (status_of response.start) (client_at id side.clients) refl
+    response_step = by_client (status_of response.start) (client_at id side.clients)
 
 -- ---- a request that is lost, and commands of the user
 

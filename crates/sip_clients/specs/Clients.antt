@@ -2,7 +2,7 @@
 -- the held client requests, and what is told of it.
 use Rattle.std.specs.Prelude.{ℕ, Bool, List, [], ◌∷◌, ◌++◌, Option, None, Some, Result, Ok, Err, if◌then◌else◌}
 use Rattle.std.specs.Map.{remove_entry, set_value}
-use Rattle.std.specs.Option.{option_map, option_map_or}
+use Rattle.std.specs.Option.{option_map_or}
 use Rattle.indexmap.specs.IndexMap.{insert_entry}
 use Rattle.sip_message.specs.declared.id.Id.{Id}
 use Rattle.sip_message.specs.declared.message.Message.{Message}
@@ -21,7 +21,7 @@ use Rattle.sip_served.specs.declared.refusal.Refusal.{Refusal}
 use Rattle.sip_served.specs.declared.refusal.Refusal.TheVariants.{BadMethod}
 use Rattle.sip_served.specs.Dialogs.{is_named}
 use Rattle.sip_served.specs.Requests.{name_of_tags}
-use Rattle.sip_served.specs.State.{Dialogs, is_id}
+use Rattle.sip_served.specs.State.{is_id}
 use Rattle.sip_clients.specs.declared.answers.SentAck.{SentAck}
 use Rattle.sip_clients.specs.declared.client.Asks.{Asks}
 use Rattle.sip_clients.specs.declared.client.Asks.TheVariants.{First, Again, Inside, Plain}
@@ -36,7 +36,7 @@ use Rattle.sip_clients.specs.Commands.{ack_told, debt_for, is_bad_outside, name_
 use Rattle.sip_clients.specs.Dialogs.{ended_with}
 use Rattle.sip_clients.specs.Outputs.{refused_notice, start_command}
 use Rattle.sip_clients.specs.Outside.{invite_of, plain_of}
-use Rattle.sip_clients.specs.Replied.{reply_taken}
+use Rattle.sip_clients.specs.Replied.{Replied, reply_taken}
 
 -- the request that the event of this id sent is changed so
 abbrev pub client_changed : Id → (Client → Client) → Clients → Clients
@@ -70,29 +70,20 @@ reply_name (Again life) client response = life.name
 reply_name (Inside life) client response = life.name
 reply_name Plain client response = name_of_tags (tag_of (client.request).from) (tag_of response.to)
 
-abbrev pub name_at : Id → Message → Clients → Option DialogName
-name_at id response clients =
-    option_map (λ client. reply_name client.asks client response) (client_at id clients)
-
 abbrev pub status_of : StartLine → Option ℕ
 status_of (start.Request uri) = None
 status_of (start.Response status reason) = Some status
 
--- the requests and the dialogs after it, what is told, and what becomes of the requests
-abbrev pub replied_at : Answer → Dialogs → Clients → Clients × Dialogs × List CallOut × Rest
-replied_at reply dialogs clients = (
-  client_changed reply.id (λ client. (reply_taken client dialogs reply).0) clients,
-  option_map_or (λ client. (reply_taken client dialogs reply).1)
-      (client_at reply.id clients) dialogs,
-  option_map_or (λ client. (reply_taken client dialogs reply).2) (client_at reply.id clients) [],
-  option_map_or (λ client. (reply_taken client dialogs reply).3) (client_at reply.id clients) Stays,
-)
-
-abbrev pub reply_settled : Answer → Side → Taken
-reply_settled reply side =
-    let done = replied_at reply side.dialogs side.clients in
-    let after = settled reply.event reply.id done.3 done.0 in
+-- what is held and told after it has done this to the request of this id and to the dialogs
+abbrev pub side_after : Event → Id → Side → Replied → Taken
+side_after event id side done =
+    let after = settled event id done.3 (set_value (is_id id) side.clients done.0) in
     (record { dialogs = done.1; clients = after.0 }, done.2 ++ after.1)
+
+-- one to this request
+abbrev pub reply_settled : Answer → Client → Side → Taken
+reply_settled reply client side =
+    side_after reply.event reply.id side (reply_taken client side.dialogs reply)
 
 -- a response with all that comes up with it
 abbrev pub reply_of : Event → Id → List ℕ → DialogName → ℕ → Message → Answer
@@ -105,17 +96,18 @@ reply_of event id call_id name status response = record {
   response = response;
 }
 
-abbrev pub named_taken : Event → Id → List ℕ → Message → Option ℕ → Option DialogName → Side → Taken
-named_taken event id call_id response None name side = quiet side
-named_taken event id call_id response (Some status) None side = quiet side
-named_taken event id call_id response (Some status) (Some name) side =
-    reply_settled (reply_of event id call_id name status response) side
+abbrev pub found_taken : Event → Id → List ℕ → Message → Option ℕ → Option Client → Side → Taken
+found_taken event id call_id response None client side = quiet side
+found_taken event id call_id response (Some status) None side = quiet side
+found_taken event id call_id response (Some status) (Some client) side =
+    let name = reply_name client.asks client response in
+    reply_settled (reply_of event id call_id name status response) client side
 
 -- where its request isn't held, nothing happens
 abbrev pub response_taken : Event → Id → List ℕ → Message → Side → Taken
 response_taken event id call_id response side =
-    named_taken event id call_id response (status_of response.start)
-    (name_at id response side.clients) side
+    found_taken event id call_id response (status_of response.start) (client_at id side.clients)
+    side
 
 -- ---- a request is lost: its transaction timed out, or its message could not be sent
 

@@ -8,13 +8,12 @@ use crate::client::{Asks, client_for};
 use crate::commands::{ack_told, debt_for, is_bad_outside, name_in, prack_told, request_told};
 use crate::debts::DebtKind;
 use crate::event::Event;
-use crate::held::{ClientMap, lose, name_at, note_ack, reply_at, settle, start};
+use crate::held::{ClientMap, lose, note_ack, settle, start, take_response};
 use crate::outputs::{Rest, refused};
 use crate::outside::{invite_of, plain_of};
-use crate::reply::Reply;
 use crate::tick::{drop_clients, drop_dialogs, next_due, over_notices};
 use indexmap::IndexMap;
-use sip_message::{CallId, Id, Message, StartLine, StatusCode};
+use sip_message::{CallId, Id, Message};
 use sip_served::{
     CallOut, Debt, DialogBody, DialogName, DialogRequest, Dialogs, Invite, Plain, Refusal,
 };
@@ -97,37 +96,15 @@ impl Clients {
             ≡ spec.response_taken event id call_id response
             record { dialogs = dialogs.old.entries; clients = self.old }) }
     {
-        let Some(status) = status_of(&response) else {
-            return Ok(Vec::new(self.alloc));
-        };
-        let Some(name) = name_at(self.alloc, &self.requests, id, &response)? else {
-            return Ok(Vec::new(self.alloc));
-        };
-        self.reply(
+        take_response(
+            self.alloc,
+            &mut self.requests,
             dialogs,
-            Reply {
-                event,
-                id,
-                call_id,
-                name,
-                status,
-                response,
-            },
+            event,
+            id,
+            call_id,
+            response,
         )
-    }
-
-    fn reply(&mut self, dialogs: &mut Dialogs, reply: Reply) -> Result<Vec<CallOut>, AllocError>
-        requires { reply.event.moment ≤ 2 ^ 62 }
-        ensures { IfOk result (λ outs.
-            (record { dialogs = dialogs.new.entries; clients = self.new }, outs.items)
-            ≡ spec.reply_settled reply record {
-              dialogs = dialogs.old.entries;
-              clients = self.old;
-            }) }
-    {
-        let (mut outs, rest) = reply_at(self.alloc, &mut self.requests, dialogs, &reply)?;
-        outs.append(&mut self.settle(reply.event, reply.id, rest)?)?;
-        Ok(outs)
     }
 
     // What becomes of the requests.
@@ -284,15 +261,6 @@ impl Clients {
         let (mut outs, rest) = prack_told(self.alloc, dialogs, event, &name, command, debt)?;
         outs.append(&mut self.settle(event, event.id, rest)?)?;
         Ok(outs)
-    }
-}
-
-fn status_of(response: &Message) -> Option<StatusCode>
-    ensures { result ≡ spec.status_of response.now.start }
-{
-    match &response.start {
-        StartLine::Request { .. } => None,
-        StartLine::Response { status, .. } => Some(*status),
     }
 }
 

@@ -5,69 +5,56 @@ ghost use Rattle.sip_clients.specs.Client.{client_at};
 ghost use Rattle.sip_clients.specs.Clients as spec;
 
 use crate::answers::SentAck;
-use crate::client::{Asks, Client};
+use crate::client::Client;
 use crate::dialogs::end_with;
 use crate::event::Event;
 use crate::outputs::{Rest, one, start_command};
 use crate::replied::take_reply;
-use crate::reply::Reply;
+use crate::reply::{Reply, reply_name, status_of};
 use indexmap::IndexMap;
-use sip_message::{Id, Message};
+use sip_message::{CallId, Id, Message};
 use sip_served::{CallOut, Debt, DialogName, Dialogs};
 use std::alloc::{AllocError, Global};
 
 /// The held client requests, in the order in which they were sent.
 pub(crate) type ClientMap = IndexMap<Id, Client>;
 
-/// The name of the dialog that a response makes, or that its request was sent in; None where its
-/// request isn't held.
-pub(crate) fn name_at(
-    alloc: Global,
-    clients: &ClientMap,
-    id: Id,
-    response: &Message,
-) -> Result<Option<DialogName>, AllocError>
-    ensures { IfOk result (λ name. name ≡ spec.name_at id response.now clients.now.entries) }
-{
-    let Some(client) = clients.get(&id) else {
-        return Ok(None);
-    };
-    Ok(Some(reply_name(alloc, client, response)?))
-}
-
-fn reply_name(alloc: Global, client: &Client, response: &Message) -> Result<DialogName, AllocError>
-    ensures { IfOk result (λ name. name ≡ spec.reply_name client.now.asks client.now response.now) }
-{
-    match &client.asks {
-        Asks::First | Asks::Plain => {
-            DialogName::of_tags(alloc, client.request.from.tag(), response.to.tag())
-        }
-        Asks::Again(life) | Asks::Inside(life) => life.name.clone(),
-    }
-}
-
-/// What a response does to the held request that it answers and to the dialogs, and what is told of
-/// it.
-pub(crate) fn reply_at(
+/// A response to the request that the event of this id sent.
+pub(crate) fn take_response(
     alloc: Global,
     clients: &mut ClientMap,
     dialogs: &mut Dialogs,
-    reply: &Reply,
-) -> Result<(Vec<CallOut>, Rest), AllocError>
-    requires { reply.now.event.moment ≤ 2 ^ 62 }
-    ensures clients { OnOk result (clients.new.entries
-        ≡ (spec.replied_at reply.now dialogs.old.entries clients.old.entries).0) }
-    ensures dialogs { OnOk result (dialogs.new.entries
-        ≡ (spec.replied_at reply.now dialogs.old.entries clients.old.entries).1) }
-    ensures outs { IfOk result (λ told. told.0.items
-        ≡ (spec.replied_at reply.now dialogs.old.entries clients.old.entries).2) }
-    ensures rest { IfOk result (λ told. told.1
-        ≡ (spec.replied_at reply.now dialogs.old.entries clients.old.entries).3) }
+    event: Event,
+    id: Id,
+    call_id: CallId,
+    response: Message,
+) -> Result<Vec<CallOut>, AllocError>
+    requires { event.moment ≤ 2 ^ 62 }
+    ensures { IfOk result (λ outs.
+        (record { dialogs = dialogs.new.entries; clients = clients.new.entries }, outs.items)
+        ≡ spec.response_taken event id call_id response record {
+          dialogs = dialogs.old.entries;
+          clients = clients.old.entries;
+        }) }
 {
-    let Some(client) = clients.get_mut(&reply.id) else {
-        return Ok((Vec::new(alloc), Rest::Stays));
+    let Some(status) = status_of(&response) else {
+        return Ok(Vec::new(alloc));
     };
-    take_reply(alloc, client, dialogs, reply)
+    let Some(client) = clients.get_mut(&id) else {
+        return Ok(Vec::new(alloc));
+    };
+    let name = reply_name(alloc, client, &response)?;
+    let reply = Reply {
+        event,
+        id,
+        call_id,
+        name,
+        status,
+        response,
+    };
+    let (mut outs, rest) = take_reply(alloc, client, dialogs, &reply)?;
+    outs.append(&mut settle(alloc, clients, event, id, rest)?)?;
+    Ok(outs)
 }
 
 /// What becomes of the requests after a response to that of an id, or after a command.

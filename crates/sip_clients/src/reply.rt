@@ -1,17 +1,19 @@
 //! A response to a held client request: which case it is.
 
-ghost use Rattle.std.specs.Prelude.{◌≡◌};
+ghost use Rattle.std.specs.Prelude.{◌≡◌, IfOk};
 ghost use Rattle.std.specs.Option.{is_some};
 ghost use Rattle.sip_reliable.specs.Inbound.{offered};
+ghost use Rattle.sip_clients.specs.Clients.{reply_name, status_of};
 ghost use Rattle.sip_clients.specs.Reply as spec;
 
 use crate::client::{Asks, Client};
 use crate::event::Event;
-use sip_message::{CallId, Id, Message, StatusCode};
+use sip_message::{CallId, Id, Message, StartLine, StatusCode};
 use sip_reliable::{Inbound, Offer};
 use sip_served::dialogs::lives;
 use sip_served::request::{is_final, is_inside, is_success, requires_100rel};
 use sip_served::{DialogName, Dialogs};
+use std::alloc::{AllocError, Global};
 
 /// The status of the response by which a request is under way.
 const TRYING: u16 = 100;
@@ -38,6 +40,32 @@ impl Drop for Reply {
             status: _,
             response: _,
         } = self;
+    }
+}
+
+/// The status of a response; a request has none.
+pub(crate) fn status_of(response: &Message) -> Option<StatusCode>
+    ensures { result ≡ status_of response.now.start }
+{
+    match &response.start {
+        StartLine::Request { .. } => None,
+        StartLine::Response { status, .. } => Some(*status),
+    }
+}
+
+/// The name of the dialog that a response makes, or that its request was sent in.
+pub(crate) fn reply_name(
+    alloc: Global,
+    client: &Client,
+    response: &Message,
+) -> Result<DialogName, AllocError>
+    ensures { IfOk result (λ name. name ≡ reply_name client.now.asks client.now response.now) }
+{
+    match &client.asks {
+        Asks::First | Asks::Plain => {
+            DialogName::of_tags(alloc, client.request.from.tag(), response.to.tag())
+        }
+        Asks::Again(life) | Asks::Inside(life) => life.name.clone(),
     }
 }
 
