@@ -4,6 +4,7 @@ use Rattle.std.specs.Prelude.{Option, None, Some, filter, if◌then◌else◌}
 use Rattle.std.specs.Cmp.{first_so, second_so}
 use Rattle.std.specs.Map.{set_value}
 use Rattle.std.specs.Option.{option_map, option_map_or}
+use Rattle.indexmap.specs.IndexMap.{insert_entry}
 use Rattle.sip_message.specs.declared.id.Id.{Id}
 use Rattle.sip_model.proofs.Ordered.{by_bool}
 use Rattle.sip_reliable.specs.declared.offer.Offer.{Offer}
@@ -14,11 +15,11 @@ use Rattle.sip_served.specs.declared.held_dialog.DialogLife.{DialogLife}
 use Rattle.sip_served.specs.declared.held_dialog.DialogName.{DialogName}
 use Rattle.sip_served.specs.declared.held_dialog.HeldDialog.{HeldDialog}
 use Rattle.sip_served.specs.declared.item.CallOut.{CallOut}
-use Rattle.sip_served.specs.Dialogs.{dialog_at, dialog_changed, is_named, lives}
+use Rattle.sip_served.specs.Dialogs.{dialog_at, is_named, lives}
 use Rattle.sip_served.specs.Requests.{is_final, is_inside, is_success}
 use Rattle.sip_served.specs.State.{Dialogs, is_id}
 use Rattle.sip_served.proofs.Entries as entries
-use Rattle.sip_served.proofs.Heard.{Keeps as DialogKeeps, id_laws, name_laws}
+use Rattle.sip_served.proofs.Heard.{id_laws, name_laws}
 use Rattle.sip_clients.specs.declared.client.Asks.{Asks}
 use Rattle.sip_clients.specs.declared.client.Asks.TheVariants.{First, Again, Inside, Plain}
 use Rattle.sip_clients.specs.declared.client.Client.{Client}
@@ -31,13 +32,14 @@ use Rattle.sip_clients.specs.Answers.{has_answer}
 use Rattle.sip_clients.specs.Client.{Clients, Side, client_at}
 use Rattle.sip_clients.specs.Clients.{client_changed, settled}
 use Rattle.sip_clients.specs.Debts.{owing}
+use Rattle.sip_clients.specs.Dialogs.{opened}
 use Rattle.sip_clients.specs.Provisionals.{in_life, is_response, provisional_number, told_of}
-use Rattle.sip_clients.specs.Replied.{Replied, by_case, heard_again, notice, offer_to, prack_owed, reply_taken}
-use Rattle.sip_clients.specs.Reply.{offer_case, reliable_case, reply_case, rseq_of, success_case}
+use Rattle.sip_clients.specs.Replied.{Replied, after_dialog, by_case, finished, heard_again, notice, offer_to, prack_owed, replied_in, reply_taken}
+use Rattle.sip_clients.specs.Reply.{is_last, is_there, offer_case, reliable_case, reply_case, rseq_of, success_case}
 use Rattle.sip_clients.proofs.AgainInvite.{AgainResult, AreApart, Keeps, StartsUnheard, asks_ear, client_ear, ear_of, keeps_settled, said_unheard, silent_then}
 use Rattle.sip_clients.proofs.ClientDialogs.{owing_keeps}
 use Rattle.sip_clients.proofs.FirstInvite.{id_exact, no_number}
-use Rattle.sip_clients.proofs.FirstReply.{Decided, Unheard, decided, told_once}
+use Rattle.sip_clients.proofs.FirstReply.{Decided, Unheard, decided, number_by, told_once}
 use Rattle.sip_clients.proofs.Hearing.{Listens, Silent}
 
 abbrev again : DialogLife → Client → Client
@@ -45,77 +47,95 @@ again own client = record client { asks = Again own }
 
 -- ---- the request after a response
 
-asks_kept : (case : ReplyCase) (client : Client) (dialogs : Dialogs) (answer : Answer)
-    → ((by_case case client dialogs answer).0).asks ≡ client.asks
-asks_kept reply.Final client dialogs answer = refl
-asks_kept reply.Repeated client dialogs answer = refl
-asks_kept reply.Accepted client dialogs answer = refl
-asks_kept reply.Late client dialogs answer = refl
-asks_kept (reply.Reliable number) client dialogs answer = by_asks client.asks
+asks_kept : (case : ReplyCase) (client : Client) (found : Option HeldDialog) (answer : Answer)
+    → ((by_case case client found answer).0).asks ≡ client.asks
+asks_kept reply.Repeated client found answer = refl
+asks_kept reply.Accepted client found answer = refl
+asks_kept reply.Late client found answer = refl
+asks_kept (reply.Reliable number) client found answer = by_asks client.asks
   where
     by_asks : (asks : Asks) → (heard_again asks number client).asks ≡ client.asks
     by_asks First = refl
     by_asks (Again own) = refl
     by_asks (Inside own) = refl
     by_asks Plain = refl
-asks_kept reply.Passed client dialogs answer = refl
-asks_kept reply.Early client dialogs answer = refl
-asks_kept reply.Told client dialogs answer = refl
+asks_kept reply.Passed client found answer = refl
+asks_kept reply.Early client found answer = refl
+asks_kept reply.Told client found answer = refl
 
-heard_kept : (case : ReplyCase) (client : Client) (dialogs : Dialogs) (answer : Answer)
-    → Unheard case → ((by_case case client dialogs answer).0).heard ≡ client.heard
-heard_kept reply.Final client dialogs answer none = refl
-heard_kept reply.Repeated client dialogs answer none = refl
-heard_kept reply.Accepted client dialogs answer none = refl
-heard_kept reply.Late client dialogs answer none = refl
-heard_kept (reply.Reliable number) client dialogs answer none = absurd cc
-heard_kept reply.Passed client dialogs answer none = refl
-heard_kept reply.Early client dialogs answer none = refl
-heard_kept reply.Told client dialogs answer none = refl
+heard_kept : (case : ReplyCase) (client : Client) (found : Option HeldDialog) (answer : Answer)
+    → Unheard case → ((by_case case client found answer).0).heard ≡ client.heard
+heard_kept reply.Repeated client found answer none = refl
+heard_kept reply.Accepted client found answer none = refl
+heard_kept reply.Late client found answer none = refl
+heard_kept (reply.Reliable number) client found answer none = absurd cc
+heard_kept reply.Passed client found answer none = refl
+heard_kept reply.Early client found answer none = refl
+heard_kept reply.Told client found answer none = refl
 
-rest_unheard : (case : ReplyCase) (client : Client) (dialogs : Dialogs) (answer : Answer)
-    → StartsUnheard (by_case case client dialogs answer).3
+rest_unheard : (case : ReplyCase) (client : Client) (found : Option HeldDialog) (answer : Answer)
+    → StartsUnheard (by_case case client found answer).3
 unfolding prack_owed
-rest_unheard reply.Final client dialogs answer = tt
-rest_unheard reply.Repeated client dialogs answer = tt
-rest_unheard reply.Accepted client dialogs answer = tt
-rest_unheard reply.Late client dialogs answer = tt
-rest_unheard (reply.Reliable number) client dialogs answer =
-    said_unheard answer.event answer.call_id answer.name (prack_owed number client dialogs answer).1
-rest_unheard reply.Passed client dialogs answer = tt
-rest_unheard reply.Early client dialogs answer = tt
-rest_unheard reply.Told client dialogs answer = tt
+rest_unheard reply.Repeated client found answer = tt
+rest_unheard reply.Accepted client found answer = tt
+rest_unheard reply.Late client found answer = tt
+rest_unheard (reply.Reliable number) client found answer =
+    said_unheard answer.event answer.call_id answer.name
+    (prack_owed number client (opened client answer found) answer).1
+rest_unheard reply.Passed client found answer = tt
+rest_unheard reply.Early client found answer = tt
+rest_unheard reply.Told client found answer = tt
+
+-- the last response too keeps what the request asks, and starts none
+module _ (client : Client) (dialogs : Dialogs) (answer : Answer) where
+  abbrev found_at : Option HeldDialog
+  found_at = dialog_at answer.name dialogs
+
+  abbrev taken_by : Bool → Replied
+  taken_by last = cond {A = Replied} last (finished client dialogs answer)
+      (after_dialog answer.name dialogs (replied_in client found_at answer))
+
+  asks_taken : ((reply_taken client dialogs answer).0).asks ≡ client.asks
+  asks_taken = elim (is_last client.asks answer.status) as (λ last.
+      ((taken_by last).0).asks ≡ client.asks) [
+        | true ↦ refl
+        | false ↦ asks_kept (reply_case client found_at answer) client found_at answer
+      ]
+
+  rest_taken : StartsUnheard (reply_taken client dialogs answer).3
+  rest_taken = elim (is_last client.asks answer.status) as (λ last.
+      StartsUnheard (taken_by last).3) [
+        | true ↦ tt
+        | false ↦ rest_unheard (reply_case client found_at answer) client found_at answer
+      ]
 
 -- ---- which case it is
 
-abbrev case_by : Bool → Bool → Bool → Bool → ReplyCase → Option ℕ → Option ℕ → ReplyCase
-case_by final success inside alive winning heard rseq =
-    if final && not success then reply.Final
-    else (if final then winning else (if inside
-    && alive then reliable_case heard rseq else reply.Told))
+abbrev case_by : Bool → Bool → Bool → ReplyCase → Option ℕ → Option ℕ → ReplyCase
+case_by final inside alive winning heard rseq =
+    if final then winning else (if inside
+    && alive then reliable_case heard rseq else reply.Told)
 
 -- the dialog isn't there: there is no number, or the response is told as any other
 abbrev Gone : Option ℕ → ReplyCase → Type 0
 Gone None case = Unheard case
 Gone (Some number) case = case ≡ reply.Told
 
-gone : (final success inside : Bool) (winning : ReplyCase) (heard rseq : Option ℕ) → Unheard winning
-    → Gone (if final then None else (if inside then rseq else None))
-    (case_by final success inside false winning heard rseq)
-gone true true inside winning heard rseq none = none
-gone true false inside winning heard rseq none = refl
-gone false success true winning heard None none = refl
-gone false success true winning heard (Some number) none = refl
-gone false success false winning heard rseq none = refl
+gone : (final inside : Bool) (winning : ReplyCase) (heard rseq : Option ℕ) → Unheard winning
+    → Gone (number_by final inside rseq) (case_by final inside false winning heard rseq)
+gone true inside winning heard rseq none = none
+gone false true winning heard None none = refl
+gone false true winning heard (Some number) none = refl
+gone false false winning heard rseq none = refl
 
-success_unheard : (own : DialogLife) (client : Client) (answer : Answer) (dialogs : Dialogs)
-    → Unheard (success_case (again own client) dialogs answer.name)
-success_unheard own client answer dialogs =
+success_unheard : (own : DialogLife) (client : Client) (answer : Answer)
+    (found : Option HeldDialog) → Unheard (success_case (again own client) found answer.name)
+success_unheard own client answer found =
     elim (has_answer answer.name client.answers) as (λ b.
     Unheard (if b then reply.Repeated
-    else (if lives dialogs own then reply.Accepted else reply.Late))) [
+    else (if is_there (Again own) found then reply.Accepted else reply.Late))) [
       | true ↦ refl
-      | false ↦ elim (lives dialogs own) as (λ b.
+      | false ↦ elim (is_there (Again own) found) as (λ b.
           Unheard (if b then reply.Accepted else reply.Late)) [ true ↦ refl | false ↦ refl ]
     ]
 
@@ -131,32 +151,34 @@ lives_same life own dialogs same =
     λ i. option_map_or (λ (held : HeldDialog). is_id held.born (born i))
     (entries.same_key name_laws life.name own.name dialogs named i) false
 
-born_kept : (life : DialogLife) (change : HeldDialog → HeldDialog)
-    → ((held : HeldDialog) → DialogKeeps held (change held)) → (b : Bool) (o : Option HeldDialog)
-    → option_map_or (λ (held : HeldDialog). is_id held.born life.born)
-    (cond b (option_map change o) o) false
-    ≡ option_map_or (λ (held : HeldDialog). is_id held.born life.born) o false
-born_kept life change keeps true None = refl
-born_kept life change keeps true (Some held) = ap (λ born. is_id born life.born) (keeps held).0
-born_kept life change keeps false o = refl
-
-lives_changed : (life : DialogLife) (name : DialogName) (change : HeldDialog → HeldDialog)
-    → ((held : HeldDialog) → DialogKeeps held (change held)) → (dialogs : Dialogs)
-    → lives (dialog_changed name change dialogs) life ≡ lives dialogs life
-lives_changed life name change keeps dialogs =
-    ap (λ o. option_map_or (λ (held : HeldDialog). is_id held.born life.born) o false)
-    (entries.found_changed name_laws name life.name change dialogs)
-    ∙ born_kept life change keeps (is_named name life.name) (dialog_at life.name dialogs)
+-- the dialog of a name is another of the same life
+lives_put : (life : DialogLife) (name : DialogName) (held after : HeldDialog) (dialogs : Dialogs)
+    → dialog_at name dialogs ≡ Some held → after.born ≡ held.born
+    → lives (insert_entry is_named dialogs name after) life ≡ lives dialogs life
+lives_put life name held after dialogs is born =
+    ap is_own (entries.found_inserted name_laws name life.name after dialogs)
+    ∙ by_bool (is_named name life.name)
+    (λ same. ap (λ b. is_own (cond b (Some after) (dialog_at life.name dialogs))) same
+    ∙ ap (λ id. is_id id life.born) born
+    ∙ ap is_own (sym (entries.same_key name_laws name life.name dialogs same ∙ is)))
+    (λ other. ap (λ b. is_own (cond b (Some after) (dialog_at life.name dialogs))) other)
+  where
+    is_own : Option HeldDialog → Bool
+    is_own o = option_map_or (λ (held : HeldDialog). is_id held.born life.born) o false
 
 lives_owed : (life own : DialogLife) (number : ℕ) (client : Client) (dialogs : Dialogs)
-    (answer : Answer) → lives (prack_owed number (again own client) dialogs answer).0 life
+    (answer : Answer) (found : Option HeldDialog) → dialog_at answer.name dialogs ≡ found
+    → is_there (Again own) found ≡ true
+    → lives (insert_entry is_named dialogs answer.name
+    (prack_owed number (again own client) (opened (again own client) answer found) answer).0) life
     ≡ lives dialogs life
 unfolding prack_owed
-lives_owed life own number client dialogs answer =
+lives_owed life own number client dialogs answer None is there = absurd cc
+lives_owed life own number client dialogs answer (Some held) is there =
     let debt = Prack number ((client.request).cseq).number in
     let offer = offer_to client answer.response in
-    lives_changed life answer.name (owing answer.event debt offer)
-    (owing_keeps answer.event debt offer) dialogs
+    lives_put life answer.name held (owing answer.event debt offer held) dialogs is
+    (owing_keeps answer.event debt offer held).0
 
 -- ---- one response
 
@@ -274,8 +296,7 @@ module _ (life : DialogLife) (invite : Id) (event : Option Id) (answer : Answer)
     no_ear none same =
         let after = change client in
         ear_own same ∙ ap (λ asks. asks_ear life asks after.heard)
-        (asks_kept (reply_case client side.dialogs answer) client side.dialogs answer)
-        ∙ none after.heard
+        (asks_taken client side.dialogs answer) ∙ none after.heard
 
     other_silent : is_id answer.id invite ≡ false
         → Silent (event ≡ Some invite) (ear side.clients) (ear changed)
@@ -285,8 +306,7 @@ module _ (life : DialogLife) (invite : Id) (event : Option Id) (answer : Answer)
         → Done None (reply_taken client side.dialogs answer)
     finish silent =
         let done = reply_taken client side.dialogs answer in
-        finish_silent changed left done.1 done.3
-        (rest_unheard (reply_case client side.dialogs answer) client side.dialogs answer)
+        finish_silent changed left done.1 done.3 (rest_taken client side.dialogs answer)
         (done.2 ++ (settled answer.event answer.id done.3 changed).1) silent
 
     pub no_invite : ((heard : Option ℕ) → asks_ear life client.asks heard ≡ None)
@@ -298,8 +318,8 @@ module _ (life : DialogLife) (invite : Id) (event : Option Id) (answer : Answer)
         → Done None (reply_taken client side.dialogs answer)
     another other = finish (other_silent other)
 
-  -- an INVITE of the life
-  module _ (own : DialogLife) (client : Client)
+  -- an INVITE of the life, in its dialog
+  module _ (own : DialogLife) (client : Client) (named : answer.name ≡ own.name)
       (is : client_at answer.id side.clients ≡ Some (again own client))
       (same : is_id answer.id invite ≡ true)
       (ours : (is_named life.name own.name && is_id own.born life.born) ≡ true) where
@@ -309,6 +329,12 @@ module _ (life : DialogLife) (invite : Id) (event : Option Id) (answer : Answer)
     abbrev after : Clients
     after = changed found is
 
+    abbrev held : Option HeldDialog
+    held = dialog_at answer.name side.dialogs
+
+    abbrev taken_as : ReplyCase → Replied
+    taken_as case = after_dialog answer.name side.dialogs (by_case case found held answer)
+
     abbrev pub DoneSo : Option ℕ → Replied → Type 0
     DoneSo number done = Done found is number done
 
@@ -317,29 +343,35 @@ module _ (life : DialogLife) (invite : Id) (event : Option Id) (answer : Answer)
         ∙ (λ i. if ours i then Some client.heard else None)
 
     -- it has heard this since
-    abbrev Heard : ReplyCase → Type 0
-    Heard case = ear after ≡ client_ear life (Some (by_case case found side.dialogs answer).0)
+    abbrev Heard : Replied → Type 0
+    Heard done = ear after ≡ client_ear life (Some done.0)
 
-    now_is : (case : ReplyCase) → Heard case → Unheard case
+    now_is : (case : ReplyCase) → Heard (taken_as case) → Unheard case
         → Silent (event ≡ Some invite) (ear side.clients) (ear after)
     now_is case heard none =
-        let client_after = (by_case case found side.dialogs answer).0 in
-        inr (inl (heard ∙ (λ i. asks_ear life (asks_kept case found side.dialogs answer i)
-        (heard_kept case found side.dialogs answer none i))
+        inr (inl (heard ∙ (λ i. asks_ear life (asks_kept case found held answer i)
+        (heard_kept case found held answer none i))
         ∙ (λ i. if ours i then Some client.heard else None) ∙ sym was))
 
-    unheard : (case : ReplyCase) → Heard case → Unheard case
-        → DoneSo None (by_case case found side.dialogs answer)
+    over : Heard (finished found side.dialogs answer)
+        → DoneSo None (finished found side.dialogs answer)
+    over heard =
+        let done = finished found side.dialogs answer in
+        finish_silent after (left found is) done.1 done.3 tt
+        (done.2 ++ (settled answer.event answer.id done.3 after).1)
+        (inr (inl (heard ∙ (λ i. if ours i then Some client.heard else None) ∙ sym was)))
+
+    unheard : (case : ReplyCase) → Heard (taken_as case) → Unheard case
+        → DoneSo None (taken_as case)
     unheard case heard none =
-        let done = by_case case found side.dialogs answer in
-        finish_silent after (left found is) done.1 done.3
-        (rest_unheard case found side.dialogs answer)
+        let done = taken_as case in
+        finish_silent after (left found is) done.1 done.3 (rest_unheard case found held answer)
         (done.2 ++ (settled answer.event answer.id done.3 after).1) (now_is case heard none)
 
     passed : (number : ℕ) (offer : Offer) → offered client.heard number ≡ offer
         → taken offer number ≡ [] → ((last : Option ℕ) → latest_after offer last number ≡ last)
-        → lives side.dialogs life ≡ true → Heard reply.Passed
-        → DoneSo (Some number) (by_case reply.Passed found side.dialogs answer)
+        → lives side.dialogs life ≡ true → Heard (taken_as reply.Passed)
+        → DoneSo (Some number) (taken_as reply.Passed)
     passed number offer is_offered none kept alive heard =
         finish_heard after (left found is) side.dialogs Stays tt [] number client.heard alive was
         (heard ∙ (λ i. if ours i then Some client.heard else None)
@@ -348,65 +380,84 @@ module _ (life : DialogLife) (invite : Id) (event : Option Id) (answer : Answer)
         (sym (ap (λ o. taken o number) is_offered ∙ none))
 
     by_offer : (number : ℕ) (offer : Offer) → offered client.heard number ≡ offer
-        → lives side.dialogs life ≡ true → Heard (offer_case offer number)
-        → DoneSo (Some number) (by_case (offer_case offer number) found side.dialogs answer)
+        → is_there (Again own) held ≡ true → lives side.dialogs life ≡ true
+        → Heard (taken_as (offer_case offer number))
+        → DoneSo (Some number) (taken_as (offer_case offer number))
     unfolding prack_owed
-    by_offer number Taken is_offered alive heard =
-        let done = by_case (reply.Reliable number) found side.dialogs answer in
+    by_offer number Taken is_offered there alive heard =
+        let done = taken_as (reply.Reliable number) in
         finish_heard after (left found is) done.1 done.3
-        (rest_unheard (reply.Reliable number) found side.dialogs answer)
+        (rest_unheard (reply.Reliable number) found held answer)
         (done.2 ++ (settled answer.event answer.id done.3 after).1) number client.heard
-        (lives_owed life own number client side.dialogs answer ∙ alive) was
+        (lives_owed life own number client side.dialogs answer held refl there ∙ alive) was
         (heard ∙ (λ i. if ours i then Some
         (latest_after (offered client.heard number) client.heard number) else None))
-        (told_once number answer answer.id (prack_owed number found side.dialogs answer).1 after
+        (told_once number answer answer.id
+        (prack_owed number found (opened found answer held) answer).1 after
         ∙ ap (λ o. taken o number) (sym is_offered))
-    by_offer number Repeat is_offered alive heard =
+    by_offer number Repeat is_offered there alive heard =
         passed number Repeat is_offered refl (λ last. refl) alive heard
-    by_offer number Gap is_offered alive heard =
+    by_offer number Gap is_offered there alive heard =
         passed number Gap is_offered refl (λ last. refl) alive heard
 
-    by_number : (number : Option ℕ) (case : ReplyCase) → lives side.dialogs life ≡ true → Heard case
-        → Decided Unheard client.heard number case
-        → DoneSo number (by_case case found side.dialogs answer)
-    by_number None case alive heard none = unheard case heard none
-    by_number (Some number) case alive heard case_is =
-        subst (λ c. DoneSo (Some number) (by_case c found side.dialogs answer)) (sym case_is)
-        (by_offer number (offered client.heard number) refl alive (subst Heard case_is heard))
+    by_number : (number : Option ℕ) (case : ReplyCase) → is_there (Again own) held ≡ true
+        → lives side.dialogs life ≡ true → Heard (taken_as case)
+        → Decided Unheard client.heard number case → DoneSo number (taken_as case)
+    by_number None case there alive heard none = unheard case heard none
+    by_number (Some number) case there alive heard case_is =
+        subst (λ c. DoneSo (Some number) (taken_as c)) (sym case_is)
+        (by_offer number (offered client.heard number) refl there alive
+        (subst (λ c. Heard (taken_as c)) case_is heard))
 
-    by_gone : (number : Option ℕ) (case : ReplyCase) → lives side.dialogs life ≡ false → Heard case
-        → Gone number case → DoneSo number (by_case case found side.dialogs answer)
+    by_gone : (number : Option ℕ) (case : ReplyCase) → lives side.dialogs life ≡ false
+        → Heard (taken_as case) → Gone number case → DoneSo number (taken_as case)
     by_gone None case dead heard none = unheard case heard none
     by_gone (Some number) case dead heard case_is =
-        let told = subst Heard case_is heard in
-        subst (λ c. DoneSo (Some number) (by_case c found side.dialogs answer)) (sym case_is)
+        let told = subst (λ c. Heard (taken_as c)) case_is heard in
+        subst (λ c. DoneSo (Some number) (taken_as c)) (sym case_is)
         (finish_gone after (left found is) side.dialogs Stays tt (notice answer ++ [])
         (Some number) dead (now_is reply.Told told refl))
 
-    abbrev decides : Bool → ReplyCase
-    decides alive =
-        case_by (is_final answer.status) (is_success answer.status)
-        (not (answer.status == 100) && is_inside answer.response) alive
-        (success_case found side.dialogs answer.name) client.heard (rseq_of answer.response)
+    abbrev inside : Bool
+    inside = not (answer.status == 100) && is_inside answer.response
+
+    abbrev rseq : Option ℕ
+    rseq = rseq_of answer.response
+
+    abbrev decides : Bool → Bool → ReplyCase
+    decides final alive = case_by final inside alive (success_case found held answer.name)
+        client.heard rseq
+
+    in_dialog : (final : Bool) → Heard (taken_as (decides final (is_there (Again own) held)))
+        → DoneSo (number_by final inside rseq)
+        (taken_as (decides final (is_there (Again own) held)))
+    in_dialog final heard =
+        let case = decides final (is_there (Again own) held) in
+        let number = number_by final inside rseq in
+        let winning = success_case found held answer.name in
+        let none = success_unheard own client answer held in
+        let lives_is : is_there (Again own) held ≡ lives side.dialogs life =
+        ap (λ name. is_there (Again own) (dialog_at name side.dialogs)) named
+        ∙ lives_same life own side.dialogs ours in
+        by_bool (is_there (Again own) held)
+        (λ there. by_number number case there (sym lives_is ∙ there) heard
+        (subst (λ b. Decided Unheard client.heard number (decides final b)) (sym there)
+        (decided final inside winning client.heard rseq none)))
+        (λ dead. by_gone number case (sym lives_is ∙ dead) heard
+        (subst (λ b. Gone number (decides final b)) (sym dead)
+        (gone final inside winning client.heard rseq none)))
+
+    by_last : (final success : Bool)
+        → Heard (cond {A = Replied} (final && not success) (finished found side.dialogs answer)
+        (taken_as (decides final (is_there (Again own) held))))
+        → DoneSo (number_by final inside rseq)
+        (cond {A = Replied} (final && not success) (finished found side.dialogs answer)
+        (taken_as (decides final (is_there (Again own) held))))
+    by_last true false heard = over heard
+    by_last true true heard = in_dialog true heard
+    by_last false success heard = in_dialog false heard
 
     pub invite_replied : DoneSo (provisional_number (Some answer.status) answer.response)
         (reply_taken found side.dialogs answer)
     invite_replied =
-        let case = reply_case found side.dialogs answer in
-        let number = provisional_number (Some answer.status) answer.response in
-        let heard : Heard case = ear_own found is same in
-        let none = success_unheard own client answer side.dialogs in
-        let lives_is = lives_same life own side.dialogs ours in
-        by_bool (lives side.dialogs own)
-        (λ alive. by_number number case (sym lives_is ∙ alive) heard
-        (subst (λ b. Decided Unheard client.heard number (decides b)) (sym alive)
-        (decided (is_final answer.status) (is_success answer.status)
-        (not (answer.status == 100) && is_inside answer.response)
-        (success_case found side.dialogs answer.name) client.heard
-        (rseq_of answer.response) none)))
-        (λ dead. by_gone number case (sym lives_is ∙ dead) heard
-        (subst (λ b. Gone number (decides b)) (sym dead)
-        (gone (is_final answer.status) (is_success answer.status)
-        (not (answer.status == 100) && is_inside answer.response)
-        (success_case found side.dialogs answer.name) client.heard
-        (rseq_of answer.response) none)))
+        by_last (is_final answer.status) (is_success answer.status) (ear_own found is same)

@@ -59,7 +59,7 @@ module _ (life : DialogLife) (invite : Id) (event : Option Id) (of : Event)
   by_life status client own is true true same is_ours =
       let found = with_asks (Again own) client in
       invite_replied life invite event
-      (answer_for status found) made side apart once own client is same is_ours
+      (answer_for status found) made side apart once own client refl is same is_ours
 
   by_asks : (status : ℕ) (client : Client) (asks : Asks)
       → client_at id side.clients ≡ Some (with_asks asks client)

@@ -1,18 +1,19 @@
 -- What the client side does to the dialogs keeps what was heard in each, ends it or makes it anew,
 -- but for a reliable provisional response to the first INVITE.
-use Rattle.std.proofs.Common.{◌≡◌, inl, ℕ, Bool, true, false, not, cond, List, [], refl, sym, subst}
+use Rattle.std.proofs.Common.{◌≡◌, inl, inr, ℕ, Bool, true, false, not, cond, List, [], refl, sym, subst}
 use Rattle.std.specs.Prelude.{Option, None, Some, codes, filter}
 use Rattle.std.specs.Option.{option_map}
 use Rattle.indexmap.specs.IndexMap.{insert_entry}
 use Rattle.sip_dialog.specs.declared.fault.DialogFault.{DialogFault}
 use Rattle.sip_dialog.specs.Fault.{request_fault}
+use Rattle.sip_dialog.specs.Opening.{contact_uri}
 use Rattle.sip_message.specs.declared.id.Id.{Id}
 use Rattle.sip_served.specs.declared.debt.Debt.{Debt}
 use Rattle.sip_served.specs.declared.debt.Debt.TheVariants.{Ack, Prack}
 use Rattle.sip_served.specs.declared.held_dialog.DialogName.{DialogName}
 use Rattle.sip_served.specs.declared.held_dialog.HeldDialog.{HeldDialog}
 use Rattle.sip_served.specs.declared.item.CallOut.{CallOut}
-use Rattle.sip_served.specs.Dialogs.{confirmed, dialog_at, dialog_changed, ended_at, is_early_of, is_named, lives}
+use Rattle.sip_served.specs.Dialogs.{dialog_at, ended_at, is_early_of, is_named, lives}
 use Rattle.sip_served.specs.State.{Dialogs}
 use Rattle.sip_clients.specs.declared.client.Asks.{Asks}
 use Rattle.sip_clients.specs.declared.client.Asks.TheVariants.{First, Again, Inside, Plain}
@@ -26,12 +27,12 @@ use Rattle.sip_clients.specs.declared.service.Service.TheVariants.{Sent, Waits, 
 use Rattle.sip_served.specs.declared.refusal.Refusal.TheVariants.{BadMethod}
 use Rattle.sip_clients.specs.Commands.{bye_ended, is_bad_in, requesting}
 use Rattle.sip_clients.specs.Debts.{dropped_if_sent, kept_unless_sent, owing, paying}
-use Rattle.sip_clients.specs.Dialogs.{accepted, accepted_by, ended_with, hearing, is_held, made_dialog, made_unless_held, opened, opened_by, own_ended, refreshed}
-use Rattle.sip_clients.specs.Replied.{ack_owed, by_case, heard_first, offer_to, prack_owed}
+use Rattle.sip_clients.specs.Dialogs.{accepted, accepted_in, ended_with, hearing, opened, own_ended}
+use Rattle.sip_clients.specs.Replied.{ack_owed, by_case, heard_first, offer_to, prack_owed, with_dialog}
 use Rattle.sip_clients.specs.Service.{Served, numbered, requested, served}
 use Rattle.sip_served.proofs.DialogSteps.{confirmed_keeps, retargeted_keeps}
 use Rattle.sip_served.proofs.Entries as entries
-use Rattle.sip_served.proofs.Heard.{AreApart, Goes, Keeps, Leads, Stays, goes_then, keeps_then, leads_changed, leads_filtered, leads_made, leads_removed, leads_same, leads_then, name_laws, stays_same}
+use Rattle.sip_served.proofs.Heard.{AreApart, Goes, Keeps, Leads, Stays, goes_then, keeps_then, leads_filtered, leads_removed, leads_same, leads_then, name_laws, stays_same}
 
 -- ---- what is sent in a dialog, owed and paid
 
@@ -126,6 +127,18 @@ abbrev pub heard_number : ReplyCase → Asks → Bool → Option ℕ
 heard_number (reply.Reliable number) First true = Some number
 heard_number _ asks named = None
 
+pub unnamed_unheard : (case : ReplyCase) (asks : Asks) → heard_number case asks false ≡ None
+unnamed_unheard reply.Repeated asks = refl
+unnamed_unheard reply.Accepted asks = refl
+unnamed_unheard reply.Late asks = refl
+unnamed_unheard (reply.Reliable number) First = refl
+unnamed_unheard (reply.Reliable number) (Again life) = refl
+unnamed_unheard (reply.Reliable number) (Inside life) = refl
+unnamed_unheard (reply.Reliable number) Plain = refl
+unnamed_unheard reply.Passed asks = refl
+unnamed_unheard reply.Early asks = refl
+unnamed_unheard reply.Told asks = refl
+
 -- a dialog before and after a response of which this number was heard in it
 abbrev pub HeardAt : (Id → Type 0) → Option ℕ → Option HeldDialog → Option HeldDialog → Type 0
 HeardAt Makes None before after = Goes Makes before after
@@ -135,51 +148,54 @@ HeardAt Makes (Some number) before after =
 
 module _ (Makes : Id → Type 0) (client : Client) (answer : Answer)
     (makes : Makes (answer.event).id) where
-  unless_held : (dialogs : Dialogs) → AreApart dialogs
-      → Leads Makes dialogs (made_unless_held client answer dialogs)
-  unless_held dialogs apart =
-      elim (is_held dialogs answer.name) as (λ b.
-      Leads Makes dialogs (cond b dialogs
-      (insert_entry is_named dialogs answer.name (made_dialog client answer)))) [
-        | true ↦ leads_same Makes dialogs apart
-        | false ↦ leads_made Makes answer.name (made_dialog client answer) makes refl dialogs apart
-      ]
+  -- ---- the dialog of its name
 
-  opened_leads : (asks : Asks) (dialogs : Dialogs) → AreApart dialogs
-      → Leads Makes dialogs (opened_by asks client answer dialogs)
-  opened_leads First dialogs apart = unless_held dialogs apart
-  opened_leads (Again life) dialogs apart = leads_same Makes dialogs apart
-  opened_leads (Inside life) dialogs apart = leads_same Makes dialogs apart
-  opened_leads Plain dialogs apart = leads_same Makes dialogs apart
+  opened_goes : (found : Option HeldDialog) → Goes Makes found (Some (opened client answer found))
+  opened_goes None = inr (makes, refl)
+  opened_goes (Some held) = inl (refl, refl)
 
-  accepted_leads : (asks : Asks) (dialogs : Dialogs) → AreApart dialogs
-      → Leads Makes dialogs (accepted_by asks client answer dialogs)
-  accepted_leads First dialogs apart =
-      elim (is_held dialogs answer.name) as (λ b.
-      Leads Makes dialogs (cond b (dialog_changed answer.name
-      (confirmed answer.response) dialogs)
-      (insert_entry is_named dialogs answer.name (made_dialog client answer)))) [
-        | true ↦ leads_changed Makes answer.name (confirmed answer.response)
-            (confirmed_keeps answer.response) dialogs apart
-        | false ↦ leads_made Makes answer.name (made_dialog client answer) makes refl dialogs apart
-      ]
-  accepted_leads (Again life) dialogs apart =
-      leads_changed Makes answer.name (refreshed answer.response) (retargeted_keeps _) dialogs apart
-  accepted_leads (Inside life) dialogs apart = leads_same Makes dialogs apart
-  accepted_leads Plain dialogs apart = leads_same Makes dialogs apart
+  accepted_keeps : (asks : Asks) (held : HeldDialog)
+      → Keeps held (accepted_in asks answer.response held)
+  accepted_keeps First held = confirmed_keeps answer.response held
+  accepted_keeps (Again life) held = retargeted_keeps (contact_uri answer.response) held
+  accepted_keeps (Inside life) held = (refl, refl)
+  accepted_keeps Plain held = (refl, refl)
 
-  ack_leads : (dialogs : Dialogs) → AreApart dialogs
-      → Leads Makes dialogs (ack_owed client dialogs answer).0
+  accepted_goes : (found : Option HeldDialog)
+      → Goes Makes found (Some (accepted client answer found))
+  accepted_goes None = inr (makes, refl)
+  accepted_goes (Some held) = inl (accepted_keeps client.asks held)
+
+  ack_goes : (found : Option HeldDialog)
+      → Goes Makes found (Some (ack_owed client (accepted client answer found) answer).0)
   unfolding ack_owed
-  ack_leads dialogs apart =
-      let after = accepted client answer dialogs in
+  ack_goes found =
+      let held = accepted client answer found in
       let debt = Ack client.id ((client.request).cseq).number in
       let offer = offer_to client answer.response in
-      leads_then Makes dialogs after
-      (dialog_changed answer.name (owing answer.event debt offer) after)
-      (accepted_leads client.asks dialogs apart)
-      (leads_changed Makes answer.name (owing answer.event debt offer)
-      (owing_keeps answer.event debt offer) after)
+      goes_then Makes found (Some held) (Some (owing answer.event debt offer held))
+      (accepted_goes found) (inl (owing_keeps answer.event debt offer held))
+
+  owing_goes : (debt : Debt) (offer : Option (List ℕ)) (found : Option HeldDialog)
+      → Goes Makes found (Some (owing answer.event debt offer (opened client answer found)))
+  owing_goes debt offer found =
+      let held = opened client answer found in
+      goes_then Makes found (Some held) (Some (owing answer.event debt offer held))
+      (opened_goes found) (inl (owing_keeps answer.event debt offer held))
+
+  -- a reliable provisional response
+  prack_heard : (asks : Asks) (number : ℕ) (debt : Debt) (offer : Option (List ℕ))
+      (found : Option HeldDialog)
+      → HeardAt Makes (heard_number (reply.Reliable number) asks true) found
+      (Some (owing answer.event debt offer (heard_first asks number (opened client answer found))))
+  prack_heard First number debt offer found =
+      let held = opened client answer found in
+      (Some held, opened_goes found, owing_keeps answer.event debt offer (hearing number held))
+  prack_heard (Again life) number debt offer found = owing_goes debt offer found
+  prack_heard (Inside life) number debt offer found = owing_goes debt offer found
+  prack_heard Plain number debt offer found = owing_goes debt offer found
+
+  -- ---- all dialogs
 
   -- what is held after a response, and what was heard of it in the dialog of each name
   pub record Answered (case : ReplyCase) (before after : Dialogs) : Type 0 where
@@ -188,86 +204,57 @@ module _ (Makes : Id → Type 0) (client : Client) (answer : Answer)
         → HeardAt Makes (heard_number case client.asks (is_named answer.name name))
         (dialog_at name before) (dialog_at name after)
 
-  owed_stays : (name : DialogName) (debt : Debt) (offer : Option (List ℕ)) (dialogs : Dialogs)
-      → Stays (dialog_at name dialogs)
-      (dialog_at name (dialog_changed answer.name (owing answer.event debt offer) dialogs))
-  owed_stays name debt offer dialogs =
-      entries.by_change name_laws Stays stays_same (λ o. tt) answer.name name
-      (owing answer.event debt offer) (owing_keeps answer.event debt offer) dialogs
-
-  heard_there : (number : ℕ) (name : DialogName) (opened heard : Dialogs)
-      (before after : Option HeldDialog) (b : Bool)
-      → Goes Makes before (dialog_at name opened)
-      → dialog_at name heard ≡ cond b (option_map (hearing number) (dialog_at name opened))
-      (dialog_at name opened)
-      → Stays (dialog_at name heard) after
-      → HeardAt Makes (heard_number (reply.Reliable number) First b) before after
-  heard_there number name opened heard before after true goes is stays =
-      (dialog_at name opened, goes, subst (λ o. Stays o after) is stays)
-  heard_there number name opened heard before after false goes is stays =
-      goes_then Makes before (dialog_at name opened) after goes
-      (inl (subst (λ o. Stays o after) is stays))
-
-  reliable_by : (asks : Asks) (number : ℕ) (debt : Debt) (offer : Option (List ℕ))
-      (dialogs : Dialogs) → AreApart dialogs
-      → (name : DialogName) → AreApart
-      (dialog_changed answer.name (owing answer.event debt offer)
-      (heard_first asks number answer (opened_by asks client answer dialogs)))
-      × HeardAt Makes (heard_number (reply.Reliable number) asks (is_named answer.name name))
-      (dialog_at name dialogs)
-      (dialog_at name (dialog_changed answer.name (owing answer.event debt offer)
-      (heard_first asks number answer (opened_by asks client answer dialogs))))
-  reliable_by First number debt offer dialogs apart name =
-      let first = made_unless_held client answer dialogs in
-      let begun = unless_held dialogs apart in
-      let second = dialog_changed answer.name (hearing number) first in
-      let apart_second = entries.apart_changed name_laws answer.name (hearing number) first
-      (dialog_at answer.name first) begun.apart in
-      let third = dialog_changed answer.name (owing answer.event debt offer) second in (
-        entries.apart_changed name_laws answer.name (owing answer.event debt offer) second
-            (dialog_at answer.name second) apart_second,
-        heard_there number name first second (dialog_at name dialogs) (dialog_at name third)
-            (is_named answer.name name) (begun.goes name)
-            (entries.found_changed name_laws answer.name name (hearing number) first)
-            (owed_stays name debt offer second),
-      )
-  reliable_by (Again life) number debt offer dialogs apart name =
-      let leads = leads_changed Makes answer.name (owing answer.event debt offer)
-      (owing_keeps answer.event debt offer) dialogs apart in (leads.apart, leads.goes name)
-  reliable_by (Inside life) number debt offer dialogs apart name =
-      let leads = leads_changed Makes answer.name (owing answer.event debt offer)
-      (owing_keeps answer.event debt offer) dialogs apart in (leads.apart, leads.goes name)
-  reliable_by Plain number debt offer dialogs apart name =
-      let leads = leads_changed Makes answer.name (owing answer.event debt offer)
-      (owing_keeps answer.event debt offer) dialogs apart in (leads.apart, leads.goes name)
-
-  led : (case : ReplyCase) (before after : Dialogs)
+  -- where nothing is changed
+  same_heard : (case : ReplyCase) (dialogs : Dialogs)
       → ((name : DialogName) → heard_number case client.asks (is_named answer.name name) ≡ None)
-      → Leads Makes before after → Answered case before after
-  led case before after none leads = record {
-    apart = leads.apart;
-    heard = λ name. subst (λ o. HeardAt Makes o (dialog_at name before) (dialog_at name after))
-        (sym (none name)) (leads.goes name);
+      → AreApart dialogs → Answered case dialogs dialogs
+  same_heard case dialogs none apart = record {
+    apart = apart;
+    heard = λ name. subst (λ o. HeardAt Makes o (dialog_at name dialogs) (dialog_at name dialogs))
+        (sym (none name)) (inl (stays_same (dialog_at name dialogs)));
   }
 
+  -- where the dialog of its name is this one
+  put_heard : (case : ReplyCase) (held : HeldDialog) (dialogs : Dialogs) → AreApart dialogs
+      → HeardAt Makes (heard_number case client.asks true) (dialog_at answer.name dialogs)
+      (Some held)
+      → Answered case dialogs (insert_entry is_named dialogs answer.name held)
+  put_heard case held dialogs apart here = record {
+    apart = entries.apart_inserted name_laws answer.name held dialogs apart;
+    heard = λ name. subst (HeardAt Makes (heard_number case client.asks
+        (is_named answer.name name)) (dialog_at name dialogs))
+        (sym (entries.found_inserted name_laws answer.name name held dialogs))
+        (by_name name (is_named answer.name name) refl);
+  }
+    where
+      by_name : (name : DialogName) (b : Bool) → is_named answer.name name ≡ b
+          → HeardAt Makes (heard_number case client.asks b) (dialog_at name dialogs)
+          (cond b (Some held) (dialog_at name dialogs))
+      by_name name true is =
+          subst (λ o. HeardAt Makes (heard_number case client.asks true) o (Some held))
+          (sym (entries.same_key name_laws answer.name name dialogs is)) here
+      by_name name false is =
+          subst (λ o. HeardAt Makes o (dialog_at name dialogs) (dialog_at name dialogs))
+          (sym (unnamed_unheard case client.asks)) (inl (stays_same (dialog_at name dialogs)))
+
   pub case_heard : (case : ReplyCase) (dialogs : Dialogs) → AreApart dialogs
-      → Answered case dialogs (by_case case client dialogs answer).1
+      → Answered case dialogs (with_dialog answer.name
+      (by_case case client (dialog_at answer.name dialogs) answer).1 dialogs)
   unfolding prack_owed
-  case_heard reply.Final dialogs apart =
-      led reply.Final dialogs _ (λ name. refl) (ended_leads Makes client _ dialogs apart)
-  case_heard reply.Repeated dialogs apart =
-      led reply.Repeated dialogs dialogs (λ name. refl) (leads_same Makes dialogs apart)
+  case_heard reply.Repeated dialogs apart = same_heard reply.Repeated dialogs (λ name. refl) apart
   case_heard reply.Accepted dialogs apart =
-      led reply.Accepted dialogs _ (λ name. refl) (ack_leads dialogs apart)
-  case_heard reply.Late dialogs apart =
-      led reply.Late dialogs dialogs (λ name. refl) (leads_same Makes dialogs apart)
+      let found = dialog_at answer.name dialogs in
+      put_heard reply.Accepted (ack_owed client (accepted client answer found) answer).0 dialogs
+      apart (ack_goes found)
+  case_heard reply.Late dialogs apart = same_heard reply.Late dialogs (λ name. refl) apart
   case_heard (reply.Reliable number) dialogs apart =
-      let at = reliable_by client.asks number (Prack number ((client.request).cseq).number)
-      (offer_to client answer.response) dialogs apart in
-      record { apart = (at answer.name).0; heard = λ name. (at name).1 }
-  case_heard reply.Passed dialogs apart =
-      led reply.Passed dialogs dialogs (λ name. refl) (leads_same Makes dialogs apart)
+      let found = dialog_at answer.name dialogs in
+      put_heard (reply.Reliable number)
+      (prack_owed number client (opened client answer found) answer).0 dialogs apart
+      (prack_heard client.asks number (Prack number ((client.request).cseq).number)
+      (offer_to client answer.response) found)
+  case_heard reply.Passed dialogs apart = same_heard reply.Passed dialogs (λ name. refl) apart
   case_heard reply.Early dialogs apart =
-      led reply.Early dialogs _ (λ name. refl) (opened_leads client.asks dialogs apart)
-  case_heard reply.Told dialogs apart =
-      led reply.Told dialogs dialogs (λ name. refl) (leads_same Makes dialogs apart)
+      let found = dialog_at answer.name dialogs in
+      put_heard reply.Early (opened client answer found) dialogs apart (opened_goes found)
+  case_heard reply.Told dialogs apart = same_heard reply.Told dialogs (λ name. refl) apart

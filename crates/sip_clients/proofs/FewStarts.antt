@@ -16,10 +16,11 @@ use Rattle.sip_served.specs.declared.command.Invite.{Invite}
 use Rattle.sip_served.specs.declared.command.Plain.{Plain as PlainCommand}
 use Rattle.sip_served.specs.declared.debt.Debt.{Debt}
 use Rattle.sip_served.specs.declared.held_dialog.DialogName.{DialogName}
+use Rattle.sip_served.specs.declared.held_dialog.HeldDialog.{HeldDialog}
 use Rattle.sip_served.specs.declared.item.CallOut.{CallOut}
 use Rattle.sip_served.specs.declared.refusal.Refusal.{Refusal}
 use Rattle.sip_served.specs.declared.refusal.Refusal.TheVariants.{BadMethod}
-use Rattle.sip_served.specs.Dialogs.{early_ended, ended_at, lives}
+use Rattle.sip_served.specs.Dialogs.{dialog_at, early_ended, ended_at, lives}
 use Rattle.sip_served.specs.State.{Dialogs, is_id}
 use Rattle.sip_served.proofs.NoStarts.{early_starts, ended_starts, none_of_all, none_of_both, start_in, starts}
 use Rattle.sip_clients.specs.declared.answers.SentAck.{SentAck}
@@ -39,12 +40,12 @@ use Rattle.sip_clients.specs.Answers.{ack_of}
 use Rattle.sip_clients.specs.Client.{Clients, Side, client_at, client_for}
 use Rattle.sip_clients.specs.Clients.{ack_paid, ack_taken, found_taken, invite_taken, lost_of, paid_or_refused, plain_taken, prack_paid, prack_taken, reply_name, reply_of, request_taken, response_taken, settled, started, status_of}
 use Rattle.sip_clients.specs.Commands.{bye_ended, debt_for, is_bad_outside, name_in, requested_by}
-use Rattle.sip_clients.specs.Dialogs.{ended_with, own_ended, paid_at}
+use Rattle.sip_clients.specs.Dialogs.{accepted, ended_with, opened, own_ended, paid_at}
 use Rattle.sip_clients.specs.Event.{branch_of}
 use Rattle.sip_clients.specs.Outputs.{ack_said, direct, refused_notice, request_said, start_command}
 use Rattle.sip_clients.specs.Outside.{invite_of, plain_of}
-use Rattle.sip_clients.specs.Replied.{ack_owed, by_case, ends_dialog, prack_owed, reply_taken}
-use Rattle.sip_clients.specs.Reply.{reply_case}
+use Rattle.sip_clients.specs.Replied.{Replied, ack_owed, after_dialog, by_case, ends_dialog, finished, prack_owed, replied_in, reply_taken}
+use Rattle.sip_clients.specs.Reply.{is_last, reply_case}
 use Rattle.sip_clients.specs.Tick.{is_over, notices_of, over_notices}
 
 -- none, or one of a client under this id
@@ -114,20 +115,32 @@ again_none : (o : Option SentAck) → starts (option_map_or (λ ack. direct ack 
 again_none None = refl
 again_none (Some ack) = refl
 
-case_none : (case : ReplyCase) (client : Client) (dialogs : Dialogs) (answer : Answer)
-    → starts (by_case case client dialogs answer).2 ≡ []
+case_none : (case : ReplyCase) (client : Client) (found : Option HeldDialog) (answer : Answer)
+    → starts (by_case case client found answer).2 ≡ []
 unfolding ack_owed prack_owed
-case_none reply.Final client dialogs answer = ended_none client (ends_dialog answer.status) dialogs
-case_none reply.Repeated client dialogs answer = again_none (ack_of answer.name client.answers)
-case_none reply.Accepted client dialogs answer =
-    ack_said_none answer.event answer.call_id (ack_owed client dialogs answer).1
-case_none reply.Late client dialogs answer = refl
-case_none (reply.Reliable number) client dialogs answer =
+case_none reply.Repeated client found answer = again_none (ack_of answer.name client.answers)
+case_none reply.Accepted client found answer =
+    ack_said_none answer.event answer.call_id
+    (ack_owed client (accepted client answer found) answer).1
+case_none reply.Late client found answer = refl
+case_none (reply.Reliable number) client found answer =
     request_said_none answer.event answer.call_id answer.name
-    (prack_owed number client dialogs answer).1
-case_none reply.Passed client dialogs answer = refl
-case_none reply.Early client dialogs answer = refl
-case_none reply.Told client dialogs answer = refl
+    (prack_owed number client (opened client answer found) answer).1
+case_none reply.Passed client found answer = refl
+case_none reply.Early client found answer = refl
+case_none reply.Told client found answer = refl
+
+replied_none : (client : Client) (dialogs : Dialogs) (answer : Answer)
+    → starts (reply_taken client dialogs answer).2 ≡ []
+replied_none client dialogs answer = by_last (is_last client.asks answer.status)
+  where
+    found : Option HeldDialog
+    found = dialog_at answer.name dialogs
+
+    by_last : (last : Bool) → starts (cond {A = Replied} last (finished client dialogs answer)
+        (after_dialog answer.name dialogs (replied_in client found answer))).2 ≡ []
+    by_last true = ended_none client (ends_dialog answer.status) dialogs
+    by_last false = case_none (reply_case client found answer) client found answer
 
 -- ---- a response, and a request that is lost
 
@@ -142,7 +155,7 @@ found_one event id call_id response (Some status) (Some client) side =
     let done = reply_taken client side.dialogs answer in
     let clients = set_value (is_id id) side.clients done.0 in
     none_then_one event.id done.2 (settled event id done.3 clients).1
-    (case_none (reply_case client side.dialogs answer) client side.dialogs answer)
+    (replied_none client side.dialogs answer)
     (settled_one event id done.3 clients)
 
 pub response_one : (event : Event) (id : Id) (call_id : List ℕ) (response : Message) (side : Side)

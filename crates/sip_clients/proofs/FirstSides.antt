@@ -37,7 +37,6 @@ use Rattle.sip_clients.proofs.Hearing.{Listens}
 unheard_by : (asks : Asks)
     → ((number : ℕ) (named : Bool) → heard_number (reply.Reliable number) asks named ≡ None)
     → (case : ReplyCase) (named : Bool) → heard_number case asks named ≡ None
-unheard_by asks none reply.Final named = refl
 unheard_by asks none reply.Repeated named = refl
 unheard_by asks none reply.Accepted named = refl
 unheard_by asks none reply.Late named = refl

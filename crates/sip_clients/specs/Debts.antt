@@ -37,6 +37,10 @@ unfoldable pub owing : Event → Debt → Option (List ℕ) → HeldDialog → H
 owing event debt offer held =
     let done = served event debt offer held in kept_unless_sent debt done.1 done.0
 
+-- the dialog after it, and what becomes of what is to be sent
+abbrev pub owed : Event → Debt → Option (List ℕ) → HeldDialog → HeldDialog × Service
+owed event debt offer held = (owing event debt offer held, (served event debt offer held).1)
+
 -- ---- the user serves it: it is owed no more where it is sent
 
 abbrev pub without : Debt → HeldDialog → HeldDialog

@@ -1,8 +1,7 @@
 -- What a response, or the end of a client request, does to the held dialogs (RFC 3261, sections
 -- 12.1.2, 12.2.1.2 and 13.2.2).
-use Rattle.std.specs.Prelude.{ℕ, Bool, List, [], ◌++◌, Option, None, Some, is_some, if◌then◌else◌}
+use Rattle.std.specs.Prelude.{ℕ, Bool, List, [], ◌++◌, Option, None, Some, if◌then◌else◌}
 use Rattle.std.specs.Option.{option_map_or}
-use Rattle.indexmap.specs.IndexMap.{insert_entry}
 use Rattle.sip_dialog.specs.Opening.{contact_uri, opened_by_response}
 use Rattle.sip_message.specs.declared.message.Message.{Message}
 use Rattle.sip_reliable.specs.Inbound.{latest_after, offered}
@@ -11,7 +10,7 @@ use Rattle.sip_served.specs.declared.held_dialog.DialogLife.{DialogLife}
 use Rattle.sip_served.specs.declared.held_dialog.DialogName.{DialogName}
 use Rattle.sip_served.specs.declared.held_dialog.HeldDialog.{HeldDialog}
 use Rattle.sip_served.specs.declared.item.CallOut.{CallOut}
-use Rattle.sip_served.specs.Dialogs.{confirmed, dialog_at, dialog_changed, early_ended, ended_at, is_named, lives, retargeted}
+use Rattle.sip_served.specs.Dialogs.{confirmed, dialog_at, dialog_changed, early_ended, ended_at, lives, retargeted}
 use Rattle.sip_served.specs.State.{Dialogs}
 use Rattle.sip_clients.specs.declared.client.Asks.{Asks}
 use Rattle.sip_clients.specs.declared.client.Asks.TheVariants.{First, Again, Inside, Plain}
@@ -20,7 +19,7 @@ use Rattle.sip_clients.specs.declared.event.Event.{Event}
 use Rattle.sip_clients.specs.declared.reply.Reply.{Reply as Answer}
 use Rattle.sip_clients.specs.declared.service.Service.{Service}
 use Rattle.sip_clients.specs.declared.service.Service.TheVariants.{Waits}
-use Rattle.sip_clients.specs.Debts.{owing, paying}
+use Rattle.sip_clients.specs.Debts.{paying}
 use Rattle.sip_clients.specs.Service.{served}
 
 -- ---- how a dialog is made (RFC 3261, section 12.1.2)
@@ -35,27 +34,11 @@ made_dialog client reply = record {
   owed = [];
 }
 
-abbrev pub made : Client → Answer → Dialogs → Dialogs
-made client reply dialogs = insert_entry is_named dialogs reply.name (made_dialog client reply)
-
-abbrev pub is_held : Dialogs → DialogName → Bool
-is_held dialogs name = is_some (dialog_at name dialogs)
-
--- ---- an early dialog
-
-abbrev pub made_unless_held : Client → Answer → Dialogs → Dialogs
-made_unless_held client reply dialogs =
-    if is_held dialogs reply.name then dialogs else made client reply dialogs
-
--- a provisional response to the first INVITE makes one, where none of its tags is held
-abbrev pub opened_by : Asks → Client → Answer → Dialogs → Dialogs
-opened_by First client reply dialogs = made_unless_held client reply dialogs
-opened_by (Again life) client reply dialogs = dialogs
-opened_by (Inside life) client reply dialogs = dialogs
-opened_by Plain client reply dialogs = dialogs
-
-abbrev pub opened : Client → Answer → Dialogs → Dialogs
-opened client reply dialogs = opened_by client.asks client reply dialogs
+-- the dialog that a provisional response comes in, by the held one of its name: that, or one that
+-- it makes
+abbrev pub opened : Client → Answer → Option HeldDialog → HeldDialog
+opened client reply None = made_dialog client reply
+opened client reply (Some held) = held
 
 -- ---- a 2xx
 
@@ -63,23 +46,18 @@ opened client reply dialogs = opened_by client.asks client reply dialogs
 abbrev pub refreshed : Message → HeldDialog → HeldDialog
 refreshed response held = retargeted (contact_uri response) held
 
--- that to the first INVITE confirms its dialog, or makes it
-abbrev pub confirmed_or_made : Client → Answer → Dialogs → Dialogs
-confirmed_or_made client reply dialogs =
-    if is_held dialogs reply.name then dialog_changed reply.name (confirmed reply.response) dialogs
-    else made client reply dialogs
+-- that to the first INVITE confirms the dialog of its name, or makes it
+abbrev pub accepted_in : Asks → Message → HeldDialog → HeldDialog
+accepted_in First response held = confirmed response held
+accepted_in (Again life) response held = refreshed response held
+accepted_in (Inside life) response held = held
+accepted_in Plain response held = held
 
-abbrev pub accepted_by : Asks → Client → Answer → Dialogs → Dialogs
-accepted_by First client reply dialogs = confirmed_or_made client reply dialogs
-accepted_by (Again life) client reply dialogs =
-    dialog_changed reply.name (refreshed reply.response) dialogs
-accepted_by (Inside life) client reply dialogs = dialogs
-accepted_by Plain client reply dialogs = dialogs
+abbrev pub accepted : Client → Answer → Option HeldDialog → HeldDialog
+accepted client reply None = made_dialog client reply
+accepted client reply (Some held) = accepted_in client.asks reply.response held
 
-abbrev pub accepted : Client → Answer → Dialogs → Dialogs
-accepted client reply dialogs = accepted_by client.asks client reply dialogs
-
--- ---- what is heard and owed in a dialog
+-- ---- what is heard and paid in a dialog
 
 -- a reliable provisional response with this RSeq came
 abbrev pub hearing : ℕ → HeldDialog → HeldDialog
@@ -88,12 +66,6 @@ hearing rseq held = record held { heard = latest_after (offered held.heard rseq)
 -- what becomes of what is to be sent in the dialog of this name, if it is held
 abbrev pub service_at : DialogName → (HeldDialog → Service) → Service → Dialogs → Service
 service_at name serve otherwise dialogs = option_map_or serve (dialog_at name dialogs) otherwise
-
-abbrev pub owed_at : DialogName → Event → Debt → Option (List ℕ) → Dialogs → Dialogs × Service
-owed_at name event debt offer dialogs = (
-  dialog_changed name (owing event debt offer) dialogs,
-  service_at name (λ held. (served event debt offer held).1) Waits dialogs,
-)
 
 abbrev pub paid_at : DialogName → Event → Debt → List ℕ → Dialogs → Dialogs × Service
 paid_at name event debt body dialogs = (

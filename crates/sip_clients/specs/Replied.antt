@@ -6,8 +6,10 @@ use Rattle.indexmap.specs.IndexMap.{insert_entry}
 use Rattle.sip_message.specs.declared.message.Message.{Message}
 use Rattle.sip_reliable.specs.Inbound.{latest_after, offered}
 use Rattle.sip_served.specs.declared.debt.Debt.TheVariants.{Ack, Prack}
+use Rattle.sip_served.specs.declared.held_dialog.DialogName.{DialogName}
+use Rattle.sip_served.specs.declared.held_dialog.HeldDialog.{HeldDialog}
 use Rattle.sip_served.specs.declared.item.CallOut.{CallOut}
-use Rattle.sip_served.specs.Dialogs.{dialog_changed, is_named}
+use Rattle.sip_served.specs.Dialogs.{dialog_at, is_named}
 use Rattle.sip_served.specs.State.{Dialogs}
 use Rattle.sip_transactions.specs.declared.timers.TheConstants.{LIFETIME}
 use Rattle.sip_clients.specs.declared.answers.SentAck.{SentAck}
@@ -21,14 +23,19 @@ use Rattle.sip_clients.specs.declared.reply.ReplyCase.{ReplyCase}
 use Rattle.sip_clients.specs.declared.reply.ReplyCase.TheVariants as reply
 use Rattle.sip_clients.specs.declared.service.Service.{Service}
 use Rattle.sip_clients.specs.Answers.{ack_of}
-use Rattle.sip_clients.specs.Dialogs.{accepted, ended_with, hearing, opened, owed_at}
+use Rattle.sip_clients.specs.Debts.{owed}
+use Rattle.sip_clients.specs.Dialogs.{accepted, ended_with, hearing, opened}
 use Rattle.sip_clients.specs.Outputs.{ack_said, direct, request_said, response_notice}
-use Rattle.sip_clients.specs.Reply.{reply_case}
+use Rattle.sip_clients.specs.Reply.{is_last, reply_case}
 
 -- the client request and the dialogs after a response, what is told, and what becomes of the
 -- requests
 abbrev pub Replied : Type 0
 Replied = Client × Dialogs × List CallOut × Rest
+
+-- the same of the one dialog that it may change: that after it, if it is changed or made
+abbrev pub InDialog : Type 0
+InDialog = Client × Option HeldDialog × List CallOut × Rest
 
 abbrev pub notice : Answer → List CallOut
 notice answer = response_notice answer ∷ []
@@ -45,18 +52,15 @@ finished client dialogs answer =
     let ended = ended_with client (ends_dialog answer.status) dialogs in
     (client, ended.0, notice answer ++ ended.1, Over)
 
--- ---- a provisional response of a dialog
-
-abbrev pub early : Client → Dialogs → Answer → Replied
-early client dialogs answer = (client, opened client answer dialogs, notice answer, Stays)
+-- ---- a reliable provisional response
 
 -- the dialog of a first INVITE keeps what came in it, and an INVITE in a dialog keeps itself what
 -- came for it
-abbrev pub heard_first : Asks → ℕ → Answer → Dialogs → Dialogs
-heard_first First rseq answer dialogs = dialog_changed answer.name (hearing rseq) dialogs
-heard_first (Again life) rseq answer dialogs = dialogs
-heard_first (Inside life) rseq answer dialogs = dialogs
-heard_first Plain rseq answer dialogs = dialogs
+abbrev pub heard_first : Asks → ℕ → HeldDialog → HeldDialog
+heard_first First rseq held = hearing rseq held
+heard_first (Again life) rseq held = held
+heard_first (Inside life) rseq held = held
+heard_first Plain rseq held = held
 
 abbrev pub hears : ℕ → Client → Client
 hears rseq client =
@@ -68,10 +72,6 @@ heard_again (Again life) rseq client = hears rseq client
 heard_again (Inside life) rseq client = hears rseq client
 heard_again Plain rseq client = hears rseq client
 
-abbrev pub opened_and_heard : ℕ → Client → Answer → Dialogs → Dialogs
-opened_and_heard rseq client answer dialogs =
-    heard_first client.asks rseq answer (opened client answer dialogs)
-
 -- What a response asks for has no body where the INVITE had an offer or the response has none.
 -- Otherwise it has to carry the answer to the offer in the response, which the user gives (RFC
 -- 3261, section 13.2.1; RFC 3262, section 5).
@@ -79,10 +79,10 @@ abbrev pub offer_to : Client → Message → Option (List ℕ)
 offer_to client response =
     if not (length (client.request).body == 0) || (length response.body == 0) then Some [] else None
 
-unfoldable pub prack_owed : ℕ → Client → Dialogs → Answer → Dialogs × Service
-prack_owed rseq client dialogs answer =
-    owed_at answer.name answer.event (Prack rseq ((client.request).cseq).number)
-    (offer_to client answer.response) (opened_and_heard rseq client answer dialogs)
+unfoldable pub prack_owed : ℕ → Client → HeldDialog → Answer → HeldDialog × Service
+prack_owed rseq client held answer =
+    owed answer.event (Prack rseq ((client.request).cseq).number)
+    (offer_to client answer.response) (heard_first client.asks rseq held)
 
 abbrev pub told_of_prack : Answer → Service → List CallOut × Rest
 told_of_prack answer service =
@@ -90,11 +90,11 @@ told_of_prack answer service =
     (notice answer ++ said.0, said.1)
 
 -- a reliable one that is the next of its dialog is told, and its PRACK is owed
-abbrev pub reliable : ℕ → Client → Dialogs → Answer → Replied
-reliable rseq client dialogs answer =
-    let owed = prack_owed rseq client dialogs answer in
+abbrev pub reliable : ℕ → Client → HeldDialog → Answer → InDialog
+reliable rseq client held answer =
+    let owed = prack_owed rseq client held answer in
     let told = told_of_prack answer owed.1 in
-    (heard_again client.asks rseq client, owed.0, told.0, told.1)
+    (heard_again client.asks rseq client, Some owed.0, told.0, told.1)
 
 -- ---- a 2xx to an INVITE
 
@@ -110,34 +110,54 @@ answered answer ack client = record client {
   removal = Some (unwrap_or client.removal ((answer.event).moment + LIFETIME));
 }
 
-unfoldable pub ack_owed : Client → Dialogs → Answer → Dialogs × Service
-ack_owed client dialogs answer =
-    owed_at answer.name answer.event (Ack client.id ((client.request).cseq).number)
-    (offer_to client answer.response) (accepted client answer dialogs)
+unfoldable pub ack_owed : Client → HeldDialog → Answer → HeldDialog × Service
+ack_owed client held answer =
+    owed answer.event (Ack client.id ((client.request).cseq).number)
+    (offer_to client answer.response) held
 
 abbrev pub told_of_ack : Answer → Service → List CallOut × Option SentAck
 told_of_ack answer service =
     let said = ack_said answer.event answer.call_id service in (notice answer ++ said.0, said.1)
 
 -- the first 2xx of a dialog is told, and its ACK is owed
-abbrev pub accepted_by_ack : Client → Dialogs → Answer → Replied
-accepted_by_ack client dialogs answer =
-    let owed = ack_owed client dialogs answer in
+abbrev pub accepted_by_ack : Client → HeldDialog → Answer → InDialog
+accepted_by_ack client held answer =
+    let owed = ack_owed client held answer in
     let told = told_of_ack answer owed.1 in
-    (answered answer told.1 client, owed.0, told.0, Stays)
+    (answered answer told.1 client, Some owed.0, told.0, Stays)
 
 -- ---- all of it
 
-abbrev pub by_case : ReplyCase → Client → Dialogs → Answer → Replied
-by_case reply.Final client dialogs answer = finished client dialogs answer
-by_case reply.Repeated client dialogs answer = (client, dialogs, ack_again client answer, Stays)
-by_case reply.Accepted client dialogs answer = accepted_by_ack client dialogs answer
-by_case reply.Late client dialogs answer =
-    (answered answer None client, dialogs, notice answer, Stays)
-by_case (reply.Reliable rseq) client dialogs answer = reliable rseq client dialogs answer
-by_case reply.Passed client dialogs answer = (client, dialogs, [], Stays)
-by_case reply.Early client dialogs answer = early client dialogs answer
-by_case reply.Told client dialogs answer = (client, dialogs, notice answer, Stays)
+-- by the held dialog of its name, if there is one
+abbrev pub by_case : ReplyCase → Client → Option HeldDialog → Answer → InDialog
+by_case reply.Repeated client found answer = (client, None, ack_again client answer, Stays)
+by_case reply.Accepted client found answer =
+    accepted_by_ack client (accepted client answer found) answer
+by_case reply.Late client found answer = (answered answer None client, None, notice answer, Stays)
+by_case (reply.Reliable rseq) client found answer =
+    reliable rseq client (opened client answer found) answer
+by_case reply.Passed client found answer = (client, None, [], Stays)
+by_case reply.Early client found answer =
+    (client, Some (opened client answer found), notice answer, Stays)
+by_case reply.Told client found answer = (client, None, notice answer, Stays)
+
+abbrev pub replied_in : Client → Option HeldDialog → Answer → InDialog
+replied_in client found answer = by_case (reply_case client found answer) client found answer
+
+-- the dialogs with that one
+abbrev pub with_dialog : DialogName → Option HeldDialog → Dialogs → Dialogs
+with_dialog name None dialogs = dialogs
+with_dialog name (Some held) dialogs = insert_entry is_named dialogs name held
+
+abbrev pub after_dialog : DialogName → Dialogs → InDialog → Replied
+after_dialog name dialogs done = (done.0, with_dialog name done.1 dialogs, done.2, done.3)
 
 abbrev pub reply_taken : Client → Dialogs → Answer → Replied
-reply_taken client dialogs answer = by_case (reply_case client dialogs answer) client dialogs answer
+reply_taken client dialogs answer =
+    if is_last client.asks answer.status then finished client dialogs answer
+    else after_dialog answer.name dialogs
+    (replied_in client (dialog_at answer.name dialogs) answer)
+
+-- of a held dialog: that after it
+abbrev pub in_place : HeldDialog → InDialog → Client × HeldDialog × List CallOut × Rest
+in_place held done = (done.0, unwrap_or done.1 held, done.2, done.3)

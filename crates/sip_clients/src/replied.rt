@@ -1,17 +1,17 @@
 //! What a response does to its client request and to the held dialogs, and what is told of it.
 
-ghost use Rattle.std.specs.Prelude.{◌≡◌, ◌≤◌, ◌^◌, IfOk, OnOk, Option};
-ghost use Rattle.sip_clients.specs.Dialogs as dialog_specs;
+ghost use Rattle.std.specs.Prelude.{◌≡◌, ◌≤◌, ◌^◌, IfOk, OnOk, None, Some};
 ghost use Rattle.sip_clients.specs.Replied as spec;
 
 use crate::answers::SentAck;
 use crate::client::{Asks, Client};
-use crate::dialogs::{accept, end_with, hear, open, owe_at};
+use crate::debts::owe;
+use crate::dialogs::{accept, end_with, hear, hold, made_dialog};
 use crate::outputs::{Rest, ack_said, direct, one, request_said, response_notice};
-use crate::reply::{Reply, ReplyCase, reply_case};
+use crate::reply::{Reply, ReplyCase, is_last, reply_case};
 use crate::service::Service;
 use sip_message::Message;
-use sip_served::{CallOut, Debt, Dialogs};
+use sip_served::{CallOut, Debt, Dialogs, HeldDialog};
 use sip_text::Text;
 use sip_transactions::LIFETIME;
 use std::alloc::{AllocError, Global};
@@ -33,14 +33,73 @@ pub(crate) fn take_reply(
     ensures { IfOk result (λ told. (client.new, dialogs.new.entries, told.0.items, told.1)
         ≡ spec.reply_taken client.old dialogs.old.entries reply.now) }
 {
-    match reply_case(client, dialogs, reply) {
-        ReplyCase::Final => finish(alloc, client, dialogs, reply),
+    if is_last(&client.asks, reply.status.code()) {
+        return finish(alloc, client, dialogs, reply);
+    }
+    match dialogs.get_mut(&reply.name) {
+        Some(held) => take_in(alloc, client, held, reply),
+        None => take_new(alloc, client, dialogs, reply),
+    }
+}
+
+// The dialog of its name is held.
+fn take_in(
+    alloc: Global,
+    client: &mut Client,
+    held: &mut HeldDialog,
+    reply: &Reply,
+) -> Result<(Vec<CallOut>, Rest), AllocError>
+    requires { reply.now.event.moment ≤ 2 ^ 62 }
+    ensures { IfOk result (λ told. (client.new, held.new, told.0.items, told.1)
+        ≡ spec.in_place held.old
+        (spec.replied_in client.old (Some held.old) reply.now)) }
+{
+    match reply_case(client, Some(&*held), reply) {
         ReplyCase::Repeated => repeat(alloc, client, reply),
-        ReplyCase::Accepted => accepted(alloc, client, dialogs, reply),
+        ReplyCase::Accepted => {
+            accept(held, &client.asks, &reply.response)?;
+            accepted(alloc, client, held, reply)
+        }
         ReplyCase::Late => late(alloc, client, reply),
-        ReplyCase::Reliable(rseq) => reliable(alloc, client, dialogs, reply, rseq),
+        ReplyCase::Reliable(rseq) => reliable(alloc, client, held, reply, rseq),
         ReplyCase::Passed => Ok((Vec::new(alloc), Rest::Stays)),
-        ReplyCase::Early => early(alloc, client, dialogs, reply),
+        ReplyCase::Early | ReplyCase::Told => told(alloc, reply),
+    }
+}
+
+// None is held: it makes one where it comes in one.
+fn take_new(
+    alloc: Global,
+    client: &mut Client,
+    dialogs: &mut Dialogs,
+    reply: &Reply,
+) -> Result<(Vec<CallOut>, Rest), AllocError>
+    requires { reply.now.event.moment ≤ 2 ^ 62 }
+    ensures { IfOk result (λ told. (client.new, dialogs.new.entries, told.0.items, told.1)
+        ≡ spec.after_dialog reply.now.name dialogs.old.entries
+        (spec.replied_in client.old None reply.now)) }
+{
+    match reply_case(client, None, reply) {
+        ReplyCase::Repeated => repeat(alloc, client, reply),
+        ReplyCase::Accepted => {
+            let mut made = made_dialog(alloc, client, reply)?;
+            let told = accepted(alloc, client, &mut made, reply)?;
+            hold(dialogs, reply.name.clone()?, made)?;
+            Ok(told)
+        }
+        ReplyCase::Late => late(alloc, client, reply),
+        ReplyCase::Reliable(rseq) => {
+            let mut made = made_dialog(alloc, client, reply)?;
+            let told = reliable(alloc, client, &mut made, reply, rseq)?;
+            hold(dialogs, reply.name.clone()?, made)?;
+            Ok(told)
+        }
+        ReplyCase::Passed => Ok((Vec::new(alloc), Rest::Stays)),
+        ReplyCase::Early => {
+            let made = made_dialog(alloc, client, reply)?;
+            hold(dialogs, reply.name.clone()?, made)?;
+            told(alloc, reply)
+        }
         ReplyCase::Told => told(alloc, reply),
     }
 }
@@ -86,32 +145,19 @@ fn repeat(alloc: Global, client: &Client, reply: &Reply) -> Result<(Vec<CallOut>
     Ok((outs, Rest::Stays))
 }
 
-fn early(
-    alloc: Global,
-    client: &Client,
-    dialogs: &mut Dialogs,
-    reply: &Reply,
-) -> Result<(Vec<CallOut>, Rest), AllocError>
-    ensures { IfOk result (λ told. (client.now, dialogs.new.entries, told.0.items, told.1)
-        ≡ spec.early client.now dialogs.old.entries reply.now) }
-{
-    open(alloc, dialogs, client, reply)?;
-    told(alloc, reply)
-}
-
 // ---- a reliable provisional response
 
 fn reliable(
     alloc: Global,
     client: &mut Client,
-    dialogs: &mut Dialogs,
+    held: &mut HeldDialog,
     reply: &Reply,
     rseq: u32,
 ) -> Result<(Vec<CallOut>, Rest), AllocError>
-    ensures { IfOk result (λ told. (client.new, dialogs.new.entries, told.0.items, told.1)
-        ≡ spec.reliable rseq client.old dialogs.old.entries reply.now) }
+    ensures { IfOk result (λ told. (client.new, Some held.new, told.0.items, told.1)
+        ≡ spec.reliable rseq client.old held.old reply.now) }
 {
-    let service = owe_prack(alloc, client, dialogs, reply, rseq)?;
+    let service = owe_prack(alloc, client, held, reply, rseq)?;
     hear_again(client, rseq);
     told_of_prack(alloc, reply, service)
 }
@@ -135,46 +181,30 @@ fn told_of_prack(
 fn owe_prack(
     alloc: Global,
     client: &Client,
-    dialogs: &mut Dialogs,
+    held: &mut HeldDialog,
     reply: &Reply,
     rseq: u32,
 ) -> Result<Service, AllocError>
     ensures service { IfOk result (λ service. service
-        ≡ (spec.prack_owed rseq client.now dialogs.old.entries reply.now).1) }
-    ensures dialogs { OnOk result (dialogs.new.entries
-        ≡ (spec.prack_owed rseq client.now dialogs.old.entries reply.now).0) }
+        ≡ (spec.prack_owed rseq client.now held.old reply.now).1) }
+    ensures held { OnOk result (held.new
+        ≡ (spec.prack_owed rseq client.now held.old reply.now).0) }
 {
-    open_and_hear(alloc, client, dialogs, reply, rseq)?;
+    hear_first(held, &client.asks, rseq);
     let debt = Debt::Prack {
         rseq,
         number: client.request.cseq.number,
     };
     let offer = offer_to(alloc, client, &reply.response);
-    owe_at(alloc, dialogs, &reply.name, reply.event, debt, offer)
-}
-
-fn open_and_hear(
-    alloc: Global,
-    client: &Client,
-    dialogs: &mut Dialogs,
-    reply: &Reply,
-    rseq: u32,
-) -> Result<(), AllocError>
-    ensures { OnOk result (dialogs.new.entries
-        ≡ spec.opened_and_heard rseq client.now reply.now dialogs.old.entries) }
-{
-    open(alloc, dialogs, client, reply)?;
-    hear_first(dialogs, client, reply, rseq);
-    Ok(())
+    owe(alloc, held, reply.event, debt, offer)
 }
 
 // The dialog of a first INVITE keeps what came in it.
-fn hear_first(dialogs: &mut Dialogs, client: &Client, reply: &Reply, rseq: u32)
-    ensures { dialogs.new.entries ≡ spec.heard_first client.now.asks rseq reply.now
-        dialogs.old.entries }
+fn hear_first(held: &mut HeldDialog, asks: &Asks, rseq: u32)
+    ensures { held.new ≡ spec.heard_first asks.now rseq held.old }
 {
-    match &client.asks {
-        Asks::First => hear(dialogs, &reply.name, rseq),
+    match asks {
+        Asks::First => hear(held, rseq),
         Asks::Again(_) | Asks::Inside(_) | Asks::Plain => {}
     }
 }
@@ -209,14 +239,14 @@ fn offer_to(alloc: Global, client: &Client, response: &Message) -> Option<Text>
 fn accepted(
     alloc: Global,
     client: &mut Client,
-    dialogs: &mut Dialogs,
+    held: &mut HeldDialog,
     reply: &Reply,
 ) -> Result<(Vec<CallOut>, Rest), AllocError>
     requires { reply.now.event.moment ≤ 2 ^ 62 }
-    ensures { IfOk result (λ told. (client.new, dialogs.new.entries, told.0.items, told.1)
-        ≡ spec.accepted_by_ack client.old dialogs.old.entries reply.now) }
+    ensures { IfOk result (λ told. (client.new, Some held.new, told.0.items, told.1)
+        ≡ spec.accepted_by_ack client.old held.old reply.now) }
 {
-    let service = owe_ack(alloc, client, dialogs, reply)?;
+    let service = owe_ack(alloc, client, held, reply)?;
     let (outs, ack) = told_of_ack(alloc, reply, service)?;
     note_answer(client, reply, ack)?;
     Ok((outs, Rest::Stays))
@@ -227,21 +257,19 @@ fn accepted(
 fn owe_ack(
     alloc: Global,
     client: &Client,
-    dialogs: &mut Dialogs,
+    held: &mut HeldDialog,
     reply: &Reply,
 ) -> Result<Service, AllocError>
     ensures service { IfOk result (λ service. service
-        ≡ (spec.ack_owed client.now dialogs.old.entries reply.now).1) }
-    ensures dialogs { OnOk result (dialogs.new.entries
-        ≡ (spec.ack_owed client.now dialogs.old.entries reply.now).0) }
+        ≡ (spec.ack_owed client.now held.old reply.now).1) }
+    ensures held { OnOk result (held.new ≡ (spec.ack_owed client.now held.old reply.now).0) }
 {
-    accept(alloc, dialogs, client, reply)?;
     let debt = Debt::Ack {
         invite: client.id,
         number: client.request.cseq.number,
     };
     let offer = offer_to(alloc, client, &reply.response);
-    owe_at(alloc, dialogs, &reply.name, reply.event, debt, offer)
+    owe(alloc, held, reply.event, debt, offer)
 }
 
 fn told_of_ack(

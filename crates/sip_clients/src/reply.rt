@@ -1,7 +1,7 @@
 //! A response to a held client request: which case it is.
 
 ghost use Rattle.std.specs.Prelude.{◌≡◌, IfOk};
-ghost use Rattle.std.specs.Option.{is_some};
+ghost use Rattle.std.specs.Option.{is_some, option_copied};
 ghost use Rattle.sip_reliable.specs.Inbound.{offered};
 ghost use Rattle.sip_clients.specs.Clients.{reply_name, status_of};
 ghost use Rattle.sip_clients.specs.Reply as spec;
@@ -10,9 +10,8 @@ use crate::client::{Asks, Client};
 use crate::event::Event;
 use sip_message::{CallId, Id, Message, StartLine, StatusCode};
 use sip_reliable::{Inbound, Offer};
-use sip_served::dialogs::lives;
 use sip_served::request::{is_final, is_inside, is_success, requires_100rel};
-use sip_served::{DialogName, Dialogs};
+use sip_served::{DialogName, HeldDialog};
 use std::alloc::{AllocError, Global};
 
 /// The status of the response by which a request is under way.
@@ -69,12 +68,10 @@ pub(crate) fn reply_name(
     }
 }
 
-/// What a response to a held client request is (RFC 3261, sections 12.2.1.2, 13.2.2 and 17.1; RFC
+/// What a response to a held client request is that isn't the last (RFC 3261, sections 12.2.1.2, 13.2.2 and 17.1; RFC
 /// 3262, section 4).
 #[derive(Clone, Copy)]
 pub(crate) enum ReplyCase {
-    /// The final one of its request, or one that rejects an INVITE.
-    Final,
     /// A 2xx that came before, to an INVITE.
     Repeated,
     /// The first 2xx of a dialog, to an INVITE.
@@ -91,33 +88,32 @@ pub(crate) enum ReplyCase {
     Told,
 }
 
-/// The first case that fits.
-pub(crate) fn reply_case(client: &Client, dialogs: &Dialogs, reply: &Reply) -> ReplyCase
-    ensures { result ≡ spec.reply_case client.now dialogs.now.entries reply.now }
+/// Whether a response is the final one of its request, or rejects an INVITE.
+pub(crate) fn is_last(asks: &Asks, status: u16) -> bool
+    ensures { result ≡ spec.is_last asks.now status }
 {
-    let status = reply.status.code();
-    let inviting = is_inviting(&client.asks);
-    if is_final(status) && !(inviting && is_success(status)) {
-        return ReplyCase::Final;
+    is_final(status) && !(is_inviting(asks) && is_success(status))
+}
+
+/// The first case that fits, by the held dialog of its name.
+pub(crate) fn reply_case(client: &Client, found: Option<&HeldDialog>, reply: &Reply) -> ReplyCase
+    ensures { result ≡ spec.reply_case client.now (option_copied found.entry) reply.now }
+{
+    if is_final(reply.status.code()) {
+        return success_case(client, found, &reply.name);
     }
-    if is_final(status) {
-        return success_case(client, dialogs, &reply.name);
-    }
-    if inviting && is_of_dialog(reply) && is_there(dialogs, &client.asks) {
-        return reliable_case(
-            heard_by(client, dialogs, &reply.name),
-            rseq_of(&reply.response),
-        );
+    if is_of_dialog(reply) && is_there(&client.asks, found) {
+        return reliable_case(heard_of(client, found), rseq_of(&reply.response));
     }
     ReplyCase::Told
 }
 
-fn success_case(client: &Client, dialogs: &Dialogs, name: &DialogName) -> ReplyCase
-    ensures { result ≡ spec.success_case client.now dialogs.now.entries name.now }
+fn success_case(client: &Client, found: Option<&HeldDialog>, name: &DialogName) -> ReplyCase
+    ensures { result ≡ spec.success_case client.now (option_copied found.entry) name.now }
 {
     if client.answers.contains(name) {
         ReplyCase::Repeated
-    } else if is_there(dialogs, &client.asks) {
+    } else if is_there(&client.asks, found) {
         ReplyCase::Accepted
     } else {
         ReplyCase::Late
@@ -148,32 +144,24 @@ fn is_inviting(asks: &Asks) -> bool
 }
 
 // Whether the dialog of an INVITE is there, or may be made.
-fn is_there(dialogs: &Dialogs, asks: &Asks) -> bool
-    ensures { result ≡ spec.is_there dialogs.now.entries asks.now }
+fn is_there(asks: &Asks, found: Option<&HeldDialog>) -> bool
+    ensures { result ≡ spec.is_there asks.now (option_copied found.entry) }
 {
-    match asks {
-        Asks::First => true,
-        Asks::Again(life) | Asks::Inside(life) => lives(dialogs, life),
-        Asks::Plain => false,
+    match (asks, found) {
+        (Asks::First, _) => true,
+        (Asks::Again(life), Some(held)) => held.born == life.born,
+        (Asks::Again(_), None) | (Asks::Inside(_) | Asks::Plain, _) => false,
     }
 }
 
 // The reliable provisional responses that came before in the same dialog to the same INVITE.
-fn heard_by(client: &Client, dialogs: &Dialogs, name: &DialogName) -> Inbound
-    ensures { result ≡ spec.heard_by client.now dialogs.now.entries name.now }
+fn heard_of(client: &Client, found: Option<&HeldDialog>) -> Inbound
+    ensures { result ≡ spec.heard_of client.now.asks client.now (option_copied found.entry) }
 {
-    match &client.asks {
-        Asks::First => heard_in(dialogs, name),
-        Asks::Again(_) | Asks::Inside(_) | Asks::Plain => client.heard,
-    }
-}
-
-fn heard_in(dialogs: &Dialogs, name: &DialogName) -> Inbound
-    ensures { result ≡ spec.heard_in dialogs.now.entries name.now }
-{
-    match dialogs.get(name) {
-        Some(held) => held.heard,
-        None => Inbound::new(),
+    match (&client.asks, found) {
+        (Asks::First, Some(held)) => held.heard,
+        (Asks::First, None) => Inbound::new(),
+        (Asks::Again(_) | Asks::Inside(_) | Asks::Plain, _) => client.heard,
     }
 }
 

@@ -113,7 +113,7 @@ fn refresh(held: &mut HeldDialog, request: &Message) -> Result<(), AllocError>
 }
 
 /// A 2xx confirms the dialog of this name.
-pub fn confirm(
+pub(crate) fn confirm(
     dialogs: &mut Dialogs,
     name: &DialogName,
     response: &Message,
@@ -127,7 +127,8 @@ pub fn confirm(
     confirm_dialog(held, response)
 }
 
-fn confirm_dialog(held: &mut HeldDialog, response: &Message) -> Result<(), AllocError>
+/// A 2xx confirms this dialog.
+pub fn confirm_dialog(held: &mut HeldDialog, response: &Message) -> Result<(), AllocError>
     ensures { OnOk result (held.new ≡ spec.confirmed response.now held.old) }
 {
     match held.dialog.confirm(response) {

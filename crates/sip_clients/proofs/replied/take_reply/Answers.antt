@@ -1,0 +1,53 @@
+use Rattle.std.proofs.Common.{◌≡◌, Bool, true, false, cond, List, [], ◌∷◌, refl, sym, ap, ◌∙◌, rules}
+use Rattle.std.specs.Prelude.{Option, None, Some, unwrap_or, if◌then◌else◌}
+use Rattle.std.specs.Map.{lookup, set_value}
+use Rattle.std.proofs.lemmas.Map.Steps.{set_value_same}
+use Rattle.indexmap.specs.IndexMap.{insert_entry}
+use Rattle.sip_served.specs.declared.held_dialog.DialogName.{DialogName}
+use Rattle.sip_served.specs.declared.held_dialog.HeldDialog.{HeldDialog}
+use Rattle.sip_served.specs.Dialogs.{dialog_at, is_named}
+use Rattle.sip_served.specs.State.{Dialogs}
+use Rattle.sip_clients.specs.Replied.{after_dialog, finished, replied_in, with_dialog}
+use Rattle.sip_clients.specs.Reply.{is_last}
+use Rattle.sip_clients.proofs.Results.{if_ok}
+use Rattle.sip_clients.proofs.replied.take_reply.Goals as goal
+
+-- a key that is there keeps its place
+there_step : {K X : Type 0} (b : Bool) (e : K × X) (es set put : List (K × X)) (v x : X)
+    → (lookup_is : Option X) → cond b (Some e.1) lookup_is ≡ Some x
+    → (lookup_is ≡ Some x → set ≡ put)
+    → cond b ((e.0, v) ∷ es) (e ∷ set) ≡ cond b ((e.0, v) ∷ es) (e ∷ put)
+there_step true e es set put v x found is later = refl
+there_step false e es set put v x found is later = ap (λ rest. e ∷ rest) (later is)
+
+put_there : {K X : Type 0} (eq : K → K → Bool) (k : K) (es : List (K × X)) (v x : X)
+    → lookup (eq k) es ≡ Some x → set_value (eq k) es v ≡ insert_entry eq es k v
+put_there eq k [] v x is = absurd cc
+put_there eq k (e ∷ es) v x is =
+    there_step (eq k e.0) e es (set_value (eq k) es v) (insert_entry eq es k v) v x
+    (lookup (eq k) es) is (put_there eq k es v x)
+
+put : (name : DialogName) (held : HeldDialog) (after : Option HeldDialog) (dialogs : Dialogs)
+    → dialog_at name dialogs ≡ Some held
+    → set_value (is_named name) dialogs (unwrap_or after held) ≡ with_dialog name after dialogs
+put name held None dialogs is = set_value_same (is_named name) dialogs held is
+put name held (Some after) dialogs is = put_there is_named name dialogs after held is
+
+pub returns-in-Some : goal.returns-in-Some
+returns-in-Some c =
+    let reply = c.args.reply.now in
+    let client = c.args.client.now in
+    let dialogs : Dialogs = c.args.dialogs.now.entries in
+    let held = c.in-Some.held.now in
+    let last : is_last client.asks reply.status ≡ false = search rules in
+    let found : dialog_at reply.name dialogs ≡ Some held = search rules in
+    let lent : (c.get_mut.follows.lender c.take_in.new.held).entries
+    ≡ set_value (is_named reply.name) dialogs c.take_in.new.held = search rules in
+    let after = (replied_in client (Some held) reply).1 in
+    if_ok c.take_in.result _ _ c.take_in.ensures (λ told is.
+    let kept = lent ∙ (λ i. set_value (is_named reply.name) dialogs (is i).1)
+    ∙ put reply.name held after dialogs found in
+    ◌∙◌ {b = after_dialog reply.name dialogs (replied_in client (Some held) reply)}
+    (λ i. ((is i).0, kept i, (is i).2, (is i).3))
+    (λ i. if sym last i then finished client dialogs reply
+    else after_dialog reply.name dialogs (replied_in client (sym found i) reply)))
