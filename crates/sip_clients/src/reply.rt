@@ -68,8 +68,8 @@ pub(crate) fn reply_name(
     }
 }
 
-/// What a response to a held client request is that isn't the last (RFC 3261, sections 12.2.1.2, 13.2.2 and 17.1; RFC
-/// 3262, section 4).
+/// What a response to a held client request is that isn't the last (RFC 3261, sections 12.2.1.2,
+/// 13.2.2 and 17.1; RFC 3262, section 4).
 #[derive(Clone, Copy)]
 pub(crate) enum ReplyCase {
     /// A 2xx that came before, to an INVITE.
