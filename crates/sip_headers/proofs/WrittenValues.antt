@@ -1,6 +1,6 @@
 -- What is written of each header's value is read again.
 use Rattle.std.proofs.Common.{◌≡◌, ◌^◌, ◌<◌, ◌≤◌, ℕ, Bool, true, false, cond, not, eqb, ltb, ◌&&◌, ◌||◌, List, [], ◌∷◌, ◌++◌, codes, decimal, Option, Some, None, refl, sym, ap, subst, ◌∙◌, append_assoc, arith}
-use Rattle.std.specs.Prelude.{option_and_then, IfSome, IsTrue}
+use Rattle.std.specs.Prelude.{fold, option_and_then, IfSome, IsTrue}
 use Rattle.std.specs.Char.{is_ascii_digit}
 use Rattle.std.specs.List.{AllByRecursion, flat_map, list_all}
 use Rattle.std.specs.Option.{option_map}
@@ -14,12 +14,15 @@ use Rattle.sip_text.specs.Forms.{each, by_cut, on_cut, both, told, split}
 use Rattle.sip_text.specs.Number.{is_digits}
 use Rattle.sip_text.specs.Parameter.{is_parameter_value, is_value_word, name_from, value_from, with_value, without_value}
 use Rattle.sip_text.specs.Quoted.{is_quoted}
-use Rattle.sip_text.specs.Separator.{place_after}
+use Rattle.sip_text.specs.OpenQuote.{has_open_quote, is_in_quotes}
+use Rattle.sip_text.specs.Separator.{after, next_place, place_after}
 use Rattle.sip_text.specs.Token.{is_run, is_token}
 use Rattle.sip_text.specs.Trimmed.{trimmed, trimmed_start, trimmed_end}
-use Rattle.sip_text.specs.declared.separator.Separator.TheVariants.{Byte, Blank, Colon}
-use Rattle.sip_text.specs.declared.separator.Place.TheVariants.{Plain, Bracketed}
+use Rattle.sip_text.specs.declared.separator.Separator.TheVariants.{Byte, Anywhere, Blank, Colon}
+use Rattle.sip_text.specs.declared.separator.Place.{Place}
+use Rattle.sip_text.specs.declared.separator.Place.TheVariants.{Plain, Quoted, Escaped, Bracketed}
 use Rattle.sip_text.proofs.Ends.{trimmed_end-blank, trimmed_end-other}
+use Rattle.sip_text.proofs.Separators.{and_then_some}
 use Rattle.sip_text.proofs.Splits.{split_some, split_none}
 use Rattle.sip_parts.specs.DisplayText.{is_display_text_byte, is_display_text}
 use Rattle.sip_parts.specs.HeaderValue.{has_no_blank_ends, has_no_line_byte}
@@ -44,7 +47,7 @@ use Rattle.sip_headers.specs.Numbers.{via_draft, rack_draft}
 use Rattle.sip_message.specs.Rules.{IsParameter, IsVia, IsParty, IsNameAddr, IsRAck}
 use Rattle.sip_values.proofs.Characters.{full_at}
 use Rattle.sip_values.proofs.Cuts.{all_imply, run_all, at_takes}
-use Rattle.sip_values.proofs.Passing.{Passes, clear, all_pass, both_pass, place_append, cut_here, none_here, byte_clear, class_passes, class_passes_blank, Marks, semicolon_marks, comma_marks, token_passes, token_passes_blank, quoted_begins, quoted_passes, quoted_ends, quoted_plain, value_passes}
+use Rattle.sip_values.proofs.Passing.{Passes, clear, all_pass, both_pass, place_append, cut_here, none_here, byte_clear, anywhere_clear, class_passes, class_passes_blank, Marks, semicolon_marks, comma_marks, token_passes, token_passes_blank, quoted_begins, quoted_passes, quoted_ends, quoted_plain, value_passes}
 use Rattle.sip_values.proofs.Pieces.{by_bool}
 use Rattle.sip_values.proofs.WrittenBytes.{is_solid, solid, token_solid, word_solid, uri_solid, value_solid, digits_solid, solid_both, solid_full, solid_line, solid_end, longer_end, decimal_digits, decimal_value, digits_word, kept_end}
 
@@ -732,11 +735,12 @@ host_solid host is =
     ) refl) refl refl
     host is
 
-host_passes_semicolon : (host : List ℕ) → is_host host ≡ true → Passes (Byte 59) host
+host_passes_semicolon : (host : List ℕ) → is_host host ≡ true → Passes (Anywhere 59) host
 unfolding is_host_byte is_bracket_byte
 host_passes_semicolon host is =
-    all_pass (Byte 59) host (host_all (clear (Byte 59)) (byte_clear is_host_byte 59 refl refl refl)
-    (byte_clear is_bracket_byte 59 refl refl refl) refl refl host is)
+    all_pass (Anywhere 59) host (host_all (clear (Anywhere 59))
+    (anywhere_clear is_host_byte 59 refl) (anywhere_clear is_bracket_byte 59 refl) refl refl
+    host is)
 
 host_passes_comma : (host : List ℕ) → is_host host ≡ true → Passes (Byte 44) host
 unfolding is_host_byte is_bracket_byte
@@ -812,6 +816,55 @@ port_passes c digit colon (Some n) good =
     (class_passes is_ascii_digit c digit refl refl (decimal n)
     (run_all is_ascii_digit (decimal n) (decimal_digits n (omega (arith, good)))))
 
+port_passes_semicolon : (port : Option ℕ) → GoodPort port → Passes (Anywhere 59) (port_text port)
+port_passes_semicolon None good = refl
+port_passes_semicolon (Some n) good =
+    both_pass (Anywhere 59) (58 ∷ []) (decimal n) refl
+    (all_pass (Anywhere 59) (decimal n) (all_imply is_ascii_digit (clear (Anywhere 59))
+    (anywhere_clear is_ascii_digit 59 refl) (decimal n)
+    (run_all is_ascii_digit (decimal n) (decimal_digits n (omega (arith, good))))))
+
+sent_by_passes_semicolon : (host : List ℕ) (port : Option ℕ) → is_host host ≡ true → GoodPort port
+    → Passes (Anywhere 59) (sent_by host port)
+sent_by_passes_semicolon host port is good =
+    both_pass (Anywhere 59) host (port_text port) (host_passes_semicolon host is)
+    (port_passes_semicolon port good)
+
+sent_by_passes_comma : (host : List ℕ) (port : Option ℕ) → is_host host ≡ true → GoodPort port
+    → Passes (Byte 44) (sent_by host port)
+sent_by_passes_comma host port is good =
+    both_pass (Byte 44) host (port_text port) (host_passes_comma host is)
+    (port_passes 44 refl refl port good)
+
+-- what has no comma outside quotes and brackets ends outside of these
+place_is : (c : ℕ) (place last : Place) (text : List ℕ)
+    → place_after (Byte c) place text ≡ Some last → fold after place text ≡ last
+place_is c place last [] e = cc
+place_is c place last (b ∷ bs) e =
+    let m = and_then_some (λ p. place_after (Byte c) p bs) (next_place (Byte c) place b) last e in
+    ap (λ p. fold after p bs) (stepped place m.0 m.1) ∙ place_is c m.0 last bs m.2
+  where
+    by_class : (r : Bool) (p q : Place) → cond r None (Some p) ≡ Some q → p ≡ q
+    by_class true p q is = absurd cc
+    by_class false p q is = cc
+
+    stepped : (p q : Place) → next_place (Byte c) p b ≡ Some q → after p b ≡ q
+    stepped Plain q is = by_class (eqb b c) (after Plain b) q is
+    stepped Quoted q is = cc
+    stepped Escaped q is = cc
+    stepped Bracketed q is = cc
+
+ends_closed : (text : List ℕ) → Passes (Byte 44) text → via.is_closed text ≡ true
+unfolding has_open_quote
+ends_closed text passes = ap (λ p. not (is_in_quotes p)) (place_is 44 Plain Plain text passes)
+
+-- the end of a Via is cut where its quotes are closed
+end_cut : (text : List ℕ) → Passes (Byte 44) text
+    → via.end_from text ≡ on_cut (Anywhere 59) (both via.sent_by_from many_parameters)
+    (told via.without_parameters via.sent_by_from) text
+end_cut text passes = ap (λ b. cond b (on_cut (Anywhere 59) (both via.sent_by_from many_parameters)
+    (told via.without_parameters via.sent_by_from) text) None) (ends_closed text passes)
+
 port_solid : (port : Option ℕ) → GoodPort port → solid (port_text port) ≡ true
 port_solid None good = refl
 port_solid (Some n) good = decimal_solid n (omega (arith, good))
@@ -828,19 +881,20 @@ end_read : (host : List ℕ) (port : Option ℕ) (ps : List Parameter) → is_ho
 unfolding parameter_text
 end_read host port [] is good all =
     ap via.end_from (append-nil (sent_by host port))
+    ∙ end_cut (sent_by host port) (sent_by_passes_comma host port is good)
     ∙ ap (λ o. by_cut o (both via.sent_by_from many_parameters)
     (told via.without_parameters via.sent_by_from (sent_by host port)))
-    (none_here (Byte 59) (sent_by host port)
-    (both_pass (Byte 59) host (port_text port) (host_passes_semicolon host is)
-    (port_passes 59 refl refl port good)))
+    (none_here (Anywhere 59) (sent_by host port) (sent_by_passes_semicolon host port is good))
     ∙ ap (option_map via.without_parameters) (sent_by_read host port is good)
 end_read host port (p ∷ ps) is good all =
-    ap (λ o. by_cut o (both via.sent_by_from many_parameters)
+    end_cut (sent_by host port ++ (59 ∷ (body p ++ parameters_text ps)))
+    (both_pass (Byte 44) (sent_by host port) (parameters_text (p ∷ ps))
+    (sent_by_passes_comma host port is good) (parameters_pass 44 comma_marks refl (p ∷ ps) all))
+    ∙ ap (λ o. by_cut o (both via.sent_by_from many_parameters)
     (told via.without_parameters via.sent_by_from
     (sent_by host port ++ (59 ∷ (body p ++ parameters_text ps)))))
-    (cut_here (Byte 59) (sent_by host port) 59 (body p ++ parameters_text ps)
-    (both_pass (Byte 59) host (port_text port) (host_passes_semicolon host is)
-    (port_passes 59 refl refl port good)) refl)
+    (cut_here (Anywhere 59) (sent_by host port) 59 (body p ++ parameters_text ps)
+    (sent_by_passes_semicolon host port is good) refl)
     ∙ ap (λ o. option_and_then (λ x.
     option_and_then (λ y. Some (x, y)) (many_parameters (body p ++ parameters_text ps))) o)
     (sent_by_read host port is good)

@@ -6,6 +6,7 @@ pub mod Splits
 pub mod ReadForms
 pub mod Loops
 pub mod ParameterForms
+pub mod OpenQuotes
 pub mod QuotedStrings
 pub mod LineParts
 pub mod Options

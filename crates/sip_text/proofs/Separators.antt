@@ -8,7 +8,7 @@ use Rattle.std.proofs.lemmas.Bool.{or_parts}
 use Rattle.std.proofs.lemmas.List.{take_more, get_or-take, length-take-le}
 use Rattle.sip_text.specs.Separator.{separates, opens, step, next_place, place_after, by_place, cut_from, IsCutFrom, IsWholeFrom}
 use Rattle.sip_text.specs.declared.separator.Separator.{Separator}
-use Rattle.sip_text.specs.declared.separator.Separator.TheVariants.{Byte, Blank, Colon}
+use Rattle.sip_text.specs.declared.separator.Separator.TheVariants.{Byte, Anywhere, Blank, Colon}
 use Rattle.sip_text.specs.declared.separator.Place.{Place}
 use Rattle.sip_text.specs.declared.separator.Place.TheVariants.{Plain, Quoted, Escaped, Bracketed}
 
@@ -141,6 +141,7 @@ quiet_step : (at : Separator) (b : ℕ) → separates at b ≡ false → opens a
     → next_place at Plain b ≡ Some Plain
 quiet_step (Byte at) b s o =
     let parts = or_parts (eqb b 34) (eqb b 60) o in rw (s, parts.0, parts.1) refl
+quiet_step (Anywhere at) b s o = rw s refl
 quiet_step Blank b s o = rw s refl
 quiet_step Colon b s o = rw (s, o) refl
 

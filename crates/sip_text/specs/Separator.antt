@@ -1,11 +1,11 @@
--- A text cut at a separator that counts only outside quoted strings and brackets (RFC 3261,
+-- A text cut at a separator, most of which count only outside quoted strings and brackets (RFC 3261,
 -- sections 7.3.1 and 25.1).
 use Rattle.std.specs.Prelude.{◌≡◌, ℕ, Bool, false, List, [], ◌∷◌, ◌++◌, Option, Some, None, ◌==◌, ◌||◌, if◌then◌else◌, option_and_then}
 use Rattle.std.specs.Option.{option_map}
 use Rattle.std.specs.List.{onto_first}
 use Rattle.sip_text.specs.Character.{is_blank}
 use Rattle.sip_text.specs.declared.separator.Separator.{Separator}
-use Rattle.sip_text.specs.declared.separator.Separator.TheVariants.{Byte, Blank, Colon}
+use Rattle.sip_text.specs.declared.separator.Separator.TheVariants.{Byte, Anywhere, Blank, Colon}
 use Rattle.sip_text.specs.declared.separator.Place.{Place}
 use Rattle.sip_text.specs.declared.separator.Place.TheVariants.{Plain, Quoted, Escaped, Bracketed}
 
@@ -30,18 +30,21 @@ after_bracket place b = place
 -- the byte is this separator, where it counts
 abbrev pub separates : Separator → ℕ → Bool
 separates (Byte at) b = b == at
+separates (Anywhere at) b = b == at
 separates Blank b = is_blank b
 separates Colon b = b == 58
 
 -- the byte may begin something in which the separator doesn't count
 abbrev pub opens : Separator → ℕ → Bool
 opens (Byte at) b = b == 34 || b == 60
+opens (Anywhere at) b = false
 opens Blank b = false
 opens Colon b = b == 91
 
 -- what hides a separator: quotes and angle brackets, nothing, or square brackets
 abbrev pub step : Separator → Place → ℕ → Place
 step (Byte at) place b = after place b
+step (Anywhere at) place b = Plain
 step Blank place b = Plain
 step Colon place b = after_bracket place b
 

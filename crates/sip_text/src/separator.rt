@@ -1,4 +1,4 @@
-//! A text cut at a separator that counts only outside quotes and brackets.
+//! A text cut at a separator, most of which count only outside quotes and brackets.
 ghost use Rattle.std.specs.Prelude.{◌≡◌, ◌+◌, true, IfNone, IfSome, length};
 ghost use Rattle.memchr.specs.Find.{IsFirstByte, Nowhere};
 ghost use Rattle.std.specs.Prelude.{slice_index};
@@ -15,6 +15,8 @@ use memchr::{memchr, memchr2};
 pub enum Separator {
     /// This byte, outside quoted strings and angle brackets.
     Byte(u8),
+    /// This byte, wherever it stands.
+    Anywhere(u8),
     /// A space or a tab, wherever it stands.
     Blank,
     /// A colon outside square brackets, as between a host and its port.
@@ -54,7 +56,7 @@ impl Separator {
         ensures { IsFirstByte (separators.separates self) text.now result }
     {
         match self {
-            Separator::Byte(at) => memchr(at, text),
+            Separator::Byte(at) | Separator::Anywhere(at) => memchr(at, text),
             Separator::Blank => memchr2(b' ', b'\t', text),
             Separator::Colon => memchr(b':', text),
         }
@@ -67,7 +69,7 @@ impl Separator {
     {
         match self {
             Separator::Byte(_) => memchr2(b'"', b'<', front).is_some(),
-            Separator::Blank => false,
+            Separator::Anywhere(_) | Separator::Blank => false,
             Separator::Colon => memchr(b'[', front).is_some(),
         }
     }
@@ -101,7 +103,7 @@ impl Separator {
         ensures { result ≡ separators.separates self byte }
     {
         match self {
-            Separator::Byte(at) => byte == at,
+            Separator::Byte(at) | Separator::Anywhere(at) => byte == at,
             Separator::Blank => is_blank(byte),
             Separator::Colon => byte == b':',
         }
@@ -112,7 +114,7 @@ impl Separator {
     {
         match self {
             Separator::Byte(_) => place.after(byte),
-            Separator::Blank => Place::Plain,
+            Separator::Anywhere(_) | Separator::Blank => Place::Plain,
             Separator::Colon => place.after_bracket(byte),
         }
     }

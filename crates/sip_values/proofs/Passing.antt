@@ -9,7 +9,7 @@ use Rattle.sip_text.specs.Separator.{separates, opens, step, next_place, place_a
 use Rattle.sip_text.specs.Token.{is_token}
 use Rattle.sip_text.specs.Parameter.{is_value_byte, is_value_word, is_parameter_value}
 use Rattle.sip_text.specs.declared.separator.Separator.{Separator}
-use Rattle.sip_text.specs.declared.separator.Separator.TheVariants.{Byte, Blank, Colon}
+use Rattle.sip_text.specs.declared.separator.Separator.TheVariants.{Byte, Anywhere, Blank, Colon}
 use Rattle.sip_text.specs.declared.separator.Place.{Place}
 use Rattle.sip_text.specs.declared.separator.Place.TheVariants.{Plain, Quoted, Escaped}
 use Rattle.sip_text.proofs.Separators.{cut_again, whole_again, and_then_some}
@@ -28,6 +28,7 @@ step_clear : (at : Separator) (b : ℕ) → opens at b ≡ false → step at Pla
 step_clear (Byte c) b e =
     let both = or_parts (eqb b 34) (eqb b 60) e in
     rw (both.0, both.1) refl
+step_clear (Anywhere c) b e = refl
 step_clear Blank b e = refl
 step_clear Colon b e = rw e refl
 
@@ -91,6 +92,11 @@ pub class_passes : (test : ℕ → Bool) (c : ℕ) → test c ≡ false → test
 class_passes test c own quote bracket text all =
     all_pass (Byte c) text (all_imply test (clear (Byte c))
     (byte_clear test c own quote bracket) text all)
+
+-- the same of a byte that separates wherever it stands
+pub anywhere_clear : (test : ℕ → Bool) (c : ℕ) → test c ≡ false → (b : ℕ) → test b ≡ true
+    → clear (Anywhere c) b ≡ true
+anywhere_clear test c own b passes = rw (full_at test b c own passes) refl
 
 pub class_passes_blank : (test : ℕ → Bool) → test 32 ≡ false → test 9 ≡ false → (text : List ℕ)
     → list_all test text ≡ true → Passes Blank text

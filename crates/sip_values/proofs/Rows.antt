@@ -2,9 +2,9 @@
 use Rattle.std.proofs.Common.{ℕ, ◌^◌, Bool, List, codes}
 use Rattle.sip_text.specs.Token.{is_token}
 use Rattle.sip_text.specs.Trimmed.{trimmed}
-use Rattle.sip_text.specs.declared.separator.Separator.TheVariants.{Byte, Blank, Colon}
+use Rattle.sip_text.specs.declared.separator.Separator.TheVariants.{Byte, Anywhere, Blank, Colon}
 use Rattle.sip_text.proofs.ParameterForms.{parameter_reads, parameters_reads}
-use Rattle.sip_text.proofs.ReadForms.{Reads, passing_reads, never_reads, or_empty_reads, of_reads, checked_reads, told_reads, behind_reads, both_reads, cut_reads, split_reads}
+use Rattle.sip_text.proofs.ReadForms.{Reads, passing_reads, never_reads, or_empty_reads, of_reads, guarded_reads, checked_reads, told_reads, behind_reads, both_reads, cut_reads, split_reads}
 use Rattle.sip_parts.specs.DisplayText.{is_display_text}
 use Rattle.sip_parts.specs.Host.{is_host}
 use Rattle.sip_parts.specs.PartyDisplay.{is_party_display}
@@ -79,8 +79,8 @@ sent_by_reads = cut_reads Colon (told_reads via.with_port (both_reads host_reads
     (told_reads via.without_port host_reads)
 
 end_reads : Reads (List ℕ) (via.SentBy × List Parameter) via.end_from via.IsEnd
-end_reads = cut_reads (Byte 59) (both_reads sent_by_reads many_reads)
-    (told_reads via.without_parameters sent_by_reads)
+end_reads = guarded_reads via.is_closed (cut_reads (Anywhere 59)
+    (both_reads sent_by_reads many_reads) (told_reads via.without_parameters sent_by_reads))
 
 hop_reads : Reads (List ℕ) ViaDraft via.hop_from via.IsHop
 hop_reads = cut_reads Blank (told_reads via.via_of

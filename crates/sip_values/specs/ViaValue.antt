@@ -1,10 +1,11 @@
 -- Via values (RFC 3261, section 20.42), with words in the place of their ports.
-use Rattle.std.specs.Prelude.{ℕ, ◌^◌, Bool, List, [], Option, Some, None, codes}
+use Rattle.std.specs.Prelude.{ℕ, ◌^◌, Bool, not, List, [], Option, Some, None, codes}
 use Rattle.std.specs.Str.{str_eq_ignore_ascii_case}
-use Rattle.sip_text.specs.Forms.{Passing, passing, Never, never, Of, reading_of, Told, told, Both, both, Behind, behind, OnCut, on_cut, Split, split}
+use Rattle.sip_text.specs.Forms.{Passing, passing, Never, never, Of, reading_of, Guarded, guarded, Told, told, Both, both, Behind, behind, OnCut, on_cut, Split, split}
+use Rattle.sip_text.specs.OpenQuote.{has_open_quote}
 use Rattle.sip_text.specs.Token.{is_token}
 use Rattle.sip_text.specs.Trimmed.{trimmed}
-use Rattle.sip_text.specs.declared.separator.Separator.TheVariants.{Byte, Blank, Colon}
+use Rattle.sip_text.specs.declared.separator.Separator.TheVariants.{Byte, Anywhere, Blank, Colon}
 use Rattle.sip_parts.specs.Host.{is_host}
 use Rattle.sip_parts.specs.declared.parameter.Parameter.{Parameter}
 use Rattle.sip_values.specs.declared.numeral.Numeral.{Numeral}
@@ -48,14 +49,19 @@ sent_by_from text =
 abbrev pub without_parameters : SentBy → SentBy × List Parameter
 without_parameters sent_by = (sent_by, [])
 
--- the same, and parameters
+-- each quoted string has its end
+abbrev pub is_closed : List ℕ → Bool
+is_closed text = not (has_open_quote text)
+
+-- the same, and parameters behind the first semicolon: neither quotes nor `<` hide it in the place of
+-- a port
 abbrev pub IsEnd : SentBy × List Parameter → List ℕ → Type 0
-IsEnd end text =
-    OnCut (Byte 59) (Both IsSentBy ManyParameters) (Told without_parameters IsSentBy) end text
+IsEnd end text = Guarded is_closed (OnCut (Anywhere 59) (Both IsSentBy ManyParameters)
+    (Told without_parameters IsSentBy)) end text
 
 abbrev pub end_from : List ℕ → Option (SentBy × List Parameter)
-end_from text = on_cut (Byte 59) (both sent_by_from many_parameters)
-    (told without_parameters sent_by_from) text
+end_from text = guarded is_closed (on_cut (Anywhere 59) (both sent_by_from many_parameters)
+    (told without_parameters sent_by_from)) text
 
 -- ---- the protocol and the transport
 

@@ -6,7 +6,7 @@ use crate::numeral::{Numeral, numeral_in};
 use crate::parameter::parameters_between;
 use crate::row::{Row, split_of};
 use sip_parts::{Host, Parameter, Token, is_host};
-use sip_text::{Separator, Series, Text, is_token, token_eq, trimmed};
+use sip_text::{Separator, Series, Text, has_open_quote, is_token, token_eq, trimmed};
 use std::alloc::{AllocError, Global};
 
 /// One value of a Via, whose port may be no number.
@@ -90,14 +90,17 @@ fn hop_in(alloc: Global, text: &[u8]) -> Result<Option<ViaDraft>, AllocError>
 /// A host, and a word in its port's place, where there is one.
 type SentByDraft = (Host, Option<Numeral>);
 
-/// The host, the port and the parameters.
+/// The host, the port and the parameters, which begin at the first semicolon.
 fn end_in(
     alloc: Global,
     text: &[u8],
 ) -> Result<Option<(SentByDraft, Series<Parameter>)>, AllocError>
     ensures { IfOk result (λ made. made ≡ values.end_from text.now) }
 {
-    let Some((sent_by, rest)) = Separator::Byte(b';').cut(text) else {
+    if has_open_quote(text) {
+        return Ok(None);
+    }
+    let Some((sent_by, rest)) = Separator::Anywhere(b';').cut(text) else {
         let Some(sent_by) = sent_by_in(alloc, text)? else {
             return Ok(None);
         };
