@@ -124,10 +124,12 @@ impl Dialog {
     ///
     /// # Errors
     ///
-    /// `Ended` and `NoMemory`, in this order. The dialog stays as it was then.
+    /// `Ended` and, at the caller alone, `NoMemory`, in this order. The dialog stays as it was then.
     pub fn confirm(&mut self, response: &Message) -> Result<(), DialogFault>
         ensures open { OnOk result (ended_fault self.old ≡ None) }
         ensures fault { IfErr result (λ fault. fault ≡ or_no_memory (ended_fault self.old)) }
+        ensures callee { self.old.side ≡ Side.Callee
+            → IfErr result (λ fault. ended_fault self.old ≡ Some fault) }
         ensures ok { OnOk result (self.new ≡ step.confirmed_by self.old response.now) }
         ensures err { OnErr result (self.new ≡ self.old) }
         ensures life { (start : Opening) (life : List Happening)
@@ -140,6 +142,8 @@ impl Dialog {
     fn confirm_step(&mut self, response: &Message) -> Result<(), DialogFault>
         ensures open { OnOk result (ended_fault self.old ≡ None) }
         ensures fault { IfErr result (λ fault. fault ≡ or_no_memory (ended_fault self.old)) }
+        ensures callee { self.old.side ≡ Side.Callee
+            → IfErr result (λ fault. ended_fault self.old ≡ Some fault) }
         ensures ok { OnOk result (self.new ≡ step.confirmed_by self.old response.now) }
         ensures err { OnErr result (self.new ≡ self.old) }
     {
