@@ -1,14 +1,18 @@
 //! Groups of outputs in the order of their labels.
 
 ghost use Rattle.std.specs.Prelude.{◌≡◌};
+ghost use Rattle.std.specs.List.Sorted.{IsPermutation, IsSortedBy};
+ghost use Rattle.std.specs.Ordering.{is_lt};
 ghost use Rattle.sip_model.specs.Told.{Sorts, groups};
 
 use std::cmp::Ordering;
 
-/// Brings groups into the order of their labels. Where the labels of some list in order are theirs,
-/// that list is the answer: so groups of several shards, joined in any order, become those of all.
+/// The same groups, in the order of their labels. Where the labels differ they have one order: so
+/// the groups of several shards, joined in any order, become those of all.
 pub fn by_label<L: Ord + Drop, O: Drop>(mut told: Vec<(L, Vec<O>)>) -> Vec<(L, Vec<O>)>
-    ensures { Sorts L.cmp (groups told.items) (groups result.items) }
+    ensures same { IsPermutation told.items result.items }
+    ensures in_order { IsSortedBy (λ one other. is_lt (L.cmp one.0 other.0)) result.items }
+    ensures sorts { Sorts L.cmp (groups told.items) (groups result.items) }
 {
     told.sort_unstable_by(
         |one, other| -> Ordering

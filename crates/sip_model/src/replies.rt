@@ -2,8 +2,10 @@
 
 ghost use Rattle.std.specs.Prelude.{◌≡◌, ◌++◌, IfOk};
 ghost use Rattle.std.specs.List.{flat_map};
-ghost use Rattle.sip_model.specs.Told.{groups};
+ghost use Rattle.std.specs.Ordering.{nat_cmp};
+ghost use Rattle.sip_model.specs.Told.{Sorts, groups};
 
+use crate::merge::by_label;
 use crate::ticks::joined;
 use std::alloc::{AllocError, Global};
 
@@ -14,6 +16,20 @@ pub struct Replies<K, O> {
     pub ticks: Vec<(K, Vec<O>)>,
     /// What each item adds, by its place.
     pub items: Vec<(usize, Vec<O>)>,
+}
+
+impl<K: Ord + Drop, O: Drop> Replies<K, O> {
+    /// What the shards said, joined in any order, in the order of keys and of places.
+    pub fn in_order(self) -> Replies<K, O>
+        ensures ticks { Sorts K.cmp (groups self.ticks.items) (groups result.ticks.items) }
+        ensures items { Sorts nat_cmp (groups self.items.items) (groups result.items.items) }
+    {
+        let Replies { ticks, items } = self;
+        Replies {
+            ticks: by_label(ticks),
+            items: by_label(items),
+        }
+    }
 }
 
 impl<K: Drop, O: Drop> Replies<K, O> {

@@ -158,8 +158,8 @@ answer_row Completed unanswered t final = absurd (false≢true unanswered)
 answer_row Accepted unanswered t final = absurd (false≢true unanswered)
 answer_row Confirmed unanswered t final = absurd (false≢true unanswered)
 answer_row s unanswered on.Start final = absurd (false≢true final)
-answer_row s unanswered on.RepeatDue final = absurd (false≢true final)
-answer_row s unanswered on.EndingDue final = absurd (false≢true final)
+answer_row s unanswered on.RetransmitDue final = absurd (false≢true final)
+answer_row s unanswered on.TimeoutDue final = absurd (false≢true final)
 answer_row s unanswered on.Failed final = absurd (false≢true final)
 answer_row s unanswered on.Request final = absurd (false≢true final)
 answer_row s unanswered on.Ack final = absurd (false≢true final)
@@ -199,7 +199,7 @@ by_answer key server life unanswered id response now (Some t) is final =
 ends : Step
 ends = record { next = Ended; handed = up.Nothing; sent = send.Nothing; due = Clear }
 
-ends_row : row_of (rows_of Server) (Some Completed) on.EndingDue ≡ Some ends
+ends_row : row_of (rows_of Server) (Some Completed) on.TimeoutDue ≡ Some ends
 unfolding ends
 ends_row = refl
 
@@ -219,10 +219,10 @@ by_nothing key life timed none =
 due_at : (now moment : ℕ) (response : Message) (life : Life) (b : Bool)
     → nat_le (now + LIFETIME) moment ≡ b
     → trigger_of (Some (answered now response life)) moment input.Tick
-    ≡ cond b (Some on.EndingDue) None
+    ≡ cond b (Some on.TimeoutDue) None
 unfolding answered
 due_at now moment response life b is =
-    ap (λ (late : Bool). cond late (Some on.EndingDue) None) is
+    ap (λ (late : Bool). cond late (Some on.TimeoutDue) None) is
 
 at_tick : (key : Key) → role_of key ≡ Server → (now moment : ℕ) (response : Message) (life : Life)
     (b : Bool) → nat_le (now + LIFETIME) moment ≡ b
@@ -230,9 +230,9 @@ at_tick : (key : Key) → role_of key ≡ Server → (now moment : ℕ) (respons
     ≡ cond b None (Some (answered now response life))
 unfolding answered
 at_tick key server now moment response life true late =
-    ap (λ p. p.0) (by_row key (answered now response life) (tick_at moment) on.EndingDue (Some ends)
+    ap (λ p. p.0) (by_row key (answered now response life) (tick_at moment) on.TimeoutDue (Some ends)
     (due_at now moment response life true late)
-    (ap (λ r. row_of (rows_of r) (Some Completed) on.EndingDue) server ∙ ends_row))
+    (ap (λ r. row_of (rows_of r) (Some Completed) on.TimeoutDue) server ∙ ends_row))
     ∙ acted_end key (answered now response life) moment
 at_tick key server now moment response life false early =
     ap (λ p. p.0) (by_nothing key (answered now response life) (tick_at moment)

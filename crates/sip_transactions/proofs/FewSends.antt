@@ -291,7 +291,7 @@ is_keep Both = false
 is_keep (Again pace) = false
 
 abbrev is_repeat : Trigger → Bool
-is_repeat on.RepeatDue = true
+is_repeat on.RetransmitDue = true
 is_repeat trigger = false
 
 abbrev comes_as_response : Trigger → Bool
@@ -416,20 +416,20 @@ acked_entered role text (Become state) life room outs apart fit fewer silent = r
 
 -- the triggers
 tick_repeat : (e r : Bool) (trigger : Trigger)
-    → cond e (Some on.EndingDue) (cond r (Some on.RepeatDue) None) ≡ Some trigger
+    → cond e (Some on.TimeoutDue) (cond r (Some on.RetransmitDue) None) ≡ Some trigger
     → is_repeat trigger ≡ true → (r ≡ true) × (e ≡ false)
 tick_repeat true r trigger is repeat =
-    let same : on.EndingDue ≡ trigger = cc in absurd (false≢true (ap is_repeat same ∙ repeat))
+    let same : on.TimeoutDue ≡ trigger = cc in absurd (false≢true (ap is_repeat same ∙ repeat))
 tick_repeat false true trigger is repeat = (refl, refl)
 tick_repeat false false trigger is repeat = cc
 
 tick_response : (e r : Bool) (trigger : Trigger)
-    → cond e (Some on.EndingDue) (cond r (Some on.RepeatDue) None) ≡ Some trigger
+    → cond e (Some on.TimeoutDue) (cond r (Some on.RetransmitDue) None) ≡ Some trigger
     → comes_as_response trigger ≡ true → ⊥
 tick_response true r trigger is response =
-    let same : on.EndingDue ≡ trigger = cc in false≢true (ap comes_as_response same ∙ response)
+    let same : on.TimeoutDue ≡ trigger = cc in false≢true (ap comes_as_response same ∙ response)
 tick_response false true trigger is response =
-    let same : on.RepeatDue ≡ trigger = cc in false≢true (ap comes_as_response same ∙ response)
+    let same : on.RetransmitDue ≡ trigger = cc in false≢true (ap comes_as_response same ∙ response)
 tick_response false false trigger is response = cc
 
 arrival_no_repeat : (line : StartLine) (method : List ℕ)

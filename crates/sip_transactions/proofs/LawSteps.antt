@@ -73,8 +73,8 @@ by_step G key held timed nothing acts =
 -- ---- tests of the tables
 abbrev pub is_request : Trigger → Bool
 is_request on.Start = false
-is_request on.RepeatDue = false
-is_request on.EndingDue = false
+is_request on.RetransmitDue = false
+is_request on.TimeoutDue = false
 is_request on.Failed = false
 is_request on.Request = true
 is_request on.Ack = false
@@ -83,8 +83,8 @@ is_request (on.Answer c) = false
 
 abbrev pub is_response : Trigger → Bool
 is_response on.Start = false
-is_response on.RepeatDue = false
-is_response on.EndingDue = false
+is_response on.RetransmitDue = false
+is_response on.TimeoutDue = false
 is_response on.Failed = false
 is_response on.Request = false
 is_response on.Ack = false
@@ -93,8 +93,8 @@ is_response (on.Answer c) = false
 
 abbrev is_order : Trigger → Bool
 is_order on.Start = true
-is_order on.RepeatDue = false
-is_order on.EndingDue = false
+is_order on.RetransmitDue = false
+is_order on.TimeoutDue = false
 is_order on.Failed = false
 is_order on.Request = false
 is_order on.Ack = false

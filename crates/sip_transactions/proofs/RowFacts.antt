@@ -50,7 +50,7 @@ all_states = None ∷ Some Calling ∷ Some Trying ∷ Some Proceeding ∷ Some 
 
 abbrev all_triggers : List Trigger
 all_triggers =
-    on.Start ∷ on.RepeatDue ∷ on.EndingDue ∷ on.Failed ∷ on.Request ∷ on.Ack
+    on.Start ∷ on.RetransmitDue ∷ on.TimeoutDue ∷ on.Failed ∷ on.Request ∷ on.Ack
     ∷ on.Response class.Trying ∷ on.Response class.Provisional ∷ on.Response class.Success
     ∷ on.Response class.Failure
     ∷ on.Answer class.Trying ∷ on.Answer class.Provisional ∷ on.Answer class.Success
@@ -67,8 +67,8 @@ state_listed (Some Confirmed) = refl
 
 trigger_listed : (t : Trigger) → slice_get all_triggers (trigger_place t) ≡ Some t
 trigger_listed on.Start = refl
-trigger_listed on.RepeatDue = refl
-trigger_listed on.EndingDue = refl
+trigger_listed on.RetransmitDue = refl
+trigger_listed on.TimeoutDue = refl
 trigger_listed on.Failed = refl
 trigger_listed on.Request = refl
 trigger_listed on.Ack = refl

@@ -64,8 +64,8 @@ answer_of (start.Response status reason) = Some (on.Answer (class_of status))
 -- what a tick is: the ending moment if it has come, otherwise the repeating moment if it has come,
 -- otherwise nothing
 abbrev pub due_of : ℕ → Option ℕ → Option ℕ → Option Trigger
-due_of now ending repeat = if is_due now ending then Some on.EndingDue else if is_due now repeat
-    then Some on.RepeatDue else None
+due_of now ending repeat = if is_due now ending then Some on.TimeoutDue else if is_due now repeat
+    then Some on.RetransmitDue else None
 
 abbrev pub tick_of : ℕ → Option Life → Option Trigger
 tick_of now None = None

@@ -19,11 +19,11 @@ RepeatsInTime (Again pace) now (Some life) =
 
 -- the trigger that the repeat is due comes only to such a life
 abbrev pub RepeatIsDue : Trigger → ℕ → Option Life → Type 0
-RepeatIsDue on.RepeatDue now None = ⊥
-RepeatIsDue on.RepeatDue now (Some life) =
+RepeatIsDue on.RetransmitDue now None = ⊥
+RepeatIsDue on.RetransmitDue now (Some life) =
     (is_due now life.timers.repeat ≡ true) × (is_due now life.timers.ending ≡ false)
 RepeatIsDue on.Start now held = Unit {0}
-RepeatIsDue on.EndingDue now held = Unit {0}
+RepeatIsDue on.TimeoutDue now held = Unit {0}
 RepeatIsDue on.Failed now held = Unit {0}
 RepeatIsDue (on.Response class) now held = Unit {0}
 RepeatIsDue on.Request now held = Unit {0}
@@ -36,4 +36,4 @@ FiresWhenDue Keep trigger = Unit {0}
 FiresWhenDue Clear trigger = Unit {0}
 FiresWhenDue (Ending after) trigger = Unit {0}
 FiresWhenDue Both trigger = Unit {0}
-FiresWhenDue (Again pace) trigger = trigger ≡ on.RepeatDue
+FiresWhenDue (Again pace) trigger = trigger ≡ on.RetransmitDue

@@ -11,7 +11,7 @@ use Rattle.sip_transactions.specs.declared.timers.TheConstants.{T4, LIFETIME}
 use Rattle.sip_transactions.specs.declared.trigger.Class.{Class}
 use Rattle.sip_transactions.specs.declared.trigger.Class.TheVariants as class
 use Rattle.sip_transactions.specs.declared.trigger.Trigger.{Trigger}
-use Rattle.sip_transactions.specs.declared.trigger.Trigger.TheVariants.{Start, RepeatDue, EndingDue, Failed, Request, Ack, Response, Answer}
+use Rattle.sip_transactions.specs.declared.trigger.Trigger.TheVariants.{Start, RetransmitDue, TimeoutDue, Failed, Request, Ack, Response, Answer}
 use Rattle.sip_transactions.specs.declared.step.Step.{Step}
 use Rattle.sip_transactions.specs.declared.step.Next.{Next}
 use Rattle.sip_transactions.specs.declared.step.Next.TheVariants.{Same, Ended, Become}
@@ -82,8 +82,8 @@ on trigger = trigger ∷ []
 abbrev pub invite_client_rows : List Row
 invite_client_rows =
     row fresh (on Start) (Become Calling) up.Nothing send.Given Both  -- +A +B
-    ∷ row (at Calling) (on RepeatDue) Same up.Nothing send.Latest (Again Doubled)  -- !A +A
-    ∷ row (at Calling) (on EndingDue) Ended up.Timeout send.Nothing Clear  -- !B
+    ∷ row (at Calling) (on RetransmitDue) Same up.Nothing send.Latest (Again Doubled)  -- !A +A
+    ∷ row (at Calling) (on TimeoutDue) Ended up.Timeout send.Nothing Clear  -- !B
     ∷ row (at Calling) (on Failed) Ended up.Failed send.Nothing Clear
     ∷ row (either Calling Proceeding) provisional (Become Proceeding) up.Message send.Nothing Clear
     ∷ row (either Calling Proceeding) success (Become Accepted) up.Message send.Nothing
@@ -93,7 +93,7 @@ invite_client_rows =
     ∷ row (at Completed) failure Same up.Nothing send.Latest Keep
     ∷ row (at Completed) (on Failed) Ended up.Failed send.Nothing Clear
     ∷ row (at Accepted) success Same up.Message send.Nothing Keep
-    ∷ row (either Completed Accepted) (on EndingDue) Ended up.Nothing send.Nothing Clear  -- !D !M
+    ∷ row (either Completed Accepted) (on TimeoutDue) Ended up.Nothing send.Nothing Clear  -- !D !M
     ∷ row fresh any_response Ended up.NoTransaction send.Nothing Clear
     ∷ []
 
@@ -102,14 +102,14 @@ invite_client_rows =
 abbrev pub client_rows : List Row
 client_rows =
     row fresh (on Start) (Become Trying) up.Nothing send.Given Both  -- +E +F
-    ∷ row (at Trying) (on RepeatDue) Same up.Nothing send.Latest (Again Capped)  -- !E +E
-    ∷ row (at Proceeding) (on RepeatDue) Same up.Nothing send.Latest (Again Even)  -- !E +E
-    ∷ row (either Trying Proceeding) (on EndingDue) Ended up.Timeout send.Nothing Clear  -- !F
+    ∷ row (at Trying) (on RetransmitDue) Same up.Nothing send.Latest (Again Capped)  -- !E +E
+    ∷ row (at Proceeding) (on RetransmitDue) Same up.Nothing send.Latest (Again Even)  -- !E +E
+    ∷ row (either Trying Proceeding) (on TimeoutDue) Ended up.Timeout send.Nothing Clear  -- !F
     ∷ row (either Trying Proceeding) (on Failed) Ended up.Failed send.Nothing Clear
     ∷ row (either Trying Proceeding) provisional (Become Proceeding) up.Message send.Nothing Keep
     ∷ row (either Trying Proceeding) (success ++ failure) (Become Completed) up.Message send.Nothing
     (Ending T4)  -- +K
-    ∷ row (at Completed) (on EndingDue) Ended up.Nothing send.Nothing Clear  -- !K
+    ∷ row (at Completed) (on TimeoutDue) Ended up.Nothing send.Nothing Clear  -- !K
     ∷ row fresh any_response Ended up.NoTransaction send.Nothing Clear
     ∷ []
 
@@ -124,12 +124,12 @@ invite_server_rows =
     (Ending LIFETIME)  -- +L
     ∷ row (at Proceeding) answer_failure (Become Completed) up.Nothing send.Given Both  -- +G +H
     ∷ row (at Completed) (on Request) Same up.Nothing send.Latest Keep
-    ∷ row (at Completed) (on RepeatDue) Same up.Nothing send.Latest (Again Capped)  -- !G +G
+    ∷ row (at Completed) (on RetransmitDue) Same up.Nothing send.Latest (Again Capped)  -- !G +G
     ∷ row (at Completed) (on Ack) (Become Confirmed) up.Nothing send.Nothing (Ending T4)  -- +I
-    ∷ row (at Completed) (on EndingDue) Ended up.Timeout send.Nothing Clear  -- !H
+    ∷ row (at Completed) (on TimeoutDue) Ended up.Timeout send.Nothing Clear  -- !H
     ∷ row (at Accepted) (on Ack) Same up.Message send.Nothing Keep
     ∷ row (at Accepted) answer_2xx Same up.Nothing send.Given Keep
-    ∷ row (either Confirmed Accepted) (on EndingDue) Ended up.Nothing send.Nothing Clear  -- !I !L
+    ∷ row (either Confirmed Accepted) (on TimeoutDue) Ended up.Nothing send.Nothing Clear  -- !I !L
     ∷ row (either Proceeding Completed ++ either Accepted Confirmed)
     (on Failed) Same up.Failed send.Nothing Keep
     ∷ row fresh (on Ack) Ended up.Message send.Nothing Clear
@@ -144,7 +144,7 @@ server_rows =
     ∷ row (either Trying Proceeding) (answer_2xx ++ answer_failure)
     (Become Completed) up.Nothing send.Given (Ending LIFETIME)  -- +J
     ∷ row (either Proceeding Completed) (on Request) Same up.Nothing send.Latest Keep
-    ∷ row (at Completed) (on EndingDue) Ended up.Nothing send.Nothing Clear  -- !J
+    ∷ row (at Completed) (on TimeoutDue) Ended up.Nothing send.Nothing Clear  -- !J
     ∷ row (at Trying ++ either Proceeding Completed) (on Failed) Same up.Failed send.Nothing Keep
     ∷ []
 
@@ -175,8 +175,8 @@ class_place class.Failure = 3
 
 abbrev pub trigger_place : Trigger → ℕ
 trigger_place Start = 0
-trigger_place RepeatDue = 1
-trigger_place EndingDue = 2
+trigger_place RetransmitDue = 1
+trigger_place TimeoutDue = 2
 trigger_place Failed = 3
 trigger_place Request = 4
 trigger_place Ack = 5

@@ -54,8 +54,8 @@ is_open Confirmed = false
 abbrev pub is_final : Option Trigger → Bool
 is_final None = false
 is_final (Some on.Start) = false
-is_final (Some on.RepeatDue) = false
-is_final (Some on.EndingDue) = false
+is_final (Some on.RetransmitDue) = false
+is_final (Some on.TimeoutDue) = false
 is_final (Some on.Failed) = false
 is_final (Some on.Request) = false
 is_final (Some on.Ack) = false

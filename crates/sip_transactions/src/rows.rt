@@ -1,4 +1,5 @@
-//! The tables, as code (RFC 3261, sections 17.1 and 17.2, and RFC 6026, section 7).
+//! The tables, as code (RFC 3261, sections 17.1 and 17.2, and RFC 6026, section 7). A timer's
+//! letter stands beside each arm that sets it (+) or in which it fires (!).
 
 ghost use Rattle.std.specs.Prelude.{◌≡◌, IfSome};
 ghost use Rattle.sip_transactions.specs.Repeats.{FiresWhenDue};
@@ -10,7 +11,7 @@ use crate::step::{Due, Handed, Pace, Sent, Step};
 use crate::timers::{LIFETIME, T4};
 use crate::trigger::Class;
 use crate::trigger::Trigger::{
-    self, Ack, Answer, EndingDue, Failed, RepeatDue, Request, Response, Start,
+    self, Ack, Answer, Failed, Request, Response, RetransmitDue, Start, TimeoutDue,
 };
 
 /// The row of a table that fits a state and a trigger. No state is `None`.
@@ -32,9 +33,9 @@ fn invite_client_step(state: Option<State>, trigger: Trigger) -> Option<Step>
     ensures repeat { IfSome result (λ step. FiresWhenDue step.due trigger) }
 {
     let step = match (state, trigger) {
-        (None, Start) => Step::enter(Calling, Handed::Nothing, Sent::Given, Due::Both),
-        (Some(Calling), RepeatDue) => Step::repeat(Pace::Doubled),
-        (Some(Calling), EndingDue) => Step::end(Handed::Timeout),
+        (None, Start) => Step::enter(Calling, Handed::Nothing, Sent::Given, Due::Both), // +A +B
+        (Some(Calling), RetransmitDue) => Step::repeat(Pace::Doubled), // !A +A
+        (Some(Calling), TimeoutDue) => Step::end(Handed::Timeout), // !B
         (Some(Calling | Completed), Failed) => Step::end(Handed::Failed),
         (Some(Calling | Proceeding), Response(Class::Trying | Class::Provisional)) => Step::enter(
             Proceeding,
@@ -47,16 +48,16 @@ fn invite_client_step(state: Option<State>, trigger: Trigger) -> Option<Step>
             Handed::Message,
             Sent::Nothing,
             Due::Ending(LIFETIME),
-        ),
+        ), // +M
         (Some(Calling | Proceeding), Response(Class::Failure)) => Step::enter(
             Completed,
             Handed::Message,
             Sent::Ack,
             Due::Ending(LIFETIME),
-        ),
+        ), // +D
         (Some(Completed), Response(Class::Failure)) => Step::stay(Handed::Nothing, Sent::Latest),
         (Some(Accepted), Response(Class::Success)) => Step::stay(Handed::Message, Sent::Nothing),
-        (Some(Completed | Accepted), EndingDue) => Step::end(Handed::Nothing),
+        (Some(Completed | Accepted), TimeoutDue) => Step::end(Handed::Nothing), // !D !M
         (None, Response(_)) => Step::end(Handed::NoTransaction),
         _ => return None,
     };
@@ -69,10 +70,10 @@ fn client_step(state: Option<State>, trigger: Trigger) -> Option<Step>
     ensures repeat { IfSome result (λ step. FiresWhenDue step.due trigger) }
 {
     let step = match (state, trigger) {
-        (None, Start) => Step::enter(Trying, Handed::Nothing, Sent::Given, Due::Both),
-        (Some(Trying), RepeatDue) => Step::repeat(Pace::Capped),
-        (Some(Proceeding), RepeatDue) => Step::repeat(Pace::Even),
-        (Some(Trying | Proceeding), EndingDue) => Step::end(Handed::Timeout),
+        (None, Start) => Step::enter(Trying, Handed::Nothing, Sent::Given, Due::Both), // +E +F
+        (Some(Trying), RetransmitDue) => Step::repeat(Pace::Capped), // !E +E
+        (Some(Proceeding), RetransmitDue) => Step::repeat(Pace::Even), // !E +E
+        (Some(Trying | Proceeding), TimeoutDue) => Step::end(Handed::Timeout), // !F
         (Some(Trying | Proceeding), Failed) => Step::end(Handed::Failed),
         (Some(Trying | Proceeding), Response(Class::Trying | Class::Provisional)) => Step::enter(
             Proceeding,
@@ -85,8 +86,8 @@ fn client_step(state: Option<State>, trigger: Trigger) -> Option<Step>
             Handed::Message,
             Sent::Nothing,
             Due::Ending(T4),
-        ),
-        (Some(Completed), EndingDue) => Step::end(Handed::Nothing),
+        ), // +K
+        (Some(Completed), TimeoutDue) => Step::end(Handed::Nothing), // !K
         (None, Response(_)) => Step::end(Handed::NoTransaction),
         _ => return None,
     };
@@ -107,24 +108,24 @@ fn invite_server_step(state: Option<State>, trigger: Trigger) -> Option<Step>
             Handed::Nothing,
             Sent::Given,
             Due::Ending(LIFETIME),
-        ),
+        ), // +L
         (Some(Proceeding), Answer(Class::Failure)) => Step::enter(
             Completed,
             Handed::Nothing,
             Sent::Given,
             Due::Both,
-        ),
-        (Some(Completed), RepeatDue) => Step::repeat(Pace::Capped),
+        ), // +G +H
+        (Some(Completed), RetransmitDue) => Step::repeat(Pace::Capped), // !G +G
         (Some(Completed), Ack) => Step::enter(
             Confirmed,
             Handed::Nothing,
             Sent::Nothing,
             Due::Ending(T4),
-        ),
-        (Some(Completed), EndingDue) => Step::end(Handed::Timeout),
+        ), // +I
+        (Some(Completed), TimeoutDue) => Step::end(Handed::Timeout), // !H
         (Some(Accepted), Ack) => Step::stay(Handed::Message, Sent::Nothing),
         (Some(Accepted), Answer(Class::Success)) => Step::stay(Handed::Nothing, Sent::Given),
-        (Some(Confirmed | Accepted), EndingDue) => Step::end(Handed::Nothing),
+        (Some(Confirmed | Accepted), TimeoutDue) => Step::end(Handed::Nothing), // !I !L
         (Some(Proceeding | Completed | Accepted | Confirmed), Failed) => Step::stay(
             Handed::Failed,
             Sent::Nothing,
@@ -153,9 +154,9 @@ fn server_step(state: Option<State>, trigger: Trigger) -> Option<Step>
             Handed::Nothing,
             Sent::Given,
             Due::Ending(LIFETIME),
-        ),
+        ), // +J
         (Some(Proceeding | Completed), Request) => Step::stay(Handed::Nothing, Sent::Latest),
-        (Some(Completed), EndingDue) => Step::end(Handed::Nothing),
+        (Some(Completed), TimeoutDue) => Step::end(Handed::Nothing), // !J
         (Some(Trying | Proceeding | Completed), Failed) => Step::stay(
             Handed::Failed,
             Sent::Nothing,

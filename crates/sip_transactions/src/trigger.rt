@@ -27,9 +27,9 @@ pub enum Trigger {
     /// The user starts a client transaction.
     Start,
     /// The moment to send again has come.
-    RepeatDue,
+    RetransmitDue,
     /// The moment to end has come.
-    EndingDue,
+    TimeoutDue,
     /// A send met a fault of the transport.
     Failed,
     /// A response came.
@@ -100,8 +100,8 @@ fn tick_of(now: u64, held: &Option<Life>) -> Option<Trigger>
 {
     match held {
         None => None,
-        Some(life) if life.timers.is_ending_due(now) => Some(Trigger::EndingDue),
-        Some(life) if life.timers.is_repeat_due(now) => Some(Trigger::RepeatDue),
+        Some(life) if life.timers.is_ending_due(now) => Some(Trigger::TimeoutDue),
+        Some(life) if life.timers.is_repeat_due(now) => Some(Trigger::RetransmitDue),
         Some(_) => None,
     }
 }
