@@ -272,6 +272,7 @@ module _ (shard_of : List ℕ → ℕ → ℕ) (number : ℕ) (round : Round)
       (owner_of shard_of (λ call_id. call_id) (length old_calls)) zero old_calls past.calls)
       same in
       record {
+        count = after_third.count ∙ after_first.count;
         transactions = λ config past same lives calls.
             new_held config (one config same) (two config same) past lives
             (held config past same calls);

@@ -1,3 +1,4 @@
+pub mod Alone
 pub mod ArrivedHere
 pub mod Beginning
 pub mod CallEvents

@@ -9,7 +9,7 @@ use Rattle.sip_round.specs.declared.round.Round.{Round}
 use Rattle.sip_round.specs.declared.round_fault.RoundFault.{RoundFault}
 use Rattle.sip_round.specs.declared.round_fault.RoundFault.TheVariants.{Broken, NoMemory}
 use Rattle.sip_round.specs.AgentState.{AgentState, round_fault, refusal_of}
-use Rattle.sip_round.specs.Answers.{answers, last_moment, last_moment_from, refused, refused_or, refused_from, StandsFor}
+use Rattle.sip_round.specs.Answers.{answers, last_moment, last_moment_from, refused, refused_or, refused_from, EndsWithoutMemory, StandsFor}
 use Rattle.sip_round.proofs.Runs.{refused_from-push}
 
 -- the agent stands for the first rounds, whose answers were made, and none of which was refused
@@ -61,6 +61,20 @@ module _ {C : Type 0} (shard_of : C → List ℕ → ℕ → ℕ) where
       ap (λ r. take index rounds ++ r ∷ []) item ∙ sym (take-suc rounds index round within)
       ∙ ap (λ n. take n rounds) one
 
+  -- where the agent refuses no round up to this one, none is refused
+  pub one_unrefused : (config : Config) (rounds : List Round) (index : ℕ) (round : Round)
+      (agent : AgentState C) (made : List (Vec Output Global))
+      → RunsSoFar shard_of config rounds index agent made → index < length rounds
+      → round ≡ get_or rounds index round → refusal_of agent round ≡ None
+      → refused config (take (index + 1) rounds) ≡ None
+  unfolding refused
+  one_unrefused config rounds index round agent made so_far within item fine =
+      let front = take index rounds in
+      ap (refused config) (sym (one_taken rounds index round within item))
+      ∙ refused_from-push config.first 0 0 front round [] so_far.unrefused
+      ∙ ap (λ f. refused_or f (0 + length front) None)
+      (sym (same_fault agent config front round so_far.stands) ∙ fine)
+
   pub one_more : (config : Config) (rounds : List Round) (index : ℕ) (round : Round)
       (old new : AgentState C) (made newer : List (Vec Output Global)) (outputs : Vec Output Global)
       → RunsSoFar shard_of config rounds index old made → index < length rounds
@@ -69,7 +83,6 @@ module _ {C : Type 0} (shard_of : C → List ℕ → ℕ → ℕ) where
       → StandsFor shard_of new config (rounds ++ round ∷ [])
       × (answers config (rounds ++ round ∷ []) ≡ answers config rounds ++ outputs.items ∷ []))
       → newer ≡ made ++ outputs ∷ [] → RunsSoFar shard_of config rounds (index + 1) new newer
-  unfolding refused
   one_more config rounds index round old new made newer outputs so_far within item fine longer
       pushed =
       let front = take index rounds in
@@ -81,11 +94,7 @@ module _ {C : Type 0} (shard_of : C → List ℕ → ℕ → ℕ) where
             ap (map (λ os. os.items)) pushed ∙ map-append (λ os. os.items) made (outputs ∷ [])
             ∙ ap (λ as_made. as_made ++ outputs.items ∷ []) so_far.answered
             ∙ sym next.1 ∙ ap (answers config) taken;
-        unrefused =
-            ap (refused config) (sym taken)
-            ∙ refused_from-push config.first 0 0 front round [] so_far.unrefused
-            ∙ ap (λ f. refused_or f (0 + length front) None)
-            (sym (same_fault old config front round so_far.stands) ∙ fine);
+        unrefused = one_unrefused config rounds index round old made so_far within item fine;
       }
 
   parts_of : (rounds : List Round) (index : ℕ) (round : Round) → index < length rounds
@@ -154,11 +163,20 @@ module _ {C : Type 0} (shard_of : C → List ℕ → ℕ → ℕ) where
       → IfSome (refusal_of agent round) (λ f. (r ≡ Err f) × X)
       → (refusal_of agent round ≡ None
       → OnErr r ((r ≡ Err (NoMemory false)) ⊎ (r ≡ Err (NoMemory true)))) → r ≡ Err fault
-      → ((broken : Bool) × (fault ≡ NoMemory broken))
+      → ((broken : Bool) × (fault ≡ NoMemory broken)
+      × EndsWithoutMemory config rounds index broken)
       ⊎ (refused config rounds ≡ Some (index, fault))
   ends X config rounds index round agent made r fault so_far within item refusals memory err =
       by_option (refusal_of agent round)
-      (λ none. inl (by_memory r fault err (memory none)))
+      (λ none. let met = by_memory r fault err (memory none) in
+      inl (
+        met.0,
+        met.1,
+        inr (
+          within,
+          one_unrefused config rounds index round agent made so_far within item none,
+        ),
+      ))
       (λ f found. inr (told config rounds index round agent made f so_far within item found
       ∙ ap (λ g. Some (index, g)) (same_error f fault
       (sym (subst (λ o. IfSome o (λ f. (r ≡ Err f) × X)) found refusals).0 ∙ err))))

@@ -1,5 +1,6 @@
 -- What an agent shows between its rounds, and when it refuses one before anything is done.
 use Rattle.std.specs.Prelude.{◌≡◌, ℕ, ◌<◌, ◌≤◌, ◌^◌, nat_lt, List, Option, None, Some, length, is_some, if◌then◌else◌}
+use Rattle.std.specs.Option.{option_map_or}
 use Rattle.sip_calls.specs.declared.call.Call.{Call}
 use Rattle.sip_calls.specs.declared.calls.Calls.{Calls}
 use Rattle.sip_message.specs.declared.key.Key.{Key}
@@ -27,6 +28,15 @@ pub record AgentState (C : Type 0) : Type 0 where
   pub next_round : ℕ
   pub last_moment : ℕ
   pub shards : Option ShardTables
+
+-- how many shards there are; a broken agent has none
+abbrev pub count_of : Option ShardTables → ℕ
+count_of None = 0
+count_of (Some shards) = length shards.transactions
+
+-- how many shards an agent has; a broken one has none
+abbrev pub shard_count : {C : Type 0} → AgentState C → ℕ
+shard_count agent = option_map_or (λ shards. length shards.transactions) agent.shards 0
 
 -- why a round is no round after that moment and of that number: the first fault that fits; moments
 -- and numbers of rounds are at most 2^62

@@ -1,6 +1,6 @@
 -- What rounds answer: the tables folded over each transaction's and each call's own inputs alone,
 -- in stamp order.
-use Rattle.std.specs.Prelude.{suc, ◌≡◌, ℕ, ◌+◌, zero, List, [], ◌∷◌, ◌++◌, length, Option, Some, None}
+use Rattle.std.specs.Prelude.{suc, ◌≡◌, ◌⊎◌, ◌<◌, ℕ, ◌+◌, zero, Bool, true, List, [], ◌∷◌, ◌++◌, length, take, Option, Some, None}
 use Rattle.std.specs.List.{flat_map}
 use Rattle.sip_model.specs.Machine.{Timed}
 use Rattle.sip_message.specs.declared.id.Id.{Id}
@@ -140,6 +140,13 @@ refused_from number moment index (round ∷ rounds) =
 
 unfoldable pub refused : Config → List Round → Option (ℕ × RoundFault)
 refused config rounds = refused_from config.first 0 0 rounds
+
+-- a run that ends at this index for want of memory: in the agent itself, before the first round; or
+-- in the round of this index, and neither it nor one before it is refused
+abbrev pub EndsWithoutMemory : Config → List Round → ℕ → Bool → Type 0
+EndsWithoutMemory config rounds index broken =
+    ((index ≡ 0) × (broken ≡ true))
+    ⊎ ((index < length rounds) × (refused config (take (index + 1) rounds) ≡ None))
 
 -- ---- what an agent is after rounds
 

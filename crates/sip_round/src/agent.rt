@@ -10,6 +10,7 @@ use crate::arrival::arrivals_of;
 use crate::config::Config;
 use crate::output::Output;
 use crate::parts::parts_of;
+use crate::phase::tell_of_each;
 use crate::phases::{Arrived, Ground};
 use crate::round::Round;
 use crate::round_fault::RoundFault;
@@ -29,6 +30,9 @@ pub const MAX_MOMENT: u64 = 1 << 62;
 
 /// How many events a round has at most.
 pub const MAX_EVENTS_OF_ROUND: usize = 65_536;
+
+// How many phases a round has.
+const PHASES: usize = 3;
 
 /// The transactions and the calls of one user agent, in shards, led through rounds.
 ///
@@ -71,7 +75,7 @@ impl<C: Cut + Drop> Drop for Agent<C> {
 }
 
 impl<C: Cut + Drop> Agent<C> {
-    ghost use Rattle.sip_round.specs.AgentState.{ShardTables, refusal_of};
+    ghost use Rattle.sip_round.specs.AgentState.{ShardTables, refusal_of, shard_count};
     ghost use Rattle.sip_round.specs.Answers.{StandsFor, answers, past_of};
     ghost use Rattle.sip_round.specs.Steps.Led.{Deals};
     ghost use Rattle.sip_round.specs.Live.{live_of};
@@ -87,7 +91,8 @@ impl<C: Cut + Drop> Agent<C> {
     pub fn new(alloc: Global, config: Config, shards: usize, cut: C) -> Result<Agent<C>, NoMemory>
         requires some { 0 < shards }
         requires most { shards ≤ 256 }
-        ensures { IfOk result (λ agent. StandsFor C.shard_of agent config []) }
+        ensures stands { IfOk result (λ agent. StandsFor C.shard_of agent config []) }
+        ensures count { IfOk result (λ agent. shard_count agent ≡ shards) }
     {
         let shards = Shards::new(alloc, shards)?;
         let Config { local, seed, first } = config;
@@ -117,7 +122,8 @@ impl<C: Cut + Drop> Agent<C> {
     }
 
     /// Deals with the events of a round, on up to so many workers, and answers its outputs in stamp
-    /// order. One worker starts no thread.
+    /// order. In each phase the gate is told of each shard; one worker, or one shard, starts no
+    /// thread.
     ///
     /// # Errors
     ///
@@ -138,6 +144,7 @@ impl<C: Cut + Drop> Agent<C> {
             ⊎ (result ≡ Err (round_fault.NoMemory true))) }
         ensures unbroken { result ≡ Err (round_fault.NoMemory false) → self.new ≡ self.old }
         ensures broken { result ≡ Err (round_fault.NoMemory true) → self.new.shards ≡ None }
+        ensures count { OnOk result (shard_count self.new ≡ shard_count self.old) }
 
         // Whatever rounds the agent stood for, it stands for these and this one, and answers as
         // this one is answered after them.
@@ -150,7 +157,8 @@ impl<C: Cut + Drop> Agent<C> {
         if let Some(fault) = self.refusal(round) {
             return Err(fault);
         }
-        if self.is_idle(round) {
+        if self.is_idle(round) && self.is_in_turn(workers) {
+            self.tell_of_phases(gate);
             self.next_round += 1;
             self.last_moment = round.moment;
             return Ok(Vec::new(self.alloc));
@@ -184,8 +192,7 @@ impl<C: Cut + Drop> Agent<C> {
             ⊎ (result ≡ Err (round_fault.NoMemory true))) }
         ensures unbroken { result ≡ Err (round_fault.NoMemory false) → self.new ≡ self.old }
         ensures broken { result ≡ Err (round_fault.NoMemory true) → self.new.shards ≡ None }
-        ensures count { OnOk result (IfSome self.new.shards
-            (λ held. length held.transactions ≡ shards)) }
+        ensures count { OnOk result (shard_count self.new ≡ shards) }
         ensures stands { OnOk result ((config : Config) (rounds : List Round)
             → StandsFor C.shard_of self.old config rounds
             → StandsFor C.shard_of self.new config rounds) }
@@ -239,6 +246,23 @@ impl<C: Cut + Drop> Agent<C> {
         }
     }
 
+    // Whether the shards of a phase are dealt with one after the other, without a thread.
+    fn is_in_turn(&self, workers: usize) -> bool {
+        match &self.shards {
+            None => true,
+            Some(shards) => workers == 1 || shards.count() == 1,
+        }
+    }
+
+    // Tells the gate of each shard in turn, in each phase of a round in which nothing is to do.
+    fn tell_of_phases<G: Gate>(&self, gate: &G) {
+        if let Some(shards) = &self.shards {
+            for _ in 0..PHASES {
+                tell_of_each(shards.count(), gate);
+            }
+        }
+    }
+
     // What arrived in the round, read and stamped, and cut into the parts of the shards.
     fn arrived(&self, round: &Round) -> Result<Arrived, AllocError>
         requires places { length round.now.events ≤ 65536 }
@@ -281,6 +305,7 @@ impl<C: Cut + Drop> Agent<C> {
         ensures number { self.new.next_round ≡ self.old.next_round }
         ensures moment { self.new.last_moment ≡ self.old.last_moment }
         ensures lost { OnErr result (self.new.shards ≡ None) }
+        ensures count { OnOk result (shard_count self.new ≡ shard_count self.old) }
         ensures deals { IfOk result (λ outputs. (shards : ShardTables)
             → self.old.shards ≡ Some shards
             → (led : ShardTables) × (self.new.shards ≡ Some led)

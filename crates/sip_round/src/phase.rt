@@ -1,26 +1,21 @@
 //! A phase of all shards.
 
-ghost use Rattle.std.specs.Prelude.{◌≡◌, ◌<◌, ◌≤◌, ◌^◌, ℕ, List, [], IfOk, IsTrue, map, vec_len, length};
+ghost use Rattle.std.specs.Prelude.{◌≡◌, ◌<◌, ◌≤◌, ◌^◌, [], IfOk, IsTrue, map, vec_len};
 ghost use Rattle.std.specs.List.{AllByRecursion};
-ghost use Rattle.std.specs.List.Sorted.{IsStrictlySortedBy};
-ghost use Rattle.std.specs.Ordering.{nat_cmp};
 ghost use Rattle.sip_model.specs.Machine.{ticks_of};
-ghost use Rattle.sip_model.specs.Phase.{phase_at};
 ghost use Rattle.sip_model.specs.Told.{groups};
-ghost use Rattle.sip_model.specs.declared.item.Item.{Item as AnItem};
 ghost use Rattle.sip_workers.specs.Ran.{IsNumbered};
-ghost use Rattle.sip_round.specs.Parts.{cut_by};
-ghost use Rattle.sip_round.specs.Steps.Dealt.{DealsAll, IsApart, IsIdle};
+ghost use Rattle.sip_round.specs.Steps.Dealt.{DealsParts, IsApart, IsIdle};
 
 use crate::dealing::{Dealing, Dealt};
-use sip_model::{Item, Replies, ShardFault, StateMachine, Table, by_label, laws_of_phases};
+use sip_model::{Item, Replies, ShardFault, StateMachine, Table, laws_of_phases};
 use sip_workers::{Gate, NoMemory, Piece, dones_in_order, gather, run_pieces};
 use std::alloc::{AllocError, Global};
 use std::thread::Threads;
 
 /// Deals with a phase at a moment in ms, with a tick or without: each shard with its part, on up to
 /// so many workers. Gives the tables back, in order, and what was said, in the order of keys and of
-/// places.
+/// places. The gate is told of each shard as its part begins.
 ///
 /// # Errors
 ///
@@ -45,16 +40,16 @@ where
     requires most { workers ≤ 64 }
     requires moment { now ≤ 2 ^ 62 }
     requires count { vec_len parts ≡ vec_len tables }
-    ensures { IfOk result (λ dealt. (owner : M.Key → ℕ) (items : List (AnItem M.Key M.Input))
-        → ((key : M.Key) → owner key < length tables.items)
-        → map (λ part. part.items) parts.items ≡ cut_by owner 0 (length tables.items) items
-        → IsStrictlySortedBy nat_cmp (map (λ item. item.place) items)
-        → DealsAll M.Key.cmp (M.machine machine) (ticks_of M.tick) owner tables.items
-        dealt.0.items (phase_at now ticks items) (groups dealt.1.ticks.items)
-        (groups dealt.1.items.items)) }
+    ensures { IfOk result (λ dealt. DealsParts M.Key.cmp (M.machine machine) (ticks_of M.tick) now
+        ticks (map (λ part. part.items) parts.items) tables.items dealt.0.items
+        (groups dealt.1.ticks.items) (groups dealt.1.items.items)) }
 {
+    if tables.len() == 1 {
+        return deal_alone(machine, tables, now, ticks, parts, gate);
+    }
     laws_of_phases(&machine);
-    if have_no_items(&parts) && are_idle(&machine, now, ticks, &tables) {
+    if workers == 1 && have_no_items(&parts) && are_idle(&machine, now, ticks, &tables) {
+        tell_of_each(tables.len(), gate);
         let (ticks, items) = (Vec::new(alloc), Vec::new(alloc));
         return Ok((tables, Replies { ticks, items }));
     }
@@ -62,10 +57,41 @@ where
     let pieces = pieces_of(alloc, machine, tables, now, ticks, parts)?;
     let dones = run_pieces(rt, alloc, pieces, workers, gate)?;
     let (tables, replies) = apart(alloc, gather(alloc, dones)?)?;
-    let Replies { ticks, items } = replies;
-    let ticks = by_label(ticks);
-    let items = by_label(items);
-    Ok((tables, Replies { ticks, items }))
+    Ok((tables, replies.in_order()))
+}
+
+// The phase of one shard, which has all items: what it says is in order.
+fn deal_alone<M: StateMachine + Copy, G: Gate>(
+    machine: M,
+    mut tables: Vec<Table<M>>,
+    now: u64,
+    ticks: bool,
+    mut parts: Vec<Vec<Item<M::Key, M::Input>>>,
+    gate: &G,
+) -> Result<(Vec<Table<M>>, Replies<M::Key, M::Output>), NoMemory>
+    requires moment { now ≤ 2 ^ 62 }
+    requires one { vec_len tables ≡ 1 }
+    requires count { vec_len parts ≡ vec_len tables }
+    ensures { IfOk result (λ dealt. DealsParts M.Key.cmp (M.machine machine) (ticks_of M.tick) now
+        ticks (map (λ part. part.items) parts.items) tables.items dealt.0.items
+        (groups dealt.1.ticks.items) (groups dealt.1.items.items)) }
+{
+    let (Some(mut table), Some(items)) = (tables.pop(), parts.pop()) else {
+        return Err(NoMemory);
+    };
+    gate.begin(0);
+    let Ok(replies) = table.deal(&machine, now, ticks, items) else {
+        return Err(NoMemory);
+    };
+    tables.push(table)?;
+    Ok((tables, replies))
+}
+
+/// Tells the gate of each of so many shards in turn, as a phase does in which nothing is to do.
+pub(crate) fn tell_of_each<G: Gate>(shards: usize, gate: &G) {
+    for shard in 0..shards {
+        gate.begin(shard);
+    }
 }
 
 /// Whether nothing is due in any of these tables at the moment in ms, or the phase has no tick.

@@ -26,8 +26,9 @@ use std::thread::Threads;
 ///
 /// # Errors
 ///
-/// The first round that is refused, by its index from 0, with its fault. Where the agent itself
-/// found no memory, the index is 0.
+/// The first round that is refused, by its index from 0, with its fault; or `NoMemory`, with the
+/// index of the round in which memory was refused, where neither it nor one before it is refused
+/// otherwise. Where the agent itself found no memory, the index is 0 and `broken` is true.
 pub fn run<R: Threads + Sync, C: Cut + Drop, G: Gate>(
     rt: &R,
     alloc: Global,
@@ -46,7 +47,8 @@ pub fn run<R: Threads + Sync, C: Cut + Drop, G: Gate>(
         ≡ answers.answers config rounds.now) }
     ensures unrefused { IfOk result (λ made. answers.refused config rounds.now ≡ None) }
     ensures refused { IfErr result
-        (λ fault. ((broken : Bool) × (fault.1 ≡ round_fault.NoMemory broken))
+        (λ fault. ((broken : Bool) × (fault.1 ≡ round_fault.NoMemory broken)
+        × answers.EndsWithoutMemory config rounds.now fault.0 broken)
         ⊎ (answers.refused config rounds.now ≡ Some fault)) }
     ensures each_request_once { OneRequestInLives config rounds.now }
     ensures provisionals_in_order { ProvisionalsInLives config rounds.now }

@@ -1,11 +1,15 @@
 -- Phases of all shards.
-use Rattle.std.specs.Prelude.{◌≡◌, ℕ, zero, List, [], ◌∷◌, ◌++◌, length, map, Bool, Result, Ok}
+use Rattle.std.specs.Prelude.{◌≡◌, ◌<◌, ℕ, zero, List, [], ◌∷◌, ◌++◌, length, map, Bool, Result, Ok}
 use Rattle.std.specs.List.{flat_map}
+use Rattle.std.specs.List.Sorted.{IsStrictlySortedBy}
+use Rattle.std.specs.Ordering.{nat_cmp}
 use Rattle.std.specs.declared.cmp.Ordering.{Ordering}
 use Rattle.sip_model.specs.Machine.{Machine, Timed}
 use Rattle.sip_model.specs.Table.{Held}
 use Rattle.sip_model.specs.Phase.{Phase, AddsPhase, by_place, phase_at, told_next}
 use Rattle.sip_model.specs.Shards.{HoldFrom}
+use Rattle.sip_model.specs.declared.item.Item.{Item}
+use Rattle.sip_round.specs.Parts.{cut_by}
 
 -- the tables of all shards before and after a phase, and what was said in it: they are as many as
 -- before, and whatever phases they held, each its own part, they hold this one more, and what was
@@ -20,6 +24,16 @@ pub record DealsAll {K S I O : Type 0} (cmp : K → K → Ordering) (machine : M
       → ticks ≡ (told_next cmp machine tick phases phase).ticks
   pub items_told : (phases : List (Phase K I)) → HoldFrom cmp machine tick owner zero old phases
       → items ≡ map by_place (told_next cmp machine tick phases phase).items
+
+-- the same of the parts of the shards, whatever shard owns each key and whatever items were cut
+abbrev pub DealsParts : {K S I O : Type 0} (cmp : K → K → Ordering) → Machine K S (Timed I) O
+    → (ℕ → Timed I) → ℕ → Bool → List (List (Item K I)) → (old new : List (Held K S))
+    → List (K × List O) → List (ℕ × List O) → Type 0
+DealsParts {K} {S} {I} {O} cmp machine tick now with_tick parts old new ticks said =
+    (owner : K → ℕ) (items : List (Item K I)) → ((key : K) → owner key < length old)
+    → parts ≡ cut_by owner zero (length old) items
+    → IsStrictlySortedBy nat_cmp (map (λ item. item.place) items)
+    → DealsAll cmp machine tick owner old new (phase_at now with_tick items) ticks said
 
 -- a phase without items changes nothing in the table, and nothing is said
 abbrev pub IsIdle : {K S I O : Type 0} → (K → K → Ordering) → Machine K S (Timed I) O

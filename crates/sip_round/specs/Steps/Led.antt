@@ -71,6 +71,7 @@ module _ (shared : Calls) (owner : List ℕ → ℕ) (old new : List (Held (List
 -- the phases of this round, and the outputs are its answer
 pub record Deals (shared : Calls) (shard_of : List ℕ → ℕ → ℕ) (number : ℕ) (round : Round)
     (old new : ShardTables) (outputs : List Output) : Type 0 where
+  pub count : length new.transactions ≡ length old.transactions
   pub transactions : (config : Config) (past : Past) → shared ≡ calls_of config
       → HoldTransactions shard_of old past.transactions → HoldCalls shared shard_of old past.calls
       → HoldTransactions shard_of new (past_after config number past round).transactions

@@ -211,7 +211,7 @@ fn the_same_bytes_each_time(rt: HostRuntime) -> Result<(), Fail> {
     Ok(())
 }
 
-// How many pieces of a round with one request, in two shards, waited for the other in vain.
+// How many pieces of a round without events, in two shards, waited for the other in vain.
 fn alone<T: Threads + Sync>(rt: &T, alloc: Global, workers: usize, looks: u32) -> Result<u64, Fail>
     requires some { 0 < workers }
     requires most { workers ≤ 64 }
@@ -222,8 +222,7 @@ fn alone<T: Threads + Sync>(rt: &T, alloc: Global, workers: usize, looks: u32) -
         alone: AtomicU64::new(0),
     };
     let mut agent = Agent::new(alloc, CONFIG, 2, Spread)?;
-    let mut events = Series::new(alloc);
-    events.push(request(alloc, 0)?)?;
+    let events = Series::new(alloc);
     agent.run_round(rt, &Round { moment: 0, events }, workers, &gate)?;
     Ok(gate.alone.load(Ordering::SeqCst))
 }

@@ -52,9 +52,9 @@ returns g c = λ owner items within parts rising.
     c.in_ok-gather.field-0.items c.in_ok-pieces.ensures.numbered c.in_ok-dones.ensures.each_once
     c.in_ok-gather.ensures)
     c.in_ok-tables.tables.items (groups c.in_ok-tables.replies.ticks.items)
-    (groups c.by_label-ticks.result.items) (groups c.in_ok-tables.replies.items.items)
-    (groups c.by_label-items.result.items)
-    c.in_ok-tables.ensures c.by_label-ticks.ensures c.by_label-items.ensures
+    (groups c.in_order.result.ticks.items) (groups c.in_ok-tables.replies.items.items)
+    (groups c.in_order.result.items.items)
+    c.in_ok-tables.ensures c.in_order.ensures.ticks c.in_order.ensures.items
 
 pub gather-requires : goal.gather-requires
 gather-requires g c =

@@ -1,12 +1,12 @@
-use Rattle.std.proofs.Common.{◌≤◌, ◌∙◌, sym, ap, length, arith}
+use Rattle.std.proofs.Common.{◌≤◌, ◌∙◌, true, refl, sym, ap, inl, inr, length, arith}
 use Rattle.std.proofs.lemmas.List.{take_all}
 use Rattle.sip_round.specs.Answers.{answers, refused}
-use Rattle.sip_round.proofs.SoFar.{at_start, one_more, ends, fine_where_ok}
+use Rattle.sip_round.proofs.SoFar.{at_start, one_more, one_unrefused, ends, fine_where_ok}
 use Rattle.sip_round.proofs.whole_run.run.Goals as goal
 
 pub loop-index-init : goal.loop-index-init
 loop-index-init g c = at_start g.C.Cut.shard_of c.args.config c.args.rounds.now c.in-Ok.agent
-    c.new-made.result.items c.in-Ok.ensures c.new-made.ensures.items
+    c.new-made.result.items c.in-Ok.ensures.stands c.new-made.ensures.items
 
 pub loop-index-preserved : goal.loop-index-preserved
 loop-index-preserved g c =
@@ -25,6 +25,24 @@ returns-in-Err-clause-refused g c =
     c.in-Err.fault
     c.loop-index.invariant c.loop-index-test.true c.index-rounds-index.is
     c.run_round.ensures.refused c.run_round.ensures.memory c.in-Err.is
+
+pub returns-in_default-push-clause-refused : goal.returns-in_default-push-clause-refused
+returns-in_default-push-clause-refused g c =
+    inl (
+      true,
+      refl,
+      inr (
+        c.loop-index-test.true,
+        one_unrefused g.C.Cut.shard_of c.args.config c.args.rounds.now c.loop-index.index
+            c.index-rounds-index.result c.loop-index.agent c.loop-index.made.items
+            c.loop-index.invariant c.loop-index-test.true c.index-rounds-index.is
+            (fine_where_ok g.C.Cut.shard_of _ _ c.run_round.result c.in-Ok-run_round.outputs
+            c.in-Ok-run_round.is c.run_round.ensures.refused),
+      ),
+    )
+
+pub returns-in_default-clause-refused : goal.returns-in_default-clause-refused
+returns-in_default-clause-refused g c = inl (true, refl, inl (refl, refl))
 
 pub returns-clause-answers : goal.returns-clause-answers
 returns-clause-answers g c =

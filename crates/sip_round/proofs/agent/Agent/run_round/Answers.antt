@@ -23,8 +23,8 @@ returns-in-Ok-deal-clause-answers g c = λ config rounds stands.
     (ap (λ a. a.next_round + 1) c.self-2.view_is ∙ ap (λ n. n + 1) c.in-Ok-deal.ensures.number) refl
     stands
 
-pub returns-then-is_idle-clause-answers : goal.returns-then-is_idle-clause-answers
-returns-then-is_idle-clause-answers g c = λ config rounds stands.
+pub returns-then-is_in_turn-clause-answers : goal.returns-then-is_in_turn-clause-answers
+returns-then-is_in_turn-clause-answers g c = λ config rounds stands.
     let inside = c.self.inside in
     let old = c.args.self.now in
     stands_longer g.C.Cut.shard_of old
