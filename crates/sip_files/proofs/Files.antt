@@ -19,12 +19,12 @@ use Rattle.sip_files.specs.declared.events_fault.EventsFault.{EventsFault}
 use Rattle.sip_files.specs.declared.events_fault.EventsFault.TheVariants.{TooLong, BadVersion, BadLine, NoMemory}
 use Rattle.sip_files.specs.Events.{SpellsLine}
 use Rattle.sip_files.specs.Field.{address_field}
-use Rattle.sip_files.specs.EventFile.{Head, config_of, file_lines, with_ends, version_line, file_text, SpellsEvents, IsBegun, IsOneLine, IsBadLine, HasVersion, TellsFault}
+use Rattle.sip_files.specs.EventFile.{Head, config_of, file_lines, with_ends, version_line, file_text, SpellsEvents, IsEventFile, IsBegun, IsOneLine, IsBadLine, HasVersion, TellsFault}
 use Rattle.sip_files.specs.ReadLine.{line_at}
 use Rattle.sip_files.specs.Drafting.{is_begun, nothing_read, taken, drafted}
 use Rattle.sip_files.specs.Lines.{FollowsVersion, TellsVersion, TellsLine, Drafts, Stuck}
 use Rattle.sip_files.proofs.LineLaws.{line_took, line_again, line_no}
-use Rattle.sip_files.proofs.Drafts.{drafted-push, next_taken, Begun, Gives, file_gives, file_of, nothing_of, begun_unless}
+use Rattle.sip_files.proofs.Drafts.{drafted-push, next_taken, Begun, Gives, file_gives, file_of, nothing_of, begun_unless, not_local}
 
 abbrev pub SayAll : List (List ℕ) → List EventLine → Type 0
 SayAll lines said = AllZip SpellsLine lines said
@@ -327,6 +327,7 @@ stuck_by number after k next rest rest' config rounds text s (line ∷ others)
 pub bad_line : (number : ℕ) (text after : List ℕ) → FollowsVersion text after → Stuck number after
     → IsBadLine number text
 bad_line number text after follows k = record {
+  none = λ file. not_stuck file.0 file.1 text after number file.2 follows k;
   before = version_line ∷ k.before;
   left = k.left;
   parts = follows ∙ ap (λ (t : List ℕ). version_line ++ 10 ∷ t) k.parts;
@@ -350,6 +351,8 @@ no_local text after draft follows d at =
     let none = no_text d.lines d.said d.says (nothing_of d.said draft d.gives at) in
     let nothing : after ≡ [] = d.spelled ∙ ap with_ends none in
     record {
+      none = λ file.
+          not_local draft.stage (only_draft file.0 file.1 text after draft file.2 follows d).begun at;
       before = version_line ∷ [];
       left = after;
       parts = follows;
@@ -361,6 +364,7 @@ no_local text after draft follows d at =
 
 pub no_end : (text : List ℕ) → text ≡ version_line → IsBadLine 1 text
 no_end text e = record {
+  none = λ file. version_alone text (with_ends (file.2).lines) e (file.2).spelled;
   before = [];
   left = text;
   parts = refl;
@@ -516,6 +520,14 @@ line_tells BadVersion text after small follows tells = elim tells [ ]
 line_tells (BadLine number) text after small follows tells =
     (small, inr (after, follows), bad_line number text after follows tells)
 line_tells NoMemory text after small follows tells = tt
+
+-- no fault fits an event file but want of memory
+pub never_bad : (fault : EventsFault) (text : List ℕ) → TellsFault fault text → IsEventFile text
+    → fault ≡ NoMemory
+never_bad TooLong text tells file = absurd (omega (arith, file.3, tells))
+never_bad BadVersion text tells file = absurd (tells.1 (has_version file.0 file.1 text file.2))
+never_bad (BadLine number) text tells file = absurd ((tells.2).none file)
+never_bad NoMemory text tells file = refl
 
 pub local_at : (at : Stage) → is_begun at ≡ false → at ≡ stage.Local
 local_at stage.Local e = refl

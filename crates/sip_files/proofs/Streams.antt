@@ -1,24 +1,47 @@
 -- A replay in the middle of its reading, of its pairs of moments and answers, and of its writing.
-use Rattle.std.proofs.Common.{◌≡◌, ℕ, ◌-◌, ◌≤◌, ◌^◌, List, [], ◌∷◌, ◌++◌, map, length, take, drop, refl, sym, ap, ◌∙◌, append_assoc, append-nil, take-append-drop}
+use Rattle.std.proofs.Common.{◌≡◌, ℕ, ◌+◌, ◌-◌, ◌<◌, ◌≤◌, ◌^◌, List, [], ◌∷◌, ◌++◌, map, length, take, drop, refl, sym, ap, ◌∙◌, append_assoc, append-nil, take-append-drop, arith, Result, Err, IfErr, IfSome, subst}
 use Rattle.std.proofs.lemmas.List.{take_rest, map-append}
 use Rattle.std.proofs.KnownBytes.{Appends-trans}
-use Rattle.std.specs.Prelude.{Option, None}
+use Rattle.std.specs.Prelude.{Option, Some, None}
 use Rattle.std.specs.List.{zip}
 use Rattle.std.specs.Io.KnownBytes.{Appends, Consumes}
 use Rattle.std.specs.Global.{Vec}
-use Rattle.sip_files.specs.EventFile.{SpellsEvents}
+use Rattle.sip_files.specs.EventFile.{SpellsEvents, IsEventFile}
 use Rattle.sip_files.specs.Outputs.{told, outputs_text}
 use Rattle.sip_round.specs.declared.config.Config.{Config}
 use Rattle.sip_round.specs.declared.output.Output.{Output}
 use Rattle.sip_round.specs.declared.round.Round.{Round}
 use Rattle.sip_round.specs.Answers.{answers, refused}
-use Rattle.sip_files.specs.Replay.{Replays, answer_file}
+use Rattle.sip_files.specs.Reads.{Counts, CountsAtMost}
+use Rattle.sip_files.specs.Replay.{Replays, TellsReplay, answer_file}
+use Rattle.sip_files.specs.declared.events_fault.EventsFault.{EventsFault}
+use Rattle.sip_files.specs.declared.events_fault.EventsFault.TheVariants as events_fault
+use Rattle.sip_files.specs.declared.file_replay.ReplayFault.{ReplayFault}
+use Rattle.sip_files.specs.declared.file_replay.ReplayFault.TheVariants as replay_fault
+use Rattle.sip_files.proofs.Files.{never_bad}
 
--- the reader gave this text, at least a byte at each turn, and no more than an event file has
-pub record ReadSoFar (before now : Option (List ℕ)) (text : List ℕ) (turns : ℕ) : Type 0 where
+-- the reader gave this text, in one read for each turn, at least a byte at each, and no more than an
+-- event file has
+pub record ReadSoFar (before now : Option (List ℕ)) (reads_before reads_now : Option ℕ)
+    (text : List ℕ) (turns : ℕ) : Type 0 where
   pub consumed : Consumes before now text
+  pub counted : Counts reads_before reads_now turns
   pub progress : turns ≤ length text
   pub within : length text ≤ 2 ^ 26
+
+counts_more : (before now after : Option ℕ) (turns : ℕ) → Counts before now turns
+    → Counts now after 1 → Counts before after (turns + 1)
+counts_more before now None turns so_far one = tt
+counts_more before None (Some after) turns so_far one = elim one [ ]
+counts_more None (Some now) (Some after) turns so_far one = elim so_far [ ]
+counts_more (Some before) (Some now) (Some after) turns so_far one =
+    omega (arith, so_far, one)
+
+-- with one read more
+pub counts_within : (before now after : Option ℕ) (turns most : ℕ) → turns < most
+    → Counts before now turns → Counts now after 1 → CountsAtMost before after most
+counts_within before now after turns most few so_far one =
+    (turns + 1, omega arith, counts_more before now after turns so_far one)
 
 -- the writer took the front of these bytes, and this is left
 pub record WrittenSoFar (before now : Option (List ℕ)) (bytes left : List ℕ) : Type 0 where
@@ -107,3 +130,19 @@ replays_read input config rounds slice answered made file same spelled size unre
           ∙ ap (zip (map (λ round. round.moment) slice)) answers_made)
           ∙ ap (λ rs. outputs_text (zip (map (λ round. round.moment) rs) (answers config rs))) same;
     }
+
+-- of an event file no fault of the events is told but want of memory
+only_memory : {T : Type 0} (result : Result T ReplayFault) (input : List ℕ) (fault : EventsFault)
+    → IfErr result (λ told. TellsReplay told input) → IsEventFile input
+    → result ≡ Err (replay_fault.Events fault) → fault ≡ events_fault.NoMemory
+only_memory {T = T} result input fault tells file is =
+    never_bad fault input
+    (subst (λ (r : Result T ReplayFault). IfErr r (λ told. TellsReplay told input)) is tells) file
+
+pub only_memory_known : {T : Type 0} (known : Option (List ℕ)) (result : Result T ReplayFault)
+    → IfErr result (λ told. IfSome known (TellsReplay told))
+    → IfSome known (λ input. IsEventFile input → (fault : EventsFault)
+    → result ≡ Err (replay_fault.Events fault) → fault ≡ events_fault.NoMemory)
+only_memory_known None result tells = tt
+only_memory_known (Some input) result tells =
+    λ file fault is. only_memory result input fault tells file is

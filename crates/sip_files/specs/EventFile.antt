@@ -65,6 +65,11 @@ pub record SpellsEvents (config : Config) (rounds : List Round) (text : List ℕ
   pub says : AllZip SpellsLine lines (file_lines head rounds)
   pub spelled : text ≡ file_text lines
 
+-- some configuration and rounds have this text, and it isn't too long
+abbrev pub IsEventFile : List ℕ → Type 0
+IsEventFile text = (config : Config) × (rounds : List Round)
+    × SpellsEvents config rounds text × (length text ≤ 2 ^ 26)
+
 -- ---- the faults
 
 -- the text is how some event file begins
@@ -75,9 +80,11 @@ IsBegun text = (rest : List ℕ) × (config : Config) × (rounds : List Round)
 abbrev pub IsOneLine : List ℕ → Type 0
 IsOneLine text = IsTrue (list_all (λ b. not (b == 10)) text)
 
--- The lines before that of this number are how some event file begins. With the line of this number
--- they are not; or there is no such line, since the text ends there or the line has no end.
+-- The text is no event file, and this is the line that it breaks off at: the lines before are how
+-- some event file begins. With the line of this number they are not; or there is no such line, since
+-- the text ends there or the line has no end.
 pub record IsBadLine (number : ℕ) (text : List ℕ) : Type 0 where
+  pub none : ¬ (IsEventFile text)
   pub before : List (List ℕ)
   pub left : List ℕ
   pub parts : text ≡ with_ends before ++ left

@@ -4,6 +4,7 @@ pub mod Field
 pub mod Outputs
 pub mod Events
 pub mod Reading
+pub mod Reads
 pub mod Replay
 pub mod ReadLine
 pub mod EventFile

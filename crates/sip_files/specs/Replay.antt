@@ -10,7 +10,7 @@ use Rattle.sip_round.specs.declared.round_fault.RoundFault.{RoundFault}
 use Rattle.sip_round.specs.declared.round_fault.RoundFault.TheVariants as round_fault
 use Rattle.sip_files.specs.declared.file_replay.ReplayFault.{ReplayFault}
 use Rattle.sip_files.specs.declared.file_replay.ReplayFault.TheVariants.{Input, Events, Round, Output, NoMemory}
-use Rattle.sip_round.specs.Answers.{answers, refused}
+use Rattle.sip_round.specs.Answers.{answers, refused, EndsWithoutMemory}
 
 -- the output file of the rounds: the moment of each beside its answer
 unfoldable pub answer_file : Config → List round.Round → List ℕ
@@ -35,12 +35,21 @@ pub record RefusesRound (index : ℕ) (fault : RoundFault) (input : List ℕ) : 
   pub size : length input ≤ 2 ^ 26
   pub refuses : refused config rounds ≡ Some (index, fault)
 
+-- the input is an event file, and a run of its rounds may end at this index for want of memory
+pub record RunsOutOfMemory (index : ℕ) (broken : Bool) (input : List ℕ) : Type 0 where
+  pub config : Config
+  pub rounds : List round.Round
+  pub spelled : SpellsEvents config rounds input
+  pub size : length input ≤ 2 ^ 26
+  pub ends : EndsWithoutMemory config rounds index broken
+
 -- what a fault tells of the input; of a stream that failed and of want of memory it tells nothing
 abbrev pub TellsReplay : ReplayFault → List ℕ → Type 0
 TellsReplay Input input = Unit {0}
 TellsReplay (Events fault) input = TellsFault fault input
 TellsReplay (Round index fault) input =
-    ((broken : Bool) × (fault ≡ round_fault.NoMemory broken)) ⊎ RefusesRound index fault input
+    ((broken : Bool) × (fault ≡ round_fault.NoMemory broken) × RunsOutOfMemory index broken input)
+    ⊎ RefusesRound index fault input
 TellsReplay Output input = Unit {0}
 TellsReplay NoMemory input = Unit {0}
 

@@ -1,12 +1,17 @@
 //! Replays: an event file in, its output file out.
 
-ghost use Rattle.std.specs.Prelude.{◌≡◌, ◌≢◌, ◌<◌, ◌≤◌, ◌++◌, ℕ, List, map, IfOk, IfErr, IfSome, OnOk, OnErr, Err};
+ghost use Rattle.std.specs.Prelude.{◌≡◌, ◌≢◌, ◌<◌, ◌≤◌, ◌+◌, ◌^◌, ◌++◌, ℕ, List, map, IfOk, IfErr, IfSome, OnOk, OnErr, Err};
 ghost use Rattle.std.specs.List.{zip};
 ghost use Rattle.std.specs.Io.KnownBytes.{Appends};
+ghost use Rattle.sip_files.specs.EventFile.{IsEventFile};
 ghost use Rattle.sip_files.specs.Outputs.{told};
+ghost use Rattle.sip_files.specs.Reads.{CountsAtMost};
 ghost use Rattle.sip_files.specs.Replay.{Replays, TellsReplay, WritesAll, WritesFront};
+ghost use Rattle.sip_files.specs.declared.events_fault.EventsFault.{EventsFault};
+ghost use Rattle.sip_files.specs.declared.events_fault.EventsFault.TheVariants as events_fault;
 ghost use Rattle.sip_files.specs.declared.file_replay.ReplayFault.TheVariants as replay_fault;
 
+use crate::counted_read::CountedRead;
 use crate::events_fault::EventsFault;
 use crate::events_file::{MAX_EVENTS, read_events};
 use crate::outputs_file::write_outputs;
@@ -15,7 +20,7 @@ use sip_round::{Gate, Output, Round, RoundFault, run};
 use std::alloc::{AllocError, Global};
 use std::error::Error;
 use std::fmt;
-use std::io::{Read, Write};
+use std::io::Write;
 use std::thread::Threads;
 
 /// How many bytes one read asks for.
@@ -60,13 +65,13 @@ impl Error for ReplayFault {}
 
 /// Reads an event file, runs its rounds in so many shards, among which names are cut so, on up to
 /// so many workers, and writes the output file: all is read before the first round runs, and all
-/// rounds have run before the first byte is written.
+/// rounds have run before the first byte is written. The reader is read at most 2^26 + 2 times.
 ///
 /// # Errors
 ///
 /// With every fault but `Output` nothing was written; with `Output` the front of the output file
 /// may have been.
-pub fn replay<T: Threads + Sync, R: Read, W: Write, C: Cut + Drop, G: Gate>(
+pub fn replay<T: Threads + Sync, R: CountedRead, W: Write, C: Cut + Drop, G: Gate>(
     rt: &T,
     alloc: Global,
     reader: &mut R,
@@ -88,6 +93,10 @@ pub fn replay<T: Threads + Sync, R: Read, W: Write, C: Cut + Drop, G: Gate>(
     ensures front { result ≡ Err replay_fault.Output
         → IfSome (R.remaining reader.old)
         (WritesFront (W.contents writer.old) (W.contents writer.new)) }
+    ensures only { IfSome (R.remaining reader.old) (λ input. IsEventFile input
+        → (fault : EventsFault) → result ≡ Err (replay_fault.Events fault)
+        → fault ≡ events_fault.NoMemory) }
+    ensures reads { CountsAtMost (R.reads reader.old) (R.reads reader.new) (2 ^ 26 + 2) }
 {
     let text = read_all(alloc, reader)?;
     let file = replayed(rt, alloc, text.as_slice(), shards, workers, cut, gate)?;
@@ -96,16 +105,17 @@ pub fn replay<T: Threads + Sync, R: Read, W: Write, C: Cut + Drop, G: Gate>(
 
 // All bytes of the reader, up to the limit of an event file. Each read gives at least one byte, the
 // end or an error.
-fn read_all<R: Read>(alloc: Global, reader: &mut R) -> Result<Vec<u8>, ReplayFault>
+fn read_all<R: CountedRead>(alloc: Global, reader: &mut R) -> Result<Vec<u8>, ReplayFault>
     ensures all { IfOk result (λ text.
         IfSome (R.remaining reader.old) (λ input. text.items ≡ input)) }
     ensures fault { IfErr result (λ fault. IfSome (R.remaining reader.old) (TellsReplay fault)) }
     ensures unwritten { IfErr result (λ fault. fault ≢ replay_fault.Output) }
+    ensures reads { CountsAtMost (R.reads reader.old) (R.reads reader.new) (2 ^ 26 + 2) }
 {
     let mut text = Vec::new(alloc);
     let mut chunk = [0u8; CHUNK];
     for _ in 0..MAX_EVENTS + 2 {
-        match reader.read(&mut chunk) {
+        match reader.read_once(&mut chunk) {
             Ok(0) => return Ok(text),
             Ok(count) => text.extend_from_slice(&chunk[..count])?,
             Err(_) => return Err(ReplayFault::Input),

@@ -2,6 +2,7 @@
 #![tactic(auto)]
 
 mod command_line;
+mod counted_read;
 mod draft;
 mod event_line;
 mod events_fault;
@@ -14,6 +15,7 @@ mod numbers;
 mod outputs_file;
 mod words;
 
+pub use counted_read::CountedRead;
 pub use events_fault::EventsFault;
 pub use events_file::{MAX_EVENTS, read_events};
 pub use file_replay::{ReplayFault, replay};

@@ -8,4 +8,5 @@ mod talking;
 mod words;
 
 pub use program::ua;
-pub use status::no_memory;
+pub use status::no_words;
+pub use words::given_words;

@@ -1,7 +1,8 @@
 //! The program: what each command does.
 
-ghost use Rattle.std.specs.Prelude.{◌≡◌, ◌≢◌, ◌<◌, ◌≤◌, IfErr, IfSome, IsFalse, IsTrue, OnOk, map};
-ghost use Rattle.sip_files.specs.Replay.{TellsReplay, WritesAll};
+ghost use Rattle.std.specs.Prelude.{◌≡◌, ◌≢◌, ◌⊎◌, ◌<◌, ◌≤◌, Err, IfErr, IfSome, IsFalse, IsTrue, OnOk, map};
+ghost use Rattle.sip_files.specs.EventFile.{IsEventFile};
+ghost use Rattle.sip_files.specs.Replay.{TellsReplay, WritesAll, WritesFront};
 ghost use Rattle.sip_program.specs.Inputs.{HasRefusedRound, IsNoEventFile};
 ghost use Rattle.sip_program.specs.Words.{asks_replay};
 ghost use Rattle.sip_files.specs.declared.file_replay.ReplayFault.TheVariants as replay_fault;
@@ -51,6 +52,11 @@ pub fn ua<T: Threads + Clock + Net + RandomSource + Sync, S: AsStr, R: Read, W: 
         → IfSome (R.remaining input.old) IsNoEventFile }
     ensures refused_round { IsTrue (asks_replay (map S.text words.now)) → result ≡ 3
         → IfSome (R.remaining input.old) HasRefusedRound }
+    ensures only { IsTrue (asks_replay (map S.text words.now))
+        → IfSome (R.remaining input.old) (λ input. IsEventFile input → result ≢ 1) }
+    ensures front { IsTrue (asks_replay (map S.text words.now)) → result ≡ 4
+        → (output.new ≡ output.old) ⊎ IfSome (R.remaining input.old)
+        (WritesFront (W.contents output.old) (W.contents output.new)) }
     ensures unread { IsFalse (asks_replay (map S.text words.now)) → input.new ≡ input.old }
     ensures bad_words { result ≡ 2 → output.new ≡ output.old }
 {
@@ -83,6 +89,9 @@ fn replay_by<T: Threads + Sync, R: Read, W: Write>(
     ensures fault { IfErr result (λ fault. IfSome (R.remaining input.old) (TellsReplay fault)) }
     ensures unwritten { IfErr result
         (λ fault. fault ≢ replay_fault.Output → output.new ≡ output.old) }
+    ensures front { result ≡ Err replay_fault.Output
+        → IfSome (R.remaining input.old)
+        (WritesFront (W.contents output.old) (W.contents output.new)) }
 {
     let ReplayWords {
         shards,

@@ -1,6 +1,8 @@
 //! How the program ends: a fault is told, and has its status.
 
 ghost use Rattle.std.specs.Prelude.{◌≡◌, ◌≢◌, MatchResult};
+ghost use Rattle.std.specs.IoError.{error_kind};
+ghost use Rattle.std.specs.declared.io.ErrorKind.TheVariants as io_kind;
 ghost use Rattle.sip_program.specs.Status.{fault_status};
 ghost use Rattle.sip_program.specs.TalkStatus.{talk_status};
 
@@ -10,7 +12,7 @@ use clap::error::ErrorKind;
 use sip_files::{EventsFault, ReplayFault};
 use sip_round::RoundFault;
 use sip_udp::UaFault;
-use std::io::Write;
+use std::io::{self, Write};
 
 const SUCCESS: u8 = 0;
 
@@ -23,6 +25,13 @@ const BAD_ROUND: u8 = 3;
 const FAILED_DEVICE: u8 = 4;
 
 const NO_MEMORY: u8 = 5;
+
+/// What is told of words of which one isn't UTF-8.
+const NOT_UTF8: &str = "\
+error: invalid UTF-8 was detected in one or more arguments
+
+For more information, try '--help'.
+";
 
 /// Tells a fault of the words, and gives its status.
 pub(crate) fn tell_words<E: Write>(error: &Error, errors: &mut E) -> u8
@@ -38,8 +47,21 @@ pub(crate) fn tell_words<E: Write>(error: &Error, errors: &mut E) -> u8
     BAD_WORDS
 }
 
-/// Tells that there is no memory, and gives the status of that.
-pub fn no_memory<E: Write>(errors: &mut E) -> u8
+/// Tells why the words of the command line can't be had, and gives the status of that: want of
+/// memory, or a word that isn't UTF-8, which is told as `clap` tells it.
+pub fn no_words<E: Write>(error: &io::Error, errors: &mut E) -> u8
+    ensures memory { error_kind error.now ≡ io_kind.OutOfMemory → result ≡ 5 }
+    ensures words { error_kind error.now ≢ io_kind.OutOfMemory → result ≡ 2 }
+{
+    if error.kind() == io::ErrorKind::OutOfMemory {
+        return no_memory(errors);
+    }
+    let _ = write!(errors, "{NOT_UTF8}");
+    BAD_WORDS
+}
+
+// Tells that there is no memory, and gives the status of that.
+fn no_memory<E: Write>(errors: &mut E) -> u8
     ensures { result ≡ 5 }
 {
     finish(Err(ReplayFault::NoMemory), errors)

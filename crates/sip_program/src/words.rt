@@ -6,6 +6,8 @@ ghost use Rattle.sip_program.specs.Words as spec;
 use clap::{Arg, ArgMatches, Command, Error, value_parser};
 use std::alloc::{AllocError, Global};
 use std::convert::AsStr;
+use std::rt::Env;
+use std::{env, io};
 
 /// How many shards there may be at most.
 const MAX_SHARDS: usize = 256;
@@ -74,6 +76,16 @@ pub(crate) struct CallWords<'a> {
     pub uri: &'a str,
     pub call_id: &'a str,
     pub turns: u32,
+}
+
+/// The words of the command line, without the program's own name.
+///
+/// # Errors
+///
+/// A word that isn't UTF-8, and want of memory.
+pub fn given_words<R: Env + AllocGlobal>(rt: &R) -> io::Result<Vec<String>> {
+    let words = env::args(rt)?.skip(1).collect(rt.alloc())?;
+    Ok(words)
 }
 
 /// Whether the command that is asked for is `replay`: the first word names it.

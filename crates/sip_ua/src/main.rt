@@ -4,12 +4,11 @@
 #[cfg(test)]
 mod tests;
 
-use sip_program::{no_memory, ua};
-use std::io;
+use sip_program::{given_words, no_words, ua};
 use std::process::ExitCode;
 
 fn main(rt: HostRuntime) -> ExitCode {
-    let status = match words(&rt) {
+    let status = match given_words(&rt) {
         Ok(words) => ua(
             &rt,
             rt.alloc(),
@@ -18,13 +17,7 @@ fn main(rt: HostRuntime) -> ExitCode {
             &mut rt.stdout(),
             &mut rt.stderr(),
         ),
-        Err(_) => no_memory(&mut rt.stderr()),
+        Err(error) => no_words(&error, &mut rt.stderr()),
     };
     ExitCode::from(status)
-}
-
-// The program's words, without its own name.
-fn words(rt: &HostRuntime) -> io::Result<Vec<String>> {
-    let words = std::env::args(rt)?.skip(1).collect(rt.alloc())?;
-    Ok(words)
 }

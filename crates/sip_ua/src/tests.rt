@@ -10,11 +10,13 @@ mod two_agents;
 mod udp;
 mod workers;
 
-use sip_program::ua;
+use sip_program::{given_words, no_words, ua};
 use std::alloc::{AllocError, Global};
+use std::env::FillError;
 use std::io::{self, Read, Write};
 use std::net::Net;
 use std::random::RandomSource;
+use std::rt::Env;
 use std::test::Fail;
 use std::thread::Threads;
 use std::time::Clock;
@@ -242,4 +244,45 @@ fn a_replay_flushes_its_output(rt: HostRuntime) {
         assert!(rt; fails || writer.flushed == writer.bytes.len());
         assert!(rt; errors.as_slice() == told.as_bytes());
     }
+}
+
+/// The words of a program: its name and this one.
+#[derive(Drop)]
+struct OneWord<'a>(&'a [u8]);
+
+impl Env for OneWord<'_> {
+    fn arg(&self, i: usize, buf: &mut [u8]) -> Result<usize, FillError> {
+        let word = match i {
+            0 => b"ua".as_slice(),
+            1 => self.0,
+            _ => return Err(FillError::NotPresent),
+        };
+        let Some(room) = buf.get_mut(..word.len()) else {
+            return Err(FillError::TooLong);
+        };
+        room.copy_from_slice(word);
+        Ok(word.len())
+    }
+
+    fn var(&self, _name: &str, _buf: &mut [u8]) -> Result<usize, FillError> {
+        Err(FillError::NotPresent)
+    }
+
+    fn var_at(&self, _i: usize, _buf: &mut [u8]) -> Result<usize, FillError> {
+        Err(FillError::NotPresent)
+    }
+}
+
+#[test]
+fn a_word_that_is_not_utf8_is_a_bad_word(rt: HostRuntime) {
+    let alloc = rt.alloc();
+    let mut errors = Vec::new(alloc);
+    let status = match given_words(&(OneWord(b"repl\xe4y"), alloc)) {
+        Ok(_) => 0,
+        Err(error) => no_words(&error, &mut errors),
+    };
+    let told = "error: invalid UTF-8 was detected in one or more arguments\n\n\
+        For more information, try '--help'.\n";
+    assert!(rt; status == 2);
+    assert!(rt; errors.as_slice() == told.as_bytes());
 }

@@ -1,12 +1,13 @@
-//! What the lines of an output file say that no run of an event file gives yet, and faults of event
-//! files that no stored case has.
+//! What the lines of an output file say that no run of an event file gives yet, faults of event
+//! files that no stored case has, and a reader that counts.
 
-use sip_files::{EventsFault, write_outputs};
-use sip_message::{CallId, Id};
-use sip_round::Output;
+use sip_files::{CountedRead, EventsFault, replay, write_outputs};
+use sip_message::{CallId, Id, Spread};
+use sip_round::{Gate, Output};
 use sip_served::{Notice, Refusal};
 use sip_text::Text;
 use std::alloc::Global;
+use std::io::{self, Read};
 use std::test::Fail;
 
 const ID: Id = Id { round: 3, place: 2 };
@@ -63,4 +64,46 @@ fn faults_are_named(rt: HostRuntime) -> Result<(), Fail> {
         assert!(rt; text.as_str() == name);
     }
     Ok(())
+}
+
+/// A reader that tells how often it was read, as long as it can count so far.
+#[derive(Drop)]
+struct Counting<R> {
+    reader: R,
+    reads: Option<u64>,
+}
+
+impl<R: Read> CountedRead for Counting<R> {
+    ghost remaining = { λ counting. R.remaining counting.reader };
+
+    ghost reads = { λ counting. counting.reads };
+
+    fn read_once(&mut self, buf: &mut [u8]) -> io::Result<usize> {
+        self.reads = match self.reads {
+            Some(reads) => reads.checked_add(1),
+            None => None,
+        };
+        self.reader.read(buf)
+    }
+}
+
+/// A gate that holds no piece of work up.
+struct Open;
+
+impl Gate for Open {
+    fn begin(&self, _shard: usize) {}
+}
+
+// There is a read for what the file has, and one for its end.
+#[test]
+fn reads_are_counted(rt: HostRuntime) {
+    let alloc = rt.alloc();
+    let mut reader = Counting {
+        reader: b"sip-events 1\nlocal 192.0.2.1:5060\n".as_slice(),
+        reads: Some(0),
+    };
+    let mut file = Vec::new(alloc);
+    let end = replay(&rt, alloc, &mut reader, &mut file, 1, 1, Spread, &Open);
+    assert!(rt; end.is_ok());
+    assert!(rt; reader.reads == Some(2));
 }

@@ -3,4 +3,5 @@ use Rattle.sip_files.proofs.file_replay.read_all.Given as goal
 
 abbrev pub invariant-loop : goal.invariant-loop
 invariant-loop g l =
-    ReadSoFar (g.R.Read.remaining l.fn.reader) (g.R.Read.remaining l.reader) l.text.items l.counter
+    ReadSoFar (g.R.CountedRead.remaining l.fn.reader) (g.R.CountedRead.remaining l.reader)
+    (g.R.CountedRead.reads l.fn.reader) (g.R.CountedRead.reads l.reader) l.text.items l.counter
