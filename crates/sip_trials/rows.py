@@ -4,12 +4,12 @@ Run as `python3 crates/sip_trials/rows.py`. It writes `crates/sip_trials/data/ro
 each time, and prints what they meet of the tables; it ends in status 1 where they miss any of it.
 It never reads what `ua` writes: `git diff` shows whether the files are still those of this program.
 
-A transaction is the list of all that came to it. What it says is found by folding its table over
-the whole list, from nothing, each time that something comes (RFC 3261, sections 17.1 and 17.2;
-RFC 6026, section 7). A round gives each transaction a tick, then the datagrams and the failed sends
-of the round. Then each call gets a tick, then what came up from the transactions and the user's
-commands; and then the transactions get what the calls answer and start. Of calls there is only
-what these scripts meet: no reliable provisional response, no request in a dialog but the ACK.
+A transaction is the list of all that came to it. What it says is found by folding its table, one
+of `tables.py`, over the whole list, from nothing, each time that something comes. A round gives
+each transaction a tick, then the datagrams and the failed sends of the round. Then each call gets a
+tick, then what came up from the transactions and the user's commands; and then the transactions get
+what the calls answer and start. Of calls there is only what these scripts meet: no reliable
+provisional response, no request in a dialog but the ACK.
 
 All rows of the tables are met, all pairs of a state and what may come in it, also those that have
 no row, and all timers: a millisecond before they are due, at that moment, and late. What no event
@@ -18,7 +18,6 @@ file can reach has no row:
   branch that it made is that of one client transaction, which has one life;
 - an answer where no transaction is, or after a final one, but for a 2xx that the call sends again
   until its ACK: such an answer is refused before it comes to the transaction. So is a 100.
-The names that the agent makes for tags and branches end in words of ChaCha20 (RFC 8439).
 """
 
 import sys
@@ -26,72 +25,10 @@ from collections import Counter, namedtuple
 from dataclasses import dataclass, field, replace
 from pathlib import Path
 
-T1, T2, T4, LIFETIME = 500, 4000, 5000, 64 * 500
+from tables import LIFETIME, ROWS, T1, T2, Happening, class_of, folded, machine_of, made_name
+from tables import trigger_of
+
 LOCAL, PEER, CALLEE = "192.0.2.1:5060", "192.0.2.9:5060", "sip:b@callee.example"
-REPEATING = "AEG"
-ENDINGS = {"I": T4, "K": T4} | dict.fromkeys("BDFHJLM", LIFETIME)
-
-# The states in which a row stands; what comes; the state after it; what is told to the call or
-# sent; which timers run then. Timers that aren't named have stopped. A failure is 300 to 699.
-TABLES = {
-    "INVITE client": """
-        none                  | start                      | Calling    | send     | start A B
-        Calling               | A                          | Calling    | resend   | again A
-        Calling               | B                          | none       | timeout  |
-        Calling               | failed                     | none       | failed   |
-        Calling, Proceeding   | response 100, response 1xx | Proceeding | response |
-        Calling, Proceeding   | response 2xx               | Accepted   | response | start M
-        Calling, Proceeding   | response failure           | Completed  | response, ACK | start D
-        Completed             | response failure           | Completed  | resend   | keep
-        Completed             | failed                     | none       | failed   |
-        Accepted              | response 2xx               | Accepted   | response | keep
-        Completed, Accepted   | D, M                       | none       |          |
-        none | response 100, response 1xx, response 2xx, response failure | none | drop |""",
-    "client": """
-        none                  | start                      | Trying     | send     | start E F
-        Trying                | E                          | Trying     | resend   | again E
-        Proceeding            | E                          | Proceeding | resend   | again E
-        Trying, Proceeding    | F                          | none       | timeout  |
-        Trying, Proceeding    | failed                     | none       | failed   |
-        Trying, Proceeding    | response 100, response 1xx | Proceeding | response | keep
-        Trying, Proceeding    | response 2xx, response failure | Completed | response | start K
-        Completed             | K                          | none       |          |
-        none | response 100, response 1xx, response 2xx, response failure | none | drop |""",
-    "INVITE server": """
-        none                  | request                    | Proceeding | request, trying |
-        Proceeding            | request                    | Proceeding | resend   | keep
-        Proceeding            | answer 1xx                 | Proceeding | send     | keep
-        Proceeding            | answer 2xx                 | Accepted   | send     | start L
-        Proceeding            | answer failure             | Completed  | send     | start G H
-        Completed             | request                    | Completed  | resend   | keep
-        Completed             | G                          | Completed  | resend   | again G
-        Completed             | ACK                        | Confirmed  |          | start I
-        Completed             | H                          | none       | timeout  |
-        Accepted              | ACK                        | Accepted   | ack      | keep
-        Accepted              | answer 2xx                 | Accepted   | send     | keep
-        Confirmed, Accepted   | I, L                       | none       |          |
-        Proceeding, Completed, Confirmed, Accepted | failed | same      | failed   | keep
-        none                  | ACK                        | none       | ack      |""",
-    "server": """
-        none                  | request                    | Trying     | request  |
-        Trying, Proceeding    | answer 1xx                 | Proceeding | send     |
-        Trying, Proceeding    | answer 2xx, answer failure | Completed  | send     | start J
-        Proceeding, Completed | request                    | same       | resend   | keep
-        Completed             | J                          | none       |          |
-        Trying, Proceeding, Completed | failed             | same       | failed   | keep""",
-}
-Row = namedtuple("Row", "states triggers next says timers")
-
-
-def rows_of(table):
-    """The rows of a table."""
-    for line in table.strip().splitlines():
-        states, triggers, after, says, timers = [cell.strip() for cell in line.split("|")]
-        says = says.split(", ") if says else []
-        yield Row(states.split(", "), triggers.split(", "), after, says, timers.split())
-
-
-ROWS = {machine: list(rows_of(table)) for machine, table in TABLES.items()}
 
 
 @dataclass(frozen=True)
@@ -146,113 +83,15 @@ class Message:
         to_tag = self.to_tag or tag
         return replace(self, status=status, reason=reason, to_tag=to_tag, contact=contact)
 
-    def ack(self, to_tag):
+    def ack(self, response):
         """The ACK of a response to it (RFC 3261, section 17.1.1.3)."""
-        return replace(self, method="ACK", to_tag=to_tag, contact="")
+        return replace(self, method="ACK", to_tag=response.to_tag, contact="")
 
 
 def stamped(message, source):
     """A request with its sender's address, and where its responses go (RFC 3261, section 18.2)."""
     ip, (host, _, port) = source.partition(":")[0], message.sent_by.partition(":")
     return replace(message, received="" if host == ip else ip), f"{ip}:{port or 5060}"
-
-
-def machine_of(key):
-    return ("INVITE " if key[4] == "INVITE" else "") + key[0]
-
-
-def class_of(status):
-    if status == 100:
-        return "100"
-    return "1xx" if status < 200 else "2xx" if status < 300 else "failure"
-
-
-# What comes to a transaction: at a moment, by the event of an id, with a message and an address.
-Happening = namedtuple("Happening", "moment trigger id message address", defaults=(None,) * 3)
-# A transaction that is held: with its first event's id and Call-ID, where it sends to, its request,
-# what it sent last, and of each timer that runs when it is due, how often it has fired, and in
-# which state it was set.
-Held = namedtuple("Held", "state id call_id address request latest timers")
-# What a transaction tells its call.
-Told = namedtuple("Told", "kind id call_id message address")
-
-
-def interval(letter, state, fired):
-    """How long after it fired so often a repeating timer fires again."""
-    if letter == "A":
-        return T1 * 2**fired
-    return T2 if (letter, state) == ("E", "Proceeding") else min(T1 * 2**fired, T2)
-
-
-def timers_after(row, held, letter, moment):
-    if row.timers[:1] == ["again"]:
-        fired = held.timers[letter][1] + 1
-        due = moment + interval(letter, held.state, fired)
-        return held.timers | {letter: (due, fired, row.next)}
-    if row.timers == ["keep"]:
-        return held.timers
-    return {
-        letter: (moment + ENDINGS.get(letter, T1), 0, row.next) for letter in row.timers[1:]}
-
-
-def due_timer(held, moment):
-    """The timer that fires at a tick: one at most, and an ending one before a repeating one."""
-    timers = held.timers.items() if held else ()
-    due = [letter for letter, (at, *_) in timers if at <= moment]
-    return min(due, key=lambda letter: letter in REPEATING, default=None)
-
-
-def step(machine, held, happening):
-    """What is held and said after something came, the pair that it met, and the row."""
-    state, trigger = held.state if held else "none", happening.trigger
-    if trigger == "tick":
-        trigger = due_timer(held, happening.moment)
-    fits = [row for row in ROWS[machine] if state in row.states and trigger in row.triggers]
-    if not fits:
-        return held, [], (machine, state, trigger), None
-    row, message = fits[0], happening.message
-    if held is None:
-        held = Held("none", happening.id, message.call_id, happening.address, message, None, {})
-    timers, said = timers_after(row, held, trigger, happening.moment), []
-    for word in row.says:
-        sent = {"send": message, "resend": held.latest}.get(word)
-        if word == "trying":
-            sent = message.response(100, "Trying")
-        elif word == "ACK":
-            sent = held.request.ack(message.to_tag)
-        if word == "drop":
-            said.append(f"drop {happening.id[1]} NoTransaction")
-        elif sent:
-            held = held._replace(latest=sent)
-            said.append(f"send {held.address} {sent.text()}")
-        else:
-            said.append(Told(word, held.id, held.call_id, message, held.address))
-    after = state if row.next == "same" else row.next
-    held = None if after == "none" else held._replace(state=after, timers=timers)
-    return held, said, (machine, state, trigger), row
-
-
-def folded(machine, history):
-    """A transaction after all that came to it, and what its table says to the last of that."""
-    after = (None, [], None, None)
-    for happening in history:
-        after = step(machine, after[0], happening)
-    return after
-
-
-def chacha20_words(key, counter, nonce):
-    """The sixteen words of a block (RFC 8439, section 2.3)."""
-    texts = b"expand 32-byte k" + key + counter.to_bytes(4, "little") + nonce
-    first = [int.from_bytes(texts[at : at + 4], "little") for at in range(0, 64, 4)]
-    words = list(first)
-    columns = [(0, 4, 8, 12), (1, 5, 9, 13), (2, 6, 10, 14), (3, 7, 11, 15)]
-    diagonals = [(0, 5, 10, 15), (1, 6, 11, 12), (2, 7, 8, 13), (3, 4, 9, 14)]
-    for a, b, c, d in (columns + diagonals) * 10:
-        for x, y, z, turn in [(a, b, d, 16), (c, d, b, 12), (a, b, d, 8), (c, d, b, 7)]:
-            words[x] = (words[x] + words[y]) % 2**32
-            mixed = words[z] ^ words[x]
-            words[z] = (mixed << turn | mixed >> (32 - turn)) % 2**32
-    return [(one + other) % 2**32 for one, other in zip(words, first)]
 
 
 def text_of(event_id):
@@ -328,9 +167,7 @@ class Agent:
 
     def name(self, event_id, index):
         """A name that the agent makes for an event."""
-        number, place = event_id
-        words = chacha20_words(self.seed, place, bytes(4) + number.to_bytes(8, "little"))
-        return f"{number:016x}{place:016x}{index:x}{words[index]:08x}"
+        return made_name(self.seed, event_id, index)
 
     def held(self, key):
         return folded(machine_of(key), self.histories.get(key, []))[0]
@@ -380,12 +217,9 @@ class Agent:
             side, branch, *others = event.key
             return self.give((side, branch.lower(), *others), "failed", event_id)
         message, address = event.message, None
-        if message.status:
-            trigger = f"response {class_of(message.status)}"
-        else:
+        if not message.status:
             message, address = stamped(message, event.source)
-            trigger = "ACK" if message.method == "ACK" else "request"
-        return self.give(message.key(), trigger, event_id, message, address)
+        return self.give(message.key(), trigger_of(message), event_id, message, address)
 
     def tick(self, call):
         """Sends a 2xx again, and removes what is over (RFC 3261, sections 13.2.2.4, 13.3.1.4)."""
@@ -482,7 +316,7 @@ class Agent:
             return [sent.acks[tag]]
         call.dialogs[sent.message.from_tag, tag] = told.id, False
         sent.success_at = self.now if sent.success_at is None else sent.success_at
-        ack = replace(sent.message.ack(tag), branch="z9hG4bK" + self.name(event_id, 0))
+        ack = replace(sent.message.ack(message), branch="z9hG4bK" + self.name(event_id, 0))
         sent.acks[tag] = f"send {sent.address} {ack.text()}"
         return shown + [sent.acks[tag]]
 
@@ -646,9 +480,7 @@ class Script:
             key, trigger = event.key, "failed"
             key = key[0], key[1].lower(), *key[2:]
         else:
-            message = event.message
-            key, trigger = message.key(), "ACK" if message.method == "ACK" else "request"
-            trigger = f"response {class_of(message.status)}" if message.status else trigger
+            key, trigger = event.message.key(), trigger_of(event.message)
         held = self.agent.held(key)
         times = self.met.pairs[machine_of(key), held.state if held else "none", trigger]
         return times if held else times // 4 if trigger == "request" else times + 8

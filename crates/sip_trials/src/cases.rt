@@ -4,32 +4,35 @@ use crate::case::Case;
 use crate::fault::TrialFault;
 use crate::tally::Tally;
 use std::fs::{self, DirEntry};
-use std::io;
+use std::io::{self, Write};
 use std::net::Net;
 use std::random::RandomSource;
 use std::rt::Files;
 use std::thread::Threads;
 use std::time::Clock;
 
-/// Runs the cases of a folder, which has a folder for each topic, in the order of their names.
+/// Runs the cases of a folder, which has a folder for each topic, in the order of their names, and
+/// writes of each that differs in what it does.
 ///
 /// # Errors
 ///
-/// `Differs`, of the first case that does; a file that is missing or can't be read, and want of
-/// memory.
-pub fn cases_of<R>(rt: &R, folder: &str) -> Result<Tally, TrialFault>
+/// A file that is missing or can't be read, an output that fails, and want of memory.
+pub fn cases_of<R, W>(rt: &R, folder: &str, output: &mut W) -> Result<Tally, TrialFault>
 where
     R: Files + AllocGlobal + Threads + Clock + Net + RandomSource + Sync + Clone + Drop,
+    W: Write,
 {
     let mut cases: u64 = 0;
+    let mut differ: u64 = 0;
     for name in case_names(rt, folder)? {
         let case = Case::read(rt, folder, name.as_str())?;
         if let Some(difference) = case.difference(rt)? {
-            return Err(TrialFault::Differs { name, difference });
+            writeln!(output, "{name}: {difference}")?;
+            differ = differ.saturating_add(1);
         }
         cases = cases.saturating_add(1);
     }
-    Ok(Tally::Cases(cases))
+    Ok(Tally::Cases { cases, differ })
 }
 
 // The names of all cases, TOPIC/NAME, in order.

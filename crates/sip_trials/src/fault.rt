@@ -1,6 +1,5 @@
 //! Why a trial stopped.
 
-use crate::difference::Difference;
 use sip_round::{NoMemory, RoundFault};
 use std::alloc::{AllocError, AllocFailed};
 use std::io;
@@ -33,12 +32,9 @@ pub enum TrialFault {
     /// The words ask for nothing that there is.
     #[error("{usage}", usage = USAGE)]
     Words,
-    /// A case of this name ends or writes otherwise than it is to.
-    #[error("{name}: {difference}")]
-    Differs {
-        name: String,
-        difference: Difference,
-    },
+    /// So many cases end or write otherwise than they are to.
+    #[error("{0} differ")]
+    Differ(u64),
     /// The file spells no message, or the one that was written spells none.
     #[error("no message")]
     Message,
@@ -63,8 +59,7 @@ impl TrialFault {
     /// The status that the program ends in.
     pub fn status(&self) -> u8 {
         match self {
-            TrialFault::Differs { .. } | TrialFault::Message | TrialFault::Count { .. } =>
-                DIFFERENT,
+            TrialFault::Differ(_) | TrialFault::Message | TrialFault::Count { .. } => DIFFERENT,
             TrialFault::Words => BAD_WORDS,
             TrialFault::Round(_) => BAD_ROUND,
             TrialFault::Device => FAILED_DEVICE,

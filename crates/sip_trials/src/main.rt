@@ -23,6 +23,7 @@ use std::random::RandomSource;
 use std::rt::Files;
 use std::thread::Threads;
 use std::time::Clock;
+use tally::Tally;
 use words::{Task, task_of};
 use work::done;
 
@@ -64,13 +65,25 @@ where
     let words: Vec<&str> = words.iter().map(|word| word.as_str()).collect(rt.alloc())?;
     if words.is_empty() {
         for task in TASKS {
-            writeln!(output, "{}", done(rt, task)?)?;
+            counted(rt, task, output)?;
         }
         return Ok(());
     }
     let Some(task) = task_of(&words) else {
         return Err(TrialFault::Words);
     };
-    writeln!(output, "{}", done(rt, task)?)?;
-    Ok(())
+    counted(rt, task, output)
+}
+
+// Does a task, and says what was counted; cases that differ are a fault once all were run.
+fn counted<R, W: Write>(rt: &R, task: Task<'_>, output: &mut W) -> Result<(), TrialFault>
+where
+    R: Files + AllocGlobal + Threads + Clock + Net + RandomSource + Sync + Clone + Drop,
+{
+    let tally = done(rt, task, output)?;
+    writeln!(output, "{tally}")?;
+    match tally {
+        Tally::Cases { differ, .. } if differ > 0 => Err(TrialFault::Differ(differ)),
+        _ => Ok(()),
+    }
 }

@@ -6,8 +6,9 @@ use std::fmt;
 /// What a trial counted.
 #[derive(Clone, Copy)]
 pub enum Tally {
-    /// Cases that ended and wrote what they are to.
-    Cases(u64),
+    /// Cases that were run, and how many of them ended otherwise, or wrote something else, than
+    /// they are to.
+    Cases { cases: u64, differ: u64 },
     /// Messages that were read, and their bytes.
     Read { messages: u64, bytes: u64 },
     /// Answers that were written, and their bytes.
@@ -34,7 +35,7 @@ pub struct Served {
 impl fmt::Display for Tally {
     fn fmt<W: fmt::Write>(&self, f: &mut fmt::Formatter<W>) -> fmt::Result {
         match self {
-            Tally::Cases(cases) => write!(f, "{cases} cases, 0 differ"),
+            Tally::Cases { cases, differ } => write!(f, "{cases} cases, {differ} differ"),
             Tally::Read { messages, bytes } => write!(f, "{messages} read of {bytes} bytes"),
             Tally::Answered { answers, bytes } => {
                 write!(f, "{answers} answers written of {bytes} bytes")

@@ -8,6 +8,7 @@ use crate::tally::Tally;
 use crate::words::Task;
 use std::alloc::Global;
 use std::fs;
+use std::io::Write;
 use std::net::Net;
 use std::random::RandomSource;
 use std::rt::Files;
@@ -23,17 +24,18 @@ const REQUESTS_AT_ONCE: u64 = 100;
 /// How many requests a large round has.
 pub const REQUESTS_OF_ROUND: u64 = 10_000;
 
-/// Does a task, and counts what it did.
+/// Does a task, and counts what it did; of cases that differ it writes in what they do.
 ///
 /// # Errors
 ///
 /// Each of `TrialFault`.
-pub fn done<R>(rt: &R, task: Task<'_>) -> Result<Tally, TrialFault>
+pub fn done<R, W>(rt: &R, task: Task<'_>, output: &mut W) -> Result<Tally, TrialFault>
 where
     R: Files + AllocGlobal + Threads + Clock + Net + RandomSource + Sync + Clone + Drop,
+    W: Write,
 {
     match task {
-        Task::Cases { folder } => cases_of(rt, folder),
+        Task::Cases { folder } => cases_of(rt, folder, output),
         Task::Read { file, times } => read_often(rt.alloc(), &fs::read(rt, file)?, times),
         Task::Answer { file, times } => answer_often(rt.alloc(), &fs::read(rt, file)?, times),
         Task::Transactions { held, more } => transactions(rt, rt.alloc(), held, more),
