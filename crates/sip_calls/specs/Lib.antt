@@ -2,4 +2,5 @@ pub mod Call
 pub mod CallShard
 pub mod Idle
 pub mod Provisionals
+pub mod RefusedCommands
 pub mod Sides

@@ -1,6 +1,7 @@
 //! Laws of calls.
 
 ghost use Rattle.sip_calls.specs.Provisionals.{ShownConsecutive, ShownInOrder, ShownOnce};
+ghost use Rattle.sip_calls.specs.RefusedCommands.{RefusedAlone};
 
 /// Whatever comes to a call, by events that differ: of the reliable provisional responses that come
 /// to an INVITE in one life of a dialog, from the event that makes it to the one that ends it, the
@@ -10,4 +11,10 @@ pub fn provisionals_shown_in_order()
     ensures in_order { ShownInOrder }
     ensures consecutive { ShownConsecutive }
     ensures once { ShownOnce }
+{}
+
+/// Whatever is held under a Call-ID, a command of the user that is refused gives its notice alone,
+/// and changes nothing.
+pub fn refused_commands_change_nothing()
+    ensures { RefusedAlone }
 {}

@@ -8,7 +8,7 @@ mod shard;
 
 pub use call::Call;
 pub use calls::{CallInput, Calls};
-pub use laws::provisionals_shown_in_order;
+pub use laws::{provisionals_shown_in_order, refused_commands_change_nothing};
 pub use shard::CallShard;
 pub use sip_clients::{Client, Clients, names_differ};
 pub use sip_served::{CallOut, Item, Notice, Refusal, Respond, UserCommand};

@@ -11,3 +11,4 @@ pub mod Hearing
 pub mod Hex
 pub mod Names
 pub mod Results
+pub mod RefusedAlone

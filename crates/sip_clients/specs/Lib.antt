@@ -13,3 +13,4 @@ pub mod Replied
 pub mod Reply
 pub mod Service
 pub mod Tick
+pub mod RefusedCommands

@@ -1,0 +1,112 @@
+-- A command that is refused gives its notice alone, and changes nothing.
+use Rattle.std.proofs.Common.{◌≡◌, ℕ, true, false, List, refl, ap}
+use Rattle.std.specs.Prelude.{Option, None, Some, filter, find}
+use Rattle.std.specs.Map.{values_of}
+use Rattle.std.specs.List.{list_any}
+use Rattle.std.proofs.lemmas.Bool.{false≢true}
+use Rattle.sip_message.specs.declared.id.Id.{Id}
+use Rattle.sip_message.specs.declared.message.Message.{Message}
+use Rattle.sip_served.specs.Command.{call_of_command}
+use Rattle.sip_served.specs.Dialogs.{is_early_of}
+use Rattle.sip_served.specs.Respond.{by_refusal, by_request, confirms_dialog, dialogs_answered, makes_dialog, refusal_for, rejects, respond_taken}
+use Rattle.sip_served.specs.State.{Dialogs, State, has_id}
+use Rattle.sip_served.specs.declared.command.Plain.{Plain as APlain}
+use Rattle.sip_served.specs.declared.command.Respond.{Respond as ARespond}
+use Rattle.sip_served.specs.declared.command.UserCommand.{UserCommand}
+use Rattle.sip_served.specs.declared.command.UserCommand.TheVariants.{Invite, Plain, Request, Respond, Ack, Prack, Cancel}
+use Rattle.sip_served.specs.declared.held_request.HeldRequest.{HeldRequest}
+use Rattle.sip_served.specs.declared.refusal.Refusal.{Refusal}
+use Rattle.sip_served.specs.declared.refusal.Refusal.TheVariants.{BadMethod, CallInUse, NoSuchCall, NoSuchRequest}
+use Rattle.sip_clients.specs.Client.{Taken as ClientTaken}
+use Rattle.sip_clients.specs.Clients.{ack_taken, prack_taken, request_taken}
+use Rattle.sip_clients.specs.Commands.{is_bad_outside}
+use Rattle.sip_clients.specs.Outputs.{start_command}
+use Rattle.sip_clients.specs.declared.event.Event.{Event}
+use Rattle.sip_calls.specs.Call.{command_taken, event_of, first_command_taken, kept, new_call}
+use Rattle.sip_calls.specs.RefusedCommands.{RefusedAlone}
+use Rattle.sip_calls.specs.Sides.{by_clients, by_server, side_of}
+use Rattle.sip_calls.specs.declared.call.Call.{Call}
+use Rattle.sip_clients.specs.RefusedCommands.{is_refusal, only_refused, IsRefusedAlone}
+use Rattle.sip_clients.proofs.RefusedAlone.{ack_alone, by_bool, ends_told, prack_alone, request_alone, silent, told_alone}
+
+-- ---- an answer
+
+answered_told : (event : Id) (held : HeldRequest) (respond : ARespond) (response : Message)
+    (dialogs : Dialogs)
+    → list_any is_refusal (dialogs_answered event held respond response dialogs).1 ≡ false
+answered_told event held respond response dialogs =
+    by_bool (makes_dialog held respond.status) (λ makes. rw makes refl)
+    (λ no. rw no (by_bool (confirms_dialog held respond.status) (λ confirms. rw confirms refl)
+    (λ no. rw no (by_bool (rejects held respond.status)
+    (λ rejected. rw rejected (ends_told (filter (is_early_of held.id) (values_of dialogs)))) (λ no. rw no refl)))))
+
+respond_alone : (state : State) (event : Id) (respond : ARespond) (now : ℕ)
+    → IsRefusedAlone state respond.call_id event.place (respond_taken state event respond now)
+respond_alone state event respond now = by_held (find (has_id respond.id) state.requests)
+  where
+    by_fault : (held : HeldRequest) (refusal : Option Refusal)
+        → IsRefusedAlone state respond.call_id event.place
+        (by_refusal state event respond now held refusal)
+    by_fault held (Some refusal) = told_alone state respond.call_id event.place refusal
+    by_fault held None =
+        silent state respond.call_id event.place (by_refusal state event respond now held None)
+        (answered_told event held respond _ state.dialogs)
+
+    by_held : (held : Option HeldRequest)
+        → IsRefusedAlone state respond.call_id event.place (by_request state event respond now held)
+    by_held None = told_alone state respond.call_id event.place NoSuchRequest
+    by_held (Some held) = by_fault held (refusal_for state.dialogs respond held)
+
+-- ---- a whole call
+
+by_clients_alone : (call : Call) (call_id : List ℕ) (place : ℕ) (taken : ClientTaken)
+    → IsRefusedAlone (side_of call) call_id place taken → IsRefusedAlone call call_id place (by_clients call taken)
+by_clients_alone call call_id place taken alone some =
+    let m = alone some in (m.0, ap (by_clients call) m.1)
+
+plain_alone : (call : Call) (event : Event) (plain : APlain)
+    → IsRefusedAlone call plain.call_id (event.id).place (first_command_taken call event (Plain plain))
+unfolding start_command
+plain_alone call event plain = by_bool (is_bad_outside plain.method)
+    (λ bad. rw bad (told_alone call plain.call_id (event.id).place BadMethod))
+    (λ good. rw good (λ some. absurd (false≢true some)))
+
+first_alone : (call : Call) (event : Event) (command : UserCommand)
+    → IsRefusedAlone call (call_of_command command) (event.id).place
+    (first_command_taken call event command)
+unfolding start_command
+first_alone call event (Invite invite) = λ some. absurd (false≢true some)
+first_alone call event (Plain plain) = plain_alone call event plain
+first_alone call event (Request request) =
+    told_alone call request.call_id (event.id).place NoSuchCall
+first_alone call event (Respond respond) =
+    told_alone call respond.call_id (event.id).place NoSuchCall
+first_alone call event (Ack ack) = told_alone call ack.call_id (event.id).place NoSuchCall
+first_alone call event (Prack prack) = told_alone call prack.call_id (event.id).place NoSuchCall
+first_alone call event (Cancel cancel) = λ some. absurd (false≢true some)
+
+later_alone : (call : Call) (event : Event) (command : UserCommand)
+    → IsRefusedAlone call (call_of_command command) (event.id).place (command_taken call event command)
+later_alone call event (Invite invite) =
+    told_alone call invite.call_id (event.id).place CallInUse
+later_alone call event (Plain plain) = told_alone call plain.call_id (event.id).place CallInUse
+later_alone call event (Request request) =
+    by_clients_alone call request.call_id (event.id).place
+    (request_taken event request (side_of call)) (request_alone event (side_of call) request)
+later_alone call event (Respond respond) = λ some.
+    let m = respond_alone (call.served).state event.id respond event.moment some in
+    (m.0, ap (by_server call) m.1)
+later_alone call event (Ack ack) =
+    by_clients_alone call ack.call_id (event.id).place (ack_taken event ack (side_of call))
+    (ack_alone event (side_of call) ack)
+later_alone call event (Prack prack) =
+    by_clients_alone call prack.call_id (event.id).place
+    (prack_taken event prack (side_of call)) (prack_alone event (side_of call) prack)
+later_alone call event (Cancel cancel) = λ some. absurd (false≢true some)
+
+pub refused_alone : RefusedAlone
+refused_alone calls None id command now some =
+    let m = first_alone (new_call calls.local) (event_of calls id now) command some in
+    (m.0, ap kept m.1)
+refused_alone calls (Some call) id command now some =
+    let m = later_alone call (event_of calls id now) command some in (m.0, ap kept m.1)

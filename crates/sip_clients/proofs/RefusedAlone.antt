@@ -1,0 +1,255 @@
+-- A command in a dialog that is refused gives its notice alone, and changes nothing.
+use Rattle.std.proofs.Common.{◌≡◌, ℕ, Bool, true, false, cond, List, [], ◌∷◌, ◌++◌, map, refl, sym, ◌∙◌, ap}
+use Rattle.std.specs.Prelude.{Option, None, Some, Result, Ok, Err, codes}
+use Rattle.std.specs.List.{list_any}
+use Rattle.std.specs.Map.{set_value}
+use Rattle.std.specs.Option.{option_map_or}
+use Rattle.std.specs.Str.{bytes_eq}
+use Rattle.std.proofs.lemmas.Bool.{false≢true}
+use Rattle.std.proofs.lemmas.Map.Steps.{set_value_same}
+use Rattle.sip_message.specs.declared.rack.RAck.{RAck}
+use Rattle.sip_dialog.specs.declared.fault.DialogFault.{DialogFault}
+use Rattle.sip_served.specs.Dialogs.{dialog_at, dialog_changed, ended_notice, is_named}
+use Rattle.sip_served.specs.State.{Dialogs}
+use Rattle.sip_served.specs.declared.command.DialogBody.{DialogBody}
+use Rattle.sip_served.specs.declared.command.DialogRequest.{DialogRequest}
+use Rattle.sip_served.specs.declared.debt.Debt.{Debt}
+use Rattle.sip_served.specs.declared.debt.Debt.TheVariants as debt
+use Rattle.sip_served.specs.declared.held_dialog.DialogName.{DialogName}
+use Rattle.sip_served.specs.declared.held_dialog.HeldDialog.{HeldDialog}
+use Rattle.sip_served.specs.declared.item.CallOut.{CallOut}
+use Rattle.sip_served.specs.declared.refusal.Refusal.{Refusal}
+use Rattle.sip_served.specs.declared.refusal.Refusal.TheVariants.{BadMethod, NoSuchDialog}
+use Rattle.sip_clients.specs.Client.{Clients, Side, Taken as ClientTaken}
+use Rattle.sip_clients.specs.Clients.{ack_noted, ack_paid, ack_taken, paid_or_refused, prack_paid, prack_taken, request_settled, request_taken, settled}
+use Rattle.sip_clients.specs.Commands.{bye_ended, is_bad_in, name_in, request_in, requested_by, requesting}
+use Rattle.sip_clients.specs.Dialogs.{paid_at, service_at}
+use Rattle.sip_clients.specs.Debts.{dropped_if_sent, paying}
+use Rattle.sip_clients.specs.Outputs.{ack_said, refused_notice, request_said, start_command}
+use Rattle.sip_clients.specs.Service.{numbered, requested, served, service_by}
+use Rattle.sip_clients.specs.declared.event.Event.{Event}
+use Rattle.sip_clients.specs.declared.service.Sending.{Sending}
+use Rattle.sip_clients.specs.declared.service.Service.{Service}
+use Rattle.sip_clients.specs.declared.service.Service.TheVariants.{Sent, Waits, Refused}
+use Rattle.sip_clients.specs.RefusedCommands.{is_refusal, only_refused, IsRefusedAlone}
+
+pub told_alone : {S : Type 0} (before : S) (call_id : List ℕ) (place : ℕ) (refusal : Refusal)
+    → IsRefusedAlone before call_id place (before, only_refused call_id place refusal)
+told_alone before call_id place refusal some = (refusal, refl)
+
+pub silent : {S : Type 0} (before : S) (call_id : List ℕ) (place : ℕ) (taken : S × List CallOut)
+    → list_any is_refusal taken.1 ≡ false → IsRefusedAlone before call_id place taken
+silent before call_id place taken none some = absurd (false≢true (sym none ∙ some))
+
+pub by_bool : {G : Type 0} (b : Bool) → (b ≡ true → G) → (b ≡ false → G) → G
+by_bool true t f = t refl
+by_bool false t f = f refl
+
+-- ---- the ends of dialogs are no refusals
+
+pub ends_told : (held : List HeldDialog) → list_any is_refusal (map ended_notice held) ≡ false
+ends_told [] = refl
+ends_told (h ∷ hs) = ends_told hs
+
+pub end_told : (held : Option HeldDialog)
+    → list_any is_refusal (option_map_or (λ h. ended_notice h ∷ []) held []) ≡ false
+end_told None = refl
+end_told (Some held) = refl
+
+-- ---- a dialog in which a request isn't sent stays as it is
+
+requested_same : (event : Event) (method : List ℕ) (rack : Option RAck) (body : List ℕ)
+    (held : HeldDialog) (refusal : Refusal)
+    → (requested event method rack body held).1 ≡ Refused refusal
+    → (requested event method rack body held).0 ≡ held
+requested_same event method rack body held refusal e = by_fault _ _ e
+  where
+    by_fault : (fault : Option DialogFault) (sending : Sending)
+        → service_by fault sending ≡ Refused refusal → numbered fault held ≡ held
+    by_fault None sending is = absurd cc
+    by_fault (Some fault) sending is = refl
+
+requesting_same : (event : Event) (method body : List ℕ) (held : HeldDialog) (refusal : Refusal)
+    → (request_in event method body held).1 ≡ Refused refusal
+    → requesting event method body held ≡ held
+unfolding requesting
+requesting_same event method body held refusal e = by_method (is_bad_in held method) e
+  where
+    by_method : (bad : Bool)
+        → (cond bad (held, Refused BadMethod) (requested event method None body held)).1
+        ≡ Refused refusal
+        → (cond bad (held, Refused BadMethod) (requested event method None body held)).0 ≡ held
+    by_method true is = refl
+    by_method false is = requested_same event method None body held refusal is
+
+served_same : (event : Event) (owed : Debt) (body : List ℕ) (held : HeldDialog)
+    (refusal : Refusal) → (served event owed (Some body) held).1 ≡ Refused refusal
+    → (served event owed (Some body) held).0 ≡ held
+unfolding served
+served_same event (debt.Ack invite number) body held refusal e = refl
+served_same event (debt.Prack rseq number) body held refusal e =
+    requested_same event (codes "PRACK") _ body held refusal e
+
+paying_same : (event : Event) (owed : Debt) (body : List ℕ) (held : HeldDialog)
+    (refusal : Refusal) → (served event owed (Some body) held).1 ≡ Refused refusal
+    → paying event owed body held ≡ held
+unfolding paying
+paying_same event owed body held refusal e =
+    ap (λ service. dropped_if_sent owed service (served event owed (Some body) held).0) e
+    ∙ served_same event owed body held refusal e
+
+unchanged_at : (name : DialogName) (change : HeldDialog → HeldDialog)
+    (serve : HeldDialog → Service) (otherwise : Service) (dialogs : Dialogs) (refusal : Refusal)
+    → ((held : HeldDialog) → serve held ≡ Refused refusal → change held ≡ held)
+    → service_at name serve otherwise dialogs ≡ Refused refusal
+    → dialog_changed name change dialogs ≡ dialogs
+unchanged_at name change serve otherwise dialogs refusal same e =
+    by_held (dialog_at name dialogs) refl e
+  where
+    by_held : (held : Option HeldDialog) → dialog_at name dialogs ≡ held
+        → option_map_or serve held otherwise ≡ Refused refusal
+        → option_map_or (λ h. set_value (is_named name) dialogs (change h)) held dialogs ≡ dialogs
+    by_held None found is = refl
+    by_held (Some held) found is =
+        ap (set_value (is_named name) dialogs) (same held is)
+        ∙ set_value_same (is_named name) dialogs held found
+
+-- ---- a request in a dialog, an ACK and a PRACK
+
+module _ (event : Event) (side : Side) where
+  abbrev Lonely : List ℕ → ClientTaken → Type 0
+  Lonely call_id taken = IsRefusedAlone side call_id (event.id).place taken
+
+  -- where the request isn't sent, the dialogs are as they were
+  abbrev Keeps : Dialogs → Service → Type 0
+  Keeps dialogs service =
+      (refusal : Refusal) → service ≡ Refused refusal → dialogs ≡ side.dialogs
+
+  abbrev request_done : DialogName → DialogRequest → Dialogs → Service → ClientTaken
+  request_done name command dialogs service =
+      let bye = bye_ended name command.method service dialogs in
+      let said = request_said event command.call_id name service in
+      let after = request_settled event said.0 said.1 bye.1 side.clients in
+      (record { dialogs = bye.0; clients = after.0 }, after.1)
+
+  bye_told : (name : DialogName) (method : List ℕ) (sending : Sending) (dialogs : Dialogs)
+      → list_any is_refusal (bye_ended name method (Sent sending) dialogs).1 ≡ false
+  bye_told name method sending dialogs =
+      by_bool (bytes_eq method (codes "BYE")) (λ bye. rw bye (end_told (dialog_at name dialogs)))
+      (λ other. rw other refl)
+
+  request_by : (name : DialogName) (command : DialogRequest) (dialogs : Dialogs)
+      (service : Service) → Keeps dialogs service
+      → Lonely command.call_id (request_done name command dialogs service)
+  unfolding start_command
+  request_by name command dialogs (Sent sending) same =
+      silent side command.call_id (event.id).place
+      (request_done name command dialogs (Sent sending))
+      (bye_told name command.method sending dialogs)
+  request_by name command dialogs Waits same =
+      silent side command.call_id (event.id).place (request_done name command dialogs Waits) refl
+  request_by name command dialogs (Refused refusal) same = λ some. (
+    refusal,
+    ap (λ (kept : Dialogs). (
+      record { dialogs = kept; clients = side.clients },
+      refused_notice event command.call_id refusal ∷ [],
+    )) (same refusal refl),
+  )
+
+  pub request_alone : (command : DialogRequest)
+      → Lonely command.call_id (request_taken event command side)
+  unfolding requested_by
+  request_alone command =
+      let name = name_in command.local_tag command.remote_tag in
+      request_by name command
+      (dialog_changed name (requesting event command.method command.body) side.dialogs)
+      (service_at name (λ held. (request_in event command.method command.body held).1)
+      (Refused NoSuchDialog) side.dialogs)
+      (λ refusal e. unchanged_at name (requesting event command.method command.body)
+      (λ held. (request_in event command.method command.body held).1) (Refused NoSuchDialog)
+      side.dialogs refusal
+      (λ held is. requesting_same event command.method command.body held refusal is) e)
+
+  paid_same : (name : DialogName) (owed : Debt) (body : List ℕ)
+      → Keeps (paid_at name event owed body side.dialogs).0
+      (paid_at name event owed body side.dialogs).1
+  paid_same name owed body refusal e =
+      unchanged_at name (paying event owed body) (λ held. (served event owed (Some body) held).1)
+      Waits side.dialogs refusal
+      (λ held is. paying_same event owed body held refusal is) e
+
+  abbrev ack_done : DialogName → DialogBody → Debt → Dialogs → Service → ClientTaken
+  ack_done name command owed dialogs service =
+      let said = ack_said event command.call_id service in
+      (record { dialogs = dialogs; clients = ack_noted owed name said.1 side.clients }, said.0)
+
+  none_noted : (owed : Debt) (name : DialogName) (clients : Clients)
+      → ack_noted owed name None clients ≡ clients
+  none_noted (debt.Ack invite number) name clients = refl
+  none_noted (debt.Prack rseq number) name clients = refl
+
+  ack_by : (name : DialogName) (command : DialogBody) (owed : Debt) (dialogs : Dialogs)
+      (service : Service) → Keeps dialogs service
+      → Lonely command.call_id (ack_done name command owed dialogs service)
+  ack_by name command owed dialogs (Sent sending) same =
+      silent side command.call_id (event.id).place
+      (ack_done name command owed dialogs (Sent sending)) refl
+  ack_by name command owed dialogs Waits same =
+      silent side command.call_id (event.id).place (ack_done name command owed dialogs Waits) refl
+  ack_by name command owed dialogs (Refused refusal) same = λ some. (
+    refusal,
+    ap (λ (kept : Dialogs). (
+      record { dialogs = kept; clients = ack_noted owed name None side.clients },
+      refused_notice event command.call_id refusal ∷ [],
+    )) (same refusal refl)
+        ∙ ap (λ (kept : Clients). (
+          record { dialogs = side.dialogs; clients = kept },
+          refused_notice event command.call_id refusal ∷ [],
+        )) (none_noted owed name side.clients),
+  )
+
+  abbrev prack_done : DialogName → DialogBody → Dialogs → Service → ClientTaken
+  prack_done name command dialogs service =
+      let said = request_said event command.call_id name service in
+      let after = settled event event.id said.1 side.clients in
+      (record { dialogs = dialogs; clients = after.0 }, said.0 ++ after.1)
+
+  prack_by : (name : DialogName) (command : DialogBody) (dialogs : Dialogs) (service : Service)
+      → Keeps dialogs service
+      → Lonely command.call_id (prack_done name command dialogs service)
+  unfolding start_command
+  prack_by name command dialogs (Sent sending) same =
+      silent side command.call_id (event.id).place
+      (prack_done name command dialogs (Sent sending)) refl
+  prack_by name command dialogs Waits same =
+      silent side command.call_id (event.id).place (prack_done name command dialogs Waits) refl
+  prack_by name command dialogs (Refused refusal) same = λ some. (
+    refusal,
+    ap (λ (kept : Dialogs). (
+      record { dialogs = kept; clients = side.clients },
+      refused_notice event command.call_id refusal ∷ [],
+    )) (same refusal refl),
+  )
+
+  paid_alone : (command : DialogBody) (pay : Debt → Side → ClientTaken)
+      → ((owed : Debt) → Lonely command.call_id (pay owed side)) → (owed : Result Debt Refusal)
+      → Lonely command.call_id (paid_or_refused event command pay owed side)
+  paid_alone command pay alone (Err refusal) =
+      told_alone side command.call_id (event.id).place refusal
+  paid_alone command pay alone (Ok owed) = alone owed
+
+  pub ack_alone : (command : DialogBody) → Lonely command.call_id (ack_taken event command side)
+  ack_alone command =
+      let name = name_in command.local_tag command.remote_tag in
+      paid_alone command (ack_paid event command name)
+      (λ owed. ack_by name command owed (paid_at name event owed command.body side.dialogs).0
+      (paid_at name event owed command.body side.dialogs).1 (paid_same name owed command.body))
+      _
+
+  pub prack_alone : (command : DialogBody) → Lonely command.call_id (prack_taken event command side)
+  prack_alone command =
+      let name = name_in command.local_tag command.remote_tag in
+      paid_alone command (prack_paid event command name)
+      (λ owed. prack_by name command (paid_at name event owed command.body side.dialogs).0
+      (paid_at name event owed command.body side.dialogs).1 (paid_same name owed command.body))
+      _
