@@ -1,10 +1,8 @@
 """A plain, slow model of the whole agent: what `ua replay` has to write for an event file.
 
 Run as `python3 crates/sip_trials/agent.py < FILE.events > FILE.outputs`; with the option `--cases`
-it says which stored cases of a replay differ from what it works out. With the option
-`--several-provisionals` up to eight reliable provisional responses of an INVITE may wait for their
-PRACKs; with `--cancel` the agent knows CANCEL, and event files of version 2. A fault is told on
-standard error, and then nothing is written; the status is that of `ua`.
+it says which stored cases of a replay differ from what it works out. A fault is told on standard
+error, and then nothing is written; the status is that of `ua`.
 
 It was written from the RFCs and from docs/FORMATS.md, and never from the code. `messages.py` has
 the messages, `tables.py` the transactions, `calls.py` the calls; here are the rounds and the files.
@@ -39,9 +37,8 @@ class FileFault(Exception):
 class Agent:
     """Transactions and calls, led through rounds."""
 
-    def __init__(self, config, knows_several=False, knows_cancel=False):
+    def __init__(self, config):
         self.local, self.seed, self.number = config
-        self.knows_several, self.knows_cancel = knows_several, knows_cancel
         self.held, self.calls, self.commands, self.now = {}, {}, [], 0
 
     def name(self, event_id, index):
@@ -190,10 +187,10 @@ LINES = {
 }
 
 
-def event_of(line, knows_cancel):
+def event_of(line, version):
     """The event of a line, or None."""
     kinds = [kind for kind in LINES if line.startswith(f"{kind} ")]
-    if not kinds or kinds[0] == "cancel" and not knows_cancel:
+    if not kinds or kinds[0] == "cancel" and version == 1:
         return None
     kind, fields = kinds[0], LINES[kinds[0]]
     texts = line[len(kind) + 1 :].split(" ", len(fields) - 1)
@@ -207,12 +204,12 @@ def event_of(line, knows_cancel):
     return Event(kind, **values)
 
 
-def read_events(text, knows_cancel):
+def read_events(text):
     """The configuration and the rounds of an event file (docs/FORMATS.md)."""
     if len(text) > MOST_FILE:
         raise FileFault(1, "event file too long")
     first, end, rest = text.partition("\n")
-    versions = ["sip-events 1", "sip-events 2"] if knows_cancel else ["sip-events 1"]
+    versions = ["sip-events 1", "sip-events 2"]
     if first not in versions or not end:
         told = "event file line 1" if first in versions and not end else "event file version"
         raise FileFault(1, told)
@@ -227,7 +224,7 @@ def read_events(text, knows_cancel):
         if stage != "rounds":
             stage, config = head_line(line, stage, config)
         if stage == "rounds":
-            read_line(line, rounds, knows_cancel and first.endswith("2"))
+            read_line(line, rounds, int(first[-1]))
         if stage is None or rounds[-1:] == [None]:
             raise FileFault(1, f"event file line {at}")
     return config, rounds
@@ -249,11 +246,11 @@ def head_line(line, stage, config):
     return ("rounds" if kind == "round" else None), config
 
 
-def read_line(line, rounds, knows_cancel):
+def read_line(line, rounds, version):
     """Adds a round or an event; None where the line is neither."""
     kind, _, text = line.partition(" ")
     moment = number_of(text) if kind == "round" else None
-    event = event_of(line, knows_cancel)
+    event = event_of(line, version)
     if moment is not None:
         rounds.append((moment, []))
     elif event and rounds:
@@ -276,17 +273,17 @@ def refuse_rounds(config, rounds):
         before = moment
 
 
-def replayed(text, knows_several=False, knows_cancel=False):
+def replayed(text):
     """The output file of an event file."""
-    config, rounds = read_events(text, knows_cancel)
+    config, rounds = read_events(text)
     refuse_rounds(config, rounds)
-    agent, lines = Agent(config, knows_several, knows_cancel), ["sip-outputs 1"]
+    agent, lines = Agent(config), ["sip-outputs 1"]
     for moment, events in rounds:
         lines += agent.round(moment, events)
     return "".join(f"{line}\n" for line in lines)
 
 
-def compare_cases(several, cancel):
+def compare_cases():
     """Says which stored cases differ, and how many were worked out."""
     cases, differ = 0, 0
     for events in sorted((Path(__file__).parent / "data").glob("*/*.events")):
@@ -294,7 +291,7 @@ def compare_cases(several, cancel):
         if events.with_suffix(".args").exists() and "round" not in events.read_text("latin-1"):
             continue  # it is its words that are tried
         try:
-            text = replayed(events.read_bytes().decode("latin-1"), several, cancel)
+            text = replayed(events.read_bytes().decode("latin-1"))
         except FileFault as fault:
             kind, text = ".fault", "{}\nua: {}\n".format(*fault.args)
         stored = events.with_suffix(kind)
@@ -307,11 +304,10 @@ def compare_cases(several, cancel):
 
 
 def main(words):
-    several, cancel = "--several-provisionals" in words, "--cancel" in words
     if "--cases" in words:
-        return compare_cases(several, cancel)
+        return compare_cases()
     try:
-        output = replayed(sys.stdin.buffer.read().decode("latin-1"), several, cancel)
+        output = replayed(sys.stdin.buffer.read().decode("latin-1"))
     except FileFault as fault:
         status, told = fault.args
         print(f"ua: {told}", file=sys.stderr)

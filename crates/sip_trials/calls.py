@@ -192,7 +192,7 @@ def content_type(body):
 
 class Call:
     """What is held under a Call-ID. The agent has its local address, the moment, the names that it
-    makes, whether it knows CANCEL and several provisionals, and the list of commands."""
+    makes, and the list of commands."""
 
     def __init__(self, name, agent):
         self.name, self.agent = name, agent
@@ -250,7 +250,7 @@ class Call:
     def told_request(self, event_id, told):
         """A request came up: the agent answers it itself, or it is held for the user."""
         message = told.message
-        if message.method == "CANCEL" and self.agent.knows_cancel:
+        if message.method == "CANCEL":
             return self.cancelled(told)
         tag = message.to_tag or self.agent.name(told.id, 0)
         dialog = self.find(message.to_tag, message.from_tag) if message.to_tag else None
@@ -369,8 +369,6 @@ class Call:
     def must_wait(self, request):
         """Whether no further reliable provisional response may be sent yet."""
         waiting = request.unacknowledged()
-        if not self.agent.knows_several:
-            return bool(waiting)
         is_first_open = bool(waiting) and waiting[0] is request.provisionals[0]
         is_given_up = any(one.is_given_up for one in waiting)
         return is_first_open or is_given_up or len(waiting) >= MOST_UNACKNOWLEDGED

@@ -17,7 +17,7 @@ use Rattle.sip_served.proofs.Entries.{none_apart}
 use Rattle.sip_clients.specs.declared.event.Event.{Event}
 use Rattle.sip_clients.specs.Client.{Clients, Side, client_at}
 use Rattle.sip_clients.specs.Provisionals.{InTheDialog, told_of}
-use Rattle.sip_clients.proofs.AgainInvite.{AgainResult, AreApart, Keeps, ear_of, keeps_ack, keeps_invite, keeps_lost, keeps_plain, keeps_prack, keeps_request, keeps_same, keeps_tick, silent_result}
+use Rattle.sip_clients.proofs.AgainInvite.{AgainResult, AreApart, Keeps, ear_of, keeps_ack, keeps_cancel, keeps_invite, keeps_lost, keeps_plain, keeps_prack, keeps_request, keeps_same, keeps_tick, silent_result}
 use Rattle.sip_clients.proofs.AgainSides.{response_again}
 use Rattle.sip_clients.proofs.Hearing.{heard_in_order}
 use Rattle.sip_calls.specs.declared.call.Call.{Call}
@@ -127,7 +127,9 @@ module _ (life : DialogLife) (invite : Id) where
       keeps_of id call (command_taken call (event_of calls id now) (Prack prack))
       (keeps_prack life invite (Some id) (event_of calls id now) prack refl
       (side_of call) apart)
-  command_step call calls id now (Cancel cancel) apart = nothing id call _ apart
+  command_step call calls id now (Cancel cancel) apart =
+      keeps_of id call (command_taken call (event_of calls id now) (Cancel cancel))
+      (keeps_cancel life invite (Some id) (event_of calls id now) cancel (side_of call) apart)
 
   tick_step : (call : Call) (now : ℕ) → AreApart call.clients
       → Step None None call.clients (ticked call now)

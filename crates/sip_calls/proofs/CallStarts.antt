@@ -1,6 +1,6 @@
--- An input of a call starts at most one transaction, of a client and under the id of its event; a
--- tick and the loss of a request none.
-use Rattle.std.proofs.Common.{◌≡◌, inl, ℕ, Bool, true, false, List, [], refl}
+-- An input of a call starts transactions of clients alone, each under the id of its event or of a
+-- command whose CANCEL waited; a tick starts none.
+use Rattle.std.proofs.Common.{◌≡◌, ℕ, Bool, true, false, List, [], ◌∷◌, ◌++◌, refl, sym, subst}
 use Rattle.std.specs.Prelude.{Option, None, Some}
 use Rattle.sip_message.specs.declared.id.Id.{Id}
 use Rattle.sip_transactions.specs.declared.output.Kind.{Kind}
@@ -13,81 +13,137 @@ use Rattle.sip_served.specs.declared.item.Item.TheVariants.{Up, User}
 use Rattle.sip_served.specs.Tick as served
 use Rattle.sip_served.proofs.NoStarts.{kind_starts, none_of_both, respond_starts, starts, tick_starts}
 use Rattle.sip_clients.specs.declared.event.Event.{Event}
-use Rattle.sip_clients.specs.Client.{client_at}
+use Rattle.sip_clients.specs.Client.{Clients, Side, client_at}
 use Rattle.sip_clients.specs.Clients.{lost}
-use Rattle.sip_clients.specs.Tick.{over_notices}
-pub use Rattle.sip_clients.proofs.FewStarts.{One}
-use Rattle.sip_clients.proofs.FewStarts.{ack_none, invite_one, lost_none, plain_one, prack_one, request_one, response_one, tick_none}
+use Rattle.sip_clients.specs.Tick.{clients_left, over_notices}
+pub use Rattle.sip_clients.proofs.FewStarts.{AllClients, Fits, IsClient, how_many, ids_of, waiting}
+pub use Rattle.sip_clients.proofs.FirstInvite.{id_exact}
+pub use Rattle.sip_clients.proofs.Tally.{count_option, weight}
+use Rattle.sip_clients.proofs.FewStarts.{ack_fits, cancel_fits, invite_fits, lost_fits, plain_fits, prack_fits, quiet_then, request_fits, response_fits, stays_quiet, tick_fits, tick_none}
 use Rattle.sip_calls.specs.declared.call.Call.{Call}
 use Rattle.sip_calls.specs.declared.calls.Calls.{Calls}
 use Rattle.sip_calls.specs.declared.calls.CallInput.{CallInput}
 use Rattle.sip_calls.specs.declared.calls.CallInput.TheVariants.{Tick, Item as AnItem}
-use Rattle.sip_calls.specs.Call.{call_step, command_taken, event_of, first_command_taken, lost_taken, new_call, served_taken, up_taken}
-use Rattle.sip_calls.specs.Provisionals.{event_in, event_of_kind}
-use Rattle.sip_calls.specs.Sides.{side_of, ticked}
+use Rattle.sip_calls.specs.Call.{call_step, command_taken, event_of, first_command_taken, kept, lost_taken, new_call, served_taken, up_taken}
+use Rattle.sip_calls.specs.Provisionals.{event_in, event_of_kind, side_held}
+use Rattle.sip_calls.specs.Sides.{CallTaken, side_of, ticked}
+use Rattle.sip_calls.proofs.KeptSides.{kept_side}
 
-abbrev pub StartsBy : Option Id → List CallOut → Type 0
-StartsBy None outs = starts outs ≡ []
-StartsBy (Some id) outs = One id (starts outs)
+-- the ids of the commands whose CANCEL waits in a call
+abbrev pub waiting_in : Option Call → List Id
+waiting_in state = waiting (side_held state).clients
+
+abbrev Starts : Option Id → Call → CallTaken → Type 0
+Starts event call taken = Fits event call.clients taken.1 (taken.0).clients
+
+-- ---- what comes up
 
 lost_starts : (call : Call) (event : Event) (up : AnUp) (timed_out : Bool)
-    → starts (lost_taken call event up timed_out).1 ≡ []
+    → Starts None call (lost_taken call event up timed_out)
 lost_starts call event up timed_out =
     let first = served_taken call event (Up up) in
-    none_of_both first.1 (lost up.id timed_out (side_of first.0)).1
-    (kind_starts (call.served).state _ up up.kind)
-    (lost_none up.id timed_out (client_at up.id (first.0).clients) (side_of first.0))
+    let after = lost up.id timed_out (side_of first.0) in
+    quiet_then None call.clients first.1 after.1 (after.0).clients
+    (kind_starts (call.served).state _ up up.kind event.moment)
+    (lost_fits up.id timed_out (client_at up.id (first.0).clients) (side_of first.0))
+
+served_starts : (id : Id) (call : Call) (event : Event) (up : AnUp)
+    → Starts (Some id) call (served_taken call event (Up up))
+served_starts id call event up =
+    stays_quiet (Some id) call.clients (served_taken call event (Up up)).1
+    (kind_starts (call.served).state _ up up.kind event.moment)
 
 up_starts : (call : Call) (calls : Calls) (id : Id) (now : ℕ) (up : AnUp) (k : Kind)
-    → StartsBy (event_of_kind id k) (up_taken call (event_of calls id now) up k).1
+    → Starts (event_of_kind id k) call (up_taken call (event_of calls id now) up k)
 up_starts call calls id now up (kind.Request request reply_to) =
-    inl (kind_starts (call.served).state _ up up.kind)
-up_starts call calls id now up (kind.Ack ack) = inl (kind_starts (call.served).state _ up up.kind)
+    served_starts id call (event_of calls id now) up
+up_starts call calls id now up (kind.Ack ack) = served_starts id call (event_of calls id now) up
 up_starts call calls id now up (kind.Response response) =
-    response_one (event_of calls id now) up.id up.call_id response (side_of call)
+    response_fits (event_of calls id now) up.id up.call_id response (side_of call)
 up_starts call calls id now up kind.Timeout = lost_starts call (event_of calls id now) up true
 up_starts call calls id now up kind.Failed = lost_starts call (event_of calls id now) up false
 
+-- ---- commands of the user, and a tick
+
+-- a refusal starts nothing
+refused_starts : (call : Call) (id : Id) (outs : List CallOut) → starts outs ≡ []
+    → Starts (Some id) call (call, outs)
+refused_starts call id outs none = stays_quiet (Some id) call.clients outs none
+
 first_command_starts : (call : Call) (calls : Calls) (id : Id) (now : ℕ) (command : UserCommand)
-    → One id (starts (first_command_taken call (event_of calls id now) command).1)
+    → Starts (Some id) call (first_command_taken call (event_of calls id now) command)
 first_command_starts call calls id now (Invite invite) =
-    invite_one (event_of calls id now) invite call.clients
+    invite_fits (event_of calls id now) invite call.clients
 first_command_starts call calls id now (PlainCommand plain) =
-    plain_one (event_of calls id now) plain call.clients
-first_command_starts call calls id now (Request request) = inl refl
-first_command_starts call calls id now (Respond respond) = inl refl
-first_command_starts call calls id now (Ack ack) = inl refl
-first_command_starts call calls id now (Prack prack) = inl refl
-first_command_starts call calls id now (Cancel cancel) = inl refl
+    plain_fits (event_of calls id now) plain call.clients
+first_command_starts call calls id now (Request request) = refused_starts call id _ refl
+first_command_starts call calls id now (Respond respond) = refused_starts call id _ refl
+first_command_starts call calls id now (Ack ack) = refused_starts call id _ refl
+first_command_starts call calls id now (Prack prack) = refused_starts call id _ refl
+first_command_starts call calls id now (Cancel cancel) = refused_starts call id _ refl
 
 command_starts : (call : Call) (calls : Calls) (id : Id) (now : ℕ) (command : UserCommand)
-    → One id (starts (command_taken call (event_of calls id now) command).1)
-command_starts call calls id now (Invite invite) = inl refl
-command_starts call calls id now (PlainCommand plain) = inl refl
+    → Starts (Some id) call (command_taken call (event_of calls id now) command)
+command_starts call calls id now (Invite invite) = refused_starts call id _ refl
+command_starts call calls id now (PlainCommand plain) = refused_starts call id _ refl
 command_starts call calls id now (Request request) =
-    request_one (event_of calls id now) request (side_of call)
+    request_fits (event_of calls id now) request (side_of call)
 command_starts call calls id now (Respond respond) =
-    inl (respond_starts (call.served).state id respond now)
-command_starts call calls id now (Ack ack) =
-    inl (ack_none (event_of calls id now) ack (side_of call))
+    stays_quiet (Some id) call.clients
+    (command_taken call (event_of calls id now) (Respond respond)).1
+    (respond_starts (call.served).state id respond now)
+command_starts call calls id now (Ack ack) = ack_fits (event_of calls id now) ack (side_of call)
 command_starts call calls id now (Prack prack) =
-    prack_one (event_of calls id now) prack (side_of call)
-command_starts call calls id now (Cancel cancel) = inl refl
+    prack_fits (event_of calls id now) prack (side_of call)
+command_starts call calls id now (Cancel cancel) =
+    cancel_fits (event_of calls id now) cancel (side_of call)
 
-tick_starts_none : (call : Call) (now : ℕ) → starts (ticked call now).1 ≡ []
-tick_starts_none call now =
+tick_silent_of : (call : Call) (now : ℕ) → starts (ticked call now).1 ≡ []
+tick_silent_of call now =
     let first = served.tick_taken (call.served).state now in
     none_of_both first.1 (over_notices now (first.0).dialogs call.clients)
     (tick_starts (call.served).state now) (tick_none now (first.0).dialogs call.clients)
 
+ticked_starts : (call : Call) (now : ℕ) → Starts None call (ticked call now)
+ticked_starts call now =
+    let first = served.tick_taken (call.served).state now in
+    quiet_then None call.clients first.1 (over_notices now (first.0).dialogs call.clients)
+    (clients_left now call.clients) (tick_starts (call.served).state now)
+    (tick_fits now (first.0).dialogs call.clients)
+
+-- ---- all of it
+
+abbrev pub StartsBy : Option Id → Option Call → Option Call × List CallOut → Type 0
+StartsBy event state taken =
+    Fits event (side_held state).clients taken.1 (side_held taken.0).clients
+
+kept_starts : (event : Option Id) (call : Call) (taken : CallTaken) → Starts event call taken
+    → Fits event call.clients (kept taken).1 (side_held (kept taken).0).clients
+kept_starts event call taken fits =
+    subst (λ (side : Side). Fits event call.clients taken.1 side.clients)
+    (sym (kept_side taken.0)) fits
+
 pub call_starts : (calls : Calls) (state : Option Call) (input : CallInput) (now : ℕ)
-    → StartsBy (event_in input) (call_step calls state input now).1
-call_starts calls None Tick now = refl
-call_starts calls (Some call) Tick now = tick_starts_none call now
+    → StartsBy (event_in input) state (call_step calls state input now)
+call_starts calls None Tick now = stays_quiet None [] [] refl
+call_starts calls (Some call) Tick now =
+    kept_starts None call (ticked call now) (ticked_starts call now)
 call_starts calls None (AnItem id (Up up)) now =
-    up_starts (new_call calls.local) calls id now up up.kind
+    let call = new_call calls.local in
+    kept_starts (event_of_kind id up.kind) call (up_taken call (event_of calls id now) up up.kind)
+    (up_starts call calls id now up up.kind)
 call_starts calls None (AnItem id (User command)) now =
-    first_command_starts (new_call calls.local) calls id now command
-call_starts calls (Some call) (AnItem id (Up up)) now = up_starts call calls id now up up.kind
+    let call = new_call calls.local in
+    kept_starts (Some id) call (first_command_taken call (event_of calls id now) command)
+    (first_command_starts call calls id now command)
+call_starts calls (Some call) (AnItem id (Up up)) now =
+    kept_starts (event_of_kind id up.kind) call (up_taken call (event_of calls id now) up up.kind)
+    (up_starts call calls id now up up.kind)
 call_starts calls (Some call) (AnItem id (User command)) now =
-    command_starts call calls id now command
+    kept_starts (Some id) call (command_taken call (event_of calls id now) command)
+    (command_starts call calls id now command)
+
+pub tick_silent : (calls : Calls) (state : Option Call) (now : ℕ)
+    → starts (call_step calls state Tick now).1 ≡ []
+tick_silent calls None now = refl
+tick_silent calls (Some call) now = tick_silent_of call now

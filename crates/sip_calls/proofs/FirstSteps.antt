@@ -49,7 +49,7 @@ module _ (life : DialogLife) where
       let taken = lost_taken call event up timed_out in
       silent life of (dialogs_of call) (dialogs_of taken.0) taken.1
       (leads_then (λ id. of ≡ Some id) (dialogs_of call) (dialogs_of first) (dialogs_of taken.0)
-      (kind_leads (λ id. of ≡ Some id) (call.served).state _ up up.kind apart)
+      (kind_leads (λ id. of ≡ Some id) (call.served).state _ up up.kind event.moment apart)
       (lost_leads of up.id timed_out (client_at up.id call.clients) (side_of first)))
 
   up_step : (call : Call) (calls : Calls) (id : Id) (now : ℕ) (up : AnUp) (k : Kind)
@@ -59,11 +59,11 @@ module _ (life : DialogLife) where
   up_step call calls id now up (kind.Request request reply_to) apart =
       let taken = served_taken call (event_of calls id now) (Up up) in
       silent life (Some id) (dialogs_of call) (dialogs_of taken.0) taken.1
-      (kind_leads (λ x. Some id ≡ Some x) (call.served).state _ up up.kind apart)
+      (kind_leads (λ x. Some id ≡ Some x) (call.served).state _ up up.kind now apart)
   up_step call calls id now up (kind.Ack ack) apart =
       let taken = served_taken call (event_of calls id now) (Up up) in
       silent life (Some id) (dialogs_of call) (dialogs_of taken.0) taken.1
-      (kind_leads (λ x. Some id ≡ Some x) (call.served).state _ up up.kind apart)
+      (kind_leads (λ x. Some id ≡ Some x) (call.served).state _ up up.kind now apart)
   up_step call calls id now up (kind.Response response) apart =
       response_step life (Some id) (event_of calls id now) refl up.id up.call_id response
       (side_of call) apart

@@ -18,6 +18,7 @@ use Rattle.sip_served.specs.declared.held_request.HeldRequest.{HeldRequest}
 use Rattle.sip_served.specs.declared.refusal.Refusal.{Refusal}
 use Rattle.sip_served.specs.declared.refusal.Refusal.TheVariants.{BadMethod, CallInUse, NoSuchCall, NoSuchRequest}
 use Rattle.sip_clients.specs.Client.{Taken as ClientTaken}
+use Rattle.sip_clients.specs.Cancel.{cancel_taken}
 use Rattle.sip_clients.specs.Clients.{ack_taken, prack_taken, request_taken}
 use Rattle.sip_clients.specs.Commands.{is_bad_outside}
 use Rattle.sip_clients.specs.Outputs.{start_command}
@@ -27,7 +28,7 @@ use Rattle.sip_calls.specs.RefusedCommands.{RefusedAlone}
 use Rattle.sip_calls.specs.Sides.{by_clients, by_server, side_of}
 use Rattle.sip_calls.specs.declared.call.Call.{Call}
 use Rattle.sip_clients.specs.RefusedCommands.{is_refusal, only_refused, IsRefusedAlone}
-use Rattle.sip_clients.proofs.RefusedAlone.{ack_alone, by_bool, ends_told, prack_alone, request_alone, silent, told_alone}
+use Rattle.sip_clients.proofs.RefusedAlone.{ack_alone, by_bool, cancel_alone, ends_told, prack_alone, request_alone, silent, told_alone}
 
 -- ---- an answer
 
@@ -83,7 +84,8 @@ first_alone call event (Respond respond) =
     told_alone call respond.call_id (event.id).place NoSuchCall
 first_alone call event (Ack ack) = told_alone call ack.call_id (event.id).place NoSuchCall
 first_alone call event (Prack prack) = told_alone call prack.call_id (event.id).place NoSuchCall
-first_alone call event (Cancel cancel) = λ some. absurd (false≢true some)
+first_alone call event (Cancel cancel) =
+    told_alone call cancel.call_id (event.id).place NoSuchCall
 
 later_alone : (call : Call) (event : Event) (command : UserCommand)
     → IsRefusedAlone call (call_of_command command) (event.id).place (command_taken call event command)
@@ -102,7 +104,9 @@ later_alone call event (Ack ack) =
 later_alone call event (Prack prack) =
     by_clients_alone call prack.call_id (event.id).place
     (prack_taken event prack (side_of call)) (prack_alone event (side_of call) prack)
-later_alone call event (Cancel cancel) = λ some. absurd (false≢true some)
+later_alone call event (Cancel cancel) =
+    by_clients_alone call cancel.call_id (event.id).place
+    (cancel_taken event cancel (side_of call)) (cancel_alone event (side_of call) cancel)
 
 pub refused_alone : RefusedAlone
 refused_alone calls None id command now some =

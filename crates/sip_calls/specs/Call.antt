@@ -18,6 +18,7 @@ use Rattle.sip_served.specs.declared.item.CallOut.TheVariants.{Notice}
 use Rattle.sip_served.specs.declared.notice.Notice.TheVariants.{Refused}
 use Rattle.sip_served.specs.declared.refusal.Refusal.{Refusal}
 use Rattle.sip_served.specs.declared.refusal.Refusal.TheVariants.{CallInUse, NoSuchCall}
+use Rattle.sip_clients.specs.Cancel.{cancel_taken}
 use Rattle.sip_clients.specs.Client.{Clients}
 use Rattle.sip_clients.specs.Clients.{ack_taken, invite_taken, lost, plain_taken, prack_taken, request_taken, response_taken}
 use Rattle.sip_clients.specs.Name.{name_of}
@@ -90,7 +91,7 @@ first_command_taken call event (Request request) = (call, refused event request.
 first_command_taken call event (Respond respond) = (call, refused event respond.call_id NoSuchCall)
 first_command_taken call event (Ack ack) = (call, refused event ack.call_id NoSuchCall)
 first_command_taken call event (Prack prack) = (call, refused event prack.call_id NoSuchCall)
-first_command_taken call event (Cancel cancel) = (call, [])
+first_command_taken call event (Cancel cancel) = (call, refused event cancel.call_id NoSuchCall)
 
 -- where something is held, no first request is
 abbrev pub command_taken : Call → Event → UserCommand → CallTaken
@@ -101,7 +102,8 @@ command_taken call event (Request request) =
 command_taken call event (Respond respond) = served_taken call event (User (Respond respond))
 command_taken call event (Ack ack) = by_clients call (ack_taken event ack (side_of call))
 command_taken call event (Prack prack) = by_clients call (prack_taken event prack (side_of call))
-command_taken call event (Cancel cancel) = (call, [])
+command_taken call event (Cancel cancel) =
+    by_clients call (cancel_taken event cancel (side_of call))
 
 -- ---- the machine
 

@@ -1,6 +1,7 @@
 //! One call.
 
 ghost use Rattle.std.specs.Prelude.{◌≡◌, ◌≤◌, ◌^◌, IfOk};
+ghost use Rattle.sip_clients.specs.Cancel.{cancel_taken};
 ghost use Rattle.sip_clients.specs.Clients as clients;
 ghost use Rattle.sip_clients.specs.Name.{name_of};
 ghost use Rattle.sip_clients.specs.Tick.{tick_taken};
@@ -11,7 +12,7 @@ ghost use Rattle.sip_calls.specs.Sides as spec;
 
 use sip_clients::{Clients, Event, made_name};
 use sip_message::{CallId, Id, Message};
-use sip_served::{CallOut, DialogBody, DialogRequest, Item, Respond, Served};
+use sip_served::{CallOut, Cancel, DialogBody, DialogRequest, Item, Respond, Served};
 use sip_timers::earlier;
 use std::alloc::{AllocError, Global};
 
@@ -167,6 +168,19 @@ impl Call {
             (spec.side_of self.old))) }
     {
         self.clients.prack(self.served.dialogs(), event, command)
+    }
+
+    /// The user cancels an INVITE.
+    pub(crate) fn cancel(
+        &mut self,
+        event: Event,
+        command: &Cancel,
+    ) -> Result<Vec<CallOut>, AllocError>
+        ensures { IfOk result (λ outs. (self.new, outs.items)
+            ≡ spec.by_clients self.old (cancel_taken event command.now
+            (spec.side_of self.old))) }
+    {
+        self.clients.cancel(event, command)
     }
 }
 

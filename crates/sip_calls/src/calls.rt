@@ -223,7 +223,6 @@ fn take_first_command(
     match &command {
         UserCommand::Invite(invite) => call.clients.invite(event, invite),
         UserCommand::Plain(plain) => call.clients.plain(event, plain),
-        UserCommand::Cancel(_) => Ok(Vec::new(alloc)),
         _ => refuse(alloc, event, command.call_id(), Refusal::NoSuchCall),
     }
 }
@@ -246,7 +245,7 @@ fn take_command(
         UserCommand::Respond(respond) => call.respond(event, respond),
         UserCommand::Ack(ack) => call.ack(event, &ack),
         UserCommand::Prack(prack) => call.prack(event, &prack),
-        UserCommand::Cancel(_) => Ok(Vec::new(alloc)),
+        UserCommand::Cancel(cancel) => call.cancel(event, &cancel),
     }
 }
 

@@ -1,9 +1,12 @@
 -- What the client side makes of what was heard for an INVITE in a life of a dialog.
 use Rattle.std.proofs.Common.{◌≡◌, ◌⊎◌, inl, inr, ℕ, Bool, true, false, not, ◌&&◌, cond, List, [], ◌∷◌, refl, ap, ◌∙◌}
 use Rattle.std.specs.Prelude.{Option, None, Some, Result, Ok, Err, if◌then◌else◌}
+use Rattle.std.specs.Option.{option_map}
 use Rattle.sip_message.specs.declared.id.Id.{Id}
+use Rattle.sip_reliable.specs.Inbound.{latest_after, offered}
 use Rattle.sip_served.specs.declared.debt.Debt.{Debt}
 use Rattle.sip_served.specs.declared.debt.Debt.TheVariants.{Ack, Prack}
+use Rattle.sip_served.specs.declared.command.Cancel.{Cancel}
 use Rattle.sip_served.specs.declared.command.DialogBody.{DialogBody}
 use Rattle.sip_served.specs.declared.command.DialogRequest.{DialogRequest}
 use Rattle.sip_served.specs.declared.command.Invite.{Invite}
@@ -20,6 +23,10 @@ use Rattle.sip_served.proofs.Heard.{id_laws}
 use Rattle.sip_clients.specs.declared.answers.SentAck.{SentAck}
 use Rattle.sip_clients.specs.declared.client.Asks.{Asks}
 use Rattle.sip_clients.specs.declared.client.Asks.TheVariants.{First, Again, Inside, Plain}
+use Rattle.sip_clients.specs.declared.cancel.CancelCase.{CancelCase}
+use Rattle.sip_clients.specs.declared.cancel.CancelCase.TheVariants as cancel
+use Rattle.sip_clients.specs.declared.client.Cancelling.{Cancelling}
+use Rattle.sip_clients.specs.declared.client.Cancelling.TheVariants as state
 use Rattle.sip_clients.specs.declared.client.Client.{Client}
 use Rattle.sip_clients.specs.declared.debts.DebtKind.TheVariants as kind
 use Rattle.sip_clients.specs.declared.event.Event.{Event}
@@ -27,8 +34,9 @@ use Rattle.sip_clients.specs.declared.outputs.Rest.{Rest}
 use Rattle.sip_clients.specs.declared.outputs.Rest.TheVariants.{Stays, Over, Starts}
 use Rattle.sip_clients.specs.declared.service.Service.{Service}
 use Rattle.sip_clients.specs.declared.service.Service.TheVariants.{Sent, Waits, Refused}
-use Rattle.sip_clients.specs.Client.{Clients, Side, client_at, client_for}
-use Rattle.sip_clients.specs.Clients.{ack_noted, ack_paid, ack_taken, acked_with, client_changed, invite_taken, lost_of, paid_or_refused, plain_taken, prack_paid, prack_taken, request_taken, settled, with_client, without}
+use Rattle.sip_clients.specs.Cancel.{asked, cancel_case, cancel_client, cancel_taken, cancellation, cancelled_as, cancelled_of, sent_beside}
+use Rattle.sip_clients.specs.Client.{Clients, Side, client_at, client_changed, client_for, with_client, without}
+use Rattle.sip_clients.specs.Clients.{ack_noted, ack_paid, ack_taken, acked_with, invite_taken, lost_of, paid_or_refused, plain_taken, prack_paid, prack_taken, request_taken, settled}
 use Rattle.sip_clients.specs.Commands.{ack_told, debt_for, is_bad_outside, name_in, requested_by}
 use Rattle.sip_clients.specs.Dialogs.{paid_at}
 use Rattle.sip_clients.specs.Outputs.{refused_notice, request_said, start_command}
@@ -76,6 +84,32 @@ silent_then Begins x y z (inl none) (inr (inl same)) = inl (same ∙ none)
 silent_then Begins x y z (inr (inl first)) (inr (inl same)) = inr (inl (same ∙ first))
 silent_then Begins x y z (inr (inr begins)) (inr (inl same)) = inr (inr (begins.0, same ∙ begins.1))
 
+-- it is over, or it stays
+abbrev pub EndsOrStays : Option (Option ℕ) → Option (Option ℕ) → Type 0
+EndsOrStays before after = (after ≡ None) ⊎ (after ≡ before)
+
+pub listens_then : (Begins : Type 0) (before middle after : Option (Option ℕ)) (number : Option ℕ)
+    (shown : List ℕ) → Listens Begins before middle number shown → EndsOrStays middle after
+    → Listens Begins before after number shown
+listens_then Begins before middle after None shown listens (inl none) = (inl none, listens.1)
+listens_then Begins before middle after None shown listens (inr same) =
+    (silent_then Begins before middle after listens.0 (inr (inl same)), listens.1)
+listens_then Begins before middle after (Some number) shown hears (inl none) =
+    record { last = hears.last; was = hears.was; now = inl none; shows = hears.shows }
+listens_then Begins before middle after (Some number) shown hears (inr same) = record {
+  last = hears.last;
+  was = hears.was;
+  now = by_now hears.now;
+  shows = hears.shows;
+}
+  where
+    by_now : ((middle ≡ None)
+        ⊎ (middle ≡ Some (latest_after (offered hears.last number) hears.last number)))
+        → (after ≡ None)
+        ⊎ (after ≡ Some (latest_after (offered hears.last number) hears.last number))
+    by_now (inl gone) = inl (same ∙ gone)
+    by_now (inr is) = inr (same ∙ is)
+
 -- a request that was just sent has heard nothing
 abbrev pub StartsUnheard : Rest → Type 0
 StartsUnheard Stays = Unit {0}
@@ -90,6 +124,32 @@ said_unheard event call_id name (Refused refusal) = tt
 
 abbrev pub ear_of : DialogLife → Id → Clients → Option (Option ℕ)
 ear_of life invite clients = client_ear life (client_at invite clients)
+
+-- a CANCEL that may be sent is no INVITE, whatever its id
+module _ (life : DialogLife) (invite : Id) where
+  abbrev EarStays : Option Client → Option Client → Type 0
+  EarStays before after = EndsOrStays (client_ear life before) (client_ear life after)
+
+  stays_same : (o : Option Client) → EarStays o o
+  stays_same o = inr refl
+
+  stays_none : (o : Option Client) → EarStays o None
+  stays_none o = inl refl
+
+  pub sent_apart : (id : Option Id) (cancelled : Client) (done : Clients × List CallOut)
+      → AreApart done.0
+      → AreApart (sent_beside (option_map (λ id. cancellation id cancelled) id) done).0
+  sent_apart None cancelled done apart = apart
+  sent_apart (Some id) cancelled done apart =
+      entries.apart_inserted id_laws id (cancel_client id cancelled) done.0 apart
+
+  pub sent_stays : (id : Option Id) (cancelled : Client) (done : Clients × List CallOut)
+      → EndsOrStays (ear_of life invite done.0) (ear_of life invite
+      (sent_beside (option_map (λ id. cancellation id cancelled) id) done).0)
+  sent_stays None cancelled done = inr refl
+  sent_stays (Some id) cancelled done =
+      entries.by_insertion id_laws EarStays stays_same stays_none id invite
+      (cancel_client id cancelled) done.0 (λ same. inl refl)
 
 -- what was heard is so, after what makes such requests of those before, beside these dialogs, where
 -- this number may have come and this is given
@@ -257,6 +317,50 @@ module _ (life : DialogLife) (invite : Id) (event : Option Id) where
   keeps_prack of command made side apart =
       by_prack of command made side (debt_for kind.Prack
       (name_in command.local_tag command.remote_tag) side.dialogs) apart
+
+  -- ---- CANCEL
+
+  keeps_asked : (id : Id) (cancelling : Cancelling) (clients : Clients) → AreApart clients
+      → Keeps clients (client_changed id (asked cancelling) clients)
+  keeps_asked id cancelling clients apart =
+      keeps_changed id (asked cancelling) (λ client. refl) clients apart
+
+  keeps_sent : (id : Id) (cancelled : Client) (clients : Clients) → AreApart clients
+      → Keeps clients (with_client id (cancel_client id cancelled) clients)
+  keeps_sent id cancelled clients apart = record {
+    apart = sent_apart life invite (Some id) cancelled (clients, []) apart;
+    silent = by_way (sent_stays life invite (Some id) cancelled (clients, []));
+  }
+    where
+      by_way : EndsOrStays (ear clients)
+          (ear (with_client id (cancel_client id cancelled) clients))
+          → Silent Begins (ear clients)
+          (ear (with_client id (cancel_client id cancelled) clients))
+      by_way (inl none) = inl none
+      by_way (inr same) = inr (inl same)
+
+  cancel_by : (way : CancelCase) (of : Event) (command : Cancel) (cancelled : Client)
+      (clients : Clients) → AreApart clients
+      → Keeps clients (cancelled_as way of command cancelled clients).0
+  cancel_by (cancel.Refused refusal) of command cancelled clients apart = keeps_same clients apart
+  cancel_by cancel.Repeated of command cancelled clients apart = keeps_same clients apart
+  cancel_by cancel.Waits of command cancelled clients apart =
+      keeps_asked command.id (state.Waits of.id) clients apart
+  cancel_by cancel.Starts of command cancelled clients apart =
+      let after = client_changed command.id (asked state.Sent) clients in
+      keeps_then clients after (with_client of.id (cancel_client of.id cancelled) after)
+      (keeps_asked command.id state.Sent clients apart) (keeps_sent of.id cancelled after)
+
+  cancel_found : (o : Option Client) (of : Event) (command : Cancel) (clients : Clients)
+      → AreApart clients → Keeps clients (cancelled_of o of command clients).0
+  cancel_found None of command clients apart = keeps_same clients apart
+  cancel_found (Some cancelled) of command clients apart =
+      cancel_by (cancel_case cancelled) of command cancelled clients apart
+
+  pub keeps_cancel : (of : Event) (command : Cancel) (side : Side) → AreApart side.clients
+      → Keeps side.clients ((cancel_taken of command side).0).clients
+  keeps_cancel of command side apart =
+      cancel_found (client_at command.id side.clients) of command side.clients apart
 
   pub keeps_tick : (now : ℕ) (clients : Clients) → AreApart clients
       → Keeps clients (clients_left now clients)

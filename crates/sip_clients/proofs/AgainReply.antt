@@ -29,8 +29,9 @@ use Rattle.sip_clients.specs.declared.reply.Reply.{Reply as Answer}
 use Rattle.sip_clients.specs.declared.reply.ReplyCase.{ReplyCase}
 use Rattle.sip_clients.specs.declared.reply.ReplyCase.TheVariants as reply
 use Rattle.sip_clients.specs.Answers.{has_answer}
-use Rattle.sip_clients.specs.Client.{Clients, Side, client_at}
-use Rattle.sip_clients.specs.Clients.{client_changed, settled}
+use Rattle.sip_clients.specs.Cancel.{noted}
+use Rattle.sip_clients.specs.Client.{Clients, Side, client_at, client_changed}
+use Rattle.sip_clients.specs.Clients.{settled}
 use Rattle.sip_clients.specs.Debts.{owing}
 use Rattle.sip_clients.specs.Dialogs.{opened}
 use Rattle.sip_clients.specs.Provisionals.{in_life, is_response, provisional_number, told_of}
@@ -255,8 +256,12 @@ module _ (life : DialogLife) (invite : Id) (event : Option Id) (answer : Answer)
   -- ---- the request that is found
 
   module _ (client : Client) (is : client_at answer.id side.clients ≡ Some client) where
+    -- that the response has come is noted in it first
+    abbrev pub noting : Client → Client
+    noting client = noted (is_final answer.status) client
+
     abbrev pub change : Client → Client
-    change client = (reply_taken client side.dialogs answer).0
+    change client = (reply_taken (noting client) side.dialogs answer).0
 
     abbrev pub changed : Clients
     changed = set_value (is_id answer.id) side.clients (change client)
@@ -296,26 +301,26 @@ module _ (life : DialogLife) (invite : Id) (event : Option Id) (answer : Answer)
     no_ear none same =
         let after = change client in
         ear_own same ∙ ap (λ asks. asks_ear life asks after.heard)
-        (asks_taken client side.dialogs answer) ∙ none after.heard
+        (asks_taken (noting client) side.dialogs answer) ∙ none after.heard
 
     other_silent : is_id answer.id invite ≡ false
         → Silent (event ≡ Some invite) (ear side.clients) (ear changed)
     other_silent other = inr (inl (ear_other other))
 
     finish : Silent (event ≡ Some invite) (ear side.clients) (ear changed)
-        → Done None (reply_taken client side.dialogs answer)
+        → Done None (reply_taken (noting client) side.dialogs answer)
     finish silent =
-        let done = reply_taken client side.dialogs answer in
-        finish_silent changed left done.1 done.3 (rest_taken client side.dialogs answer)
+        let done = reply_taken (noting client) side.dialogs answer in
+        finish_silent changed left done.1 done.3 (rest_taken (noting client) side.dialogs answer)
         (done.2 ++ (settled answer.event answer.id done.3 changed).1) silent
 
     pub no_invite : ((heard : Option ℕ) → asks_ear life client.asks heard ≡ None)
-        → Done None (reply_taken client side.dialogs answer)
+        → Done None (reply_taken (noting client) side.dialogs answer)
     no_invite none =
         finish (by_bool (is_id answer.id invite) (λ same. inl (no_ear none same)) other_silent)
 
     pub another : is_id answer.id invite ≡ false
-        → Done None (reply_taken client side.dialogs answer)
+        → Done None (reply_taken (noting client) side.dialogs answer)
     another other = finish (other_silent other)
 
   -- an INVITE of the life, in its dialog
@@ -326,6 +331,9 @@ module _ (life : DialogLife) (invite : Id) (event : Option Id) (answer : Answer)
     abbrev found : Client
     found = again own client
 
+    abbrev now : Client
+    now = noting found is found
+
     abbrev after : Clients
     after = changed found is
 
@@ -333,7 +341,7 @@ module _ (life : DialogLife) (invite : Id) (event : Option Id) (answer : Answer)
     held = dialog_at answer.name side.dialogs
 
     abbrev taken_as : ReplyCase → Replied
-    taken_as case = after_dialog answer.name side.dialogs (by_case case found held answer)
+    taken_as case = after_dialog answer.name side.dialogs (by_case case now held answer)
 
     abbrev pub DoneSo : Option ℕ → Replied → Type 0
     DoneSo number done = Done found is number done
@@ -349,14 +357,14 @@ module _ (life : DialogLife) (invite : Id) (event : Option Id) (answer : Answer)
     now_is : (case : ReplyCase) → Heard (taken_as case) → Unheard case
         → Silent (event ≡ Some invite) (ear side.clients) (ear after)
     now_is case heard none =
-        inr (inl (heard ∙ (λ i. asks_ear life (asks_kept case found held answer i)
-        (heard_kept case found held answer none i))
+        inr (inl (heard ∙ (λ i. asks_ear life (asks_kept case now held answer i)
+        (heard_kept case now held answer none i))
         ∙ (λ i. if ours i then Some client.heard else None) ∙ sym was))
 
-    over : Heard (finished found side.dialogs answer)
-        → DoneSo None (finished found side.dialogs answer)
+    over : Heard (finished now side.dialogs answer)
+        → DoneSo None (finished now side.dialogs answer)
     over heard =
-        let done = finished found side.dialogs answer in
+        let done = finished now side.dialogs answer in
         finish_silent after (left found is) done.1 done.3 tt
         (done.2 ++ (settled answer.event answer.id done.3 after).1)
         (inr (inl (heard ∙ (λ i. if ours i then Some client.heard else None) ∙ sym was)))
@@ -365,7 +373,7 @@ module _ (life : DialogLife) (invite : Id) (event : Option Id) (answer : Answer)
         → DoneSo None (taken_as case)
     unheard case heard none =
         let done = taken_as case in
-        finish_silent after (left found is) done.1 done.3 (rest_unheard case found held answer)
+        finish_silent after (left found is) done.1 done.3 (rest_unheard case now held answer)
         (done.2 ++ (settled answer.event answer.id done.3 after).1) (now_is case heard none)
 
     passed : (number : ℕ) (offer : Offer) → offered client.heard number ≡ offer
@@ -387,13 +395,13 @@ module _ (life : DialogLife) (invite : Id) (event : Option Id) (answer : Answer)
     by_offer number Taken is_offered there alive heard =
         let done = taken_as (reply.Reliable number) in
         finish_heard after (left found is) done.1 done.3
-        (rest_unheard (reply.Reliable number) found held answer)
+        (rest_unheard (reply.Reliable number) now held answer)
         (done.2 ++ (settled answer.event answer.id done.3 after).1) number client.heard
-        (lives_owed life own number client side.dialogs answer held refl there ∙ alive) was
+        (lives_owed life own number (noting found is client) side.dialogs answer held refl there ∙ alive) was
         (heard ∙ (λ i. if ours i then Some
         (latest_after (offered client.heard number) client.heard number) else None))
         (told_once number answer answer.id
-        (prack_owed number found (opened found answer held) answer).1 after
+        (prack_owed number now (opened now answer held) answer).1 after
         ∙ ap (λ o. taken o number) (sym is_offered))
     by_offer number Repeat is_offered there alive heard =
         passed number Repeat is_offered refl (λ last. refl) alive heard
@@ -425,7 +433,7 @@ module _ (life : DialogLife) (invite : Id) (event : Option Id) (answer : Answer)
     rseq = rseq_of answer.response
 
     abbrev decides : Bool → Bool → ReplyCase
-    decides final alive = case_by final inside alive (success_case found held answer.name)
+    decides final alive = case_by final inside alive (success_case now held answer.name)
         client.heard rseq
 
     in_dialog : (final : Bool) → Heard (taken_as (decides final (is_there (Again own) held)))
@@ -434,8 +442,8 @@ module _ (life : DialogLife) (invite : Id) (event : Option Id) (answer : Answer)
     in_dialog final heard =
         let case = decides final (is_there (Again own) held) in
         let number = number_by final inside rseq in
-        let winning = success_case found held answer.name in
-        let none = success_unheard own client answer held in
+        let winning = success_case now held answer.name in
+        let none = success_unheard own (noting found is client) answer held in
         let lives_is : is_there (Again own) held ≡ lives side.dialogs life =
         ap (λ name. is_there (Again own) (dialog_at name side.dialogs)) named
         ∙ lives_same life own side.dialogs ours in
@@ -448,16 +456,16 @@ module _ (life : DialogLife) (invite : Id) (event : Option Id) (answer : Answer)
         (gone final inside winning client.heard rseq none)))
 
     by_last : (final success : Bool)
-        → Heard (cond {A = Replied} (final && not success) (finished found side.dialogs answer)
+        → Heard (cond {A = Replied} (final && not success) (finished now side.dialogs answer)
         (taken_as (decides final (is_there (Again own) held))))
         → DoneSo (number_by final inside rseq)
-        (cond {A = Replied} (final && not success) (finished found side.dialogs answer)
+        (cond {A = Replied} (final && not success) (finished now side.dialogs answer)
         (taken_as (decides final (is_there (Again own) held))))
     by_last true false heard = over heard
     by_last true true heard = in_dialog true heard
     by_last false success heard = in_dialog false heard
 
     pub invite_replied : DoneSo (provisional_number (Some answer.status) answer.response)
-        (reply_taken found side.dialogs answer)
+        (reply_taken now side.dialogs answer)
     invite_replied =
         by_last (is_final answer.status) (is_success answer.status) (ear_own found is same)

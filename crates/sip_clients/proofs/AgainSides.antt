@@ -1,23 +1,38 @@
 -- A response that comes up: what was heard after it for an INVITE in a life of a dialog.
-use Rattle.std.proofs.Common.{◌≡◌, ℕ, Bool, true, false, ◌&&◌, List, [], refl, sym, subst}
+use Rattle.std.proofs.Common.{◌≡◌, ℕ, Bool, true, false, ◌&&◌, List, [], ◌++◌, refl, sym, subst}
 use Rattle.std.specs.Prelude.{Option, None, Some, if◌then◌else◌}
-use Rattle.std.specs.Option.{option_and_then}
+use Rattle.std.specs.Map.{set_value}
+use Rattle.std.specs.Option.{option_and_then, option_map}
 use Rattle.sip_message.specs.declared.id.Id.{Id}
 use Rattle.sip_message.specs.declared.message.Message.{Message}
 use Rattle.sip_served.specs.declared.held_dialog.DialogLife.{DialogLife}
-use Rattle.sip_served.specs.Dialogs.{is_named}
+use Rattle.sip_served.specs.declared.item.CallOut.{CallOut}
+use Rattle.sip_served.specs.Dialogs.{is_named, lives}
+use Rattle.sip_served.specs.Requests.{is_final}
 use Rattle.sip_served.specs.State.{is_id}
 use Rattle.sip_clients.specs.declared.client.Asks.{Asks}
 use Rattle.sip_clients.specs.declared.client.Asks.TheVariants.{First, Again, Inside, Plain}
 use Rattle.sip_clients.specs.declared.client.Client.{Client}
 use Rattle.sip_clients.specs.declared.event.Event.{Event}
 use Rattle.sip_clients.specs.declared.reply.Reply.{Reply as Answer}
-use Rattle.sip_clients.specs.Client.{Side, Taken as ClientTaken, client_at}
-use Rattle.sip_clients.specs.Clients.{found_taken, reply_name, reply_of, reply_settled, response_taken, status_of}
-use Rattle.sip_clients.specs.Provisionals.{InTheDialog, is_for, number_for, provisional_number}
-use Rattle.sip_clients.proofs.AgainInvite.{AgainResult, AreApart, ear_of, keeps_same, silent_result}
+use Rattle.sip_clients.specs.Cancel.{cancel_command, cancellation, freed_by, noted, sent_beside}
+use Rattle.sip_clients.specs.Client.{Clients, Side, Taken as ClientTaken, client_at}
+use Rattle.sip_clients.specs.Clients.{found_taken, settled, side_after, reply_name, reply_of, reply_settled, response_taken, status_of}
+use Rattle.sip_clients.specs.Replied.{Replied, reply_taken}
+use Rattle.sip_clients.specs.Provisionals.{InTheDialog, in_life, is_for, number_for, provisional_number, told_of}
+use Rattle.sip_clients.proofs.AgainInvite.{AgainResult, AreApart, ear_of, keeps_same, listens_then, sent_apart, sent_stays, silent_result}
 use Rattle.sip_clients.proofs.AgainReply.{another, invite_replied, no_invite}
-use Rattle.sip_clients.proofs.FirstInvite.{none_in_life}
+use Rattle.sip_clients.proofs.FirstInvite.{none_in_life, told_more}
+use Rattle.sip_clients.proofs.Hearing.{Listens}
+
+told_beside : (number : Option ℕ) (command : Option Id) (cancelled : Client)
+    (done : Clients × List CallOut)
+    → told_of number (sent_beside (option_map (λ id. cancellation id cancelled) command) done).1
+    ≡ told_of number done.1
+unfolding cancel_command
+told_beside number None cancelled done = refl
+told_beside number (Some id) cancelled done =
+    told_more number done.1 (cancel_command id cancelled) refl
 
 abbrev with_asks : Asks → Client → Client
 with_asks asks client = record client { asks = asks }
@@ -42,13 +57,38 @@ module _ (life : DialogLife) (invite : Id) (event : Option Id) (of : Event)
   unchanged = silent_result life invite event side.clients side.clients side.dialogs []
       (keeps_same life invite event side.clients apart)
 
+  -- a CANCEL that may go out last is no INVITE, and is told to nobody
+  freed : (number : Option ℕ) (command : Option Id) (cancelled : Client) (done : Replied)
+      → SideResult number (side_after of id side None done)
+      → SideResult number (side_after of id side
+      (option_map (λ id. cancellation id cancelled) command) done)
+  freed number command cancelled done so =
+      let settles = settled of id done.3 (set_value (is_id id) side.clients done.0) in
+      let first : Clients × List CallOut = (settles.0, done.2 ++ settles.1) in
+      let last = sent_beside (option_map (λ id. cancellation id cancelled) command) first in
+      let came = in_life (lives done.1 life) number in (
+        sent_apart life invite command cancelled first so.0,
+        subst (λ shown. Listens (event ≡ Some invite) (ear_of life invite side.clients)
+            (ear_of life invite last.0) came shown)
+            (sym (told_beside came command cancelled first))
+            (listens_then (event ≡ Some invite) (ear_of life invite side.clients)
+            (ear_of life invite first.0) (ear_of life invite last.0) came
+            (told_of came first.1) so.1 (sent_stays life invite command cancelled first)),
+      )
+
+  abbrev noting : ℕ → Client → Client
+  noting status client = noted (is_final status) client
+
+  abbrev done_of : ℕ → Client → Replied
+  done_of status client =
+      reply_taken (noting status client) side.dialogs (answer_for status client)
+
   by_life : (status : ℕ) (client : Client) (own : DialogLife)
       → client_at id side.clients ≡ Some (with_asks (Again own) client)
       → (b ours : Bool) → is_id id invite ≡ b
       → (is_named life.name own.name && is_id own.born life.born) ≡ ours
       → SideResult (if b && ours then provisional_number (Some status) response else None)
-      (reply_settled (answer_for status (with_asks (Again own) client))
-      (with_asks (Again own) client) side)
+      (side_after of id side None (done_of status (with_asks (Again own) client)))
   by_life status client own is false ours same is_ours =
       let found = with_asks (Again own) client in
       another life invite event (answer_for status found) made side apart once found is same
@@ -61,25 +101,33 @@ module _ (life : DialogLife) (invite : Id) (event : Option Id) (of : Event)
       invite_replied life invite event
       (answer_for status found) made side apart once own client refl is same is_ours
 
-  by_asks : (status : ℕ) (client : Client) (asks : Asks)
+  settles : (status : ℕ) (client : Client) (asks : Asks)
       → client_at id side.clients ≡ Some (with_asks asks client)
       → SideResult (number_at (Some status) (with_asks asks client))
-      (reply_settled (answer_for status (with_asks asks client)) (with_asks asks client) side)
-  by_asks status client First is =
+      (side_after of id side None (done_of status (with_asks asks client)))
+  settles status client First is =
       let found = with_asks First client in
       no_invite life invite event (answer_for status found) made side apart once found is
       (λ heard. refl)
-  by_asks status client (Again own) is =
+  settles status client (Again own) is =
       by_life status client own is (is_id id invite)
       (is_named life.name own.name && is_id own.born life.born) refl refl
-  by_asks status client (Inside own) is =
+  settles status client (Inside own) is =
       let found = with_asks (Inside own) client in
       no_invite life invite event (answer_for status found) made side apart once found is
       (λ heard. refl)
-  by_asks status client Plain is =
+  settles status client Plain is =
       let found = with_asks Plain client in
       no_invite life invite event (answer_for status found) made side apart once found is
       (λ heard. refl)
+
+  by_asks : (status : ℕ) (client : Client) → client_at id side.clients ≡ Some client
+      → SideResult (number_at (Some status) client)
+      (reply_settled (answer_for status client) client side)
+  by_asks status client is =
+      freed (number_at (Some status) client) (freed_by (is_final status) client.cancel) client
+      (done_of status client)
+      (settles status client client.asks is)
 
   by_client : (status : Option ℕ) (o : Option Client) → client_at id side.clients ≡ o
       → SideResult (option_and_then (number_at status) o)
@@ -90,7 +138,7 @@ module _ (life : DialogLife) (invite : Id) (event : Option Id) (of : Event)
       subst (λ number. SideResult number (side, []))
       (sym (none_in_life (is_for (InTheDialog invite) life id client client.asks response)))
       unchanged
-  by_client (Some status) (Some client) is = by_asks status client client.asks is
+  by_client (Some status) (Some client) is = by_asks status client is
 
   pub response_again : SideResult
       (option_and_then (number_for (InTheDialog invite) life id response)

@@ -1,5 +1,5 @@
 -- What an input makes of what was heard in a life of a dialog for the first INVITE.
-use Rattle.std.proofs.Common.{◌≡◌, inl, inr, ℕ, Bool, true, false, ◌==◌, List, [], ◌∷◌, map, refl, sym, ap, subst, ◌∙◌}
+use Rattle.std.proofs.Common.{◌≡◌, inl, inr, ℕ, Bool, true, false, ◌==◌, List, [], ◌∷◌, ◌++◌, map, refl, sym, ap, subst, ◌∙◌}
 use Rattle.std.specs.Prelude.{Option, None, Some, filter, if◌then◌else◌}
 use Rattle.std.specs.Option.{option_and_then, option_map, option_map_or}
 use Rattle.std.proofs.lemmas.Bool.{eqb-true}
@@ -72,6 +72,26 @@ pub no_number : (Begins : Type 0) (b : Bool) (before after : Option (Option ℕ)
 no_number Begins b before after outs silent =
     subst (λ o. Listens Begins before after o (told_of o outs)) (sym (none_in_life b))
     (silent, refl)
+
+-- ---- what is told last is no response
+
+told_also : (number : ℕ) (outs : List CallOut) (out : CallOut) → is_response out ≡ false
+    → told_of (Some number) (outs ++ out ∷ []) ≡ told_of (Some number) outs
+told_also number [] out none = ap (λ b. map (λ o. number) (if b then out ∷ [] else [])) none
+told_also number (first ∷ outs) out none =
+    elim (is_response first) as (λ b.
+    map (λ o. number) (if b then first ∷ filter is_response (outs ++ out ∷ [])
+    else filter is_response (outs ++ out ∷ []))
+    ≡ map (λ o. number) (if b then first ∷ filter is_response outs
+    else filter is_response outs)) [
+      | true ↦ ap (λ numbers. number ∷ numbers) (told_also number outs out none)
+      | false ↦ told_also number outs out none
+    ]
+
+pub told_more : (number : Option ℕ) (outs : List CallOut) (out : CallOut)
+    → is_response out ≡ false → told_of number (outs ++ out ∷ []) ≡ told_of number outs
+told_more None outs out none = refl
+told_more (Some number) outs out none = told_also number outs out none
 
 -- ---- a number came
 

@@ -1,8 +1,8 @@
 -- What the client side makes of what was heard in a life of a dialog for the first INVITE.
-use Rattle.std.proofs.Common.{◌≡◌, ℕ, Bool, List, [], refl, sym, subst}
+use Rattle.std.proofs.Common.{◌≡◌, ℕ, Bool, List, [], ◌++◌, refl, sym, subst}
 use Rattle.std.specs.Prelude.{Option, None, Some, Result, Ok, Err, if◌then◌else◌}
 use Rattle.std.specs.Map.{set_value}
-use Rattle.std.specs.Option.{option_and_then}
+use Rattle.std.specs.Option.{option_and_then, option_map}
 use Rattle.sip_message.specs.declared.id.Id.{Id}
 use Rattle.sip_message.specs.declared.message.Message.{Message}
 use Rattle.sip_served.specs.declared.command.DialogBody.{DialogBody}
@@ -12,6 +12,7 @@ use Rattle.sip_served.specs.declared.held_dialog.DialogLife.{DialogLife}
 use Rattle.sip_served.specs.declared.item.CallOut.{CallOut}
 use Rattle.sip_served.specs.declared.refusal.Refusal.{Refusal}
 use Rattle.sip_served.specs.Dialogs.{dialog_at, is_named, lives}
+use Rattle.sip_served.specs.Requests.{is_final}
 use Rattle.sip_served.specs.State.{Dialogs, is_id}
 use Rattle.sip_clients.specs.declared.client.Asks.{Asks}
 use Rattle.sip_clients.specs.declared.client.Asks.TheVariants.{First, Again, Inside, Plain}
@@ -20,15 +21,16 @@ use Rattle.sip_clients.specs.declared.event.Event.{Event}
 use Rattle.sip_clients.specs.declared.reply.Reply.{Reply as Answer}
 use Rattle.sip_clients.specs.declared.reply.ReplyCase.{ReplyCase}
 use Rattle.sip_clients.specs.declared.reply.ReplyCase.TheVariants as reply
+use Rattle.sip_clients.specs.Cancel.{cancel_command, cancellation, freed_by, noted}
 use Rattle.sip_clients.specs.Client.{Clients, Side, Taken as ClientTaken, client_at}
-use Rattle.sip_clients.specs.Clients.{ack_paid, ack_taken, found_taken, lost_of, paid_or_refused, prack_paid, prack_taken, reply_name, reply_of, reply_settled, request_taken, response_taken, status_of}
+use Rattle.sip_clients.specs.Clients.{ack_paid, ack_taken, found_taken, lost_of, paid_or_refused, prack_paid, prack_taken, reply_name, reply_of, reply_settled, request_taken, settled, side_after, response_taken, status_of}
 use Rattle.sip_clients.specs.declared.debts.DebtKind.TheVariants as kind
 use Rattle.sip_clients.specs.Commands.{bye_ended, debt_for, name_in, requested_by, requesting}
 use Rattle.sip_clients.specs.Debts.{paying}
-use Rattle.sip_clients.specs.Replied.{reply_taken}
+use Rattle.sip_clients.specs.Replied.{Replied, reply_taken}
 use Rattle.sip_clients.specs.Provisionals.{OfTheCall, in_life, is_for, number_for, provisional_number, told_of}
 use Rattle.sip_clients.proofs.ClientDialogs.{bye_leads, ended_leads, heard_number, paying_keeps, requesting_keeps}
-use Rattle.sip_clients.proofs.FirstInvite.{ear_in, no_number, none_in_life, silent_from}
+use Rattle.sip_clients.proofs.FirstInvite.{ear_in, no_number, none_in_life, silent_from, told_more}
 use Rattle.sip_clients.proofs.FirstReply.{first, first_replied, other_replied}
 use Rattle.sip_served.proofs.Heard.{AreApart, Leads, leads_changed, leads_same, leads_then}
 use Rattle.sip_clients.proofs.Hearing.{Listens}
@@ -87,30 +89,63 @@ module _ (life : DialogLife) where
     number_at status client = if is_for OfTheCall life id client client.asks response
         then provisional_number status response else None
 
+    abbrev noting : ℕ → Client → Client
+    noting status client = noted (is_final status) client
+
     -- the requests when the response to this one has come
     abbrev replied : ℕ → Client → Clients
     replied status client = set_value (is_id id) side.clients
-        (reply_taken client side.dialogs (answer_for status client)).0
+        (reply_taken (noting status client) side.dialogs (answer_for status client)).0
 
-    by_asks : (status : ℕ) (client : Client) (asks : Asks)
+    -- a CANCEL that may go out last is told to nobody
+    freed : (number : Option ℕ) (command : Option Id) (cancelled : Client) (done : Replied)
+        → SideResult number (side_after event id side None done)
+        → SideResult number (side_after event id side
+        (option_map (λ id. cancellation id cancelled) command) done)
+    unfolding cancel_command
+    freed number None cancelled done so = so
+    freed number (Some command) cancelled done so =
+        let clients = set_value (is_id id) side.clients done.0 in
+        let told = done.2 ++ (settled event id done.3 clients).1 in
+        let came = in_life (lives done.1 life) number in (
+          so.0,
+          subst (λ shown. Listens (call ≡ Some life.born) (ear side.dialogs) (ear done.1) came
+              shown) (sym (told_more came told (cancel_command command cancelled) refl)) so.1,
+        )
+
+    abbrev done_of : ℕ → Client → Replied
+    done_of status client =
+        reply_taken (noting status client) side.dialogs (answer_for status client)
+
+    settles : (status : ℕ) (client : Client) (asks : Asks)
         → SideResult (number_at (Some status) (with_asks asks client))
-        (reply_settled (answer_for status (with_asks asks client)) (with_asks asks client) side)
-    by_asks status client First =
+        (side_after event id side None (done_of status (with_asks asks client)))
+    settles status client First =
         let found = first client in
-        first_replied call life client (answer_for status found) side.dialogs apart made
-        (replied status found) (is_named life.name (answer_for status found).name) refl
-    by_asks status client (Again own) =
+        first_replied call life (noting status client) (answer_for status found) side.dialogs apart
+        made (replied status found) (is_named life.name (answer_for status found).name) refl
+    settles status client (Again own) =
         let found = with_asks (Again own) client in
-        other_replied call life client (answer_for status found) side.dialogs apart made found
+        other_replied call life client (answer_for status found) side.dialogs apart made
+        (noting status found)
         (replied status found) (unheard_by (Again own) (λ number named. refl))
-    by_asks status client (Inside own) =
+    settles status client (Inside own) =
         let found = with_asks (Inside own) client in
-        other_replied call life client (answer_for status found) side.dialogs apart made found
+        other_replied call life client (answer_for status found) side.dialogs apart made
+        (noting status found)
         (replied status found) (unheard_by (Inside own) (λ number named. refl))
-    by_asks status client Plain =
+    settles status client Plain =
         let found = with_asks Plain client in
-        other_replied call life client (answer_for status found) side.dialogs apart made found
+        other_replied call life client (answer_for status found) side.dialogs apart made
+        (noting status found)
         (replied status found) (unheard_by Plain (λ number named. refl))
+
+    by_asks : (status : ℕ) (client : Client)
+        → SideResult (number_at (Some status) client)
+        (reply_settled (answer_for status client) client side)
+    by_asks status client =
+        freed (number_at (Some status) client) (freed_by (is_final status) client.cancel) client
+        (done_of status client) (settles status client client.asks)
 
     by_client : (status : Option ℕ) (o : Option Client)
         → SideResult (option_and_then (number_at status) o)
@@ -120,7 +155,7 @@ module _ (life : DialogLife) where
     by_client None (Some client) =
         subst (λ number. SideResult number (side, []))
         (sym (none_in_life (is_for OfTheCall life id client client.asks response))) unchanged
-    by_client (Some status) (Some client) = by_asks status client client.asks
+    by_client (Some status) (Some client) = by_asks status client
 
     pub response_step : SideResult
         (option_and_then (number_for OfTheCall life id response) (client_at id side.clients))

@@ -12,3 +12,4 @@ pub mod Hex
 pub mod Names
 pub mod Results
 pub mod RefusedAlone
+pub mod Tally

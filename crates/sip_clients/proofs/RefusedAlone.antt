@@ -11,6 +11,7 @@ use Rattle.sip_message.specs.declared.rack.RAck.{RAck}
 use Rattle.sip_dialog.specs.declared.fault.DialogFault.{DialogFault}
 use Rattle.sip_served.specs.Dialogs.{dialog_at, dialog_changed, ended_notice, is_named}
 use Rattle.sip_served.specs.State.{Dialogs}
+use Rattle.sip_served.specs.declared.command.Cancel.{Cancel}
 use Rattle.sip_served.specs.declared.command.DialogBody.{DialogBody}
 use Rattle.sip_served.specs.declared.command.DialogRequest.{DialogRequest}
 use Rattle.sip_served.specs.declared.debt.Debt.{Debt}
@@ -19,14 +20,18 @@ use Rattle.sip_served.specs.declared.held_dialog.DialogName.{DialogName}
 use Rattle.sip_served.specs.declared.held_dialog.HeldDialog.{HeldDialog}
 use Rattle.sip_served.specs.declared.item.CallOut.{CallOut}
 use Rattle.sip_served.specs.declared.refusal.Refusal.{Refusal}
-use Rattle.sip_served.specs.declared.refusal.Refusal.TheVariants.{BadMethod, NoSuchDialog}
-use Rattle.sip_clients.specs.Client.{Clients, Side, Taken as ClientTaken}
+use Rattle.sip_served.specs.declared.refusal.Refusal.TheVariants.{BadMethod, NoSuchDialog, NoSuchRequest}
+use Rattle.sip_clients.specs.Cancel.{cancel_case, cancel_command, cancel_taken, cancelled_as, cancelled_of}
+use Rattle.sip_clients.specs.Client.{Clients, Side, client_at, Taken as ClientTaken}
 use Rattle.sip_clients.specs.Clients.{ack_noted, ack_paid, ack_taken, paid_or_refused, prack_paid, prack_taken, request_settled, request_taken, settled}
 use Rattle.sip_clients.specs.Commands.{bye_ended, is_bad_in, name_in, request_in, requested_by, requesting}
 use Rattle.sip_clients.specs.Dialogs.{paid_at, service_at}
 use Rattle.sip_clients.specs.Debts.{dropped_if_sent, paying}
 use Rattle.sip_clients.specs.Outputs.{ack_said, refused_notice, request_said, start_command}
 use Rattle.sip_clients.specs.Service.{numbered, requested, served, service_by}
+use Rattle.sip_clients.specs.declared.cancel.CancelCase.{CancelCase}
+use Rattle.sip_clients.specs.declared.cancel.CancelCase.TheVariants as cancel
+use Rattle.sip_clients.specs.declared.client.Client.{Client}
 use Rattle.sip_clients.specs.declared.event.Event.{Event}
 use Rattle.sip_clients.specs.declared.service.Sending.{Sending}
 use Rattle.sip_clients.specs.declared.service.Service.{Service}
@@ -253,3 +258,33 @@ module _ (event : Event) (side : Side) where
       (λ owed. prack_by name command (paid_at name event owed command.body side.dialogs).0
       (paid_at name event owed command.body side.dialogs).1 (paid_same name owed command.body))
       _
+
+  -- ---- CANCEL
+
+  cancel_by : (way : CancelCase) (command : Cancel) (invite : Client)
+      → IsRefusedAlone side.clients command.call_id (event.id).place
+      (cancelled_as way event command invite side.clients)
+  unfolding cancel_command
+  cancel_by (cancel.Refused refusal) command invite =
+      told_alone side.clients command.call_id (event.id).place refusal
+  cancel_by cancel.Repeated command invite =
+      silent side.clients command.call_id (event.id).place
+      (cancelled_as cancel.Repeated event command invite side.clients) refl
+  cancel_by cancel.Waits command invite =
+      silent side.clients command.call_id (event.id).place
+      (cancelled_as cancel.Waits event command invite side.clients) refl
+  cancel_by cancel.Starts command invite =
+      silent side.clients command.call_id (event.id).place
+      (cancelled_as cancel.Starts event command invite side.clients) refl
+
+  cancel_found : (command : Cancel) (invite : Option Client)
+      → IsRefusedAlone side.clients command.call_id (event.id).place
+      (cancelled_of invite event command side.clients)
+  cancel_found command None =
+      told_alone side.clients command.call_id (event.id).place NoSuchRequest
+  cancel_found command (Some invite) = cancel_by (cancel_case invite) command invite
+
+  pub cancel_alone : (command : Cancel) → Lonely command.call_id (cancel_taken event command side)
+  cancel_alone command some =
+      let alone = cancel_found command (client_at command.id side.clients) some in
+      (alone.0, ap (λ (after : Clients × List CallOut). (record side { clients = after.0 }, after.1)) alone.1)

@@ -1,6 +1,8 @@
 -- The client requests of one Call-ID.
-use Rattle.std.specs.Prelude.{List, [], Option, None}
-use Rattle.std.specs.Map.{lookup}
+use Rattle.std.specs.Prelude.{List, [], Option, None, false}
+use Rattle.std.specs.Map.{lookup, remove_entry, set_value}
+use Rattle.std.specs.Option.{option_map_or}
+use Rattle.indexmap.specs.IndexMap.{insert_entry}
 use Rattle.sip_message.specs.declared.addr.Addr.{Addr}
 use Rattle.sip_message.specs.declared.id.Id.{Id}
 use Rattle.sip_message.specs.declared.message.Message.{Message}
@@ -18,6 +20,18 @@ Clients = List (Id × Client)
 abbrev pub client_at : Id → Clients → Option Client
 client_at id clients = lookup (is_id id) clients
 
+-- that is changed so
+abbrev pub client_changed : Id → (Client → Client) → Clients → Clients
+client_changed id change clients =
+    option_map_or (λ client. set_value (is_id id) clients (change client))
+    (client_at id clients) clients
+
+abbrev pub without : Id → Clients → Clients
+without id clients = remove_entry (is_id id) clients
+
+abbrev pub with_client : Id → Client → Clients → Clients
+with_client id client clients = insert_entry is_id clients id client
+
 -- a request that was just sent
 abbrev pub client_for : Id → Asks → Message → Addr → Client
 client_for id asks request to =
@@ -26,6 +40,7 @@ client_for id asks request to =
       asks = asks;
       request = request;
       to = to;
+      provisional = false;
       cancel = NotAsked;
       heard = None;
       answers = [];

@@ -1,8 +1,7 @@
 -- The client side of one Call-ID: what each response, loss and command does to the held dialogs and
 -- the held client requests, and what is told of it.
 use Rattle.std.specs.Prelude.{ℕ, Bool, List, [], ◌∷◌, ◌++◌, Option, None, Some, Result, Ok, Err, if◌then◌else◌}
-use Rattle.std.specs.Map.{remove_entry, set_value}
-use Rattle.std.specs.Option.{option_map_or}
+use Rattle.std.specs.Map.{set_value}
 use Rattle.indexmap.specs.IndexMap.{insert_entry}
 use Rattle.sip_message.specs.declared.id.Id.{Id}
 use Rattle.sip_message.specs.declared.message.Message.{Message}
@@ -20,9 +19,10 @@ use Rattle.sip_served.specs.declared.item.CallOut.{CallOut}
 use Rattle.sip_served.specs.declared.refusal.Refusal.{Refusal}
 use Rattle.sip_served.specs.declared.refusal.Refusal.TheVariants.{BadMethod}
 use Rattle.sip_served.specs.Dialogs.{is_named}
-use Rattle.sip_served.specs.Requests.{name_of_tags}
+use Rattle.sip_served.specs.Requests.{is_final, name_of_tags}
 use Rattle.sip_served.specs.State.{is_id}
 use Rattle.sip_clients.specs.declared.answers.SentAck.{SentAck}
+use Rattle.sip_clients.specs.declared.cancel.Cancellation.{Cancellation}
 use Rattle.sip_clients.specs.declared.client.Asks.{Asks}
 use Rattle.sip_clients.specs.declared.client.Asks.TheVariants.{First, Again, Inside, Plain}
 use Rattle.sip_clients.specs.declared.client.Client.{Client}
@@ -31,24 +31,13 @@ use Rattle.sip_clients.specs.declared.event.Event.{Event}
 use Rattle.sip_clients.specs.declared.outputs.Rest.{Rest}
 use Rattle.sip_clients.specs.declared.outputs.Rest.TheVariants.{Stays, Over, Starts}
 use Rattle.sip_clients.specs.declared.reply.Reply.{Reply as Answer}
-use Rattle.sip_clients.specs.Client.{Clients, Side, Taken, client_at, client_for, quiet}
+use Rattle.sip_clients.specs.Cancel.{cancel_freed, noted, sent_beside}
+use Rattle.sip_clients.specs.Client.{Clients, Side, Taken, client_at, client_changed, client_for, quiet, with_client, without}
 use Rattle.sip_clients.specs.Commands.{ack_told, debt_for, is_bad_outside, name_in, prack_told, request_told}
 use Rattle.sip_clients.specs.Dialogs.{ended_with}
 use Rattle.sip_clients.specs.Outputs.{refused_notice, start_command}
 use Rattle.sip_clients.specs.Outside.{invite_of, plain_of}
 use Rattle.sip_clients.specs.Replied.{Replied, reply_taken}
-
--- the request that the event of this id sent is changed so
-abbrev pub client_changed : Id → (Client → Client) → Clients → Clients
-client_changed id change clients =
-    option_map_or (λ client. set_value (is_id id) clients (change client))
-    (client_at id clients) clients
-
-abbrev pub without : Id → Clients → Clients
-without id clients = remove_entry (is_id id) clients
-
-abbrev pub with_client : Id → Client → Clients → Clients
-with_client id client clients = insert_entry is_id clients id client
 
 -- a request is sent
 abbrev pub started : Event → Client → Clients → Clients × List CallOut
@@ -74,16 +63,25 @@ abbrev pub status_of : StartLine → Option ℕ
 status_of (start.Request uri) = None
 status_of (start.Response status reason) = Some status
 
+-- the requests, and what is told: what becomes of them, and last the CANCEL that waited for it
+abbrev pub reply_ended : Event → Id → Rest → Option Cancellation → Clients → List CallOut
+    → Clients × List CallOut
+reply_ended event id rest cancel clients told =
+    let after = settled event id rest clients in sent_beside cancel (after.0, told ++ after.1)
+
 -- what is held and told after it has done this to the request of this id and to the dialogs
-abbrev pub side_after : Event → Id → Side → Replied → Taken
-side_after event id side done =
-    let after = settled event id done.3 (set_value (is_id id) side.clients done.0) in
-    (record { dialogs = done.1; clients = after.0 }, done.2 ++ after.1)
+abbrev pub side_after : Event → Id → Side → Option Cancellation → Replied → Taken
+side_after event id side cancel done =
+    let clients = set_value (is_id id) side.clients done.0 in
+    let after = reply_ended event id done.3 cancel clients done.2 in
+    (record { dialogs = done.1; clients = after.0 }, after.1)
 
 -- one to this request
 abbrev pub reply_settled : Answer → Client → Side → Taken
 reply_settled reply client side =
-    side_after reply.event reply.id side (reply_taken client side.dialogs reply)
+    let final = is_final reply.status in
+    side_after reply.event reply.id side (cancel_freed final client)
+    (reply_taken (noted final client) side.dialogs reply)
 
 -- a response with all that comes up with it
 abbrev pub reply_of : Event → Id → List ℕ → DialogName → ℕ → Message → Answer

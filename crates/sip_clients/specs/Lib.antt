@@ -1,4 +1,5 @@
 pub mod Answers
+pub mod Cancel
 pub mod Client
 pub mod Clients
 pub mod Commands

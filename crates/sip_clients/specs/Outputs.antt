@@ -3,6 +3,7 @@ use Rattle.std.specs.Prelude.{ℕ, List, [], ◌∷◌, Option, None, Some, if�
 use Rattle.sip_message.specs.Key.{client_key}
 use Rattle.sip_message.specs.Party.{tag_of}
 use Rattle.sip_message.specs.Written.{written}
+use Rattle.sip_message.specs.declared.id.Id.{Id}
 use Rattle.sip_message.specs.declared.message.Message.{Message}
 use Rattle.sip_served.specs.declared.held_dialog.DialogLife.{DialogLife}
 use Rattle.sip_served.specs.declared.held_dialog.DialogName.{DialogName}
@@ -51,11 +52,14 @@ request_said event call_id name Waits = ([], Stays)
 request_said event call_id name (Refused refusal) =
     (refused_notice event call_id refusal ∷ [], Stays)
 
--- a request is sent through a transaction of its own
-unfoldable pub start_command : Event → Client → CallOut
-start_command event client =
-    out.Command event.id (Start (client_key (branch_of event) ((client.request).cseq).method)
+-- a request is sent through a transaction of its own, under this id and with this branch
+abbrev pub start_under : Id → List ℕ → Client → CallOut
+start_under id branch client =
+    out.Command id (Start (client_key branch ((client.request).cseq).method)
     (client.request).call_id client.request client.to)
+
+unfoldable pub start_command : Event → Client → CallOut
+start_command event client = start_under event.id (branch_of event) client
 
 -- ---- an ACK
 

@@ -25,6 +25,9 @@ pub enum Asks {
 #[derive(Clone, Copy)]
 pub enum Cancelling {
     NotAsked,
+    /// By the event of this id; it waits for a provisional response.
+    Waits(Id),
+    Sent,
 }
 
 /// A request that was sent and whose responses the user is told of.
@@ -35,6 +38,8 @@ pub struct Client {
     pub request: Message,
     /// Where it was sent.
     pub to: Addr,
+    /// Whether a provisional response to it came.
+    pub provisional: bool,
     pub cancel: Cancelling,
     /// The reliable provisional responses to an INVITE in a dialog.
     pub heard: Inbound,
@@ -53,6 +58,7 @@ pub(crate) fn client_for(alloc: Global, id: Id, asks: Asks, request: Message, to
         asks,
         request,
         to,
+        provisional: false,
         cancel: Cancelling::NotAsked,
         heard: Inbound::new(),
         answers: Answers::new(alloc),
@@ -77,6 +83,7 @@ impl Drop for Client {
             asks: _,
             request: _,
             to: _,
+            provisional: _,
             cancel: _,
             heard: _,
             answers: _,

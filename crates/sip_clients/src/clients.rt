@@ -1,9 +1,11 @@
 //! The client requests of one Call-ID.
 
 ghost use Rattle.std.specs.Prelude.{◌≡◌, ◌≤◌, ◌==◌, ◌^◌, [], IfOk, OnOk, length};
+ghost use Rattle.sip_clients.specs.Cancel.{cancelled};
 ghost use Rattle.sip_clients.specs.Clients as spec;
 ghost use Rattle.sip_clients.specs.Tick as ticks;
 
+use crate::cancel::take_cancel;
 use crate::client::{Asks, client_for};
 use crate::commands::{ack_told, debt_for, is_bad_outside, name_in, prack_told, request_told};
 use crate::debts::DebtKind;
@@ -15,7 +17,7 @@ use crate::tick::{drop_clients, drop_dialogs, next_due, over_notices};
 use indexmap::IndexMap;
 use sip_message::{CallId, Id, Message};
 use sip_served::{
-    CallOut, Debt, DialogBody, DialogName, DialogRequest, Dialogs, Invite, Plain, Refusal,
+    CallOut, Cancel, Debt, DialogBody, DialogName, DialogRequest, Dialogs, Invite, Plain, Refusal,
 };
 use std::alloc::{AllocError, Global};
 use std::marker::Model;
@@ -185,6 +187,15 @@ impl Clients {
         outs.append(&mut self.settle(event, event.id, rest)?)?;
         outs.append(&mut ends)?;
         Ok(outs)
+    }
+
+    /// The user cancels an INVITE: at once where a provisional response to it came, and otherwise
+    /// when the first comes (RFC 3261, section 9.1).
+    pub fn cancel(&mut self, event: Event, command: &Cancel) -> Result<Vec<CallOut>, AllocError>
+        ensures { IfOk result (λ outs. (self.new, outs.items)
+            ≡ cancelled event command.now self.old) }
+    {
+        take_cancel(self.alloc, &mut self.requests, event, command)
     }
 
     /// The user gives the ACK of the oldest 2xx of a dialog that is owed one (RFC 3261, section

@@ -1,10 +1,14 @@
 //! The held client requests, found by the events that sent them.
 
 ghost use Rattle.std.specs.Prelude.{◌≡◌, ◌≤◌, ◌^◌, IfOk, OnOk};
-ghost use Rattle.sip_clients.specs.Client.{client_at};
+ghost use Rattle.sip_served.specs.Requests.{is_final};
+ghost use Rattle.sip_clients.specs.Cancel.{cancel_freed, noted};
+ghost use Rattle.sip_clients.specs.Replied.{reply_taken};
+ghost use Rattle.sip_clients.specs.Client.{client_at, client_changed, with_client, without};
 ghost use Rattle.sip_clients.specs.Clients as spec;
 
 use crate::answers::SentAck;
+use crate::cancel::{Cancellation, note_reply, send_beside};
 use crate::client::Client;
 use crate::dialogs::end_with;
 use crate::event::Event;
@@ -13,6 +17,7 @@ use crate::replied::take_reply;
 use crate::reply::{Reply, reply_name, status_of};
 use indexmap::IndexMap;
 use sip_message::{CallId, Id, Message};
+use sip_served::request::is_final;
 use sip_served::{CallOut, Debt, DialogName, Dialogs};
 use std::alloc::{AllocError, Global};
 
@@ -52,9 +57,44 @@ pub(crate) fn take_response(
         status,
         response,
     };
-    let (mut outs, rest) = take_reply(alloc, client, dialogs, &reply)?;
+    let told = reply_to(alloc, client, dialogs, &reply)?;
+    settle_reply(alloc, clients, event, id, told)
+}
+
+/// What is told of a response, what becomes of the requests, and the CANCEL that waited for it.
+type Told = (Vec<CallOut>, Rest, Option<Cancellation>);
+
+fn reply_to(
+    alloc: Global,
+    client: &mut Client,
+    dialogs: &mut Dialogs,
+    reply: &Reply,
+) -> Result<Told, AllocError>
+    requires { reply.now.event.moment ≤ 2 ^ 62 }
+    ensures told { IfOk result (λ told. (client.new, dialogs.new.entries, told.0.items, told.1)
+        ≡ reply_taken (noted (is_final reply.now.status) client.old) dialogs.old.entries
+        reply.now) }
+    ensures cancel { IfOk result (λ told. told.2
+        ≡ cancel_freed (is_final reply.now.status) client.old) }
+{
+    let cancel = note_reply(alloc, client, is_final(reply.status.code()))?;
+    let (outs, rest) = take_reply(alloc, client, dialogs, reply)?;
+    Ok((outs, rest, cancel))
+}
+
+fn settle_reply(
+    alloc: Global,
+    clients: &mut ClientMap,
+    event: Event,
+    id: Id,
+    told: Told,
+) -> Result<Vec<CallOut>, AllocError>
+    ensures { IfOk result (λ outs. (clients.new.entries, outs.items)
+        ≡ spec.reply_ended event id told.1 told.2 clients.old.entries told.0.items) }
+{
+    let (mut outs, rest, cancel) = told;
     outs.append(&mut settle(alloc, clients, event, id, rest)?)?;
-    Ok(outs)
+    send_beside(clients, cancel, outs)
 }
 
 /// What becomes of the requests after a response to that of an id, or after a command.
@@ -93,8 +133,9 @@ pub(crate) fn start(
     one(alloc, out)
 }
 
-fn hold(clients: &mut ClientMap, id: Id, client: Client) -> Result<(), AllocError>
-    ensures { OnOk result (clients.new.entries ≡ spec.with_client id client clients.old.entries) }
+/// A request is held under this id.
+pub(crate) fn hold(clients: &mut ClientMap, id: Id, client: Client) -> Result<(), AllocError>
+    ensures { OnOk result (clients.new.entries ≡ with_client id client clients.old.entries) }
 {
     clients.insert(id, client)?;
     Ok(())
@@ -103,7 +144,7 @@ fn hold(clients: &mut ClientMap, id: Id, client: Client) -> Result<(), AllocErro
 // The request that the event of this id sent is held no more.
 fn take(clients: &mut ClientMap, id: Id) -> Option<Client>
     ensures client { result ≡ client_at id clients.old.entries }
-    ensures left { clients.new.entries ≡ spec.without id clients.old.entries }
+    ensures left { clients.new.entries ≡ without id clients.old.entries }
 {
     clients.shift_remove(&id)
 }
@@ -151,7 +192,7 @@ fn note_ack_at(
     ack: SentAck,
 ) -> Result<(), AllocError>
     ensures { OnOk result (clients.new.entries
-        ≡ spec.client_changed invite (spec.acked_with name ack) clients.old.entries) }
+        ≡ client_changed invite (spec.acked_with name ack) clients.old.entries) }
 {
     let Some(client) = clients.get_mut(&invite) else {
         return Ok(());

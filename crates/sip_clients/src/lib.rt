@@ -3,6 +3,7 @@
 #![tactic(auto)]
 
 mod answers;
+mod cancel;
 mod client;
 mod clients;
 mod commands;

@@ -8,7 +8,7 @@ use crate::client::{Asks, Client, client_for};
 use crate::event::Event;
 use crate::reply::Reply;
 use crate::service::{Sending, Service};
-use sip_message::{CallId, Key, Message, write};
+use sip_message::{CallId, Id, Key, Message, write};
 use sip_served::request::is_invite;
 use sip_served::{CallOut, DialogLife, DialogName, Notice, Refusal};
 use sip_text::{Boxed, Text};
@@ -172,12 +172,24 @@ pub(crate) fn start_command(
     ensures { IfOk result (λ out. out ≡ spec.start_command event client.now) }
 {
     let branch = event.branch(alloc)?;
+    start_under(alloc, event.id, branch.as_slice(), client)
+}
+
+/// The same, under this id and with this branch.
+pub(crate) fn start_under(
+    alloc: Global,
+    id: Id,
+    branch: &[u8],
+    client: &Client,
+) -> Result<CallOut, AllocError>
+    ensures { IfOk result (λ out. out ≡ spec.start_under id branch.now client.now) }
+{
     let method = client.request.method().clone()?;
-    let key = Key::client(alloc, branch.as_slice(), method)?;
+    let key = Key::client(alloc, branch, method)?;
     let call_id = client.request.call_id.clone()?;
     let message = Boxed::new(alloc, client.request.clone()?)?;
     Ok(CallOut::Command(
-        event.id,
+        id,
         Command::Start {
             key,
             call_id,

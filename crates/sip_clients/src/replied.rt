@@ -13,7 +13,7 @@ use crate::service::Service;
 use sip_message::Message;
 use sip_served::{CallOut, Debt, Dialogs, HeldDialog};
 use sip_text::Text;
-use sip_transactions::LIFETIME;
+use sip_timers::LIFETIME;
 use std::alloc::{AllocError, Global};
 
 /// The status of a response to a request for what isn't there (RFC 3261, section 12.2.1.2).

@@ -134,7 +134,7 @@ fn reliable_case(heard: Inbound, rseq: Option<u32>) -> ReplyCase
 }
 
 /// Whether a request is an INVITE.
-fn is_inviting(asks: &Asks) -> bool
+pub(crate) fn is_inviting(asks: &Asks) -> bool
     ensures { result ≡ spec.is_inviting asks.now }
 {
     match asks {

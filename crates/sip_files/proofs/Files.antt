@@ -1,16 +1,19 @@
 -- The lines of an event file's text, and what a reader that takes them one after the other has
 -- shown.
-use Rattle.std.proofs.Common.{◌≡◌, ℕ, ◌+◌, ◌≤◌, ◌^◌, true, false, List, [], ◌∷◌, ◌++◌, length, Option, Some, None, refl, sym, ap, subst, ◌∙◌, append_assoc, arith, inl, inr, codes}
+use Rattle.std.proofs.Common.{◌≡◌, ℕ, ◌+◌, ◌≤◌, ◌^◌, true, false, cond, List, [], ◌∷◌, ◌++◌, length, Option, Some, None, refl, sym, ap, subst, ◌∙◌, append_assoc, arith, inl, inr, codes}
 use Rattle.std.specs.List.{AllByRecursion, AllZip}
+use Rattle.std.specs.Str.{bytes_eq}
 use Rattle.std.proofs.lemmas.List.{append-nil, append_cancel_left, length_push}
 use Rattle.std.proofs.lemmas.List.Concat.{flat_map-append}
 use Rattle.std.proofs.lemmas.Option.{some_pair_parts}
-use Rattle.sip_text.proofs.Cuts.{has_no, cut_took, cut_again}
-use Rattle.sip_text.proofs.Options.{same_some}
+use Rattle.sip_text.proofs.Cuts.{has_no, cut_took, cut_again, uncut}
+use Rattle.sip_text.proofs.Options.{same_some, chosen, passed}
 use Rattle.sip_text.specs.Cut.{cut_at}
 use Rattle.sip_message.specs.declared.addr.Addr.{Addr}
 use Rattle.sip_round.specs.declared.config.Config.{Config}
 use Rattle.sip_round.specs.declared.round.Round.{Round}
+use Rattle.sip_files.specs.declared.version.Version.{Version}
+use Rattle.sip_files.specs.declared.version.Version.TheVariants.{One, Two}
 use Rattle.sip_files.specs.declared.event_line.EventLine.{EventLine}
 use Rattle.sip_files.specs.declared.draft.Stage.{Stage}
 use Rattle.sip_files.specs.declared.draft.Stage.TheVariants as stage
@@ -19,15 +22,16 @@ use Rattle.sip_files.specs.declared.events_fault.EventsFault.{EventsFault}
 use Rattle.sip_files.specs.declared.events_fault.EventsFault.TheVariants.{TooLong, BadVersion, BadLine, NoMemory}
 use Rattle.sip_files.specs.Events.{SpellsLine}
 use Rattle.sip_files.specs.Field.{address_field}
-use Rattle.sip_files.specs.EventFile.{Head, config_of, file_lines, with_ends, version_line, file_text, SpellsEvents, IsEventFile, IsBegun, IsOneLine, IsBadLine, HasVersion, TellsFault}
+use Rattle.sip_files.specs.EventFile.{Head, config_of, file_lines, with_ends, version_line, file_text, SpellsIn, SpellsEvents, IsEventFile, IsBegun, IsOneLine, IsBadLine, HasVersion, TellsFault}
 use Rattle.sip_files.specs.ReadLine.{line_at}
 use Rattle.sip_files.specs.Drafting.{is_begun, nothing_read, taken, drafted}
-use Rattle.sip_files.specs.Lines.{FollowsVersion, TellsVersion, TellsLine, Drafts, Stuck}
-use Rattle.sip_files.proofs.LineLaws.{line_took, line_again, line_no}
+use Rattle.sip_files.specs.Lines.{version_at, FollowsVersion, TellsVersion, TellsLine, Drafts, Stuck}
+use Rattle.sip_files.proofs.FieldLaws.{same_text}
+use Rattle.sip_files.proofs.LineLaws.{line_took, line_again, line_no, one_meaning}
 use Rattle.sip_files.proofs.Drafts.{drafted-push, next_taken, Begun, Gives, file_gives, file_of, nothing_of, begun_unless, not_local}
 
-abbrev pub SayAll : List (List ℕ) → List EventLine → Type 0
-SayAll lines said = AllZip SpellsLine lines said
+abbrev pub SayAll : Version → List (List ℕ) → List EventLine → Type 0
+SayAll version lines said = AllZip (SpellsLine version) lines said
 
 -- ---- a text is cut into its lines in one way
 
@@ -93,90 +97,127 @@ same_lines lines all one all_one e =
 
 -- ---- lines say one thing
 
-pub each_one : (lines : List (List ℕ)) (said : List EventLine) → SayAll lines said → AllOne lines
-each_one [] [] says = tt
-each_one [] (x ∷ said) says = elim says [ ]
-each_one (line ∷ lines) [] says = elim says [ ]
-each_one (line ∷ lines) (x ∷ said) says = (line_no line x says.0, each_one lines said says.1)
+module _ (version : Version) where
+  pub each_one : (lines : List (List ℕ)) (said : List EventLine) → SayAll version lines said
+      → AllOne lines
+  each_one [] [] says = tt
+  each_one [] (x ∷ said) says = elim says [ ]
+  each_one (line ∷ lines) [] says = elim says [ ]
+  each_one (line ∷ lines) (x ∷ said) says =
+      (line_no version line x says.0, each_one lines said says.1)
 
-one_said : (text : List ℕ) (x y : EventLine) → SpellsLine text x → SpellsLine text y → x ≡ y
-one_said text x y p q = same_some x y (sym (line_again text x p) ∙ line_again text y q)
+  -- what the first lines say comes first
+  pub record Says (before others : List (List ℕ)) (first all : List EventLine) : Type 0 where
+    pub further : List EventLine
+    pub whole : all ≡ first ++ further
+    pub says : AllZip (SpellsLine version) others further
 
--- what the first lines say comes first
-pub record Says (before others : List (List ℕ)) (first all : List EventLine) : Type 0 where
-  pub further : List EventLine
-  pub whole : all ≡ first ++ further
-  pub says : AllZip SpellsLine others further
+  pub says_on : (before others : List (List ℕ)) (first all : List EventLine)
+      → SayAll version before first → SayAll version (before ++ others) all
+      → Says before others first all
+  says_on [] others [] all before_says says = record { further = all; whole = refl; says = says }
+  says_on [] others (x ∷ first) all before_says says = elim before_says [ ]
+  says_on (line ∷ before) others [] all before_says says = elim before_says [ ]
+  says_on (line ∷ before) others (x ∷ first) [] before_says says = elim says [ ]
+  says_on (line ∷ before) others (x ∷ first) (y ∷ all) before_says says =
+      let on = says_on before others first all before_says.1 says.1 in
+      let same = one_meaning version version line y x says.0 before_says.0 in
+      record {
+        further = on.further;
+        whole = ap (λ (z : EventLine). z ∷ all) same
+            ∙ ap (λ (zs : List EventLine). x ∷ zs) on.whole;
+        says = on.says;
+      }
 
-pub says_on : (before others : List (List ℕ)) (first all : List EventLine) → SayAll before first
-    → SayAll (before ++ others) all → Says before others first all
-says_on [] others [] all before_says says = record { further = all; whole = refl; says = says }
-says_on [] others (x ∷ first) all before_says says = elim before_says [ ]
-says_on (line ∷ before) others [] all before_says says = elim before_says [ ]
-says_on (line ∷ before) others (x ∷ first) [] before_says says = elim says [ ]
-says_on (line ∷ before) others (x ∷ first) (y ∷ all) before_says says =
-    let on = says_on before others first all before_says.1 says.1 in
-    record {
-      further = on.further;
-      whole = ap (λ (z : EventLine). z ∷ all) (one_said line y x says.0 before_says.0)
-          ∙ ap (λ (zs : List EventLine). x ∷ zs) on.whole;
-      says = on.says;
-    }
+  nothing_said : (said : List EventLine) → SayAll version [] said → said ≡ []
+  nothing_said [] says = refl
+  nothing_said (x ∷ said) says = elim says [ ]
 
-nothing_said : (said : List EventLine) → SayAll [] said → said ≡ []
-nothing_said [] says = refl
-nothing_said (x ∷ said) says = elim says [ ]
+  no_text : (lines : List (List ℕ)) (said : List EventLine) → SayAll version lines said → said ≡ []
+      → lines ≡ []
+  no_text [] said says none = refl
+  no_text (line ∷ lines) said says none =
+      elim (subst (λ (xs : List EventLine). SayAll version (line ∷ lines) xs) none says) [ ]
 
-no_text : (lines : List (List ℕ)) (said : List EventLine) → SayAll lines said → said ≡ []
-    → lines ≡ []
-no_text [] said says none = refl
-no_text (line ∷ lines) said says none =
-    elim (subst (λ (xs : List EventLine). AllZip SpellsLine (line ∷ lines) xs) none says) [ ]
+  -- lines say one list
+  one_list : (lines : List (List ℕ)) (said other : List EventLine) → SayAll version lines said
+      → SayAll version lines other → other ≡ said
+  one_list lines said other says others =
+      let on = says_on lines [] said other says
+      (subst (λ (ls : List (List ℕ)). SayAll version ls other) (sym (append-nil lines)) others) in
+      on.whole ∙ ap (λ (xs : List EventLine). said ++ xs) (nothing_said on.further on.says)
+      ∙ append-nil said
 
--- lines say one list
-one_list : (lines : List (List ℕ)) (said other : List EventLine) → SayAll lines said
-    → SayAll lines other → other ≡ said
-one_list lines said other says others =
-    let on = says_on lines [] said other says
-    (subst (λ (ls : List (List ℕ)). AllZip SpellsLine ls other)
-    (sym (append-nil lines)) others) in
-    on.whole ∙ ap (λ (xs : List EventLine). said ++ xs) (nothing_said on.further on.says)
-    ∙ append-nil said
+-- ---- the first line names one version
+
+version_no : (version : Version) → has_no 10 (version_line version) ≡ true
+version_no One = refl
+version_no Two = refl
+
+version_again : (version : Version) → version_at (version_line version) ≡ Some version
+version_again One = refl
+version_again Two = refl
+
+same_version : (version another : Version) → version_line version ≡ version_line another
+    → version ≡ another
+same_version version another e =
+    same_some version another (sym (version_again version) ∙ ap version_at e
+    ∙ version_again another)
+
+-- the line of the version, and the others
+first_line : (version : Version) (lines : List (List ℕ))
+    → FollowsVersion version (file_text version lines) (with_ends lines)
+first_line version lines = append_assoc (version_line version) (10 ∷ []) (with_ends lines)
+
+-- a text that begins with the line of the version spells what it spells in this version
+in_version : (version : Version) (config : Config) (rounds : List Round) (text after : List ℕ)
+    → FollowsVersion version text after → SpellsEvents config rounds text
+    → SpellsIn version config rounds text
+in_version version config rounds text after follows s =
+    let cut = same_line (version_line s.0) (with_ends (s.1).lines) (version_line version) after
+    (version_no s.0) (version_no version)
+    (sym ((s.1).spelled ∙ first_line s.0 (s.1).lines) ∙ follows) in
+    subst (λ (v : Version). SpellsIn v config rounds text) (same_version s.0 version cut.0) s.1
 
 -- ---- what the spelling of a file says of what was read
 
 -- the lines of a file that is spelled
-after_version : (config : Config) (rounds : List Round) (text after : List ℕ)
-    (s : SpellsEvents config rounds text) → FollowsVersion text after → after ≡ with_ends s.lines
-after_version config rounds text after s follows =
-    append_cancel_left (version_line ++ 10 ∷ []) after (with_ends s.lines) (sym follows ∙ s.spelled)
+after_version : (version : Version) (config : Config) (rounds : List Round) (text after : List ℕ)
+    (s : SpellsIn version config rounds text) → FollowsVersion version text after
+    → after ≡ with_ends s.lines
+after_version version config rounds text after s follows =
+    append_cancel_left (version_line version ++ 10 ∷ []) after (with_ends s.lines)
+    (append_assoc (version_line version) (10 ∷ []) after ∙ sym follows ∙ s.spelled)
 
-lines_of : (config : Config) (rounds : List Round) (text : List ℕ)
-    (s : SpellsEvents config rounds text) → AllOne s.lines
-lines_of config rounds text s = each_one s.lines (file_lines s.head rounds) s.says
+lines_of : (version : Version) (config : Config) (rounds : List Round) (text : List ℕ)
+    (s : SpellsIn version config rounds text) → AllOne s.lines
+lines_of version config rounds text s =
+    each_one version s.lines (file_lines s.head rounds) s.says
 
-gives : (config : Config) (rounds : List Round) (text : List ℕ)
-    (s : SpellsEvents config rounds text)
+gives : (version : Version) (config : Config) (rounds : List Round) (text : List ℕ)
+    (s : SpellsIn version config rounds text)
     → Gives (config_of s.head) rounds (file_lines s.head rounds)
-gives config rounds text s = file_gives s.head.local s.head.seed s.head.first rounds
+gives version config rounds text s = file_gives s.head.local s.head.seed s.head.first rounds
 
 pub record Same (config : Config) (rounds : List Round) (draft : Draft) : Type 0 where
   pub configured : draft.config ≡ config
   pub all_rounds : draft.rounds ≡ rounds
   pub begun : Begun draft.stage
 
-pub only_draft : (config : Config) (rounds : List Round) (text after : List ℕ) (draft : Draft)
-    → SpellsEvents config rounds text → FollowsVersion text after → Drafts draft after
-    → Same config rounds draft
-only_draft config rounds text after draft s follows d =
+pub only_draft : (version : Version) (config : Config) (rounds : List Round) (text after : List ℕ)
+    (draft : Draft) → SpellsEvents config rounds text → FollowsVersion version text after
+    → Drafts version draft after → Same config rounds draft
+only_draft version config rounds text after draft spells follows d =
+    let s = in_version version config rounds text after follows spells in
     let lines : s.lines ≡ d.lines =
-    same_lines d.lines s.lines (each_one d.lines d.said d.says) (lines_of config rounds text s)
-    (sym d.spelled ∙ after_version config rounds text after s follows) in
-    let says = subst (λ (ls : List (List ℕ)). AllZip SpellsLine ls (file_lines s.head rounds)) lines
+    same_lines d.lines s.lines (each_one version d.lines d.said d.says)
+    (lines_of version config rounds text s)
+    (sym d.spelled ∙ after_version version config rounds text after s follows) in
+    let says = subst (λ (ls : List (List ℕ)). SayAll version ls (file_lines s.head rounds)) lines
     s.says in
     let same : file_lines s.head rounds ≡ d.said =
-    one_list d.lines d.said (file_lines s.head rounds) d.says says in
-    let g = gives config rounds text s in
+    one_list version d.lines d.said (file_lines s.head rounds) d.says says in
+    let g = gives version config rounds text s in
     let is : g.draft ≡ draft =
     same_some g.draft draft (sym g.taken_all ∙ ap (drafted nothing_read) same ∙ d.gives) in
     let P : Draft → Type 0 = λ x. Same config rounds x in
@@ -186,62 +227,80 @@ only_draft config rounds text after draft s follows d =
       begun = g.begun;
     })
 
-not_stuck_by : (config : Config) (rounds : List Round) (text after : List ℕ) (number : ℕ)
-    (s : SpellsEvents config rounds text) (k : Stuck number after) (others : List (List ℕ))
-    (further : List EventLine) → file_lines s.head rounds ≡ k.said ++ further
-    → SayAll others further → k.left ≡ with_ends others → ⊥
-not_stuck_by config rounds text after number s k [] further whole says rest = k.more rest
-not_stuck_by config rounds text after number s k (line ∷ others) [] whole says rest = elim says [ ]
-not_stuck_by config rounds text after number s k (line ∷ others) (next ∷ further) whole says rest =
-    let g = gives config rounds text s in
+not_stuck_by : (version : Version) (config : Config) (rounds : List Round) (text after : List ℕ)
+    (number : ℕ) (s : SpellsIn version config rounds text) (k : Stuck version number after)
+    (others : List (List ℕ)) (further : List EventLine)
+    → file_lines s.head rounds ≡ k.said ++ further → SayAll version others further
+    → k.left ≡ with_ends others → ⊥
+not_stuck_by version config rounds text after number s k [] further whole says rest = k.more rest
+not_stuck_by version config rounds text after number s k (line ∷ others) [] whole says rest =
+    elim says [ ]
+not_stuck_by version config rounds text after number s k (line ∷ others) (next ∷ further) whole
+    says rest =
+    let g = gives version config rounds text s in
     let none = k.no_next line (with_ends others) next says.0
     (rest ∙ append_assoc line (10 ∷ []) (with_ends others)) in
     next_taken nothing_read k.draft g.draft k.said further next k.gives
     (sym (ap (drafted nothing_read) whole) ∙ g.taken_all) none
 
 -- what the lines of a file say after the first of them
-further_of : (config : Config) (rounds : List Round) (text : List ℕ)
-    (s : SpellsEvents config rounds text) (before others : List (List ℕ)) (said : List EventLine)
-    → SayAll before said → s.lines ≡ before ++ others
-    → Says before others said (file_lines s.head rounds)
-further_of config rounds text s before others said says whole =
-    says_on before others said (file_lines s.head rounds) says
-    (subst (λ (ls : List (List ℕ)). AllZip SpellsLine ls (file_lines s.head rounds)) whole
-    s.says)
+further_of : (version : Version) (config : Config) (rounds : List Round) (text : List ℕ)
+    (s : SpellsIn version config rounds text) (before others : List (List ℕ))
+    (said : List EventLine) → SayAll version before said → s.lines ≡ before ++ others
+    → Says version before others said (file_lines s.head rounds)
+further_of version config rounds text s before others said says whole =
+    says_on version before others said (file_lines s.head rounds) says
+    (subst (λ (ls : List (List ℕ)). SayAll version ls (file_lines s.head rounds)) whole s.says)
 
-pub not_stuck : (config : Config) (rounds : List Round) (text after : List ℕ) (number : ℕ)
-    → SpellsEvents config rounds text → FollowsVersion text after → Stuck number after → ⊥
-not_stuck config rounds text after number s follows k =
-    let f = same_front k.before s.lines k.left (each_one k.before k.said k.says)
-    (lines_of config rounds text s)
-    (sym k.parts ∙ after_version config rounds text after s follows) in
-    let on = further_of config rounds text s k.before f.others k.said k.says f.whole in
-    not_stuck_by config rounds text after number s k f.others on.further on.whole on.says f.rest
+pub not_stuck : (version : Version) (config : Config) (rounds : List Round) (text after : List ℕ)
+    (number : ℕ) → SpellsEvents config rounds text → FollowsVersion version text after
+    → Stuck version number after → ⊥
+not_stuck version config rounds text after number spells follows k =
+    let s = in_version version config rounds text after follows spells in
+    let f = same_front k.before s.lines k.left (each_one version k.before k.said k.says)
+    (lines_of version config rounds text s)
+    (sym k.parts ∙ after_version version config rounds text after s follows) in
+    let on = further_of version config rounds text s k.before f.others k.said k.says f.whole in
+    not_stuck_by version config rounds text after number s k f.others on.further on.whole on.says
+    f.rest
 
 pub has_version : (config : Config) (rounds : List Round) (text : List ℕ)
     → SpellsEvents config rounds text → HasVersion text
-has_version config rounds text s = inr (with_ends s.lines, s.spelled)
+has_version config rounds text s =
+    (s.0, inr (with_ends (s.1).lines, (s.1).spelled ∙ first_line s.0 (s.1).lines))
 
-pub version_alone : (text after : List ℕ) → text ≡ version_line → text ≡ version_line ++ 10 ∷ after
-    → ⊥
-version_alone text after e f =
-    let cut : ◌≡◌ {A = Option (List ℕ × List ℕ)} None (Some (version_line, after)) =
-    ap (cut_at 10) (sym e ∙ f) in
+version_alone : (version another : Version) (text after : List ℕ) → text ≡ version_line version
+    → FollowsVersion another text after → ⊥
+version_alone version another text after e f =
+    let cut : ◌≡◌ {A = Option (List ℕ × List ℕ)} None (Some (version_line another, after)) =
+    sym (uncut 10 (version_line version) (version_no version)) ∙ ap (cut_at 10) (sym e ∙ f)
+    ∙ cut_again 10 (version_line another) after (version_no another) in
     absurd cc
+
+-- a line alone is no file
+not_alone : (version : Version) (config : Config) (rounds : List Round) (text : List ℕ)
+    → text ≡ version_line version → SpellsEvents config rounds text → ⊥
+not_alone version config rounds text e s =
+    version_alone version s.0 text (with_ends (s.1).lines) e
+    ((s.1).spelled ∙ first_line s.0 (s.1).lines)
 
 -- ---- what a reader finds
 
-pub found : (text after : List ℕ) (draft : Draft) → FollowsVersion text after → Drafts draft after
+pub found : (version : Version) (text after : List ℕ) (draft : Draft)
+    → FollowsVersion version text after → Drafts version draft after
     → (draft.stage ≡ stage.Local → ⊥) → SpellsEvents draft.config draft.rounds text
-found text after draft follows d other =
-    let f = file_of d.said draft d.gives (begun_unless draft.stage other) in
-    record {
-      head = f.head;
-      lines = d.lines;
-      configured = f.configured;
-      says = subst (λ (said : List EventLine). AllZip SpellsLine d.lines said) f.spelled d.says;
-      spelled = follows ∙ ap (λ (t : List ℕ). version_line ++ 10 ∷ t) d.spelled;
-    }
+found version text after draft follows d other =
+    let f = file_of d.said draft d.gives (begun_unless draft.stage other) in (
+      version,
+      record {
+        head = f.head;
+        lines = d.lines;
+        configured = f.configured;
+        says = subst (λ (said : List EventLine). SayAll version d.lines said) f.spelled d.says;
+        spelled = follows ∙ ap (λ (t : List ℕ). version_line version ++ 10 ∷ t) d.spelled
+            ∙ sym (first_line version d.lines);
+      },
+    )
 
 abbrev some_address : Addr
 some_address = record { ip = 0 ∷ 0 ∷ 0 ∷ 0 ∷ []; port = 0 }
@@ -252,50 +311,64 @@ least_head = record { local = some_address; seed = None; first = None }
 abbrev least_lines : List (List ℕ)
 least_lines = (codes "local" ++ address_field some_address) ∷ []
 
-least_says : SayAll least_lines (file_lines least_head [])
-least_says = ((((refl, refl), omega arith), refl), tt)
+least_says : (version : Version) → SayAll version least_lines (file_lines least_head [])
+least_says version = ((((refl, refl), omega arith), refl), tt)
 
-least_spelled : SpellsEvents (config_of least_head) [] (file_text least_lines)
-least_spelled = record {
-  head = least_head;
-  lines = least_lines;
-  configured = refl;
-  says = least_says;
-  spelled = refl;
-}
+-- a file that has its first two lines alone
+least_spelled : (version : Version) (text : List ℕ) → text ≡ file_text version least_lines
+    → SpellsEvents (config_of least_head) [] text
+least_spelled version text e = (
+  version,
+  record {
+    head = least_head;
+    lines = least_lines;
+    configured = refl;
+    says = least_says version;
+    spelled = e;
+  },
+)
 
-begun_at : (lines : List (List ℕ)) (said : List EventLine) (draft : Draft) (at : Stage)
-    → draft.stage ≡ at → drafted nothing_read said ≡ Some draft → SayAll lines said
-    → (Begun at → IsBegun (file_text lines)) → IsBegun (file_text lines)
-begun_at lines said draft stage.Local is e says further =
-    let none = no_text lines said says (nothing_of said draft e is) in (
-      with_ends least_lines,
-      config_of least_head,
-      [],
-      subst (λ (ls : List (List ℕ)).
-          SpellsEvents (config_of least_head) [] (file_text ls ++ with_ends least_lines))
-          (sym none) least_spelled,
-    )
-begun_at lines said draft stage.Seed is e says further = further tt
-begun_at lines said draft stage.First is e says further = further tt
-begun_at lines said draft stage.Rounds is e says further = further tt
+no_lines_begun : (version : Version) → IsBegun (file_text version [])
+no_lines_begun version = (
+  with_ends least_lines,
+  config_of least_head,
+  [],
+  least_spelled version (file_text version [] ++ with_ends least_lines)
+      (sym (flat_map-append (λ text. text ++ 10 ∷ []) (version_line version ∷ []) least_lines)),
+)
+
+begun_at : (version : Version) (lines : List (List ℕ)) (said : List EventLine) (draft : Draft)
+    (at : Stage) → draft.stage ≡ at → drafted nothing_read said ≡ Some draft
+    → SayAll version lines said → (Begun at → IsBegun (file_text version lines))
+    → IsBegun (file_text version lines)
+begun_at version lines said draft stage.Local is e says further =
+    let none = no_text version lines said says (nothing_of said draft e is) in
+    subst (λ (ls : List (List ℕ)). IsBegun (file_text version ls)) (sym none)
+    (no_lines_begun version)
+begun_at version lines said draft stage.Seed is e says further = further tt
+begun_at version lines said draft stage.First is e says further = further tt
+begun_at version lines said draft stage.Rounds is e says further = further tt
 
 -- lines that give a draft are how some event file begins
-pub begun_by : (lines : List (List ℕ)) (said : List EventLine) (draft : Draft)
-    → drafted nothing_read said ≡ Some draft → SayAll lines said → IsBegun (file_text lines)
-begun_by lines said draft e says =
-    begun_at lines said draft draft.stage refl e says (λ begun.
+pub begun_by : (version : Version) (lines : List (List ℕ)) (said : List EventLine) (draft : Draft)
+    → drafted nothing_read said ≡ Some draft → SayAll version lines said
+    → IsBegun (file_text version lines)
+begun_by version lines said draft e says =
+    begun_at version lines said draft draft.stage refl e says (λ begun.
     let f = file_of said draft e begun in (
       [],
       draft.config,
       draft.rounds,
-      record {
-        head = f.head;
-        lines = lines;
-        configured = f.configured;
-        says = subst (λ (xs : List EventLine). AllZip SpellsLine lines xs) f.spelled says;
-        spelled = append-nil (file_text lines);
-      },
+      (
+        version,
+        record {
+          head = f.head;
+          lines = lines;
+          configured = f.configured;
+          says = subst (λ (xs : List EventLine). SayAll version lines xs) f.spelled says;
+          spelled = append-nil (file_text version lines);
+        },
+      ),
     ))
 
 -- with one more line
@@ -306,178 +379,206 @@ longer lines next rest =
     ∙ append_assoc (with_ends lines) (with_ends (next ∷ [])) rest
     ∙ ap (λ (t : List ℕ). with_ends lines ++ t) (with_end next [] rest)
 
-stuck_by : (number : ℕ) (after : List ℕ) (k : Stuck number after) (next rest rest' : List ℕ)
-    (config : Config) (rounds : List Round) (text : List ℕ) (s : SpellsEvents config rounds text)
-    (others : List (List ℕ)) (further : List EventLine) → k.left ≡ next ++ 10 ∷ rest
-    → has_no 10 next ≡ true → file_lines s.head rounds ≡ k.said ++ further → SayAll others further
+stuck_by : (version : Version) (number : ℕ) (after : List ℕ) (k : Stuck version number after)
+    (next rest rest' : List ℕ) (config : Config) (rounds : List Round) (text : List ℕ)
+    (s : SpellsIn version config rounds text) (others : List (List ℕ)) (further : List EventLine)
+    → k.left ≡ next ++ 10 ∷ rest → has_no 10 next ≡ true
+    → file_lines s.head rounds ≡ k.said ++ further → SayAll version others further
     → next ++ 10 ∷ rest' ≡ with_ends others → ⊥
-stuck_by number after k next rest rest' config rounds text s [] further is none whole says e =
-    no_line next rest' none (sym e)
-stuck_by number after k next rest rest' config rounds text s
+stuck_by version number after k next rest rest' config rounds text s [] further is none whole says
+    e = no_line next rest' none (sym e)
+stuck_by version number after k next rest rest' config rounds text s
     (line ∷ others) [] is none whole says e = elim says [ ]
-stuck_by number after k next rest rest' config rounds text s (line ∷ others)
+stuck_by version number after k next rest rest' config rounds text s (line ∷ others)
     (item ∷ further) is none whole says e =
-    let g = gives config rounds text s in
-    let same = same_line next rest' line (with_ends others) none (line_no line item says.0)
+    let g = gives version config rounds text s in
+    let same = same_line next rest' line (with_ends others) none (line_no version line item says.0)
     (e ∙ append_assoc line (10 ∷ []) (with_ends others)) in
     let stop = k.no_next line rest item says.0 (is ∙ ap (λ (t : List ℕ). t ++ 10 ∷ rest) same.0) in
     next_taken nothing_read k.draft g.draft k.said further item k.gives
     (sym (ap (drafted nothing_read) whole) ∙ g.taken_all) stop
 
-pub bad_line : (number : ℕ) (text after : List ℕ) → FollowsVersion text after → Stuck number after
-    → IsBadLine number text
-bad_line number text after follows k = record {
-  none = λ file. not_stuck file.0 file.1 text after number file.2 follows k;
-  before = version_line ∷ k.before;
+-- with the line that stands next no file begins
+not_begun : (version : Version) (number : ℕ) (after : List ℕ) (k : Stuck version number after)
+    (next rest : List ℕ) → k.left ≡ next ++ 10 ∷ rest → has_no 10 next ≡ true
+    → IsBegun (file_text version (k.before ++ next ∷ [])) → ⊥
+not_begun version number after k next rest is none begun =
+    let lines = k.before ++ next ∷ [] in
+    let text = file_text version lines ++ begun.0 in
+    let follows : FollowsVersion version text (with_ends lines ++ begun.0) =
+    with_end (version_line version) (with_ends lines) begun.0 in
+    let s = in_version version begun.1 begun.2 text (with_ends lines ++ begun.0) follows begun.3 in
+    let f = same_front k.before s.lines (next ++ 10 ∷ begun.0)
+    (each_one version k.before k.said k.says) (lines_of version begun.1 begun.2 text s)
+    (sym (longer k.before next begun.0)
+    ∙ after_version version begun.1 begun.2 text (with_ends lines ++ begun.0) s follows) in
+    let on = further_of version begun.1 begun.2 text s k.before f.others k.said k.says f.whole in
+    stuck_by version number after k next rest begun.0 begun.1 begun.2 text s f.others on.further is
+    none on.whole on.says f.rest
+
+pub bad_line : (version : Version) (number : ℕ) (text after : List ℕ)
+    → FollowsVersion version text after → Stuck version number after → IsBadLine number text
+bad_line version number text after follows k = record {
+  none = λ file. not_stuck version file.0 file.1 text after number file.2 follows k;
+  before = version_line version ∷ k.before;
   left = k.left;
-  parts = follows ∙ ap (λ (t : List ℕ). version_line ++ 10 ∷ t) k.parts;
-  one_each = (refl, each_one k.before k.said k.says);
+  parts = follows ∙ ap (λ (t : List ℕ). version_line version ++ 10 ∷ t) k.parts
+      ∙ sym (with_end (version_line version) (with_ends k.before) k.left);
+  one_each = (version_no version, each_one version k.before k.said k.says);
   counted = omega (arith, k.counted);
-  begun = begun_by k.before k.said k.draft k.gives k.says;
-  stuck = λ next rest is none begun.
-      (let s = begun.3 in
-      let e : with_ends (k.before ++ next ∷ []) ++ begun.0 ≡ with_ends s.lines =
-      append_cancel_left (version_line ++ 10 ∷ []) _ _ s.spelled in
-      let f = same_front k.before s.lines (next ++ 10 ∷ begun.0) (each_one k.before k.said k.says)
-      (lines_of begun.1 begun.2 _ s) (sym (longer k.before next begun.0) ∙ e) in
-      let on = further_of begun.1 begun.2 _ s k.before f.others k.said k.says f.whole in
-      stuck_by number after k next rest begun.0 begun.1 begun.2 _ s f.others on.further is none
-      on.whole on.says f.rest);
+  begun = begun_by version k.before k.said k.draft k.gives k.says;
+  stuck = λ next rest is none begun. not_begun version number after k next rest is none begun;
 }
 
-pub no_local : (text after : List ℕ) (draft : Draft) → FollowsVersion text after
-    → Drafts draft after → draft.stage ≡ stage.Local → IsBadLine 2 text
-no_local text after draft follows d at =
-    let none = no_text d.lines d.said d.says (nothing_of d.said draft d.gives at) in
+pub no_local : (version : Version) (text after : List ℕ) (draft : Draft)
+    → FollowsVersion version text after → Drafts version draft after → draft.stage ≡ stage.Local
+    → IsBadLine 2 text
+no_local version text after draft follows d at =
+    let none = no_text version d.lines d.said d.says (nothing_of d.said draft d.gives at) in
     let nothing : after ≡ [] = d.spelled ∙ ap with_ends none in
     record {
-      none = λ file.
-          not_local draft.stage (only_draft file.0 file.1 text after draft file.2 follows d).begun at;
-      before = version_line ∷ [];
+      none = λ file. not_local draft.stage
+          (only_draft version file.0 file.1 text after draft file.2 follows d).begun at;
+      before = version_line version ∷ [];
       left = after;
-      parts = follows;
-      one_each = (refl, tt);
+      parts = follows ∙ sym (with_end (version_line version) [] after);
+      one_each = (version_no version, tt);
       counted = refl;
-      begun = begun_by [] [] nothing_read (unfold drafted in refl) tt;
+      begun = no_lines_begun version;
       stuck = λ next rest is one begun. no_line next rest one (sym nothing ∙ is);
     }
 
-pub no_end : (text : List ℕ) → text ≡ version_line → IsBadLine 1 text
-no_end text e = record {
-  none = λ file. version_alone text (with_ends (file.2).lines) e (file.2).spelled;
+pub no_end : (version : Version) (text : List ℕ) → text ≡ version_line version → IsBadLine 1 text
+no_end version text e = record {
+  none = λ file. not_alone version file.0 file.1 text e file.2;
   before = [];
   left = text;
   parts = refl;
   one_each = tt;
   counted = refl;
-  begun = (file_text least_lines, config_of least_head, [], least_spelled);
+  begun = (
+    file_text version least_lines,
+    config_of least_head,
+    [],
+    least_spelled version (file_text version least_lines) refl,
+  );
   stuck = λ next rest is one begun.
-      (let cut : ◌≡◌ {A = Option (List ℕ × List ℕ)} None (Some (next, rest)) = ap (cut_at 10)
-      (sym e ∙ is) ∙ cut_again 10 next rest one in absurd cc);
+      (let cut : ◌≡◌ {A = Option (List ℕ × List ℕ)} None (Some (next, rest)) =
+      sym (uncut 10 (version_line version) (version_no version)) ∙ ap (cut_at 10) (sym e ∙ is)
+      ∙ cut_again 10 next rest one in absurd cc);
 }
 
 -- ---- a loop over the lines
 
-pub record SoFar (draft : Draft) (number : ℕ) (text left : List ℕ) : Type 0 where
+pub record SoFar (version : Version) (draft : Draft) (number : ℕ) (text left : List ℕ) :
+    Type 0 where
   pub lines : List (List ℕ)
   pub said : List EventLine
-  pub says : AllZip SpellsLine lines said
+  pub says : AllZip (SpellsLine version) lines said
   pub parts : text ≡ with_ends lines ++ left
   pub gives : drafted nothing_read said ≡ Some draft
   pub counted : number ≡ length lines + 2
 
-pub nothing_yet : (text : List ℕ) → SoFar nothing_read 2 text text
+pub nothing_yet : (version : Version) (text : List ℕ) → SoFar version nothing_read 2 text text
 unfolding drafted
-nothing_yet text =
+nothing_yet version text =
     record { lines = []; said = []; says = tt; parts = refl; gives = refl; counted = refl }
 
-all_push : (lines : List (List ℕ)) (said : List EventLine) (line : List ℕ) (item : EventLine)
-    → SayAll lines said → SpellsLine line item → SayAll (lines ++ line ∷ []) (said ++ item ∷ [])
-all_push [] [] line item says last = (last, tt)
-all_push [] (x ∷ said) line item says last = elim says [ ]
-all_push (l ∷ lines) [] line item says last = elim says [ ]
-all_push (l ∷ lines) (x ∷ said) line item says last =
-    (says.0, all_push lines said line item says.1 last)
-
-pub one_further : (draft next : Draft) (number : ℕ) (text left line after : List ℕ)
-    (item : EventLine) → SoFar draft number text left → Some (line, after) ≡ cut_at 10 left
-    → Some item ≡ line_at line → Some next ≡ taken draft item → SoFar next (number + 1) text after
-one_further draft next number text left line after item s cut is goes =
-    let parts = cut_took 10 left (line, after) (sym cut) in
-    record {
-      lines = s.lines ++ line ∷ [];
-      said = s.said ++ item ∷ [];
-      says = all_push s.lines s.said line item s.says (line_took line item (sym is));
-      parts = s.parts ∙ ap (λ (x : List ℕ). with_ends s.lines ++ x) parts.whole
-          ∙ sym (longer s.lines line after);
-      gives = drafted-push nothing_read draft s.said item s.gives ∙ sym goes;
-      counted = omega (arith, s.counted, length_push s.lines line);
-    }
-
-stuck_here : (draft : Draft) (number : ℕ) (text left : List ℕ) → SoFar draft number text left
-    → (left ≡ [] → ⊥) → ((line after : List ℕ) (next : EventLine) → SpellsLine line next
-    → left ≡ line ++ 10 ∷ after → taken draft next ≡ None) → Stuck number text
-stuck_here draft number text left s more no_next = record {
-  draft = draft;
-  before = s.lines;
-  said = s.said;
-  left = left;
-  says = s.says;
-  parts = s.parts;
-  gives = s.gives;
-  counted = s.counted;
-  more = more;
-  no_next = no_next;
-}
-
-pub without_end : (draft : Draft) (number : ℕ) (text left : List ℕ) → SoFar draft number text left
-    → (left ≡ [] → ⊥) → None ≡ cut_at 10 left → Stuck number text
-without_end draft number text left s more cut =
-    stuck_here draft number text left s more (λ line after next says e.
-    (let none : ◌≡◌ {A = Option (List ℕ × List ℕ)} None (Some (line, after)) = cut
-    ∙ ap (cut_at 10) e ∙ cut_again 10 line after (line_no line next says) in absurd cc))
+all_push : (version : Version) (lines : List (List ℕ)) (said : List EventLine) (line : List ℕ)
+    (item : EventLine) → SayAll version lines said → SpellsLine version line item
+    → SayAll version (lines ++ line ∷ []) (said ++ item ∷ [])
+all_push version [] [] line item says last = (last, tt)
+all_push version [] (x ∷ said) line item says last = elim says [ ]
+all_push version (l ∷ lines) [] line item says last = elim says [ ]
+all_push version (l ∷ lines) (x ∷ said) line item says last =
+    (says.0, all_push version lines said line item says.1 last)
 
 -- the line that is cut off is the one that stands next
-same_cut : (left line after other rest : List ℕ) (next : EventLine)
-    → Some (line, after) ≡ cut_at 10 left → SpellsLine other next → left ≡ other ++ 10 ∷ rest
-    → line_at line ≡ Some next
-same_cut left line after other rest next cut says e =
+same_cut : (version : Version) (left line after other rest : List ℕ) (next : EventLine)
+    → Some (line, after) ≡ cut_at 10 left → SpellsLine version other next
+    → left ≡ other ++ 10 ∷ rest → line_at version line ≡ Some next
+same_cut version left line after other rest next cut says e =
     let same = some_pair_parts line other after rest
-    (cut ∙ ap (cut_at 10) e ∙ cut_again 10 other rest (line_no other next says)) in
-    ap line_at same.0 ∙ line_again other next says
+    (cut ∙ ap (cut_at 10) e ∙ cut_again 10 other rest (line_no version other next says)) in
+    ap (line_at version) same.0 ∙ line_again version other next says
 
-pub no_such_line : (draft : Draft) (number : ℕ) (text left line after : List ℕ)
-    → SoFar draft number text left → (left ≡ [] → ⊥) → Some (line, after) ≡ cut_at 10 left
-    → None ≡ line_at line → Stuck number text
-no_such_line draft number text left line after s more cut is =
-    stuck_here draft number text left s more (λ other rest next says e.
-    (let none : ◌≡◌ {A = Option EventLine} None (Some next) = is
-    ∙ same_cut left line after other rest next cut says e in absurd cc))
+module _ (version : Version) (draft : Draft) (number : ℕ) (text left : List ℕ)
+    (s : SoFar version draft number text left) where
+  pub one_further : (next : Draft) (line after : List ℕ) (item : EventLine)
+      → Some (line, after) ≡ cut_at 10 left → Some item ≡ line_at version line
+      → Some next ≡ taken draft item → SoFar version next (number + 1) text after
+  one_further next line after item cut is goes =
+      let parts = cut_took 10 left (line, after) (sym cut) in
+      record {
+        lines = s.lines ++ line ∷ [];
+        said = s.said ++ item ∷ [];
+        says = all_push version s.lines s.said line item s.says
+            (line_took version line item (sym is));
+        parts = s.parts ∙ ap (λ (x : List ℕ). with_ends s.lines ++ x) parts.whole
+            ∙ sym (longer s.lines line after);
+        gives = drafted-push nothing_read draft s.said item s.gives ∙ sym goes;
+        counted = omega (arith, s.counted, length_push s.lines line);
+      }
 
-pub not_there : (draft : Draft) (number : ℕ) (text left line after : List ℕ) (item : EventLine)
-    → SoFar draft number text left → (left ≡ [] → ⊥) → Some (line, after) ≡ cut_at 10 left
-    → Some item ≡ line_at line → None ≡ taken draft item → Stuck number text
-not_there draft number text left line after item s more cut is stop =
-    stuck_here draft number text left s more (λ other rest next says e.
-    (let same : item ≡ next = same_some item next
-    (is ∙ same_cut left line after other rest next cut says e) in
-    sym (stop ∙ ap (taken draft) same)))
+  stuck_here : (left ≡ [] → ⊥) → ((line after : List ℕ) (next : EventLine)
+      → SpellsLine version line next → left ≡ line ++ 10 ∷ after → taken draft next ≡ None)
+      → Stuck version number text
+  stuck_here more no_next = record {
+    draft = draft;
+    before = s.lines;
+    said = s.said;
+    left = left;
+    says = s.says;
+    parts = s.parts;
+    gives = s.gives;
+    counted = s.counted;
+    more = more;
+    no_next = no_next;
+  }
+
+  pub without_end : (left ≡ [] → ⊥) → None ≡ cut_at 10 left → Stuck version number text
+  without_end more cut =
+      stuck_here more (λ line after next says e.
+      (let none : ◌≡◌ {A = Option (List ℕ × List ℕ)} None (Some (line, after)) = cut
+      ∙ ap (cut_at 10) e ∙ cut_again 10 line after (line_no version line next says) in absurd cc))
+
+  pub no_such_line : (line after : List ℕ) → (left ≡ [] → ⊥) → Some (line, after) ≡ cut_at 10 left
+      → None ≡ line_at version line → Stuck version number text
+  no_such_line line after more cut is =
+      stuck_here more (λ other rest next says e.
+      (let none : ◌≡◌ {A = Option EventLine} None (Some next) = is
+      ∙ same_cut version left line after other rest next cut says e in absurd cc))
+
+  pub not_there : (line after : List ℕ) (item : EventLine) → (left ≡ [] → ⊥)
+      → Some (line, after) ≡ cut_at 10 left → Some item ≡ line_at version line
+      → None ≡ taken draft item → Stuck version number text
+  not_there line after item more cut is stop =
+      stuck_here more (λ other rest next says e.
+      (let same : item ≡ next = same_some item next
+      (is ∙ same_cut version left line after other rest next cut says e) in
+      sym (stop ∙ ap (taken draft) same)))
 
 -- ---- one file a text
 
 pub one_file : (text : List ℕ) (config other : Config) (rounds others : List Round)
     → SpellsEvents config rounds text → SpellsEvents other others text
     → (config ≡ other) × (rounds ≡ others)
-one_file text config other rounds others s t =
+one_file text config other rounds others spells others_spell =
+    let version = spells.0 in
+    let s = spells.1 in
+    let follows : FollowsVersion version text (with_ends s.lines) =
+    s.spelled ∙ first_line version s.lines in
+    let t = in_version version other others text (with_ends s.lines) follows others_spell in
     let lines : t.lines ≡ s.lines =
-    same_lines s.lines t.lines (lines_of config rounds text s) (lines_of other others text t)
-    (append_cancel_left (version_line ++ 10 ∷ []) _ _ (sym s.spelled ∙ t.spelled)) in
-    let says = subst (λ (ls : List (List ℕ)). AllZip SpellsLine ls (file_lines t.head others)) lines
+    same_lines s.lines t.lines (lines_of version config rounds text s)
+    (lines_of version other others text t)
+    (after_version version other others text (with_ends s.lines) t follows) in
+    let says = subst (λ (ls : List (List ℕ)). SayAll version ls (file_lines t.head others)) lines
     t.says in
     let same : file_lines t.head others ≡ file_lines s.head rounds =
-    one_list s.lines (file_lines s.head rounds) (file_lines t.head others) s.says says in
-    let g = gives config rounds text s in
-    let h = gives other others text t in
+    one_list version s.lines (file_lines s.head rounds) (file_lines t.head others) s.says says in
+    let g = gives version config rounds text s in
+    let h = gives version other others text t in
     let is : g.draft ≡ h.draft = same_some g.draft h.draft
     (sym g.taken_all ∙ sym (ap (drafted nothing_read) same) ∙ h.taken_all) in (
       sym s.configured ∙ sym g.configured ∙ ap (λ (d : Draft). d.config) is ∙ h.configured
@@ -487,39 +588,55 @@ one_file text config other rounds others s t =
 
 -- ---- faults
 
+-- what names a version is its line
+pub version_named : (line : List ℕ) (version : Version) → version_at line ≡ Some version
+    → line ≡ version_line version
+version_named line version e =
+    let P : Version → Type 0 = λ v. line ≡ version_line v in
+    elim (chosen (bytes_eq line (version_line One)) (Some One)
+    (cond (bytes_eq line (version_line Two)) (Some Two) None) (Some version) e) [
+      | inl a ↦ subst P (same_some One version a.1) (same_text line (version_line One) a.0)
+      | inr a ↦ (let g = passed (bytes_eq line (version_line Two)) Two version a.1 in
+          subst P g.1 (same_text line (version_line Two) g.0))
+    ]
+
 pub version_only : (fault : EventsFault) (text : List ℕ) (config : Config) (rounds : List Round)
     → TellsVersion fault text → SpellsEvents config rounds text → fault ≡ NoMemory
 version_only TooLong text config rounds tells s = elim tells [ ]
 version_only BadVersion text config rounds tells s =
     absurd (tells (has_version config rounds text s))
 version_only (BadLine number) text config rounds tells s =
-    absurd (version_alone text _ tells.1 s.spelled)
+    absurd (not_alone tells.0 config rounds text tells.2 s)
 version_only NoMemory text config rounds tells s = elim tells [ ]
 
 pub version_tells : (fault : EventsFault) (text : List ℕ) → length text ≤ 2 ^ 26
     → TellsVersion fault text → TellsFault fault text
 version_tells TooLong text small tells = elim tells [ ]
 version_tells BadVersion text small tells = (small, tells)
-version_tells (BadLine number) text small tells =
-    (small, inl tells.1, subst (λ (n : ℕ). IsBadLine n text) (sym tells.0) (no_end text tells.1))
+version_tells (BadLine number) text small tells = (
+  small,
+  (tells.0, inl tells.2),
+  subst (λ (n : ℕ). IsBadLine n text) (sym tells.1) (no_end tells.0 text tells.2),
+)
 version_tells NoMemory text small tells = tt
 
-pub line_only : (fault : EventsFault) (text after : List ℕ) (config : Config) (rounds : List Round)
-    → FollowsVersion text after → TellsLine fault after → SpellsEvents config rounds text
-    → fault ≡ NoMemory
-line_only TooLong text after config rounds follows tells s = elim tells [ ]
-line_only BadVersion text after config rounds follows tells s = elim tells [ ]
-line_only (BadLine number) text after config rounds follows tells s =
-    absurd (not_stuck config rounds text after number s follows tells)
-line_only NoMemory text after config rounds follows tells s = refl
+pub line_only : (version : Version) (fault : EventsFault) (text after : List ℕ) (config : Config)
+    (rounds : List Round) → FollowsVersion version text after → TellsLine version fault after
+    → SpellsEvents config rounds text → fault ≡ NoMemory
+line_only version TooLong text after config rounds follows tells s = elim tells [ ]
+line_only version BadVersion text after config rounds follows tells s = elim tells [ ]
+line_only version (BadLine number) text after config rounds follows tells s =
+    absurd (not_stuck version config rounds text after number s follows tells)
+line_only version NoMemory text after config rounds follows tells s = refl
 
-pub line_tells : (fault : EventsFault) (text after : List ℕ) → length text ≤ 2 ^ 26
-    → FollowsVersion text after → TellsLine fault after → TellsFault fault text
-line_tells TooLong text after small follows tells = elim tells [ ]
-line_tells BadVersion text after small follows tells = elim tells [ ]
-line_tells (BadLine number) text after small follows tells =
-    (small, inr (after, follows), bad_line number text after follows tells)
-line_tells NoMemory text after small follows tells = tt
+pub line_tells : (version : Version) (fault : EventsFault) (text after : List ℕ)
+    → length text ≤ 2 ^ 26 → FollowsVersion version text after → TellsLine version fault after
+    → TellsFault fault text
+line_tells version TooLong text after small follows tells = elim tells [ ]
+line_tells version BadVersion text after small follows tells = elim tells [ ]
+line_tells version (BadLine number) text after small follows tells =
+    (small, (version, inr (after, follows)), bad_line version number text after follows tells)
+line_tells version NoMemory text after small follows tells = tt
 
 -- no fault fits an event file but want of memory
 pub never_bad : (fault : EventsFault) (text : List ℕ) → TellsFault fault text → IsEventFile text

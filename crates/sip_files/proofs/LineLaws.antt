@@ -1,5 +1,5 @@
 -- The lines of an event file: what is read is spelled so, and what is spelled so is read.
-use Rattle.std.proofs.Common.{◌≡◌, ℕ, ◌≤◌, true, cond, List, ◌∷◌, ◌++◌, Option, Some, None, refl, sym, ap, subst, ◌∙◌, append_assoc, arith, inl, inr, codes, decimal}
+use Rattle.std.proofs.Common.{◌≡◌, ℕ, ◌≤◌, true, cond, List, ◌∷◌, ◌++◌, ◌⊎◌, Option, Some, None, refl, sym, ap, subst, ◌∙◌, append_assoc, arith, inl, inr, codes, decimal}
 use Rattle.std.specs.List.{flat_map}
 use Rattle.std.specs.Option.{option_map}
 use Rattle.std.specs.Str.{bytes_eq}
@@ -22,23 +22,26 @@ use Rattle.sip_served.specs.declared.command.Plain.{Plain}
 use Rattle.sip_served.specs.declared.command.ProvisionalSupport.{ProvisionalSupport}
 use Rattle.sip_served.specs.declared.command.ProvisionalSupport.TheVariants as support
 use Rattle.sip_served.specs.declared.command.Respond.{Respond}
+use Rattle.sip_served.specs.declared.command.Cancel.{Cancel}
 use Rattle.sip_served.specs.declared.command.UserCommand.{UserCommand}
 use Rattle.sip_served.specs.declared.command.UserCommand.TheVariants as command
 use Rattle.sip_round.specs.declared.round.Event.{Event}
 use Rattle.sip_round.specs.declared.round.Event.TheVariants.{Datagram, Failed, Command}
+use Rattle.sip_files.specs.declared.version.Version.{Version}
+use Rattle.sip_files.specs.declared.version.Version.TheVariants.{One, Two}
 use Rattle.sip_files.specs.declared.event_line.EventLine.{EventLine}
 use Rattle.sip_files.specs.declared.event_line.EventLine.TheVariants as line
 use Rattle.sip_files.specs.declared.fields.Dialog.{Dialog}
 use Rattle.sip_files.specs.declared.fields.Uris.{Uris}
 use Rattle.sip_files.specs.Word.{hex_pair, are_bytes, spelled_word, spelled_rest}
 use Rattle.sip_files.specs.Field.{id_text, plain_field, number_field, id_field, address_field, word_field, rest_field}
-use Rattle.sip_files.specs.Events.{IsMethod, IsInvite, IsPlain, IsRequest, IsBody, IsRespond, IsCommandLine, reliability_text, support_text, command_text, SpellsClient, SpellsServer, SpellsEvent, SpellsLine}
+use Rattle.sip_files.specs.Events.{IsMethod, IsInvite, IsPlain, IsRequest, IsBody, IsRespond, IsCancel, IsCommandLine, reliability_text, support_text, command_text, SpellsClient, SpellsServer, SpellsEvent, SpellsLine}
 use Rattle.sip_files.specs.Reading.{word_at, rest_at, both_at, ended_by, address_at, seed_at}
-use Rattle.sip_files.specs.ReadLine.{method_at, invite_of, invite_at, plain_of, plain_at, request_of, request_at, body_of, body_at, respond_of, respond_at, command_at, datagram_at, client_of, client_at, server_of, server_at, key_at, failed_at, event_at, keyword_line, line_at}
+use Rattle.sip_files.specs.ReadLine.{method_at, invite_of, invite_at, plain_of, plain_at, request_of, request_at, body_of, body_at, respond_of, respond_at, cancel_of, cancel_at, cancel_in, command_at, datagram_at, client_of, client_at, server_of, server_at, key_at, failed_at, event_at, keyword_line, line_at}
 use Rattle.sip_files.proofs.WordLaws.{rest_took, rest_again}
 use Rattle.sip_files.proofs.Cuts.{both_front, ended_reads, made_reads}
 use Rattle.sip_files.proofs.Shown.{word_no, rest_no, pairs_no}
-use Rattle.sip_files.proofs.NumberLaws.{address_reads, seed_reads, address_no, id_no}
+use Rattle.sip_files.proofs.NumberLaws.{id_reads, address_reads, seed_reads, address_no, id_no}
 use Rattle.sip_files.proofs.FieldLaws.{word_reads, reason_reads, same_text, no_method, tag_text, call_id_front, word_front, method_reads, method_front, address_front, support_front, id_front, status_front, port_front, reliability_front, uris_text, uris_front, dialog_text, dialog_front}
 
 mapped : {A B : Type 0} (f : A → B) (o : Option A) (y : B) → option_map f o ≡ Some y
@@ -48,10 +51,10 @@ mapped f (Some x) y e = (x, refl, same_some (f x) y e)
 
 -- ---- a datagram
 
-datagram_took : (fields : List ℕ) (event : Event) → datagram_at fields ≡ Some event
-    → SpellsEvent (codes "datagram" ++ 32 ∷ fields) event
+datagram_took : (version : Version) (fields : List ℕ) (event : Event)
+    → datagram_at fields ≡ Some event → SpellsEvent version (codes "datagram" ++ 32 ∷ fields) event
 unfolding datagram_at address_field rest_field
-datagram_took fields event e =
+datagram_took version fields event e =
     let a = bind_some (field_at 32 address_at fields)
     (λ from. rest_at from.1 >>= λ bytes. Some (Datagram from.0 bytes)) event e in
     let b = bind_some (rest_at a.0.1) (λ bytes. Some (Datagram a.0.0 bytes)) event a.2 in
@@ -59,7 +62,7 @@ datagram_took fields event e =
     let bytes = rest_took a.0.1 b.0 b.1 in
     let whole : fields ≡ addr_text a.0.0 ++ 32 ∷ spelled_rest b.0 =
     from.1 ∙ ap (λ (x : List ℕ). addr_text a.0.0 ++ 32 ∷ x) bytes.1 in
-    let P : Event → Type 0 = SpellsEvent (codes "datagram" ++ 32 ∷ fields) in
+    let P : Event → Type 0 = SpellsEvent version (codes "datagram" ++ 32 ∷ fields) in
     subst P (same_some (Datagram a.0.0 b.0) event b.2)
     ((from.0, bytes.0), ap (λ (x : List ℕ). codes "datagram" ++ 32 ∷ x) whole)
 
@@ -211,6 +214,27 @@ respond_reads =
     (both_front (both_front call_id_front id_front) status_front) reliability_front) word_front)
     reason_reads)
 
+abbrev cancel_fields : Cancel → List ℕ
+cancel_fields c = spelled_word c.call_id ++ 32 ∷ id_text c.id
+
+cancel_reads : Reads IsCancel cancel_fields cancel_at
+unfolding cancel_at
+cancel_reads =
+    made_reads cancel_of (λ c. (c.call_id, c.id)) (λ c. refl) (λ read. refl)
+    (λ c f. record { call_id = f.0; id = f.1 }) (λ c f. (f.call_id, f.id))
+    (ended_reads call_id_front id_reads)
+
+abbrev IsCancelIn : Version → Cancel → Type 0
+IsCancelIn version c = (version ≡ Two) × IsCancel c
+
+cancel_reads_in : (version : Version) → Reads (IsCancelIn version) cancel_fields (cancel_in version)
+cancel_reads_in One = record { took = λ fields c e. absurd cc; again = λ c fits. absurd cc }
+cancel_reads_in Two = record {
+  took = λ fields c e.
+      (let t = cancel_reads.took fields c e in ((refl, t.0), t.1));
+  again = λ c fits. cancel_reads.again c fits.1;
+}
+
 -- the space behind the keyword stands before the first field
 onward : (k x y : List ℕ) → k ++ 32 ∷ (x ++ 32 ∷ y) ≡ (k ++ 32 ∷ x) ++ 32 ∷ y
 onward k x y = sym (append_assoc k (32 ∷ x) (32 ∷ y))
@@ -290,14 +314,19 @@ prack_text c = sym (four_fields (codes "prack") (spelled_word c.call_id)
     (spelled_word (tag_text c.local_tag)) (spelled_word (tag_text c.remote_tag))
     (spelled_word c.body))
 
+cancel_text : (c : Cancel) → command_text (command.Cancel c) ≡ codes "cancel"
+    ++ 32 ∷ cancel_fields c
+unfolding word_field id_field
+cancel_text c = sym (two_fields (codes "cancel") (spelled_word c.call_id) (id_text c.id))
+
 -- a command is read, or another keyword's
-module _ (keyword fields : List ℕ) (c : UserCommand) where
+module _ (version : Version) (keyword fields : List ℕ) (c : UserCommand) where
   abbrev IsSaid : Type 0
-  IsSaid = IsCommandLine c × (keyword ++ 32 ∷ fields ≡ command_text c)
+  IsSaid = IsCommandLine version c × (keyword ++ 32 ∷ fields ≡ command_text c)
 
   by_keyword : {A : Type 0} (k : List ℕ) (make : A → UserCommand) (Fits : A → Type 0)
       (spell : A → List ℕ) (read : List ℕ → Option A) (others : Option UserCommand)
-      → Reads Fits spell read → ((x : A) → Fits x → IsCommandLine (make x))
+      → Reads Fits spell read → ((x : A) → Fits x → IsCommandLine version (make x))
       → ((x : A) → command_text (make x) ≡ k ++ 32 ∷ spell x)
       → cond (bytes_eq keyword k) (option_map make (read fields)) others ≡ Some c
       → (others ≡ Some c → IsSaid) → IsSaid
@@ -306,7 +335,7 @@ module _ (keyword fields : List ℕ) (c : UserCommand) where
         | inl a ↦ (let x = mapped make (read fields) c a.1 in
             let t = reads.took fields x.0 x.1 in
             let P : UserCommand → Type 0 =
-            λ y. IsCommandLine y × (keyword ++ 32 ∷ fields ≡ command_text y) in
+            λ y. IsCommandLine version y × (keyword ++ 32 ∷ fields ≡ command_text y) in
             subst P x.2 (
               fits x.0 t.0,
               ap (λ (w : List ℕ). w ++ 32 ∷ fields)
@@ -315,7 +344,7 @@ module _ (keyword fields : List ℕ) (c : UserCommand) where
         | inr a ↦ next a.1
       ]
 
-  command_took : command_at keyword fields ≡ Some c → IsSaid
+  command_took : command_at version keyword fields ≡ Some c → IsSaid
   command_took e =
       by_keyword (codes "invite") command.Invite IsInvite invite_fields invite_at _ invite_reads
       (λ x f. f) invite_text e (λ e.
@@ -329,7 +358,9 @@ module _ (keyword fields : List ℕ) (c : UserCommand) where
       (λ x f. f) ack_text e (λ e.
       by_keyword (codes "prack") command.Prack IsBody body_fields body_at _ body_reads
       (λ x f. f) prack_text e (λ e.
-      absurd (let none : ◌≡◌ {A = Option UserCommand} None (Some c) = e in cc)))))))
+      by_keyword (codes "cancel") command.Cancel (IsCancelIn version) cancel_fields
+      (cancel_in version) _ (cancel_reads_in version) (λ x f. f) cancel_text e (λ e.
+      absurd (let none : ◌≡◌ {A = Option UserCommand} None (Some c) = e in cc))))))))
 
 -- ---- failed sends
 
@@ -410,7 +441,7 @@ module _ (fields : List ℕ) (key : Key) where
       }
 
 abbrev SpellsFailed : List ℕ → Key → Type 0
-SpellsFailed text key = SpellsEvent text (Failed key)
+SpellsFailed text key = SpellsClient text key ⊎ SpellsServer text key
 
 key_took : (side fields : List ℕ) (key : Key) → key_at side fields ≡ Some key
     → SpellsFailed (codes "failed" ++ 32 ∷ (side ++ 32 ∷ fields)) key
@@ -439,34 +470,36 @@ failed_took fields key e =
 
 -- ---- a line
 
-event_took : (keyword fields : List ℕ) (event : Event) → event_at keyword fields ≡ Some event
-    → SpellsEvent (keyword ++ 32 ∷ fields) event
+event_took : (version : Version) (keyword fields : List ℕ) (event : Event)
+    → event_at version keyword fields ≡ Some event
+    → SpellsEvent version (keyword ++ 32 ∷ fields) event
 unfolding event_at
-event_took keyword fields event e =
-    let P : Event → Type 0 = SpellsEvent (keyword ++ 32 ∷ fields) in
-    let Q : List ℕ → Type 0 = λ k. SpellsEvent (k ++ 32 ∷ fields) event in
+event_took version keyword fields event e =
+    let P : Event → Type 0 = SpellsEvent version (keyword ++ 32 ∷ fields) in
+    let Q : List ℕ → Type 0 = λ k. SpellsEvent version (k ++ 32 ∷ fields) event in
     elim (chosen (bytes_eq keyword (codes "datagram")) (datagram_at fields)
     (cond (bytes_eq keyword (codes "failed")) (option_map Failed (failed_at fields))
-    (option_map Command (command_at keyword fields))) (Some event) e) [
+    (option_map Command (command_at version keyword fields))) (Some event) e) [
       | inl a ↦ subst Q (sym (same_text keyword (codes "datagram") a.0))
-          (datagram_took fields event a.1)
+          (datagram_took version fields event a.1)
       | inr a ↦ elim (chosen (bytes_eq keyword (codes "failed"))
-          (option_map Failed (failed_at fields)) (option_map Command (command_at keyword fields))
-          (Some event) a.1) [
+          (option_map Failed (failed_at fields))
+          (option_map Command (command_at version keyword fields)) (Some event) a.1) [
             | inl b ↦ subst Q (sym (same_text keyword (codes "failed") b.0))
                 (let x = mapped Failed (failed_at fields) event b.1 in
-                subst (λ (y : Event). SpellsEvent (codes "failed" ++ 32 ∷ fields) y) x.2
+                subst (λ (y : Event). SpellsEvent version (codes "failed" ++ 32 ∷ fields) y) x.2
                 (failed_took fields x.0 x.1))
-            | inr b ↦ (let x = mapped Command (command_at keyword fields) event b.1 in
-                subst P x.2 (command_took keyword fields x.0 x.1))
+            | inr b ↦ (let x = mapped Command (command_at version keyword fields) event b.1 in
+                subst P x.2 (command_took version keyword fields x.0 x.1))
           ]
     ]
 
-keyword_took : (keyword fields : List ℕ) (item : EventLine)
-    → keyword_line keyword fields ≡ Some item → SpellsLine (keyword ++ 32 ∷ fields) item
+keyword_took : (version : Version) (keyword fields : List ℕ) (item : EventLine)
+    → keyword_line version keyword fields ≡ Some item
+    → SpellsLine version (keyword ++ 32 ∷ fields) item
 unfolding keyword_line address_field plain_field number_field
-keyword_took keyword fields item e =
-    let P : EventLine → Type 0 = SpellsLine (keyword ++ 32 ∷ fields) in
+keyword_took version keyword fields item e =
+    let P : EventLine → Type 0 = SpellsLine version (keyword ++ 32 ∷ fields) in
     let spelled : (k x : List ℕ) → bytes_eq keyword k ≡ true → fields ≡ x
     → keyword ++ 32 ∷ fields ≡ k ++ 32 ∷ x =
     λ k x p q. ap (λ (y : List ℕ). y ++ 32 ∷ fields) (same_text keyword k p)
@@ -477,7 +510,7 @@ keyword_took keyword fields item e =
     (option_map line.First (number_at 4611686018427387904 fields))
     (cond (bytes_eq keyword (codes "round"))
     (option_map line.Round (number_at 18446744073709551615 fields))
-    (option_map line.Event (event_at keyword fields))))) (Some item) e) [
+    (option_map line.Event (event_at version keyword fields))))) (Some item) e) [
       | inl a ↦ (let x = mapped line.Local (address_at fields) item a.1 in
           let t = address_reads.took fields x.0 x.1 in
           subst P x.2 (t.0, spelled (codes "local") (addr_text x.0) a.0 t.1))
@@ -487,7 +520,7 @@ keyword_took keyword fields item e =
           (option_map line.First (number_at 4611686018427387904 fields))
           (cond (bytes_eq keyword (codes "round"))
           (option_map line.Round (number_at 18446744073709551615 fields))
-          (option_map line.Event (event_at keyword fields)))) (Some item) a.1) [
+          (option_map line.Event (event_at version keyword fields)))) (Some item) a.1) [
             | inl b ↦ (let x = mapped line.Seed (seed_at fields) item b.1 in
                 let t = seed_reads.took fields x.0 x.1 in
                 subst P x.2 (t.0, spelled (codes "seed") (flat_map hex_pair x.0) b.0 t.1))
@@ -495,7 +528,7 @@ keyword_took keyword fields item e =
                 (option_map line.First (number_at 4611686018427387904 fields))
                 (cond (bytes_eq keyword (codes "round"))
                 (option_map line.Round (number_at 18446744073709551615 fields))
-                (option_map line.Event (event_at keyword fields))) (Some item) b.1) [
+                (option_map line.Event (event_at version keyword fields))) (Some item) b.1) [
                   | inl c ↦ (let x = mapped line.First
                       (number_at 4611686018427387904 fields) item c.1 in
                       let t = (number_reads 4611686018427387904 (omega arith)).took fields x.0
@@ -503,68 +536,74 @@ keyword_took keyword fields item e =
                       subst P x.2 (t.0, spelled (codes "first") (decimal x.0) c.0 t.1))
                   | inr c ↦ elim (chosen (bytes_eq keyword (codes "round"))
                       (option_map line.Round (number_at 18446744073709551615 fields))
-                      (option_map line.Event (event_at keyword fields)) (Some item) c.1) [
+                      (option_map line.Event (event_at version keyword fields)) (Some item) c.1) [
                         | inl d ↦ (let x = mapped line.Round
                             (number_at 18446744073709551615 fields) item d.1 in
                             let t = (number_reads 18446744073709551615 (omega arith)).took fields
                             x.0 x.1 in
                             subst P x.2 (t.0, spelled (codes "round") (decimal x.0) d.0 t.1))
-                        | inr d ↦ (let x = mapped line.Event (event_at keyword fields) item d.1 in
-                            let t = event_took keyword fields x.0 x.1 in subst P x.2 t)
+                        | inr d ↦ (let x = mapped line.Event (event_at version keyword fields)
+                            item d.1 in
+                            subst P x.2 (event_took version keyword fields x.0 x.1))
                       ]
                 ]
           ]
     ]
 
 -- what is read is said by the text
-pub line_took : (text : List ℕ) (item : EventLine) → line_at text ≡ Some item → SpellsLine text item
+pub line_took : (version : Version) (text : List ℕ) (item : EventLine)
+    → line_at version text ≡ Some item → SpellsLine version text item
 unfolding line_at
-line_took text item e =
-    let p = bind_some (cut_at 32 text) (λ p. keyword_line p.0 p.1) item e in
-    let P : List ℕ → Type 0 = λ t. SpellsLine t item in
-    subst P (sym (cut_took 32 text p.0 p.1).whole) (keyword_took p.0.0 p.0.1 item p.2)
+line_took version text item e =
+    let p = bind_some (cut_at 32 text) (λ p. keyword_line version p.0 p.1) item e in
+    let P : List ℕ → Type 0 = λ t. SpellsLine version t item in
+    subst P (sym (cut_took 32 text p.0 p.1).whole) (keyword_took version p.0.0 p.0.1 item p.2)
 
 abbrev as_line : {A : Type 0} → (A → UserCommand) → Option A → Option EventLine
 as_line make o = option_map line.Event (option_map Command (option_map make o))
 
-command_again : (c : UserCommand) → IsCommandLine c
-    → line_at (command_text c) ≡ Some (line.Event (Command c))
+command_again : (version : Version) (c : UserCommand) → IsCommandLine version c
+    → line_at version (command_text c) ≡ Some (line.Event (Command c))
 unfolding line_at keyword_line event_at
-command_again (command.Invite c) fits =
-    ap line_at (invite_text c) ∙ ap (as_line command.Invite) (invite_reads.again c fits)
-command_again (command.Plain c) fits =
-    ap line_at (plain_text c) ∙ ap (as_line command.Plain) (plain_reads.again c fits)
-command_again (command.Request c) fits =
-    ap line_at (request_text c) ∙ ap (as_line command.Request) (request_reads.again c fits)
-command_again (command.Respond c) fits =
-    ap line_at (respond_text c) ∙ ap (as_line command.Respond) (respond_reads.again c fits)
-command_again (command.Ack c) fits =
-    ap line_at (ack_text c) ∙ ap (as_line command.Ack) (body_reads.again c fits)
-command_again (command.Prack c) fits =
-    ap line_at (prack_text c) ∙ ap (as_line command.Prack) (body_reads.again c fits)
-command_again (command.Cancel c) fits = elim fits [ ]
+command_again version (command.Invite c) fits =
+    ap (line_at version) (invite_text c) ∙ ap (as_line command.Invite) (invite_reads.again c fits)
+command_again version (command.Plain c) fits =
+    ap (line_at version) (plain_text c) ∙ ap (as_line command.Plain) (plain_reads.again c fits)
+command_again version (command.Request c) fits =
+    ap (line_at version) (request_text c)
+    ∙ ap (as_line command.Request) (request_reads.again c fits)
+command_again version (command.Respond c) fits =
+    ap (line_at version) (respond_text c)
+    ∙ ap (as_line command.Respond) (respond_reads.again c fits)
+command_again version (command.Ack c) fits =
+    ap (line_at version) (ack_text c) ∙ ap (as_line command.Ack) (body_reads.again c fits)
+command_again version (command.Prack c) fits =
+    ap (line_at version) (prack_text c) ∙ ap (as_line command.Prack) (body_reads.again c fits)
+command_again version (command.Cancel c) fits =
+    ap (line_at version) (cancel_text c)
+    ∙ ap (as_line command.Cancel) ((cancel_reads_in version).again c fits)
 
 -- what another text says is read from it
-read_from : (text other : List ℕ) (item : EventLine) → text ≡ other → line_at other ≡ Some item
-    → line_at text ≡ Some item
-read_from text other item is read = ap line_at is ∙ read
+read_from : (version : Version) (text other : List ℕ) (item : EventLine) → text ≡ other
+    → line_at version other ≡ Some item → line_at version text ≡ Some item
+read_from version text other item is read = ap (line_at version) is ∙ read
 
-client_again : (text : List ℕ) (key : Key) → SpellsClient text key
-    → line_at text ≡ Some (line.Event (Failed key))
+client_again : (version : Version) (text : List ℕ) (key : Key) → SpellsClient text key
+    → line_at version text ≡ Some (line.Event (Failed key))
 unfolding line_at keyword_line event_at failed_at client_at
-client_again text key s =
-    read_from text (codes "failed client" ++ 32 ∷ client_fields (s.branch, s.method))
+client_again version text key s =
+    read_from version text (codes "failed client" ++ 32 ∷ client_fields (s.branch, s.method))
     (line.Event (Failed key))
     (s.spelled ∙ client_text s.branch s.method)
     (ap (λ o. option_map line.Event (option_map Failed (option_map client_of o)))
     (client_words.again (s.branch, s.method) (s.bytes, s.token))
     ∙ ap (λ (k : Key). Some (line.Event (Failed k))) (sym s.named))
 
-server_again : (text : List ℕ) (key : Key) → SpellsServer text key
-    → line_at text ≡ Some (line.Event (Failed key))
+server_again : (version : Version) (text : List ℕ) (key : Key) → SpellsServer text key
+    → line_at version text ≡ Some (line.Event (Failed key))
 unfolding line_at keyword_line event_at failed_at server_at
-server_again text key s =
-    read_from text (codes "failed server"
+server_again version text key s =
+    read_from version text (codes "failed server"
     ++ 32 ∷ server_fields (((s.branch, s.host), s.port), s.method)) (line.Event (Failed key))
     (s.spelled ∙ server_text s.branch s.host s.port s.method)
     (ap (λ o. option_map line.Event (option_map Failed (option_map server_of o)))
@@ -573,27 +612,57 @@ server_again text key s =
     ∙ ap (λ (k : Key). Some (line.Event (Failed k))) (sym s.named))
 
 -- what a text says is read from it
-pub line_again : (text : List ℕ) (item : EventLine) → SpellsLine text item
-    → line_at text ≡ Some item
+pub line_again : (version : Version) (text : List ℕ) (item : EventLine)
+    → SpellsLine version text item → line_at version text ≡ Some item
 unfolding line_at keyword_line event_at address_field plain_field number_field rest_field
-line_again text (line.Local address) s =
-    ap line_at s.1 ∙ ap (option_map line.Local) (address_reads.again address s.0)
-line_again text (line.Seed seed) s =
-    ap line_at s.1 ∙ ap (option_map line.Seed) (seed_reads.again seed s.0)
-line_again text (line.First number) s =
-    ap line_at s.1 ∙ ap (option_map line.First)
+line_again version text (line.Local address) s =
+    ap (line_at version) s.1 ∙ ap (option_map line.Local) (address_reads.again address s.0)
+line_again version text (line.Seed seed) s =
+    ap (line_at version) s.1 ∙ ap (option_map line.Seed) (seed_reads.again seed s.0)
+line_again version text (line.First number) s =
+    ap (line_at version) s.1 ∙ ap (option_map line.First)
     ((number_reads 4611686018427387904 (omega arith)).again number s.0)
-line_again text (line.Round moment) s =
-    ap line_at s.1 ∙ ap (option_map line.Round)
+line_again version text (line.Round moment) s =
+    ap (line_at version) s.1 ∙ ap (option_map line.Round)
     ((number_reads 18446744073709551615 (omega arith)).again moment s.0)
-line_again text (line.Event (Datagram from bytes)) s =
-    ap line_at s.1 ∙ ap (option_map line.Event) (datagram_again from bytes s.0.0 s.0.1)
-line_again text (line.Event (Failed key)) s =
+line_again version text (line.Event (Datagram from bytes)) s =
+    ap (line_at version) s.1 ∙ ap (option_map line.Event) (datagram_again from bytes s.0.0 s.0.1)
+line_again version text (line.Event (Failed key)) s =
     elim s [
-      | inl client ↦ client_again text key client
-      | inr server ↦ server_again text key server
+      | inl client ↦ client_again version text key client
+      | inr server ↦ server_again version text key server
     ]
-line_again text (line.Event (Command c)) s = ap line_at s.1 ∙ command_again c s.0
+line_again version text (line.Event (Command c)) s =
+    ap (line_at version) s.1 ∙ command_again version c s.0
+
+-- ---- a line means the same in both versions
+
+command_in_two : (version : Version) (c : UserCommand) → IsCommandLine version c
+    → IsCommandLine Two c
+command_in_two version (command.Invite c) fits = fits
+command_in_two version (command.Plain c) fits = fits
+command_in_two version (command.Request c) fits = fits
+command_in_two version (command.Respond c) fits = fits
+command_in_two version (command.Ack c) fits = fits
+command_in_two version (command.Prack c) fits = fits
+command_in_two version (command.Cancel c) fits = (refl, fits.1)
+
+-- version 2 has every line
+in_two : (version : Version) (text : List ℕ) (item : EventLine) → SpellsLine version text item
+    → SpellsLine Two text item
+in_two version text (line.Local address) s = s
+in_two version text (line.Seed seed) s = s
+in_two version text (line.First number) s = s
+in_two version text (line.Round moment) s = s
+in_two version text (line.Event (Datagram from bytes)) s = s
+in_two version text (line.Event (Failed key)) s = s
+in_two version text (line.Event (Command c)) s = (command_in_two version c s.0, s.1)
+
+pub one_meaning : (version another : Version) (text : List ℕ) (item other : EventLine)
+    → SpellsLine version text item → SpellsLine another text other → item ≡ other
+one_meaning version another text item other says others =
+    same_some item other (sym (line_again Two text item (in_two version text item says))
+    ∙ line_again Two text other (in_two another text other others))
 
 -- ---- no line's end stands in a line
 
@@ -646,24 +715,25 @@ no_address address fits = record { none = address_no 10 address refl refl refl f
 no_method_end : (text : List ℕ) → IsMethod text → NoEnd text
 no_method_end text fits = record { none = no_method 10 text (unfold is_token_byte in refl) fits }
 
-command_no : (c : UserCommand) → IsCommandLine c → has_no 10 (command_text c) ≡ true
-command_no (command.Invite c) fits =
+command_no : (version : Version) (c : UserCommand) → IsCommandLine version c
+    → has_no 10 (command_text c) ≡ true
+command_no version (command.Invite c) fits =
     line_none _ (codes "invite") (invite_fields c) (invite_text c) refl
     (behind (behind (behind (behind (no_word c.call_id) (no_address c.address fits.address))
     (no_uris (record { request_uri = c.request_uri; from = c.from; to = c.to })))
     (no_support c.support)) (no_word c.body))
-command_no (command.Plain c) fits =
+command_no version (command.Plain c) fits =
     line_none _ (codes "plain") (plain_fields c) (plain_text c) refl
     (behind (behind (behind (behind (no_word c.call_id) (no_address c.address fits.address))
     (no_method_end c.method fits.method))
     (no_uris (record { request_uri = c.request_uri; from = c.from; to = c.to })))
     (no_word c.body))
-command_no (command.Request c) fits =
+command_no version (command.Request c) fits =
     line_none _ (codes "request") (request_fields c) (request_text c) refl
     (behind (behind (no_dialog (record
     { call_id = c.call_id; local_tag = c.local_tag; remote_tag = c.remote_tag }))
     (no_method_end c.method fits.method)) (no_word c.body))
-command_no (command.Respond c) fits =
+command_no version (command.Respond c) fits =
     line_none _ (codes "respond") (respond_fields c) (respond_text c) refl
     (behind (behind (behind (behind
     (behind (no_word c.call_id) (record { none = id_no 10 c.id refl refl fits.id }))
@@ -672,11 +742,13 @@ command_no (command.Respond c) fits =
       none =
           rest_no 10 c.reason (omega arith) refl;
     }))
-command_no (command.Ack c) fits =
+command_no version (command.Ack c) fits =
     line_none _ (codes "ack") (body_fields c) (ack_text c) refl (no_body c)
-command_no (command.Prack c) fits =
+command_no version (command.Prack c) fits =
     line_none _ (codes "prack") (body_fields c) (prack_text c) refl (no_body c)
-command_no (command.Cancel c) fits = elim fits [ ]
+command_no version (command.Cancel c) fits =
+    line_none _ (codes "cancel") (cancel_fields c) (cancel_text c) refl
+    (behind (no_word c.call_id) (record { none = id_no 10 c.id refl refl fits.1.id }))
 
 no_number : (number : ℕ) → number ≤ 65535 → NoEnd (decimal number)
 no_number number fits = record { none = number_has_no 10 number refl (omega (arith, fits)) }
@@ -694,29 +766,31 @@ server_no text key s =
     (behind (behind (behind (no_word s.branch) (no_word s.host)) (no_number s.port s.bound))
     (no_method_end s.method s.token))
 
-pub line_no : (text : List ℕ) (item : EventLine) → SpellsLine text item → has_no 10 text ≡ true
+pub line_no : (version : Version) (text : List ℕ) (item : EventLine) → SpellsLine version text item
+    → has_no 10 text ≡ true
 unfolding address_field plain_field number_field rest_field
-line_no text (line.Local address) s =
+line_no version text (line.Local address) s =
     ap (has_no 10) s.1 ∙ fields_no 10 (codes "local ") (addr_text address) refl
     (address_no 10 address refl refl refl s.0)
-line_no text (line.Seed seed) s =
+line_no version text (line.Seed seed) s =
     ap (has_no 10) s.1 ∙ fields_no 10 (codes "seed ") (flat_map hex_pair seed) refl
     (pairs_no 10 seed (omega arith))
-line_no text (line.First number) s =
+line_no version text (line.First number) s =
     ap (has_no 10) s.1 ∙ fields_no 10 (codes "first ") (decimal number) refl
     (number_has_no 10 number refl (omega (arith, s.0)))
-line_no text (line.Round moment) s =
+line_no version text (line.Round moment) s =
     ap (has_no 10) s.1 ∙ fields_no 10 (codes "round ") (decimal moment) refl
     (number_has_no 10 moment refl (omega (arith, s.0)))
-line_no text (line.Event (Datagram from bytes)) s =
+line_no version text (line.Event (Datagram from bytes)) s =
     ap (has_no 10) s.1
     ∙ fields_no 10 (codes "datagram " ++ addr_text from) (codes " " ++ spelled_rest bytes)
     (fields_no 10 (codes "datagram ") (addr_text from) refl
     (address_no 10 from refl refl refl s.0.0))
     (fields_no 10 (codes " ") (spelled_rest bytes) space (rest_no 10 bytes (omega arith) refl))
-line_no text (line.Event (Failed key)) s =
+line_no version text (line.Event (Failed key)) s =
     elim s [
       | inl client ↦ client_no text key client
       | inr server ↦ server_no text key server
     ]
-line_no text (line.Event (Command c)) s = ap (has_no 10) s.1 ∙ command_no c s.0
+line_no version text (line.Event (Command c)) s =
+    ap (has_no 10) s.1 ∙ command_no version c s.0

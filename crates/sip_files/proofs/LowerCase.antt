@@ -10,6 +10,7 @@ use Rattle.std.proofs.lemmas.Slice.Eq.{bytes_eq-Decides}
 use Rattle.sip_message.specs.declared.key.Key.{Key}
 use Rattle.sip_message.specs.Key.{client_key, server_key, branch_in, host_in, port_in, method_in}
 use Rattle.sip_round.specs.declared.round.Event.TheVariants.{Datagram, Failed, Command}
+use Rattle.sip_files.specs.declared.version.Version.{Version}
 use Rattle.sip_files.specs.declared.event_line.EventLine.{EventLine}
 use Rattle.sip_files.specs.declared.event_line.EventLine.TheVariants as line
 use Rattle.sip_files.specs.Word.{is_plain, letter_of, hex_digit, spelled_byte, spelled_bytes, spelled_word}
@@ -176,14 +177,14 @@ other_sides_back : (text other : List ℕ) (key : Key) → SpellsServer text key
     → SpellsClient other key → ⊥
 other_sides_back text other key s t = other_sides other text key t s
 
-pub one_text : (item : EventLine) (text other : List ℕ) → SpellsLine text item
-    → SpellsLine other item → AreAlike item text other
-one_text (line.Local address) text other s t = s.1 ∙ sym t.1
-one_text (line.Seed seed) text other s t = s.1 ∙ sym t.1
-one_text (line.First number) text other s t = s.1 ∙ sym t.1
-one_text (line.Round moment) text other s t = s.1 ∙ sym t.1
-one_text (line.Event (Datagram from bytes)) text other s t = s.1 ∙ sym t.1
-one_text (line.Event (Failed key)) text other s t =
+pub one_text : (version another : Version) (item : EventLine) (text other : List ℕ)
+    → SpellsLine version text item → SpellsLine another other item → AreAlike item text other
+one_text version another (line.Local address) text other s t = s.1 ∙ sym t.1
+one_text version another (line.Seed seed) text other s t = s.1 ∙ sym t.1
+one_text version another (line.First number) text other s t = s.1 ∙ sym t.1
+one_text version another (line.Round moment) text other s t = s.1 ∙ sym t.1
+one_text version another (line.Event (Datagram from bytes)) text other s t = s.1 ∙ sym t.1
+one_text version another (line.Event (Failed key)) text other s t =
     elim s [
       | inl a ↦ elim t [
         | inl b ↦ two_clients text other key a b
@@ -194,4 +195,4 @@ one_text (line.Event (Failed key)) text other s t =
         | inr b ↦ two_servers text other key a b
       ]
     ]
-one_text (line.Event (Command c)) text other s t = s.1 ∙ sym t.1
+one_text version another (line.Event (Command c)) text other s t = s.1 ∙ sym t.1

@@ -1,9 +1,11 @@
--- The event file, version 1: the text of a configuration and rounds, and when a text is none.
+-- The event file: the text of a configuration and rounds, and when a text is none.
 use Rattle.std.specs.Prelude.{◌≡◌, ℕ, ◌+◌, ◌≤◌, ◌<◌, ◌^◌, List, [], ◌∷◌, ◌++◌, length, map, Option, Some, None, Result, IsTrue, MatchResult, codes, unwrap_or, replicate, not, ◌==◌, ◌⊎◌}
 use Rattle.std.specs.List.{flat_map, list_all, AllByRecursion, AllZip}
 use Rattle.sip_message.specs.declared.addr.Addr.{Addr}
 use Rattle.sip_round.specs.declared.config.Config.{Config}
 use Rattle.sip_round.specs.declared.round.Round.{Round}
+use Rattle.sip_files.specs.declared.version.Version.{Version}
+use Rattle.sip_files.specs.declared.version.Version.TheVariants.{One, Two}
 use Rattle.sip_files.specs.declared.event_line.EventLine.{EventLine}
 use Rattle.sip_files.specs.declared.event_line.EventLine.TheVariants as line
 use Rattle.sip_files.specs.declared.events_fault.EventsFault.{EventsFault}
@@ -50,20 +52,26 @@ file_lines head rounds = head_lines head ++ flat_map round_lines rounds
 abbrev pub with_ends : List (List ℕ) → List ℕ
 with_ends lines = flat_map (λ text. text ++ 10 ∷ []) lines
 
-abbrev pub version_line : List ℕ
-version_line = codes "sip-events 1"
+abbrev pub version_line : Version → List ℕ
+version_line One = codes "sip-events 1"
+version_line Two = codes "sip-events 2"
 
-abbrev pub file_text : List (List ℕ) → List ℕ
-file_text lines = with_ends (version_line ∷ lines)
+abbrev pub file_text : Version → List (List ℕ) → List ℕ
+file_text version lines = with_ends (version_line version ∷ lines)
 
--- The text is that of the configuration and the rounds, for some choice of the optional lines and
--- of the case of letters in the branches and hosts of failed lines.
-pub record SpellsEvents (config : Config) (rounds : List Round) (text : List ℕ) : Type 0 where
+-- In this version the text is that of the configuration and the rounds, for some choice of the
+-- optional lines and of the case of letters in the branches and hosts of failed lines.
+pub record SpellsIn (version : Version) (config : Config) (rounds : List Round) (text : List ℕ) :
+    Type 0 where
   pub head : Head
   pub lines : List (List ℕ)
   pub configured : config_of head ≡ config
-  pub says : AllZip SpellsLine lines (file_lines head rounds)
-  pub spelled : text ≡ file_text lines
+  pub says : AllZip (SpellsLine version) lines (file_lines head rounds)
+  pub spelled : text ≡ file_text version lines
+
+-- in some version the text is that of the configuration and the rounds
+abbrev pub SpellsEvents : Config → List Round → List ℕ → Type 0
+SpellsEvents config rounds text = (version : Version) × SpellsIn version config rounds text
 
 -- some configuration and rounds have this text, and it isn't too long
 abbrev pub IsEventFile : List ℕ → Type 0
@@ -94,9 +102,10 @@ pub record IsBadLine (number : ℕ) (text : List ℕ) : Type 0 where
   pub stuck : (next after : List ℕ) → left ≡ next ++ 10 ∷ after → IsOneLine next
       → ¬ (IsBegun (with_ends (before ++ next ∷ [])))
 
--- the first line is that of the version
+-- the first line is that of a version
 abbrev pub HasVersion : List ℕ → Type 0
-HasVersion text = (text ≡ version_line) ⊎ ((after : List ℕ) × (text ≡ version_line ++ 10 ∷ after))
+HasVersion text = (version : Version) × ((text ≡ version_line version)
+    ⊎ ((after : List ℕ) × (text ≡ version_line version ++ 10 ∷ after)))
 
 -- which fault it is: the first that fits; for want of memory nothing is said
 abbrev pub TellsFault : EventsFault → List ℕ → Type 0

@@ -1,4 +1,4 @@
--- The event file, version 1: the lines of an event file, and what may stand in them.
+-- The lines of an event file, by its version, and what may stand in them.
 use Rattle.std.specs.Prelude.{◌≡◌, ℕ, ◌≤◌, ◌^◌, ◌-◌, List, [], ◌++◌, length, Option, Some, None, IsTrue, codes, unwrap_or, ◌⊎◌}
 use Rattle.std.specs.List.{flat_map}
 use Rattle.std.specs.Str.{str_to_ascii_lowercase}
@@ -19,10 +19,13 @@ use Rattle.sip_served.specs.declared.command.DialogRequest.{DialogRequest}
 use Rattle.sip_served.specs.declared.command.Invite.{Invite}
 use Rattle.sip_served.specs.declared.command.Plain.{Plain}
 use Rattle.sip_served.specs.declared.command.Respond.{Respond}
+use Rattle.sip_served.specs.declared.command.Cancel.{Cancel}
 use Rattle.sip_served.specs.declared.command.UserCommand.{UserCommand}
 use Rattle.sip_served.specs.declared.command.UserCommand.TheVariants as command
 use Rattle.sip_round.specs.declared.round.Event.{Event}
 use Rattle.sip_round.specs.declared.round.Event.TheVariants.{Datagram, Failed, Command}
+use Rattle.sip_files.specs.declared.version.Version.{Version}
+use Rattle.sip_files.specs.declared.version.Version.TheVariants.{Two}
 use Rattle.sip_files.specs.declared.event_line.EventLine.{EventLine}
 use Rattle.sip_files.specs.declared.event_line.EventLine.TheVariants as line
 use Rattle.sip_files.specs.Word.{hex_pair, are_bytes}
@@ -90,15 +93,19 @@ pub record IsRespond (respond : Respond) : Type 0 where
   pub body : IsTrue (are_bytes respond.body)
   pub reason : IsReason respond.reason
 
--- the commands that a file may have
-abbrev pub IsCommandLine : UserCommand → Type 0
-IsCommandLine (command.Invite invite) = IsInvite invite
-IsCommandLine (command.Plain plain) = IsPlain plain
-IsCommandLine (command.Request request) = IsRequest request
-IsCommandLine (command.Respond respond) = IsRespond respond
-IsCommandLine (command.Ack body) = IsBody body
-IsCommandLine (command.Prack body) = IsBody body
-IsCommandLine (command.Cancel cancel) = ⊥
+pub record IsCancel (cancel : Cancel) : Type 0 where
+  pub call_id : IsCallId cancel.call_id
+  pub id : IsId cancel.id
+
+-- the commands that a file of the version may have
+abbrev pub IsCommandLine : Version → UserCommand → Type 0
+IsCommandLine version (command.Invite invite) = IsInvite invite
+IsCommandLine version (command.Plain plain) = IsPlain plain
+IsCommandLine version (command.Request request) = IsRequest request
+IsCommandLine version (command.Respond respond) = IsRespond respond
+IsCommandLine version (command.Ack body) = IsBody body
+IsCommandLine version (command.Prack body) = IsBody body
+IsCommandLine version (command.Cancel cancel) = (version ≡ Two) × IsCancel cancel
 
 -- ---- the lines
 
@@ -163,24 +170,25 @@ pub record SpellsServer (text : List ℕ) (key : Key) : Type 0 where
   pub spelled : text ≡ codes "failed server" ++ word_field branch ++ word_field host
       ++ number_field port ++ plain_field method
 
-abbrev pub SpellsEvent : List ℕ → Event → Type 0
-SpellsEvent text (Datagram from bytes) =
+abbrev pub SpellsEvent : Version → List ℕ → Event → Type 0
+SpellsEvent version text (Datagram from bytes) =
     (IsAddr from × IsTrue (are_bytes bytes))
     × (text ≡ codes "datagram" ++ address_field from ++ rest_field bytes)
-SpellsEvent text (Failed key) = SpellsClient text key ⊎ SpellsServer text key
-SpellsEvent text (Command command) = IsCommandLine command × (text ≡ command_text command)
+SpellsEvent version text (Failed key) = SpellsClient text key ⊎ SpellsServer text key
+SpellsEvent version text (Command command) =
+    IsCommandLine version command × (text ≡ command_text command)
 
--- the text is a line that says this
-abbrev pub SpellsLine : List ℕ → EventLine → Type 0
-SpellsLine text (line.Local address) =
+-- in a file of the version the text is a line that says this
+abbrev pub SpellsLine : Version → List ℕ → EventLine → Type 0
+SpellsLine version text (line.Local address) =
     IsAddr address × (text ≡ codes "local" ++ address_field address)
-SpellsLine text (line.Seed seed) =
+SpellsLine version text (line.Seed seed) =
     IsSeed seed × (text ≡ codes "seed" ++ plain_field (flat_map hex_pair seed))
-SpellsLine text (line.First number) =
+SpellsLine version text (line.First number) =
     (number ≤ 2 ^ 62) × (text ≡ codes "first" ++ number_field number)
-SpellsLine text (line.Round moment) =
+SpellsLine version text (line.Round moment) =
     (moment ≤ 2 ^ 64 - 1) × (text ≡ codes "round" ++ number_field moment)
-SpellsLine text (line.Event event) = SpellsEvent text event
+SpellsLine version text (line.Event event) = SpellsEvent version text event
 
 -- texts that are the same, or for a failed send the same up to the case of letters
 abbrev pub AreAlike : EventLine → List ℕ → List ℕ → Type 0

@@ -1,4 +1,5 @@
--- Reading a line of an event file from left to right. What is read is said by the lines' texts.
+-- Reading a line of an event file, by its version, from left to right. What is read is said by the
+-- lines' texts.
 use Rattle.std.specs.Prelude.{ℕ, ◌^◌, ◌-◌, ◌==◌, List, length, Option, Some, None, codes, if◌then◌else◌}
 use Rattle.std.specs.Option.{option_map}
 use Rattle.std.specs.Str.{bytes_eq}
@@ -22,10 +23,13 @@ use Rattle.sip_served.specs.declared.command.Plain.{Plain}
 use Rattle.sip_served.specs.declared.command.ProvisionalSupport.{ProvisionalSupport}
 use Rattle.sip_served.specs.declared.command.ProvisionalSupport.TheVariants as support
 use Rattle.sip_served.specs.declared.command.Respond.{Respond}
+use Rattle.sip_served.specs.declared.command.Cancel.{Cancel}
 use Rattle.sip_served.specs.declared.command.UserCommand.{UserCommand}
 use Rattle.sip_served.specs.declared.command.UserCommand.TheVariants as command
 use Rattle.sip_round.specs.declared.round.Event.{Event}
 use Rattle.sip_round.specs.declared.round.Event.TheVariants.{Datagram, Failed, Command}
+use Rattle.sip_files.specs.declared.version.Version.{Version}
+use Rattle.sip_files.specs.declared.version.Version.TheVariants.{One, Two}
 use Rattle.sip_files.specs.declared.event_line.EventLine.{EventLine}
 use Rattle.sip_files.specs.declared.fields.Dialog.{Dialog}
 use Rattle.sip_files.specs.declared.fields.Uris.{Uris}
@@ -167,15 +171,28 @@ respond_at fields =
     (field_at 32 (number_at 999))) (field_at 32 reliability_at)) (field_at 32 word_at))
     reason_at fields)
 
-abbrev pub command_at : List ℕ → List ℕ → Option UserCommand
-command_at keyword fields =
+abbrev pub cancel_of : List ℕ × Id → Cancel
+cancel_of read = record { call_id = read.0; id = read.1 }
+
+unfoldable pub cancel_at : List ℕ → Option Cancel
+cancel_at fields = option_map cancel_of (ended_by (field_at 32 call_id_at) id_at fields)
+
+-- version 2 alone has this line
+abbrev pub cancel_in : Version → List ℕ → Option Cancel
+cancel_in One fields = None
+cancel_in Two fields = cancel_at fields
+
+abbrev pub command_at : Version → List ℕ → List ℕ → Option UserCommand
+command_at version keyword fields =
     if bytes_eq keyword (codes "invite") then option_map command.Invite (invite_at fields)
     else (if bytes_eq keyword (codes "plain") then option_map command.Plain (plain_at fields)
     else (if bytes_eq keyword (codes "request") then option_map command.Request (request_at fields)
     else (if bytes_eq keyword (codes "respond") then option_map command.Respond (respond_at fields)
     else (if bytes_eq keyword (codes "ack") then option_map command.Ack (body_at fields)
     else (if bytes_eq keyword (codes "prack") then option_map command.Prack (body_at fields)
-    else None)))))
+    else (if bytes_eq keyword (codes "cancel")
+    then option_map command.Cancel (cancel_in version fields)
+    else None))))))
 
 -- ---- failed sends
 
@@ -205,20 +222,20 @@ failed_at fields = cut_at 32 fields >>= λ p. key_at p.0 p.1
 
 -- ---- a line
 
-unfoldable pub event_at : List ℕ → List ℕ → Option Event
-event_at keyword fields =
+unfoldable pub event_at : Version → List ℕ → List ℕ → Option Event
+event_at version keyword fields =
     if bytes_eq keyword (codes "datagram") then datagram_at fields
     else (if bytes_eq keyword (codes "failed") then option_map Failed (failed_at fields)
-    else option_map Command (command_at keyword fields))
+    else option_map Command (command_at version keyword fields))
 
-unfoldable pub keyword_line : List ℕ → List ℕ → Option EventLine
-keyword_line keyword fields =
+unfoldable pub keyword_line : Version → List ℕ → List ℕ → Option EventLine
+keyword_line version keyword fields =
     if bytes_eq keyword (codes "local") then option_map line.Local (address_at fields)
     else (if bytes_eq keyword (codes "seed") then option_map line.Seed (seed_at fields)
     else (if bytes_eq keyword (codes "first") then option_map line.First (number_at (2 ^ 62) fields)
     else (if bytes_eq keyword (codes "round")
     then option_map line.Round (number_at (2 ^ 64 - 1) fields)
-    else option_map line.Event (event_at keyword fields))))
+    else option_map line.Event (event_at version keyword fields))))
 
-unfoldable pub line_at : List ℕ → Option EventLine
-line_at text = cut_at 32 text >>= λ p. keyword_line p.0 p.1
+unfoldable pub line_at : Version → List ℕ → Option EventLine
+line_at version text = cut_at 32 text >>= λ p. keyword_line version p.0 p.1

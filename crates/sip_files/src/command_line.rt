@@ -7,17 +7,21 @@ use crate::fields::{
     address_of_call, call_id_field, dialog_fields, id_field, method_field, read_reason,
     reliability_field, status_field, support_field, uri_fields, word_field,
 };
+use crate::numbers::read_id;
+use crate::version::Version;
 use crate::words::read_word;
-use sip_served::{DialogBody, DialogRequest, Invite, Plain, Respond, UserCommand};
+use sip_served::{Cancel, DialogBody, DialogRequest, Invite, Plain, Respond, UserCommand};
 use std::alloc::{AllocError, Global};
 
-/// What the line of a command says, where it is one, by its first word.
+/// What the line of a command says, where a file of this version may have it, by its first word.
 pub(crate) fn read_command(
     alloc: Global,
+    version: Version,
     keyword: &[u8],
     fields: &[u8],
 ) -> Result<Option<UserCommand>, AllocError>
-    ensures { IfOk result (λ command. command ≡ reading.command_at keyword.now fields.now) }
+    ensures { IfOk result (λ command.
+        command ≡ reading.command_at version keyword.now fields.now) }
 {
     if keyword == b"invite".as_slice() {
         return Ok(read_invite(alloc, fields)?.map(UserCommand::Invite));
@@ -36,6 +40,9 @@ pub(crate) fn read_command(
     }
     if keyword == b"prack".as_slice() {
         return Ok(read_body(alloc, fields)?.map(UserCommand::Prack));
+    }
+    if keyword == b"cancel".as_slice() {
+        return Ok(cancel_in(alloc, version, fields)?.map(UserCommand::Cancel));
     }
     Ok(None)
 }
@@ -174,4 +181,28 @@ fn read_respond(alloc: Global, fields: &[u8]) -> Result<Option<Respond>, AllocEr
         body,
         reason,
     }))
+}
+
+// Version 2 alone has the line.
+fn cancel_in(alloc: Global, version: Version, fields: &[u8]) -> Result<Option<Cancel>, AllocError>
+    ensures { IfOk result (λ cancel. cancel ≡ reading.cancel_in version fields.now) }
+{
+    match version {
+        Version::One => Ok(None),
+        Version::Two => read_cancel(alloc, fields),
+    }
+}
+
+// The Call-ID as a word, and the id of the INVITE.
+#[tactic(auto, unfolding(crate::specs::ReadLine::cancel_at))]
+fn read_cancel(alloc: Global, fields: &[u8]) -> Result<Option<Cancel>, AllocError>
+    ensures { IfOk result (λ cancel. cancel ≡ reading.cancel_at fields.now) }
+{
+    let Some((call_id, id)) = call_id_field(alloc, fields)? else {
+        return Ok(None);
+    };
+    let Some(id) = read_id(id) else {
+        return Ok(None);
+    };
+    Ok(Some(Cancel { call_id, id }))
 }

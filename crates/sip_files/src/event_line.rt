@@ -6,6 +6,7 @@ ghost use Rattle.sip_files.specs.ReadLine as reading;
 use crate::command_line::read_command;
 use crate::failed_line::read_failed;
 use crate::numbers::{read_address, read_seed};
+use crate::version::Version;
 use crate::words::read_rest;
 use sip_message::Addr;
 use sip_round::Event;
@@ -30,24 +31,30 @@ pub enum EventLine {
     Event(Event),
 }
 
-/// What a line says, where it is one.
+/// What a line says, where a file of this version may have it.
 #[tactic(auto, unfolding(crate::specs::ReadLine::line_at))]
-pub(crate) fn read_line(alloc: Global, line: &[u8]) -> Result<Option<EventLine>, AllocError>
-    ensures { IfOk result (λ line_read. line_read ≡ reading.line_at line.now) }
+pub(crate) fn read_line(
+    alloc: Global,
+    version: Version,
+    line: &[u8],
+) -> Result<Option<EventLine>, AllocError>
+    ensures { IfOk result (λ line_read. line_read ≡ reading.line_at version line.now) }
 {
     let Some((keyword, fields)) = cut(b' ', line) else {
         return Ok(None);
     };
-    read_keyword(alloc, keyword, fields)
+    read_keyword(alloc, version, keyword, fields)
 }
 
 #[tactic(auto, unfolding(crate::specs::ReadLine::keyword_line))]
 fn read_keyword(
     alloc: Global,
+    version: Version,
     keyword: &[u8],
     fields: &[u8],
 ) -> Result<Option<EventLine>, AllocError>
-    ensures { IfOk result (λ line_read. line_read ≡ reading.keyword_line keyword.now fields.now) }
+    ensures { IfOk result (λ line_read.
+        line_read ≡ reading.keyword_line version keyword.now fields.now) }
 {
     if keyword == b"local".as_slice() {
         return Ok(read_address(fields).map(EventLine::Local));
@@ -61,12 +68,17 @@ fn read_keyword(
     if keyword == b"round".as_slice() {
         return Ok(number_up_to(fields, u64::MAX).map(EventLine::Round));
     }
-    Ok(read_event(alloc, keyword, fields)?.map(EventLine::Event))
+    Ok(read_event(alloc, version, keyword, fields)?.map(EventLine::Event))
 }
 
 #[tactic(auto, unfolding(crate::specs::ReadLine::event_at))]
-fn read_event(alloc: Global, keyword: &[u8], fields: &[u8]) -> Result<Option<Event>, AllocError>
-    ensures { IfOk result (λ event. event ≡ reading.event_at keyword.now fields.now) }
+fn read_event(
+    alloc: Global,
+    version: Version,
+    keyword: &[u8],
+    fields: &[u8],
+) -> Result<Option<Event>, AllocError>
+    ensures { IfOk result (λ event. event ≡ reading.event_at version keyword.now fields.now) }
 {
     if keyword == b"datagram".as_slice() {
         return read_datagram(alloc, fields);
@@ -74,7 +86,7 @@ fn read_event(alloc: Global, keyword: &[u8], fields: &[u8]) -> Result<Option<Eve
     if keyword == b"failed".as_slice() {
         return Ok(read_failed(alloc, fields)?.map(Event::Failed));
     }
-    Ok(read_command(alloc, keyword, fields)?.map(Event::Command))
+    Ok(read_command(alloc, version, keyword, fields)?.map(Event::Command))
 }
 
 // `ADDR` and the datagram's bytes as a rest.

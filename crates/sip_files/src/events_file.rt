@@ -1,8 +1,8 @@
-//! Event files, version 1: the configuration and the rounds of a run.
+//! Event files: the configuration and the rounds of a run.
 //!
-//! Lines end in LF. After `sip-events 1` comes `local ADDR`, then optionally `seed` and optionally
-//! `first N`, in this order, and then the rounds: `round MOMENT`, each followed by the lines of its
-//! events.
+//! Lines end in LF. After `sip-events 1` or `sip-events 2` comes `local ADDR`, then optionally
+//! `seed` and optionally `first N`, in this order, and then the rounds: `round MOMENT`, each
+//! followed by the lines of its events.
 
 ghost use Rattle.std.specs.Prelude.{◌≡◌, ℕ, List, ◌≤◌, ◌^◌, IfErr, IfOk, MatchResult, length};
 ghost use Rattle.sip_round.specs.declared.config.Config as config;
@@ -13,14 +13,13 @@ ghost use Rattle.sip_files.specs.Lines as lines;
 use crate::draft::{Draft, with_line};
 use crate::event_line::read_line;
 use crate::events_fault::EventsFault;
+use crate::version::{Version, read_version};
 use sip_round::{Config, Round};
 use sip_text::{Series, cut};
 use std::alloc::Global;
 
 /// The greatest length of an event file, in bytes.
 pub const MAX_EVENTS: usize = 1 << 26;
-
-const VERSION: &[u8] = b"sip-events 1";
 
 /// The configuration and the rounds that an event file spells.
 ///
@@ -38,37 +37,36 @@ pub fn read_events(alloc: Global, text: &[u8]) -> Result<(Config, Series<Round>)
     if text.len() > MAX_EVENTS {
         return Err(EventsFault::TooLong);
     }
-    let draft = read_lines(alloc, after_version(text)?)?;
+    let (version, after) = after_version(text)?;
+    let draft = read_lines(alloc, version, after)?;
     if !draft.stage.is_begun() {
         return Err(EventsFault::BadLine(2));
     }
     Ok((draft.config, draft.rounds))
 }
 
-// What follows the line of the version.
-fn after_version(text: &[u8]) -> Result<&[u8], EventsFault>
-    ensures { MatchResult result (λ after. lines.FollowsVersion text.now after.now)
+// The version, and what follows its line.
+fn after_version(text: &[u8]) -> Result<(Version, &[u8]), EventsFault>
+    ensures { MatchResult result (λ read. lines.FollowsVersion read.0 text.now read.1.now)
         (λ fault. lines.TellsVersion fault text.now) }
 {
     let Some((line, after)) = cut(b'\n', text) else {
-        return Err(if text == VERSION {
-            EventsFault::BadLine(1)
-        } else {
-            EventsFault::BadVersion
+        return Err(match read_version(text) {
+            Some(_) => EventsFault::BadLine(1),
+            None => EventsFault::BadVersion,
         });
     };
-    if line == VERSION {
-        Ok(after)
-    } else {
-        Err(EventsFault::BadVersion)
+    match read_version(line) {
+        Some(version) => Ok((version, after)),
+        None => Err(EventsFault::BadVersion),
     }
 }
 
 // What the lines after the first one say.
-fn read_lines(alloc: Global, text: &[u8]) -> Result<Draft, EventsFault>
+fn read_lines(alloc: Global, version: Version, text: &[u8]) -> Result<Draft, EventsFault>
     requires { length text.now ≤ 2 ^ 26 }
-    ensures { MatchResult result (λ draft. lines.Drafts draft text.now)
-        (λ fault. lines.TellsLine fault text.now) }
+    ensures { MatchResult result (λ draft. lines.Drafts version draft text.now)
+        (λ fault. lines.TellsLine version fault text.now) }
 {
     let mut draft = Draft::new(alloc);
     let mut left = text;
@@ -77,7 +75,7 @@ fn read_lines(alloc: Global, text: &[u8]) -> Result<Draft, EventsFault>
         let Some((line, after)) = cut(b'\n', left) else {
             return Err(EventsFault::BadLine(number));
         };
-        let Some(line) = read_line(alloc, line)? else {
+        let Some(line) = read_line(alloc, version, line)? else {
             return Err(EventsFault::BadLine(number));
         };
         let Some(next) = with_line(draft, line)? else {

@@ -3,6 +3,7 @@
 
 ghost use Rattle.std.specs.Prelude.{◌≡◌, ℕ, List, IsTrue};
 ghost use Rattle.sip_files.specs.declared.event_line.EventLine.{EventLine};
+ghost use Rattle.sip_files.specs.declared.version.Version.{Version};
 ghost use Rattle.sip_files.specs.Word.{are_bytes, spelled_rest, spelled_word};
 ghost use Rattle.sip_round.specs.declared.config.Config.{Config};
 ghost use Rattle.sip_round.specs.declared.round.Round.{Round};
@@ -21,16 +22,18 @@ pub fn one_text_of_a_rest()
         → spelled_rest text ≡ spelled_rest other → text ≡ other }
 {}
 
-/// A line of an event file says one thing.
+/// A line of an event file says one thing, in both versions the same.
 pub fn one_meaning_of_a_line()
-    ensures { (text : List ℕ) (line other : EventLine) → SpellsLine text line
-        → SpellsLine text other → line ≡ other }
+    ensures { (version another : Version) (text : List ℕ) (line other : EventLine)
+        → SpellsLine version text line → SpellsLine another text other → line ≡ other }
 {}
 
-/// A line of an event file has one text; that of a failed send has one up to the case of letters.
+/// A line of an event file has one text, in both versions the same; that of a failed send has one
+/// up to the case of letters.
 pub fn one_text_of_a_line()
-    ensures { (line : EventLine) (text other : List ℕ) → SpellsLine text line
-        → SpellsLine other line → AreAlike line text other }
+    ensures { (version another : Version) (line : EventLine) (text other : List ℕ)
+        → SpellsLine version text line → SpellsLine another other line
+        → AreAlike line text other }
 {}
 
 /// A text is an event file of one configuration and one list of rounds.

@@ -13,6 +13,7 @@ mod file_replay;
 pub mod laws;
 mod numbers;
 mod outputs_file;
+mod version;
 mod words;
 
 pub use counted_read::CountedRead;

@@ -10,6 +10,6 @@ pub mod Written
 pub mod TopVia
 pub mod MessageKey
 pub mod Response
-pub mod Ack
+pub mod HopByHop
 pub mod Source
 pub mod Fault

@@ -2,12 +2,12 @@
 //! their transactions.
 #![tactic(auto)]
 
-mod ack;
 mod addr;
 mod cseq;
 mod cut;
 mod fault;
 mod header;
+mod hop_by_hop;
 mod id;
 mod key;
 mod keys;
@@ -23,12 +23,12 @@ mod via;
 mod vias;
 mod writer;
 
-pub use ack::ack_for;
 pub use addr::{Addr, ip_in, ip_text};
 pub use cseq::CSeq;
 pub use cut::{Cut, First, Spread};
 pub use fault::ReadFault;
 pub use header::Header;
+pub use hop_by_hop::{ack_for, cancel_for};
 pub use id::Id;
 pub use key::Key;
 pub use keys::{is_sent_by, key_of};

@@ -11,3 +11,4 @@ pub mod Parts
 pub mod Phases
 pub mod Shards
 pub mod Tick
+pub mod Token

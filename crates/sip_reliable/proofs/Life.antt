@@ -1,11 +1,12 @@
 -- What one happening more does to the ledger that is read from all that happened.
-use Rattle.std.proofs.Common.{◌≡◌, ℕ, ◌+◌, ◌*◌, ◌==◌, not, ◌||◌, Bool, true, false, cond, List, [], ◌∷◌, ◌++◌, map, filter, count_by, fold, Option, Some, None, refl, sym, ap, ◌∙◌, arith, add-one, add-zero}
+use Rattle.std.proofs.Common.{◌≡◌, ℕ, ◌+◌, not, ◌||◌, Bool, true, false, cond, List, [], ◌∷◌, ◌++◌, map, filter, count_by, fold, Option, Some, None, refl, sym, ap, ◌∙◌, add-zero}
 use Rattle.std.specs.List.{list_any}
 use Rattle.std.specs.Option.{option_map}
 use Rattle.std.proofs.Math.Bool.{or-false}
-use Rattle.std.proofs.Math.Nat.{two-pow-succ}
-use Rattle.sip_reliable.specs.Happening.{Happening, Sends, Repeats, GivesUp, Acknowledges, Closes, is_repeat_of, is_acknowledgment_of, is_giving_up}
-use Rattle.sip_reliable.specs.Ledger.{Provisional, Retransmission, interval_after, last_moment, retransmission_after, sent_before, waiting_after, given_up, sent_again}
+use Rattle.sip_reliable.specs.Happening.{Happening, Sends, Repeats, GivesUp, Acknowledges, Closes, is_among, is_repeat_of, is_acknowledgment_of, is_giving_up}
+use Rattle.sip_reliable.specs.declared.provisional.Retransmission.{Retransmission}
+use Rattle.sip_reliable.specs.Provisional.{Provisional, interval_after, last_moment, retransmission_after, sent_before, given_up, sent_again}
+use Rattle.sip_reliable.specs.Ledger.{waiting_after}
 
 any_push : {X : Type 0} (p : X → Bool) (xs : List X) (x : X)
     → list_any p (xs ++ x ∷ []) ≡ (list_any p xs || p x)
@@ -46,49 +47,49 @@ count_more p xs x passes = count_push p xs x ∙ ap (λ b. count_by p xs + cond 
 -- its retransmission, by whether it was given up, how often it was sent again, and when last
 abbrev timed : Bool → ℕ → ℕ → Option Retransmission
 timed gone repeats last = cond gone None
-    (Some record { due = last + interval_after repeats; interval = interval_after repeats })
+    (Some record { due = last + interval_after repeats; repeats = repeats })
 
 same_times : (gone gone' : Bool) (repeats repeats' last last' : ℕ) → gone' ≡ gone
     → repeats' ≡ repeats → last' ≡ last → timed gone' repeats' last' ≡ timed gone repeats last
 same_times gone gone' repeats repeats' last last' p q r = cc
 
-doubled : (gone : Bool) (repeats last now : ℕ)
-    → timed gone (repeats + 1) now
-    ≡ option_map (λ r. record { due = now + 2 * r.interval; interval = 2 * r.interval })
-    (timed gone repeats last)
-doubled true repeats last now = refl
-doubled false repeats last now =
-    ap (λ i. Some record { due = now + i; interval = i }) (twice repeats)
-  where
-    twice : (k : ℕ) → interval_after (k + 1) ≡ 2 * interval_after k
-    twice k = rw add-one (omega (arith, two-pow-succ k))
+-- the moment and the count after one repeat more
+abbrev next_of : ℕ → Option Retransmission → Option Retransmission
+next_of now o =
+    option_map (λ r. record { due = now + interval_after (r.repeats + 1); repeats = r.repeats + 1 })
+    o
+
+counted : (gone : Bool) (repeats last now : ℕ)
+    → timed gone (repeats + 1) now ≡ next_of now (timed gone repeats last)
+counted true repeats last now = refl
+counted false repeats last now = refl
 
 -- what a happening makes of a response that waits
 abbrev pub became : Happening → Provisional → Provisional
 became (Sends number has_body now) p = p
-became (Repeats number now) p = cond (p.number == number) (sent_again now p) p
+became (Repeats numbers now) p = cond (is_among numbers p.number) (sent_again now p) p
 became GivesUp p = given_up p
 became (Acknowledges number) p = p
 became Closes p = p
 
-repeats_more : (number sent : ℕ) (later : List Happening) (n t : ℕ) (b : Bool) → (number == n) ≡ b
-    → retransmission_after number sent (later ++ Repeats n t ∷ [])
-    ≡ cond b (option_map (λ r. record { due = t + 2 * r.interval; interval = 2 * r.interval })
-    (retransmission_after number sent later)) (retransmission_after number sent later)
-repeats_more number sent later n t true same =
+repeats_more : (number sent : ℕ) (later : List Happening) (ns : List ℕ) (t : ℕ) (b : Bool)
+    → is_among ns number ≡ b → retransmission_after number sent (later ++ Repeats ns t ∷ [])
+    ≡ cond b (next_of t (retransmission_after number sent later))
+    (retransmission_after number sent later)
+repeats_more number sent later ns t true same =
     same_times (list_any is_giving_up later) _ (count_by (is_repeat_of number) later + 1) _ t _
-    (any_kept is_giving_up later (Repeats n t) refl)
-    (count_more (is_repeat_of number) later (Repeats n t) same)
-    (fold_push (last_moment number) sent later (Repeats n t)
+    (any_kept is_giving_up later (Repeats ns t) refl)
+    (count_more (is_repeat_of number) later (Repeats ns t) same)
+    (fold_push (last_moment number) sent later (Repeats ns t)
     ∙ ap (λ b. cond b t (fold (last_moment number) sent later)) same)
-    ∙ doubled (list_any is_giving_up later) (count_by (is_repeat_of number) later)
+    ∙ counted (list_any is_giving_up later) (count_by (is_repeat_of number) later)
     (fold (last_moment number) sent later) t
-repeats_more number sent later n t false same =
+repeats_more number sent later ns t false same =
     same_times (list_any is_giving_up later) _ (count_by (is_repeat_of number) later) _
     (fold (last_moment number) sent later) _
-    (any_kept is_giving_up later (Repeats n t) refl)
-    (count_kept (is_repeat_of number) later (Repeats n t) same)
-    (fold_push (last_moment number) sent later (Repeats n t)
+    (any_kept is_giving_up later (Repeats ns t) refl)
+    (count_kept (is_repeat_of number) later (Repeats ns t) same)
+    (fold_push (last_moment number) sent later (Repeats ns t)
     ∙ ap (λ b. cond b t (fold (last_moment number) sent later)) same)
 
 abbrev with_times : ℕ → Bool → ℕ → Option Retransmission → Provisional
@@ -99,15 +100,15 @@ waits : (number : ℕ) (has_body : Bool) (sent : ℕ) {r r' : Option Retransmiss
     → with_times number has_body sent r' ≡ with_times number has_body sent r
 waits number has_body sent same = ap (with_times number has_body sent) same
 
-repeated : (number : ℕ) (has_body : Bool) (sent : ℕ) (later : List Happening) (n t : ℕ) (b : Bool)
-    → (number == n) ≡ b
-    → sent_before number has_body sent (later ++ Repeats n t ∷ [])
+repeated : (number : ℕ) (has_body : Bool) (sent : ℕ) (later : List Happening) (ns : List ℕ) (t : ℕ)
+    (b : Bool) → is_among ns number ≡ b
+    → sent_before number has_body sent (later ++ Repeats ns t ∷ [])
     ≡ cond b (sent_again t (sent_before number has_body sent later))
     (sent_before number has_body sent later)
-repeated number has_body sent later n t true same =
-    waits number has_body sent (repeats_more number sent later n t true same)
-repeated number has_body sent later n t false same =
-    waits number has_body sent (repeats_more number sent later n t false same)
+repeated number has_body sent later ns t true same =
+    waits number has_body sent (repeats_more number sent later ns t true same)
+repeated number has_body sent later ns t false same =
+    waits number has_body sent (repeats_more number sent later ns t false same)
 
 sent_before-more : (number : ℕ) (has_body : Bool) (sent : ℕ) (later : List Happening)
     (h : Happening) → sent_before number has_body sent (later ++ h ∷ [])
@@ -117,8 +118,8 @@ sent_before-more number has_body sent later (Sends n b t) =
     (any_kept is_giving_up later (Sends n b t) refl)
     (count_kept (is_repeat_of number) later (Sends n b t) refl)
     (fold_push (last_moment number) sent later (Sends n b t)))
-sent_before-more number has_body sent later (Repeats n t) =
-    repeated number has_body sent later n t (number == n) refl
+sent_before-more number has_body sent later (Repeats ns t) =
+    repeated number has_body sent later ns t (is_among ns number) refl
 sent_before-more number has_body sent later GivesUp =
     waits number has_body sent (ap
     (λ b. timed b (count_by (is_repeat_of number) (later ++ GivesUp ∷ []))
@@ -170,7 +171,7 @@ waiting_after-more (Sends n b t ∷ later) h =
     sending n b t later h (list_any (is_acknowledgment_of n) later) (is_acknowledgment_of n h)
     (waiting_after (later ++ h ∷ [])) (waiting_after later) (waiting_after (h ∷ [])) refl
     (waiting_after-more later h) (any_push (is_acknowledgment_of n) later h)
-waiting_after-more (Repeats n t ∷ later) h = waiting_after-more later h
+waiting_after-more (Repeats ns t ∷ later) h = waiting_after-more later h
 waiting_after-more (GivesUp ∷ later) h = waiting_after-more later h
 waiting_after-more (Acknowledges n ∷ later) h = waiting_after-more later h
 waiting_after-more (Closes ∷ later) h = waiting_after-more later h

@@ -1,29 +1,21 @@
 -- The reliable provisional responses of one INVITE that wait for a PRACK, read from all that
 -- happened (RFC 3262 section 3).
 -- Moments are in milliseconds.
-use Rattle.std.specs.Prelude.{◌≡◌, ◌≢◌, ◌<◌, ℕ, ◌+◌, ◌*◌, ◌^◌, ◌==◌, nat_le, nat_lt, not, true, false, Bool, ◌&&◌, if◌then◌else◌, List, [], ◌∷◌, ◌++◌, map, filter, count_by, fold, Option, None, Some, min, Result, Ok, Err, length}
-use Rattle.std.specs.List.{list_any, reduce, flat_map}
-use Rattle.std.specs.Option.{option_map, option_map_or, is_some, option_to_list}
-use Rattle.sip_reliable.specs.declared.provisional.TheConstants.{T1}
+use Rattle.std.specs.Prelude.{◌≡◌, ◌≢◌, ◌<◌, ◌≤◌, ℕ, ◌+◌, ◌==◌, nat_lt, not, Bool, true, IsTrue, ◌||◌, if◌then◌else◌, List, [], ◌∷◌, ◌++◌, map, filter, count_by, fold, Option, None, Some, Result, Ok, Err, length}
+use Rattle.std.specs.List.{list_any}
+use Rattle.sip_timers.specs.Earlier.{earlier}
+use Rattle.sip_reliable.specs.declared.provisional.TheConstants.{MOST_WAITING}
 use Rattle.sip_reliable.specs.declared.tick.Tick.{Tick}
 use Rattle.sip_reliable.specs.declared.tick.Tick.TheVariants.{Nothing, Again, GivenUp}
 use Rattle.sip_reliable.specs.declared.send_fault.SendFault.{SendFault}
 use Rattle.sip_reliable.specs.declared.send_fault.SendFault.TheVariants as fault
-use Rattle.sip_reliable.specs.Happening.{Happening, Sends, Repeats, GivesUp, Acknowledges, Closes, is_sending, is_repeat_of, is_acknowledgment_of, is_giving_up, is_closing}
+use Rattle.sip_reliable.specs.Happening.{Happening, Sends, Repeats, GivesUp, Acknowledges, Closes, is_sending, is_acknowledgment_of, is_closing}
+use Rattle.sip_reliable.specs.Provisional.{Provisional, after_repeat, due_moment, given_up, is_given_up, is_late, is_repeated, sent_before}
 
--- the next time that a response is sent again, and the interval before it
-pub record Retransmission : Type 0 where
-  pub due : ℕ
-  pub interval : ℕ
-
--- a response that waits for its PRACK; it is sent again until it was given up
-pub record Provisional : Type 0 where
-  pub number : ℕ
-  pub has_body : Bool
-  pub sent : ℕ
-  pub retransmission : Option Retransmission
-
+-- the number of the first, that of the next, whether the INVITE has 100rel, whether a final
+-- response was sent, and the responses that wait, in the order of their numbers
 pub record Ledger : Type 0 where
+  pub first : ℕ
   pub next : ℕ
   pub supported : Bool
   pub closed : Bool
@@ -31,45 +23,13 @@ pub record Ledger : Type 0 where
 
 -- ---- what is read from all that happened
 
--- the interval before a response is sent again, by how often it was: T1, 2*T1, 4*T1 and so on, with
--- no cap
-abbrev pub interval_after : ℕ → ℕ
-interval_after repeats = T1 * 2 ^ repeats
-
--- the moment at which the response was sent last
-abbrev pub last_moment : ℕ → ℕ → Happening → ℕ
-last_moment wanted last (Sends number has_body now) = last
-last_moment wanted last (Repeats number now) = if wanted == number then now else last
-last_moment wanted last GivesUp = last
-last_moment wanted last (Acknowledges number) = last
-last_moment wanted last Closes = last
-
--- a response that was sent, by what happened after it
-abbrev pub retransmission_after : ℕ → ℕ → List Happening → Option Retransmission
-retransmission_after number sent later =
-    let interval = interval_after (count_by (is_repeat_of number) later) in
-    if list_any is_giving_up later then None
-    else Some record {
-      due = fold (last_moment number) sent later + interval;
-      interval = interval;
-    }
-
-abbrev pub sent_before : ℕ → Bool → ℕ → List Happening → Provisional
-sent_before number has_body sent later =
-    record {
-      number = number;
-      has_body = has_body;
-      sent = sent;
-      retransmission = retransmission_after number sent later;
-    }
-
 -- the responses that were sent and have no PRACK after them
 abbrev pub waiting_after : List Happening → List Provisional
 waiting_after [] = []
 waiting_after (Sends number has_body now ∷ later) =
     if list_any (is_acknowledgment_of number) later then waiting_after later
     else sent_before number has_body now later ∷ waiting_after later
-waiting_after (Repeats number now ∷ later) = waiting_after later
+waiting_after (Repeats numbers now ∷ later) = waiting_after later
 waiting_after (GivesUp ∷ later) = waiting_after later
 waiting_after (Acknowledges number ∷ later) = waiting_after later
 waiting_after (Closes ∷ later) = waiting_after later
@@ -79,6 +39,7 @@ waiting_after (Closes ∷ later) = waiting_after later
 abbrev pub ledger_after : ℕ → Bool → List Happening → Ledger
 ledger_after first supported life =
     record {
+      first = first;
       next = first + count_by is_sending life;
       supported = supported;
       closed = list_any is_closing life;
@@ -87,59 +48,37 @@ ledger_after first supported life =
 
 -- ---- what is due at a moment
 
--- 64*T1 after it was sent, where it is still sent again
-abbrev pub is_late : ℕ → Provisional → Bool
-is_late now p = is_some p.retransmission && nat_le (p.sent + 64 * T1) now
+-- the numbers of those that are to be sent again
+abbrev pub due_numbers : ℕ → List Provisional → List ℕ
+due_numbers now waiting = map (λ p. p.number) (filter (is_repeated now) waiting)
 
--- whether it is to be sent again
-abbrev pub is_repeated : ℕ → Provisional → Bool
-is_repeated now p = option_map_or (λ r. nat_le r.due now) p.retransmission false
-
--- what is due of one response: giving it up comes before sending it again
-abbrev pub due_of : ℕ → Provisional → Tick
-due_of now p = if is_late now p then GivenUp else (if is_repeated now p then Again else Nothing)
-
--- what is due of all, and nothing is after a final response
+-- what is due of all: giving them up comes before sending again, and nothing is due after a final
+-- response
 abbrev pub tick_answer : Ledger → ℕ → Tick
 tick_answer l now =
     if l.closed then Nothing else
     (if list_any (is_late now) l.waiting then GivenUp else
-    (if list_any (is_repeated now) l.waiting then Again else Nothing))
-
-abbrev pub given_up : Provisional → Provisional
-given_up p = record p { retransmission = None }
-
--- the next interval is twice the last, and counts from the moment of this sending
-abbrev pub sent_again : ℕ → Provisional → Provisional
-sent_again now p = record p {
-  retransmission = option_map
-      (λ r. record { due = now + 2 * r.interval; interval = 2 * r.interval }) p.retransmission;
-}
-
--- one response, after what was due of it
-abbrev pub after_due : Tick → ℕ → Provisional → Provisional
-after_due Nothing now p = p
-after_due Again now p = sent_again now p
-after_due GivenUp now p = given_up p
+    (if list_any (is_repeated now) l.waiting
+    then Again record { items = due_numbers now l.waiting }
+    else Nothing))
 
 -- what happens at a tick
-abbrev pub happenings_of : Tick → Ledger → ℕ → List Happening
-happenings_of Nothing l now = []
-happenings_of Again l now = map (λ p. Repeats p.number now) (filter (is_repeated now) l.waiting)
-happenings_of GivenUp l now = GivesUp ∷ []
+abbrev pub happenings_of : Tick → ℕ → List Happening
+happenings_of Nothing now = []
+happenings_of (Again numbers) now = Repeats numbers.items now ∷ []
+happenings_of GivenUp now = GivesUp ∷ []
 
 abbrev pub ticked : Tick → Ledger → ℕ → Ledger
 ticked Nothing l now = l
-ticked Again l now =
-    record l { waiting = map (λ p. if is_repeated now p then sent_again now p else p) l.waiting }
+ticked (Again numbers) l now = record l { waiting = map (after_repeat now) l.waiting }
 ticked GivenUp l now = record l { waiting = map given_up l.waiting }
 
 -- the earliest moment at which something is due
-abbrev pub due_moment : Provisional → List ℕ
-due_moment p = option_to_list (option_map (λ r. min r.due (p.sent + 64 * T1)) p.retransmission)
+abbrev pub first_moment : List Provisional → Option ℕ
+first_moment waiting = fold (λ due p. earlier due (due_moment p)) None waiting
 
 abbrev pub next_moment : Ledger → Option ℕ
-next_moment l = if l.closed then None else reduce min (flat_map due_moment l.waiting)
+next_moment l = if l.closed then None else first_moment l.waiting
 
 -- nothing is due before the moment, and something is at it; nothing is ever due where there is none
 abbrev pub IsNextDue : (ℕ → Tick) → Option ℕ → Type 0
@@ -149,12 +88,20 @@ IsNextDue answers (Some due) =
 
 -- ---- what the calls do
 
+abbrev pub waits_for : ℕ → Ledger → Bool
+waits_for number l = list_any (λ p. p.number == number) l.waiting
+
+-- the first isn't acknowledged, or as many as may wait do, or one that was given up waits
+abbrev pub must_wait : Ledger → Bool
+must_wait l =
+    waits_for l.first l || (length l.waiting == MOST_WAITING) || list_any is_given_up l.waiting
+
 -- why the next can't be sent: the first reason that fits
 abbrev pub send_fault : Ledger → Option SendFault
 send_fault l =
     if l.closed then Some fault.Closed else
     (if not l.supported then Some fault.NotSupported else
-    (if nat_lt 0 (length l.waiting) then Some fault.Unacknowledged else
+    (if must_wait l then Some fault.Unacknowledged else
     (if nat_lt 4294967295 l.next then Some fault.NumbersUsedUp else None)))
 
 abbrev pub ok_unless : {A E : Type 0} → Option E → A → Result A E
@@ -169,11 +116,15 @@ abbrev pub with_sent : Bool → ℕ → Ledger → Ledger
 with_sent has_body now l =
     record l { next = l.next + 1; waiting = l.waiting ++ sent_before l.next has_body now [] ∷ [] }
 
-abbrev pub waits_for : ℕ → Ledger → Bool
-waits_for number l = list_any (λ p. p.number == number) l.waiting
-
 abbrev pub acknowledged : ℕ → Ledger → Ledger
 acknowledged number l = record l { waiting = filter (λ p. not (p.number == number)) l.waiting }
 
 abbrev pub closed_now : Ledger → Ledger
 closed_now l = record l { closed = true }
+
+-- ---- how many wait
+
+-- at most 8 wait for their PRACK, and none but the first until that one was acknowledged
+abbrev pub FewWait : Ledger → Type 0
+FewWait l =
+    (length l.waiting ≤ MOST_WAITING) × (IsTrue (waits_for l.first l) → length l.waiting ≤ 1)

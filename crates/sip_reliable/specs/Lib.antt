@@ -1,4 +1,5 @@
 pub mod Inbound
 pub mod Happening
+pub mod Provisional
 pub mod Ledger
-pub mod Waiting
+pub mod Sound

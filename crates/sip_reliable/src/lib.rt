@@ -9,10 +9,12 @@ mod outbound;
 mod provisional;
 mod send_fault;
 mod tick;
+mod waiting;
 
 pub use inbound::{Inbound, taken_in_order};
 pub use no_match::NoMatch;
 pub use offer::Offer;
 pub use outbound::Outbound;
+pub use provisional::MOST_WAITING;
 pub use send_fault::SendFault;
 pub use tick::Tick;

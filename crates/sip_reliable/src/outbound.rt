@@ -1,47 +1,60 @@
 //! The reliable provisional responses that a callee sends.
 
-ghost use Rattle.std.specs.Prelude.{◌≡◌, ◌≢◌, ℕ, Bool, ◌+◌, ◌^◌, ◌<◌, ◌≤◌, [], ◌∷◌, ◌++◌, List, length, IsTrue, IsNone, ◌↔◌, IfSome, IfOk, OnOk, OnErr, IsOk};
+ghost use Rattle.std.specs.Prelude.{◌≡◌, ℕ, Bool, ◌^◌, ◌≤◌, [], ◌∷◌, ◌++◌, List, IsTrue, ◌↔◌, IfOk, OnOk, OnErr, IsOk};
 ghost use Rattle.std.specs.List.{list_any};
+ghost use Rattle.std.specs.List.Sorted.{IsStrictlyIncreasing};
+ghost use Rattle.arrayvec.specs.ArrayVec.{ArrayVec as Numbers};
+ghost use Rattle.sip_reliable.specs.declared.tick.Tick.TheVariants.{Again};
 ghost use Rattle.sip_reliable.specs.Happening.{Happening, Sends, Acknowledges, Closes};
-ghost use Rattle.sip_reliable.specs.Ledger.{ledger_after, send_fault, send_answer, with_sent, tick_answer, ticked, happenings_of, waits_for, acknowledged, closed_now, next_moment, IsNextDue};
+ghost use Rattle.sip_reliable.specs.Ledger.{ledger_after, must_wait, send_fault, send_answer, with_sent, tick_answer, ticked, happenings_of, waits_for, acknowledged, closed_now, next_moment, FewWait, IsNextDue};
+ghost use Rattle.sip_reliable.specs.Sound.{IsSound};
 
-use crate::provisional::Provisional;
+use crate::provisional::{MOST_WAITING, Provisional};
+use crate::waiting::{
+    any_given_up, any_late, any_numbered, any_repeated, any_with_body, due_numbers, give_up,
+    next_due, repeat,
+};
 use crate::{NoMatch, SendFault, Tick};
+use arrayvec::ArrayVec;
 use std::marker::Model;
 
 /// The reliable provisional responses that a callee sends for one INVITE (RFC 3262 section 3).
 ///
 /// Each has an RSeq number, one more than the last. It is sent again after 500 ms, then after 1,000
-/// ms, and so on with the interval doubled each time, until its PRACK comes; after 32,000 ms it is
-/// given up.
+/// ms, and so on with the interval doubled each time, until its PRACK comes; 32,000 ms after one
+/// was sent and wasn't acknowledged, all are given up. At most 8 wait for their PRACK at a time,
+/// and none but the first until that one was acknowledged.
 /// Moments are in ms. Nothing takes memory.
 ///
 /// Contracts see it as a `Ledger`, and `ledger_after` says which one stands for all that happened.
 #[derive(Drop)]
 pub struct Outbound {
+    first: u32,
     // The next number, or 2^32 where they are used up.
     next: u64,
     supported: bool,
     closed: bool,
-    waiting: Option<Provisional>,
+    // In the order of their numbers.
+    waiting: ArrayVec<Provisional, MOST_WAITING>,
 }
 
 impl Model for Outbound {
     ghost use Rattle.std.specs.Prelude.{◌≤◌, ◌^◌};
     ghost use Rattle.sip_reliable.specs.Ledger.{Ledger};
+    ghost use Rattle.sip_reliable.specs.Sound.{IsSound};
 
     ghost Value = { Ledger };
 
-    ghost use Rattle.sip_reliable.specs.Waiting.{waiting_in};
-
     ghost view = { λ o. record {
+      first = o.first;
       next = o.next;
       supported = o.supported;
       closed = o.closed;
-      waiting = waiting_in o.waiting;
+      waiting = o.waiting.items;
     } };
 
-    ghost invariant = { λ o. (1 ≤ o.next) × (o.next ≤ 2 ^ 32) };
+    ghost invariant = { λ o. (1 ≤ o.next) × (o.next ≤ 2 ^ 32)
+        × IsSound o.first o.next o.waiting.items };
 }
 
 impl Outbound {
@@ -52,10 +65,11 @@ impl Outbound {
         ensures { result ≡ ledger_after first supported [] }
     {
         Outbound {
+            first,
             next: u64::from(first),
             supported,
             closed: false,
-            waiting: None,
+            waiting: ArrayVec::new(),
         }
     }
 
@@ -70,7 +84,7 @@ impl Outbound {
         ensures ok { OnOk result (self.new ≡ with_sent has_body now self.old) }
         ensures err { OnErr result (self.new ≡ self.old) }
         ensures number { IfOk result (λ number. 1 ≤ number) }
-        ensures one_waits { length self.new.waiting ≤ 1 }
+        ensures few_wait { FewWait self.new }
         ensures stands { (first : ℕ) (supported : Bool) (life : List Happening)
             → self.old ≡ ledger_after first supported life
             → IfOk result (λ number. self.new
@@ -85,11 +99,11 @@ impl Outbound {
         ensures ok { OnOk result (self.new ≡ with_sent has_body now self.old) }
         ensures err { OnErr result (self.new ≡ self.old) }
         ensures number { IfOk result (λ number. 1 ≤ number) }
-        ensures one_waits { length self.new.waiting ≤ 1 }
+        ensures few_wait { FewWait self.new }
         ensures next { IfOk result (λ number. number ≡ self.old.next) }
     {
         let number = self.next_number()?;
-        self.waiting = Some(Provisional::new(number, has_body, now));
+        self.waiting.push(Provisional::new(number, has_body, now));
         self.next += 1;
         Ok(number)
     }
@@ -116,7 +130,7 @@ impl Outbound {
             Some(SendFault::Closed)
         } else if !self.supported {
             Some(SendFault::NotSupported)
-        } else if self.waiting.is_some() {
+        } else if self.must_wait() {
             Some(SendFault::Unacknowledged)
         } else if self.next > u64::from(u32::MAX) {
             Some(SendFault::NumbersUsedUp)
@@ -125,14 +139,26 @@ impl Outbound {
         }
     }
 
-    /// Does what is due at `now`, at most 2^62: the response that waits is sent again, or given up.
+    // Whether a PRACK has to come before the next is sent.
+    fn must_wait(&self) -> bool
+        ensures { result ≡ must_wait self.now }
+    {
+        any_numbered(self.waiting.as_slice(), self.first)
+            || self.waiting.is_full()
+            || any_given_up(self.waiting.as_slice())
+    }
+
+    /// Does what is due at `now`, at most 2^62: the responses that wait are sent again, each when
+    /// its interval is over, or all are given up.
     pub fn tick(&mut self, now: u64) -> Tick
         requires { now ≤ 2 ^ 62 }
         ensures answer { result ≡ tick_answer self.old now }
         ensures after { self.new ≡ ticked result self.old now }
+        ensures in_order { (numbers : Numbers ℕ) → result ≡ Again numbers
+            → IsStrictlyIncreasing numbers.items }
         ensures stands { (first : ℕ) (supported : Bool) (life : List Happening)
             → self.old ≡ ledger_after first supported life
-            → self.new ≡ ledger_after first supported (life ++ happenings_of result self.old now) }
+            → self.new ≡ ledger_after first supported (life ++ happenings_of result now) }
     {
         self.tick_step(now)
     }
@@ -141,15 +167,21 @@ impl Outbound {
         requires { now ≤ 2 ^ 62 }
         ensures answer { result ≡ tick_answer self.old now }
         ensures after { self.new ≡ ticked result self.old now }
-        ensures one { length self.old.waiting ≤ 1 }
+        ensures sound { IsSound self.old.first self.old.next self.old.waiting }
     {
         if self.closed {
             return Tick::Nothing;
         }
-        match &mut self.waiting {
-            Some(provisional) => provisional.tick(now),
-            None => Tick::Nothing,
+        if any_late(self.waiting.as_slice(), now) {
+            give_up(self.waiting.as_mut_slice());
+            return Tick::GivenUp;
         }
+        if any_repeated(self.waiting.as_slice(), now) {
+            let numbers = due_numbers(self.waiting.as_slice(), now);
+            repeat(self.waiting.as_mut_slice(), now);
+            return Tick::Again(numbers);
+        }
+        Tick::Nothing
     }
 
     /// The PRACK for the number `rseq` came. Once closed or given up, a response is acknowledged
@@ -175,13 +207,11 @@ impl Outbound {
         ensures ok { OnOk result (self.new ≡ acknowledged rseq self.old) }
         ensures err { OnErr result (self.new ≡ self.old) }
     {
-        match self.waiting {
-            Some(provisional) if provisional.number == rseq => {
-                self.waiting = None;
-                Ok(())
-            }
-            _ => Err(NoMatch),
+        if !any_numbered(self.waiting.as_slice(), rseq) {
+            return Err(NoMatch);
         }
+        self.waiting.retain(|one| one.number() != rseq);
+        Ok(())
     }
 
     /// A final response was sent: nothing is sent again or given up from then on.
@@ -203,29 +233,25 @@ impl Outbound {
     }
 
     fn next_moment(&self) -> Option<u64>
-        ensures moment { result ≡ next_moment self.now }
-        ensures one { length self.now.waiting ≤ 1 }
+        ensures { result ≡ next_moment self.now }
     {
         if self.closed {
             return None;
         }
-        self.waiting?.next_due()
+        next_due(self.waiting.as_slice())
     }
 
     /// Whether a response with the number `rseq` waits for its PRACK.
     pub fn waits_for(&self, rseq: u32) -> bool
         ensures { result ≡ waits_for rseq self.now }
     {
-        self.waiting.is_some_and(|waiting| waiting.number == rseq)
+        any_numbered(self.waiting.as_slice(), rseq)
     }
 
     /// Whether a response that waits for its PRACK has a body.
     pub fn body_waits(&self) -> bool
         ensures { result ≡ list_any (λ p. p.has_body) self.now.waiting }
     {
-        match self.waiting {
-            Some(provisional) => provisional.has_body,
-            None => false,
-        }
+        any_with_body(self.waiting.as_slice())
     }
 }

@@ -1,90 +1,150 @@
 //! One reliable provisional response that was sent, and when it is sent again.
 
-ghost use Rattle.std.specs.Prelude.{◌≡◌, ◌≤◌, ◌<◌, ◌+◌, ◌*◌, ◌^◌, min};
-ghost use Rattle.std.specs.Option.{ForSome, option_map};
-ghost use Rattle.sip_reliable.specs.declared.provisional.TheConstants.{T1};
+ghost use Rattle.std.specs.Prelude.{◌≡◌, ◌≤◌, ◌+◌, ◌^◌, [], None};
+ghost use Rattle.sip_reliable.specs.Provisional as spec;
 
-use crate::Tick;
+use sip_timers::{LIFETIME, T1};
+use std::default::Default;
+use std::marker::Model;
 
-// T1, the first interval, in ms (RFC 3261 section 17.1.1.1).
-const T1: u64 = 500;
+/// How many reliable provisional responses to one INVITE may wait for their PRACK at a time.
+pub const MOST_WAITING: usize = 8;
 
 /// A reliable provisional response that waits for its PRACK.
-#[derive(Clone, Copy)]
+///
+/// Contracts see it as the record of its fields.
+#[derive(Drop)]
 pub(crate) struct Provisional {
-    pub(crate) number: u32,
-    pub(crate) has_body: bool,
-    /// The moment, in ms.
-    pub(crate) sent: u64,
-    /// None once it was given up.
-    pub(crate) retransmission: Option<Retransmission>,
-    ghost sent_fits: { sent ≤ 2 ^ 62 },
-    ghost paced: { ForSome retransmission
-        (λ r. (sent + 2 * r.interval ≤ r.due + T1) × (r.due ≤ 2 ^ 63)) },
+    number: u32,
+    has_body: bool,
+    // The moment, in ms.
+    sent: u64,
+    // None once it was given up.
+    retransmission: Option<Retransmission>,
 }
 
-/// When a response is sent again, and the interval before it, both in ms.
+/// When a response is sent again, in ms, and how often it was.
 #[derive(Clone, Copy)]
 pub(crate) struct Retransmission {
     pub(crate) due: u64,
-    pub(crate) interval: u64,
+    pub(crate) repeats: u32,
+}
+
+impl Model for Provisional {
+    ghost use Rattle.std.specs.Prelude.{◌≤◌, ◌+◌, ◌*◌, ◌^◌};
+    ghost use Rattle.std.specs.Option.{ForSome};
+    ghost use Rattle.sip_timers.specs.declared.estimate.TheConstants.{T1};
+    ghost use Rattle.sip_reliable.specs.Provisional.{Provisional, interval_after};
+
+    ghost Value = { Provisional };
+
+    ghost view = { λ p. record {
+      number = p.number;
+      has_body = p.has_body;
+      sent = p.sent;
+      retransmission = p.retransmission;
+    } };
+
+    ghost invariant = { λ p. (p.sent ≤ 2 ^ 62) × ForSome p.retransmission
+        (λ r. (p.sent + 2 * interval_after r.repeats ≤ r.due + T1) × (r.due ≤ 2 ^ 63 + T1)) };
+}
+
+impl Default for Provisional {
+    fn default() -> Provisional {
+        Provisional {
+            number: 0,
+            has_body: false,
+            sent: 0,
+            retransmission: None,
+        }
+    }
 }
 
 impl Provisional {
-    ghost use Rattle.std.specs.Prelude.{[]};
-    ghost use Rattle.sip_reliable.specs.Ledger.{sent_before, due_of, after_due};
-    ghost use Rattle.sip_reliable.specs.Waiting.{shown};
-
     pub(crate) fn new(number: u32, has_body: bool, now: u64) -> Provisional
         requires { now ≤ 2 ^ 62 }
-        ensures { shown result ≡ sent_before number has_body now [] }
+        ensures { result ≡ spec.sent_before number has_body now [] }
     {
         Provisional {
             number,
             has_body,
             sent: now,
             retransmission: Some(Retransmission {
-                due: now + T1,
-                interval: T1,
+                due: now + u64::from(T1),
+                repeats: 0,
             }),
         }
     }
 
-    /// The next moment at which something is due.
-    pub(crate) fn next_due(&self) -> Option<u64>
-        ensures { result ≡ option_map (λ r. min r.due (self.now.sent + 64 * T1))
-            self.now.retransmission }
+    pub(crate) fn number(&self) -> u32
+        ensures { result ≡ self.now.number }
     {
-        let retransmission = self.retransmission?;
-        Some(retransmission.due.min(self.end()))
+        self.number
     }
 
-    /// Does what is due at `now`.
-    pub(crate) fn tick(&mut self, now: u64) -> Tick
-        requires { now ≤ 2 ^ 62 }
-        ensures answer { result ≡ due_of now (shown self.old) }
-        ensures after { shown self.new ≡ after_due result now (shown self.old) }
+    pub(crate) fn has_body(&self) -> bool
+        ensures { result ≡ self.now.has_body }
     {
-        let Some(retransmission) = self.retransmission else {
-            return Tick::Nothing;
+        self.has_body
+    }
+
+    pub(crate) fn is_given_up(&self) -> bool
+        ensures { result ≡ spec.is_given_up self.now }
+    {
+        self.retransmission.is_none()
+    }
+
+    /// Whether no PRACK came in time.
+    pub(crate) fn is_late(&self, now: u64) -> bool
+        ensures { result ≡ spec.is_late now self.now }
+    {
+        self.retransmission.is_some() && self.end() <= now
+    }
+
+    /// Whether it is to be sent again.
+    pub(crate) fn is_repeated(&self, now: u64) -> bool
+        ensures { result ≡ spec.is_repeated now self.now }
+    {
+        match self.retransmission {
+            Some(next) => next.due <= now,
+            None => false,
+        }
+    }
+
+    /// It isn't sent again.
+    pub(crate) fn give_up(&mut self)
+        ensures { self.new ≡ spec.given_up self.old }
+    {
+        self.retransmission = None;
+    }
+
+    /// It is sent again where it is to be.
+    pub(crate) fn repeat(&mut self, now: u64)
+        requires { now ≤ 2 ^ 62 }
+        ensures { self.new ≡ spec.after_repeat now self.old }
+    {
+        let Some(last) = self.retransmission else {
+            return;
         };
-        if self.end() <= now {
-            self.retransmission = None;
-            return Tick::GivenUp;
+        if last.due <= now {
+            let repeats = last.repeats + 1;
+            let due = now + (u64::from(T1) << repeats);
+            self.retransmission = Some(Retransmission { due, repeats });
         }
-        if retransmission.due <= now {
-            let interval = 2 * retransmission.interval;
-            let due = now + interval;
-            self.retransmission = Some(Retransmission { due, interval });
-            return Tick::Again;
-        }
-        Tick::Nothing
+    }
+
+    /// The next moment at which something is due, in ms, if there is one.
+    pub(crate) fn next_due(&self) -> Option<u64>
+        ensures { result ≡ spec.due_moment self.now }
+    {
+        let next = self.retransmission?;
+        Some(next.due.min(self.end()))
     }
 
     // The moment at which it is given up, 64*T1 after it was sent.
     fn end(&self) -> u64
-        ensures { result ≡ self.now.sent + 64 * T1 }
+        ensures { result ≡ spec.end_of self.now }
     {
-        self.sent + 64 * T1
+        self.sent + u64::from(LIFETIME)
     }
 }

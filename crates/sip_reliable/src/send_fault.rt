@@ -10,7 +10,7 @@ pub enum SendFault {
     Closed,
     /// The peer doesn't support 100rel.
     NotSupported,
-    /// One that was sent still waits for its PRACK.
+    /// The first that was sent waits for its PRACK, or 8 do, or one that was given up does.
     Unacknowledged,
     /// The last number was 4,294,967,295.
     NumbersUsedUp,
@@ -23,7 +23,7 @@ impl fmt::Display for SendFault {
             SendFault::NotSupported => write!(f, "100rel is not supported"),
             SendFault::Unacknowledged => write!(
                 f,
-                "a reliable provisional response is not acknowledged"
+                "reliable provisional responses are not acknowledged"
             ),
             SendFault::NumbersUsedUp => write!(f, "the RSeq numbers are used up"),
         }

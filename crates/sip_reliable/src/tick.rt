@@ -1,11 +1,14 @@
 //! The answer to a tick of what was sent.
 
+use crate::provisional::MOST_WAITING;
+use arrayvec::ArrayVec;
+
 /// What is due of the reliable provisional responses that were sent (RFC 3262 section 3).
-#[derive(Clone, Copy, Debug, PartialEq, Eq)]
+#[derive(Debug, Drop, PartialEq, Eq)]
 pub enum Tick {
     Nothing,
-    /// The one that waits for its PRACK is to be sent again.
-    Again,
-    /// No PRACK came in 32,000 ms: it isn't sent again.
+    /// Those of these numbers are to be sent again, in this order. It is that of the numbers.
+    Again(ArrayVec<u32, MOST_WAITING>),
+    /// No PRACK of one came in 32,000 ms: none is sent again.
     GivenUp,
 }

@@ -18,6 +18,7 @@ pub mod Piled
 pub mod Placed
 pub mod Runs
 pub mod SoFar
+pub mod StartedOnce
 pub mod Together
 pub mod Transferred
 pub mod Weaving

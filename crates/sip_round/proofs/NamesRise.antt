@@ -1,5 +1,6 @@
--- In any rounds the requests that come to a transaction, and its starts, have different ids.
-use Rattle.std.proofs.Common.{◌≡◌, ◌⊎◌, inl, inr, ℕ, suc, Bool, true, false, cond, List, [], ◌∷◌, ◌++◌, map, refl, sym, ap, subst, ◌∙◌, append_assoc, append-nil, arith}
+-- In any rounds the requests that come to a transaction, and its starts, have different ids: those of
+-- a server's rise, and under no id a client's is started twice.
+use Rattle.std.proofs.Common.{◌≡◌, ◌⊎◌, inl, inr, ℕ, suc, ◌≤◌, Bool, true, false, cond, List, [], ◌∷◌, ◌++◌, map, refl, sym, ap, subst, ◌∙◌, append_assoc, append-nil, arith}
 use Rattle.std.specs.Prelude.{Option, None, Some, Result, Ok, Err, filter, filter_map, if◌then◌else◌}
 use Rattle.std.specs.BTreeMap.{is_at}
 use Rattle.std.specs.List.{AllByRecursion, IsDistinct, cons_option, flat_map}
@@ -13,6 +14,7 @@ use Rattle.sip_message.specs.declared.key.Key.TheVariants as key
 use Rattle.sip_message.specs.declared.message.Message.{Message}
 use Rattle.sip_message.specs.declared.start_line.StartLine.{StartLine}
 use Rattle.sip_message.specs.declared.start_line.StartLine.TheVariants as start
+use Rattle.sip_message.specs.declared.sent_by.SentBy.{SentBy}
 use Rattle.sip_message.specs.Key.{key_cmp}
 use Rattle.sip_message.specs.Message.{is_request_message}
 use Rattle.sip_message.specs.MessageKey.{key_at, key_of_message}
@@ -42,7 +44,7 @@ use Rattle.sip_calls.specs.declared.calls.Calls.{Calls}
 use Rattle.sip_calls.specs.declared.calls.CallInput.TheVariants.{Tick}
 use Rattle.sip_calls.specs.Call.{call_machine, tick_input}
 use Rattle.sip_calls.specs.CallShard.{call_cmp, item_input}
-use Rattle.sip_calls.proofs.CallStarts.{StartsBy, call_starts}
+use Rattle.sip_calls.proofs.CallStarts.{AllClients, IsClient, call_starts, how_many, ids_of}
 use Rattle.sip_round.specs.declared.arrival.Arrival.{Arrival}
 use Rattle.sip_round.specs.declared.arrival.Arrival.TheVariants as arrival
 use Rattle.sip_round.specs.declared.config.Config.{Config}
@@ -55,17 +57,13 @@ use Rattle.sip_round.specs.Outputs.{command_of, joined}
 use Rattle.sip_round.specs.Phases.{call_items, command_items, transaction_item, transaction_items}
 use Rattle.sip_round.proofs.CallEvents.{item_event, round_placed}
 use Rattle.sip_round.proofs.EventsRise.{Places, Rise, places_from, rise_after, rise_apart}
-use Rattle.sip_round.proofs.FewUps.{events_of}
+use Rattle.sip_round.proofs.StartedOnce.{distinct_of_once, one_more_beside, one_more_of_both, started_from, started_once, how_many-append, ticks_start}
 
 abbrev name_of : Timed Input → Option Id
 name_of timed = naming_id timed.input
 
 abbrev names : Key → List (model.Item Key (Timed Input)) → List Id
 names key items = filter_map name_of (inputs_of key_cmp items key)
-
-IsClient : Key → Type 0
-IsClient (key.Client branch method) = Unit {0}
-IsClient (key.Server branch sent_by method) = ⊥
 
 -- ---- the first phase
 
@@ -216,19 +214,12 @@ starts_ordered (call_out.Command id command ∷ outs) =
     ap (cons_option (start_of id command)) (starts_ordered outs)
 starts_ordered (call_out.Direct to bytes ∷ outs) = starts_ordered outs
 
-abbrev ids : List (Id × Key) → List Id
-ids started = map (λ s. s.0) started
-
-abbrev AllClients : List (Id × Key) → Type 0
-AllClients started = AllByRecursion (λ s. IsClient s.1) started
-
-third_more : (round : ℕ) (k : Key) (now at place : ℕ) (id : Id) (c : Command)
-    (rest : List (Id × Command))
-    → ((low : ℕ) → Places round low (ids (order_starts rest))
-    → Places round low (names k (timed_items now (command_items (suc at) rest))))
-    → Places round place (ids (order_starts ((id, c) ∷ rest)))
-    → Places round place (names k (timed_items now (command_items at ((id, c) ∷ rest))))
-third_more round k now at place id (command.Start key call_id message to) rest keeps places =
+-- no more starts name a client's transaction than the calls started under that id
+third_few : (x : Id) (k : Key) (now at : ℕ) (orders : List (Id × Command))
+    → how_many x (names k (timed_items now (command_items at orders)))
+    ≤ how_many x (ids_of (order_starts orders))
+third_few x k now at [] = omega arith
+third_few x k now at ((id, command.Start key call_id message to) ∷ rest) =
     let items = timed_items now (command_items (suc at) rest) in
     let item : model.Item Key (Timed Input) =
     record {
@@ -236,32 +227,27 @@ third_more round k now at place id (command.Start key call_id message to) rest k
       key = key;
       input = order id (command.Start key call_id message to) now;
     } in
+    let later = third_few x k now (suc at) rest in
     by_bool (is_at (key_cmp key) k)
-    (λ hit. subst (Places round place) (sym (ap (with_one k item items) hit))
-    (places.0, places.1, keeps (suc id.place) places.2))
-    (λ miss. subst (Places round place) (sym (ap (with_one k item items) miss))
-    (keeps place (places_from round place (suc id.place) (ids (order_starts rest))
-    (omega (arith, places.1)) places.2)))
-third_more round k now at place id (command.Answer key message) rest keeps places =
+    (λ hit. subst (λ xs. how_many x xs ≤ how_many x (id ∷ ids_of (order_starts rest)))
+    (sym (ap (with_one k item items) hit))
+    (one_more_of_both x id (names k items) (ids_of (order_starts rest)) later))
+    (λ miss. subst (λ xs. how_many x xs ≤ how_many x (id ∷ ids_of (order_starts rest)))
+    (sym (ap (with_one k item items) miss))
+    (one_more_beside x id (names k items) (ids_of (order_starts rest)) later))
+third_few x k now at ((id, command.Answer key message) ∷ rest) =
     let items = timed_items now (command_items (suc at) rest) in
     let item : model.Item Key (Timed Input) =
     record { place = at; key = key; input = order id (command.Answer key message) now } in
+    let later = third_few x k now (suc at) rest in
     by_bool (is_at (key_cmp key) k)
-    (λ hit. subst (Places round place) (sym (ap (with_one k item items) hit)) (keeps place places))
-    (λ miss. subst (Places round place) (sym (ap (with_one k item items) miss))
-    (keeps place places))
-
-third_placed : (round : ℕ) (k : Key) (now at place : ℕ) (orders : List (Id × Command))
-    → Places round place (ids (order_starts orders))
-    → Places round place (names k (timed_items now (command_items at orders)))
-third_placed round k now at place [] places = tt
-third_placed round k now at place (c ∷ rest) places =
-    third_more round k now at place c.0 c.1 rest
-    (λ low. third_placed round k now (suc at) low rest) places
+    (λ hit. subst (λ xs. how_many x xs ≤ how_many x (ids_of (order_starts rest)))
+    (sym (ap (with_one k item items) hit)) later)
+    (λ miss. subst (λ xs. how_many x xs ≤ how_many x (ids_of (order_starts rest)))
+    (sym (ap (with_one k item items) miss)) later)
 
 client_side : (k : Key) (server : Key) → IsServer server → IsClient k
     → is_at (key_cmp k) server ≡ true → ⊥
-unfolding IsClient
 client_side (key.Client branch method) (key.Server b s m) is client hit = false≢true hit
 client_side (key.Client branch method) (key.Client b m) is client hit = absurd is
 client_side (key.Server branch sent_by method) server is client hit = absurd client
@@ -299,34 +285,16 @@ third_none k server now at (c ∷ rest) clients =
 
 -- ---- what the calls start in a round
 
-record Begun (round place : ℕ) (started : List (Id × Key)) : Type 0 where
-  placed : Places round place (ids started)
-  clients : AllClients started
+all_both : (xs ys : List (Id × Key)) → AllClients xs → AllClients ys → AllClients (xs ++ ys)
+all_both [] ys all more = more
+all_both (x ∷ xs) ys all more = (all.0, all_both xs ys all.1 more)
 
-module _ (calls : Calls) (round : ℕ) where
-  begun_then : (place : ℕ) (event : Option Id) (outs : List CallOut) (events : List Id)
-      (later : List (Id × Key)) → StartsBy event outs
-      → Places round place (cons_option event events)
-      → ((low : ℕ) → Places round low events → Begun round low later)
-      → Begun round place (starts outs ++ later)
-  unfolding IsClient
-  begun_then place None outs events later none places more =
-      subst (λ s. Begun round place (s ++ later)) (sym none) (more place places)
-  begun_then place (Some id) outs events later (inl none) places more =
-      subst (λ s. Begun round place (s ++ later)) (sym none)
-      (more place (places_from round place (suc id.place) events
-      (omega (arith, places.1)) places.2))
-  begun_then place (Some id) outs events later (inr one) places more =
-      let after = more (suc id.place) places.2 in
-      subst (λ s. Begun round place (s ++ later)) (sym one.2)
-      (record { placed = (places.0, places.1, after.placed); clients = (tt, after.clients) })
-
-  items_begin : (now at place : ℕ) (states : List ℕ → Option Call) (items : List (Id × Item))
-      → Places round place (events_of items)
-      → Begun round place (starts (joined
+module _ (calls : Calls) where
+  items_of_clients : (now at : ℕ) (states : List ℕ → Option Call) (items : List (Id × Item))
+      → AllClients (starts (joined
       (told_items call_cmp (call_machine calls) states (timed_items now (call_items at items)))))
-  items_begin now at place states [] places = record { placed = tt; clients = tt }
-  items_begin now at place states (i ∷ items) places =
+  items_of_clients now at states [] = tt
+  items_of_clients now at states (i ∷ items) =
       let key = call_of_item i.1 in
       let input = item_input i.0 i.1 now in
       let after = phases.stepped call_cmp
@@ -334,111 +302,174 @@ module _ (calls : Calls) (round : ℕ) where
       let outs = adds (call_machine calls) key (states key) input in
       let later = joined (told_items call_cmp (call_machine calls) after
       (timed_items now (call_items (suc at) items))) in
-      subst (Begun round place) (sym (filter_map-append start_in outs later))
-      (begun_then place (item_event i) outs (events_of items) (starts later)
-      (call_starts calls (states key) input.input now) places
-      (λ low. items_begin now (suc at) low after items))
+      subst AllClients (sym (filter_map-append start_in outs later))
+      (all_both (starts outs) (starts later) (call_starts calls (states key) input.input now).of_clients
+      (items_of_clients now (suc at) after items))
 
-  ticks_begin : (now : ℕ) (states : List ℕ → Option Call) (keys : List (List ℕ))
-      → starts (joined (map (λ key. (
-        key,
-        adds (call_machine calls) key (states key) (tick_input now),
-      )) keys)) ≡ []
-  ticks_begin now states [] = refl
-  ticks_begin now states (key ∷ keys) =
-      filter_map-append start_in (adds (call_machine calls) key (states key) (tick_input now))
-      (joined (map (λ key. (key, adds (call_machine calls) key (states key) (tick_input now)))
-      keys))
-      ∙ (λ i. call_starts calls (states key) Tick now i ++ ticks_begin now states keys i)
-
-round_begins : (config : Config) (number : ℕ) (past : Past) (round : Round)
-    → Begun number 1 (starts (given_second config number past round))
+round_of_clients : (config : Config) (number : ℕ) (past : Past) (round : Round)
+    → AllClients (starts (given_second config number past round))
 unfolding given_second second
-round_begins config number past round =
+round_of_clients config number past round =
     let calls = calls_of config in
     let before = states_after call_cmp (call_machine calls) tick_input past.calls in
     let told = said_by_calls calls past.calls (second config number past round) in
     let keys = filter (λ key. speaks
     (adds (call_machine calls) key (before key) (tick_input round.moment)))
     (keys_of_phases call_cmp past.calls) in
-    subst (Begun number 1) (sym (filter_map-append start_in (joined told.ticks) (joined told.items)
+    subst AllClients (sym (filter_map-append start_in (joined told.ticks) (joined told.items)
     ∙ ap (λ s. s ++ starts (joined told.items))
-    (ticks_begin calls number round.moment before keys)))
-    (items_begin calls number round.moment 0 1
+    (ticks_start calls round.moment before keys)))
+    (items_of_clients calls round.moment 0
     (λ key. next (call_machine calls) key (before key) (tick_input round.moment))
-    (items_of_round config number past round) (round_placed config number past round))
+    (items_of_round config number past round))
 
 -- ---- over rounds
 
-both_placed : (config : Config) (k : Key) (number : ℕ) (past : Past) (round : Round)
-    → Places number 0 (names k (first config number past round).items
-    ++ names k (third config number past round).items)
-unfolding first third
-both_placed config (key.Client branch method) number past round =
-    let k : Key = key.Client branch method in
-    let outs = given_second config number past round in
-    let orders = flat_map command_of outs in
-    let begun = subst (Begun number 1) (sym (starts_ordered outs))
-    (round_begins config number past round) in
-    let places = third_placed number k round.moment 0 1 orders begun.placed in
-    let last = timed_items round.moment (command_items 0 orders) in
-    subst (λ xs. Places number 0 (xs ++ names k last))
-    (sym (first_none round.moment config.local number 1 branch method round.events))
-    (places_from number 0 1 (names k last) (omega arith) places)
-both_placed config (key.Server branch sent_by method) number past round =
-    let k : Key = key.Server branch sent_by method in
-    let outs = given_second config number past round in
-    let orders = flat_map command_of outs in
-    let begun = subst (Begun number 1) (sym (starts_ordered outs))
-    (round_begins config number past round) in
-    let items = timed_items round.moment
-    (items_from round.moment config.local number 1 round.events) in
-    subst (λ ys. Places number 0 (names k items ++ ys))
-    (sym (third_none k tt round.moment 0 orders begun.clients))
-    (subst (Places number 0) (sym (append-nil (names k items)))
-    (places_from number 0 1 (names k items) (omega arith)
-    (first_placed round.moment config.local number 1 k round.events)))
+module _ (config : Config) where
+  abbrev names_in : Key → List (Phase Key (Timed Input)) → List Id
+  names_in k all = filter_map name_of (history key_cmp tick_at all k)
 
-module _ (config : Config) (k : Key) where
-  abbrev names_in : List (Phase Key (Timed Input)) → List Id
-  names_in all = filter_map name_of (history key_cmp tick_at all k)
-
-  -- the phases of later rounds, whose names rise
-  record Later (number : ℕ) (past : Past) (rounds : List Round) : Type 0 where
-    more : List (Phase Key (Timed Input))
-    transactions : (past_from config number past rounds).transactions ≡ past.transactions ++ more
-    rise : Rise number 0 (names_in more)
-
-  later : (rounds : List Round) (number : ℕ) (past : Past) → Later number past rounds
-  unfolding past_after first third
-  later [] number past =
-      record { more = []; transactions = sym (append-nil past.transactions); rise = tt }
-  later (round ∷ rounds) number past =
-      let next = past_after config number past round in
+  names_before : (k : Key) (number : ℕ) (past : Past) (round : Round)
+      (more : List (Phase Key (Timed Input)))
+      → names_in k (first config number past round ∷ third config number past round ∷ more)
+      ≡ (names k (first config number past round).items
+      ++ names k (third config number past round).items) ++ names_in k more
+  unfolding first third
+  names_before k number past round more =
       let one = first config number past round in
       let two = third config number past round in
-      let rest = later rounds (suc number) next in
-      let after = history key_cmp tick_at rest.more k in
+      let after = history key_cmp tick_at more k in
+      filter_map-append name_of (own_inputs key_cmp tick_at one k)
+      (own_inputs key_cmp tick_at two k ++ after)
+      ∙ ap (λ later. names k one.items ++ later)
+      (filter_map-append name_of (own_inputs key_cmp tick_at two k) after)
+      ∙ sym (append_assoc (names k one.items) (names k two.items) (names_in k more))
+
+  -- the phases of later rounds
+  record Later (number : ℕ) (past : Past) (rounds : List Round) (Holds : List (Phase Key (Timed Input)) → Type 0) : Type 0 where
+    more : List (Phase Key (Timed Input))
+    transactions : (past_from config number past rounds).transactions ≡ past.transactions ++ more
+    holds : Holds more
+
+  one_round_more : (number : ℕ) (past : Past) (round : Round) (rounds : List Round)
+      (Holds After : List (Phase Key (Timed Input)) → Type 0)
+      → ((more : List (Phase Key (Timed Input))) → Holds more
+      → After (first config number past round ∷ third config number past round ∷ more))
+      → Later (suc number) (past_after config number past round) rounds Holds
+      → Later number past (round ∷ rounds) After
+  unfolding past_after
+  one_round_more number past round rounds Holds After step rest =
+      let one = first config number past round in
+      let two = third config number past round in
       record {
         more = one ∷ two ∷ rest.more;
         transactions = rest.transactions
             ∙ append_assoc (past.transactions ++ one ∷ []) (two ∷ []) rest.more
             ∙ append_assoc past.transactions (one ∷ []) (two ∷ rest.more);
-        rise = subst (Rise number 0)
-            (sym (filter_map-append name_of (own_inputs key_cmp tick_at one k)
-            (own_inputs key_cmp tick_at two k ++ after)
-            ∙ ap (λ later. names k one.items ++ later)
-            (filter_map-append name_of (own_inputs key_cmp tick_at two k) after)
-            ∙ sym (append_assoc (names k one.items) (names k two.items) (names_in rest.more))))
-            (rise_after number 0 (names k one.items ++ names k two.items) (names_in rest.more)
-            (both_placed config k number past round) rest.rise);
+        holds = step rest.more rest.holds;
       }
 
-  pub names_differ : (rounds : List Round)
-      → IsDistinct same_id (filter_map name_of
-      (history key_cmp tick_at (past_of config rounds).transactions k))
-  unfolding past_of
-  names_differ rounds =
-      let all = later rounds config.first no_past in
-      subst (λ phases. IsDistinct same_id (filter_map name_of (history key_cmp tick_at phases k)))
-      (sym all.transactions) (rise_apart config.first 0 (names_in all.more) all.rise)
+  -- ---- a transaction of a server: its names rise
+
+  module _ (branch : List ℕ) (sent_by : SentBy) (method : List ℕ) where
+    abbrev server : Key
+    server = key.Server branch sent_by method
+
+    server_placed : (number : ℕ) (past : Past) (round : Round)
+        → Places number 0 (names server (first config number past round).items
+        ++ names server (third config number past round).items)
+    unfolding first third
+    server_placed number past round =
+        let orders = flat_map command_of (given_second config number past round) in
+        let clients = subst AllClients
+        (sym (starts_ordered (given_second config number past round)))
+        (round_of_clients config number past round) in
+        let items = timed_items round.moment
+        (items_from round.moment config.local number 1 round.events) in
+        subst (λ ys. Places number 0 (names server items ++ ys))
+        (sym (third_none server tt round.moment 0 orders clients))
+        (subst (Places number 0) (sym (append-nil (names server items)))
+        (places_from number 0 1 (names server items) (omega arith)
+        (first_placed round.moment config.local number 1 server round.events)))
+
+    abbrev Rising : ℕ → List (Phase Key (Timed Input)) → Type 0
+    Rising number more = Rise number 0 (names_in server more)
+
+    rising : (rounds : List Round) (number : ℕ) (past : Past)
+        → Later number past rounds (Rising number)
+    rising [] number past =
+        record { more = []; transactions = sym (append-nil past.transactions); holds = tt }
+    rising (round ∷ rounds) number past =
+        one_round_more number past round rounds (Rising (suc number)) (Rising number)
+        (λ more rise. subst (Rise number 0) (sym (names_before server number past round more))
+        (rise_after number 0 (names server (first config number past round).items
+        ++ names server (third config number past round).items) (names_in server more)
+        (server_placed number past round) rise))
+        (rising rounds (suc number) (past_after config number past round))
+
+  -- ---- a transaction of a client: it is started under no id twice
+
+  module _ (branch method : List ℕ) (x : Id) where
+    abbrev client : Key
+    client = key.Client branch method
+
+    client_few : (number : ℕ) (past : Past) (round : Round)
+        → how_many x (names client (first config number past round).items
+        ++ names client (third config number past round).items)
+        ≤ how_many x (ids_of (starts (given_second config number past round)))
+    unfolding first third
+    client_few number past round =
+        let outs = given_second config number past round in
+        let orders = flat_map command_of outs in
+        let last = timed_items round.moment (command_items 0 orders) in
+        subst (λ xs. how_many x (xs ++ names client last) ≤ how_many x (ids_of (starts outs)))
+        (sym (first_none round.moment config.local number 1 branch method round.events))
+        (subst (λ s. how_many x (names client last) ≤ how_many x (ids_of s)) (starts_ordered outs)
+        (third_few x client round.moment 0 orders))
+
+    abbrev Few : ℕ → Past → List Round → List (Phase Key (Timed Input)) → Type 0
+    Few number past rounds more =
+        how_many x (names_in client more) ≤ how_many x (started_from config number past rounds)
+
+    few : (rounds : List Round) (number : ℕ) (past : Past)
+        → Later number past rounds (Few number past rounds)
+    few [] number past =
+        record { more = []; transactions = sym (append-nil past.transactions); holds = omega arith }
+    few (round ∷ rounds) number past =
+        let next = past_after config number past round in
+        let now = names client (first config number past round).items
+        ++ names client (third config number past round).items in
+        one_round_more number past round rounds (Few (suc number) next rounds)
+        (Few number past (round ∷ rounds))
+        (λ more later. omega (
+          arith,
+          ap (how_many x) (names_before client number past round more),
+          how_many-append x now (names_in client more),
+          how_many-append x (ids_of (starts (given_second config number past round)))
+              (started_from config (suc number) next rounds),
+          client_few number past round,
+          later,
+        ))
+        (few rounds (suc number) next)
+
+  abbrev Differ : Key → List (Phase Key (Timed Input)) → Type 0
+  Differ k phases = IsDistinct same_id (filter_map name_of (history key_cmp tick_at phases k))
+
+  names_of_key : (k : Key) (rounds : List Round)
+      → Differ k (past_from config config.first no_past rounds).transactions
+  names_of_key (key.Server branch sent_by method) rounds =
+      let all = rising branch sent_by method rounds config.first no_past in
+      subst (Differ (key.Server branch sent_by method)) (sym all.transactions)
+      (rise_apart config.first 0 (names_in (key.Server branch sent_by method) all.more) all.holds)
+  names_of_key (key.Client branch method) rounds =
+      distinct_of_once (names_in (key.Client branch method)
+      (past_from config config.first no_past rounds).transactions)
+      (λ x. let all = few branch method x rounds config.first no_past in
+      subst (λ phases. how_many x (names_in (key.Client branch method) phases) ≤ 1)
+      (sym all.transactions) (omega (arith, all.holds, started_once config rounds x)))
+
+pub names_differ : (config : Config) (k : Key) (rounds : List Round)
+    → IsDistinct same_id (filter_map name_of
+    (history key_cmp tick_at (past_of config rounds).transactions k))
+unfolding past_of
+names_differ config k rounds = names_of_key config k rounds

@@ -1,22 +1,28 @@
 -- Before something is due a tick does nothing, and from then on it does something.
-use Rattle.std.proofs.Common.{◌≡◌, ◌≢◌, ℕ, suc, ◌<◌, ◌≤◌, Bool, true, false, not, cond, ◌||◌, List, [], ◌∷◌, ◌++◌, map, length, nat_lt, refl, sym, ap, ◌∙◌, arith}
+use Rattle.std.proofs.Common.{◌≡◌, ◌≢◌, ℕ, ◌+◌, ◌≤◌, Bool, true, false, not, cond, ◌||◌, List, [], ◌∷◌, ◌++◌, map, length, nat_le, nat_lt, refl, sym, ap, ◌∙◌, arith}
 use Rattle.std.specs.Prelude.{Option, None, Some, filter}
 use Rattle.std.specs.List.{flat_map, list_any}
-use Rattle.std.specs.Option.{option_and_then, option_map_or}
+use Rattle.std.specs.Option.{option_and_then, option_map, option_map_or}
 use Rattle.std.proofs.lemmas.Bool.{true≢false}
+use Rattle.std.proofs.lemmas.List.{length-map}
 use Rattle.sip_timers.specs.Queue.{is_due}
 use Rattle.sip_model.specs.Told.{speaks}
 use Rattle.sip_model.proofs.Ordered.{by_bool}
-use Rattle.sip_message.specs.declared.message.Message.{Message}
+use Rattle.arrayvec.specs.ArrayVec.{ArrayVec}
+use Rattle.sip_reliable.specs.declared.provisional.Retransmission.{Retransmission as Resending}
+use Rattle.sip_reliable.specs.declared.tick.Tick.{Tick}
 use Rattle.sip_reliable.specs.declared.tick.Tick.TheVariants as tick
-use Rattle.sip_reliable.specs.Ledger.{next_moment, tick_answer, ticked}
+use Rattle.sip_reliable.specs.Provisional.{Provisional, after_repeat, interval_after, is_late, is_repeated, sent_again as once_more}
+use Rattle.sip_reliable.specs.Ledger.{Ledger, due_numbers, next_moment, tick_answer}
+use Rattle.sip_reliable.proofs.Dues.{is_something, ledger_due, nothing_from as nothing_told}
+use Rattle.sip_reliable.proofs.Sounds.{not_longer}
 use Rattle.sip_served.specs.declared.held_request.HeldRequest.{HeldRequest}
 use Rattle.sip_served.specs.declared.held_request.Success.{Success}
 use Rattle.sip_served.specs.declared.item.CallOut.{CallOut}
-use Rattle.sip_served.specs.declared.notice.Notice.TheVariants.{NoAck, NoPrack}
+use Rattle.sip_served.specs.declared.tick.SuccessDue.TheVariants as repeat
 use Rattle.sip_served.specs.State.{State, Taken, quiet}
-use Rattle.sip_served.specs.Tick.{is_kept_at, next_due, provisional_of, request_due, request_ticked, retransmission_after, success_answer, success_moment, success_of, success_ticked, provisional_ticked, tick_taken, told_of, with_retransmission}
-use Rattle.sip_served.proofs.Dues.{earlier_due, ledger_due, nothing_from, removal_kept, request_told, requests_due, success_due}
+use Rattle.sip_served.specs.Tick.{is_kept_at, next_due, provisionals_by, provisionals_ticked, provisionals_told, request_due, request_ticked, retransmission_after, success_answer, success_moment, success_of, success_ticked, success_told, tick_taken, with_retransmission}
+use Rattle.sip_served.proofs.Dues.{nothing_from, removal_due, removal_kept, request_due_of, requests_due, success_due, success_keeps, success_says}
 
 neither : (x y : Bool) → (x || y) ≡ false → (x ≡ false) × (y ≡ false)
 neither true y e = absurd cc
@@ -28,7 +34,7 @@ calm_success : (now : ℕ) (held : HeldRequest) (o : Option Success) → held.su
     → is_due now (option_and_then success_moment o) ≡ false → success_of now held o ≡ (held, [])
 calm_success now held None is calm = refl
 calm_success now held (Some success) is calm =
-    let nothing : success_answer now success ≡ tick.Nothing =
+    let nothing : success_answer now success ≡ repeat.Nothing =
     nothing_from (success_answer now success) (sym (success_due now success) ∙ calm) in
     let stays : success_of now held (Some success) ≡ (record held { success = Some success }, []) =
     λ i. (
@@ -37,49 +43,40 @@ calm_success now held (Some success) is calm =
             (with_retransmission success (retransmission_after
             (nothing i) now success.retransmission));
       },
-      told_of (nothing i) held success.response (NoAck held.request.call_id held.id),
+      success_told (nothing i) held success.response,
     ) in
     stays ∙ (λ i. (record held { success = sym is i }, []))
 
-calm_provisional : (now : ℕ) (held : HeldRequest) (o : Option Message)
-    → is_due now (option_and_then (λ _. next_moment held.ledger) o) ≡ false
-    → provisional_of now held o ≡ (held, [])
-calm_provisional now held None calm = refl
-calm_provisional now held (Some response) calm =
+calm_provisionals : (now : ℕ) (held : HeldRequest)
+    → is_due now (next_moment held.ledger) ≡ false → provisionals_ticked now held ≡ (held, [])
+calm_provisionals now held calm =
     let nothing : tick_answer held.ledger now ≡ tick.Nothing =
-    nothing_from (tick_answer held.ledger now) (sym (ledger_due now held.ledger) ∙ calm) in
-    λ i. (
-      record held { ledger = ticked (nothing i) held.ledger now },
-      told_of (nothing i) held response (NoPrack held.request.call_id held.id),
-    )
+    nothing_told (tick_answer held.ledger now) (sym (ledger_due now held.ledger) ∙ calm) in
+    λ i. provisionals_by (nothing i) now held
 
 calm_request : (now : ℕ) (held : HeldRequest) → is_due now (request_due held) ≡ false
     → request_ticked now held ≡ (held, [])
 calm_request now held calm =
-    let parts = neither _ _ (sym (earlier_due now _ held.removal) ∙ calm) in
-    let both =
-    neither _ _ (sym (earlier_due now (option_and_then success_moment held.success)
-    (option_and_then (λ _. next_moment held.ledger) held.provisional)) ∙ parts.0) in
+    let parts = neither _ _ (sym (request_due_of now held) ∙ calm) in
+    let both = neither _ _ parts.0 in
     let first : success_ticked now held ≡ (held, []) =
     calm_success now held held.success refl both.0 in
-    let second : provisional_ticked now held ≡ (held, []) =
-    calm_provisional now held held.provisional both.1 in
+    let second : provisionals_ticked now held ≡ (held, []) = calm_provisionals now held both.1 in
     (λ i. (
-      (provisional_ticked now (first i).0).0,
+      (provisionals_ticked now (first i).0).0,
       (first i).1
-          ++ (provisional_ticked now (first i).0).1,
+          ++ (provisionals_ticked now (first i).0).1,
     )) ∙ second
 
-kept_by : (x y : Bool) → (x || not y) ≡ false → y ≡ true
-kept_by true y e = absurd cc
-kept_by false true e = refl
-kept_by false false e = absurd cc
+negated : (y : Bool) → not y ≡ false → y ≡ true
+negated true e = refl
+negated false e = absurd cc
 
 calm_kept : (now : ℕ) (held : HeldRequest) → is_due now (request_due held) ≡ false
     → is_kept_at now held ≡ true
 calm_kept now held calm =
-    kept_by (speaks (request_ticked now held).1) (is_kept_at now held) (request_told now held
-    ∙ calm)
+    let parts = neither _ _ (sym (request_due_of now held) ∙ calm) in
+    negated (is_kept_at now held) (removal_due now held.removal ∙ parts.1)
 
 abbrev after_tick : ℕ → List HeldRequest → List HeldRequest
 after_tick now requests =
@@ -119,63 +116,131 @@ quiet_before state now calm =
 
 -- ---- something is due
 
-silent : {O : Type 0} (xs ys : List O) → xs ++ ys ≡ [] → (speaks xs ≡ false) × (ys ≡ [])
+silent : {O : Type 0} (xs ys : List O) → xs ++ ys ≡ [] → (xs ≡ []) × (ys ≡ [])
 silent [] ys e = (refl, e)
 silent (x ∷ xs) ys e = absurd cc
-
-pub not_longer : {X : Type 0} (p : X → Bool) (xs : List X) → length (filter p xs) ≤ length xs
-not_longer p [] = omega arith
-not_longer p (x ∷ xs) =
-    by_bool (p x) (λ e. rw e (let h = not_longer p xs in omega arith))
-    (λ e. rw e (let h = not_longer p xs in omega arith))
-
-pub as_long : {X Y : Type 0} (f : X → Y) (xs : List X) → length (map f xs) ≡ length xs
-as_long f [] = refl
-as_long f (x ∷ xs) = ap suc (as_long f xs)
-
-dropped_by : (x y : Bool) → (x || not y) ≡ true → x ≡ false → y ≡ false
-dropped_by true y e f = absurd (true≢false f)
-dropped_by false true e f = absurd (true≢false (sym e))
-dropped_by false false e f = refl
 
 due_step : (b rest : Bool) → (b || rest) ≡ true → b ≡ false → rest ≡ true
 due_step true rest e f = absurd (true≢false f)
 due_step false rest e f = e
 
-abbrev kept_at : ℕ → Option ℕ → Bool
-kept_at now removal = option_map_or (λ moment. nat_lt now moment) removal true
+-- a response that is due is sent once more, so its count differs
+other_count : (now : ℕ) (p : Provisional) → is_repeated now p ≡ true → after_repeat now p ≢ p
+other_count now p due same = counts p.retransmission due
+    (ap (λ q. q.retransmission) (sym (ap (λ b. cond b (once_more now p) p) due) ∙ same))
+  where
+    again : Resending → Resending
+    again r = record { due = now + interval_after (r.repeats + 1); repeats = r.repeats + 1 }
 
--- where a tick says nothing although something is due, it removes a request
-fewer : (now : ℕ) (requests : List HeldRequest)
+    counts : (o : Option Resending) → option_map_or (λ r. nat_le r.due now) o false ≡ true
+        → option_map again o ≡ o → ⊥
+    counts None due same = absurd (true≢false (sym due))
+    counts (Some r) due same =
+        let more : r.repeats + 1 ≡ r.repeats =
+        ap (λ o. option_map_or (λ (r : Resending). r.repeats) o 0) same in
+        absurd (omega (arith, more))
+
+heads : {X : Type 0} (x y : X) (xs ys : List X) → x ∷ xs ≡ y ∷ ys → (x ≡ y) × (xs ≡ ys)
+heads x y xs ys e = (cc, cc)
+
+others_count : (now : ℕ) (ps : List Provisional) → list_any (is_repeated now) ps ≡ true
+    → map (after_repeat now) ps ≢ ps
+others_count now [] due same = absurd (true≢false (sym due))
+others_count now (p ∷ ps) due same =
+    let parts = heads (after_repeat now p) p (map (after_repeat now) ps) ps same in
+    by_bool (is_repeated now p) (λ its. other_count now p its parts.0)
+    (λ others. others_count now ps (due_step (is_repeated now p)
+    (list_any (is_repeated now) ps) due others) parts.1)
+
+repeated_by : (closed late repeated : Bool) (due numbers : ArrayVec ℕ)
+    → cond closed tick.Nothing (cond late tick.GivenUp
+    (cond repeated (tick.Again due) tick.Nothing)) ≡ tick.Again numbers → repeated ≡ true
+repeated_by true late repeated due numbers e = absurd cc
+repeated_by false true repeated due numbers e = absurd cc
+repeated_by false false true due numbers e = refl
+repeated_by false false false due numbers e = absurd cc
+
+-- where a tick of a ledger says nothing although it does something, the ledger differs
+by_tick : (t : Tick) (now : ℕ) (held : HeldRequest) → tick_answer held.ledger now ≡ t
+    → is_something t ≡ true → provisionals_told t held ≡ []
+    → (provisionals_by t now held).0.ledger ≢ held.ledger
+by_tick tick.Nothing now held is some says = absurd (true≢false (sym some))
+by_tick (tick.Again numbers) now held is some says = λ same.
+    others_count now held.ledger.waiting
+    (repeated_by held.ledger.closed (list_any (is_late now) held.ledger.waiting)
+    (list_any (is_repeated now) held.ledger.waiting)
+    record { items = due_numbers now held.ledger.waiting } numbers is)
+    (ap (λ (l : Ledger). l.waiting) same)
+by_tick tick.GivenUp now held is some says = absurd cc
+
+third : (x y z : Bool) → ((x || y) || z) ≡ true → x ≡ false → z ≡ false → y ≡ true
+third true y z due p q = absurd (true≢false p)
+third false true z due p q = refl
+third false false z due p q = absurd (true≢false (sym due ∙ q))
+
+says_none : {O : Type 0} (xs : List O) → xs ≡ [] → speaks xs ≡ false
+says_none xs e = ap speaks e
+
+not_removed : (y : Bool) → y ≡ true → not y ≡ false
+not_removed y e = ap not e
+
+-- where a tick says nothing of a request of which something is due, and keeps it, it changes it
+changes : (now : ℕ) (held : HeldRequest) → is_due now (request_due held) ≡ true
+    → (request_ticked now held).1 ≡ [] → is_kept_at now held ≡ true
+    → (request_ticked now held).0 ≢ held
+changes now held due says kept = λ same.
+    let first = success_ticked now held in
+    let keeps = success_keeps now held held.success in
+    let parts = silent first.1 (provisionals_ticked now first.0).1 says in
+    let calm : is_due now (option_and_then success_moment held.success) ≡ false =
+    sym (success_says now held held.success) ∙ says_none first.1 parts.0 in
+    let stays : is_due now held.removal ≡ false =
+    sym (removal_due now held.removal) ∙ not_removed (is_kept_at now held) kept in
+    let its : is_due now (next_moment held.ledger) ≡ true =
+    third _ _ _ (sym (request_due_of now held) ∙ due) calm stays in
+    let some : is_something (tick_answer (first.0).ledger now) ≡ true =
+    sym (ledger_due now (first.0).ledger)
+    ∙ ap (λ l. is_due now (next_moment l)) keeps.ledger ∙ its in
+    by_tick (tick_answer (first.0).ledger now) now first.0 refl some parts.1
+    (ap (λ (h : HeldRequest). h.ledger) same ∙ sym keeps.ledger)
+
+shorter : (now : ℕ) (requests : List HeldRequest)
+    → length (after_tick now requests) ≤ length requests
+shorter now requests =
+    let h = not_longer (is_kept_at now) (map (λ held. (request_ticked now held).0) requests) in
+    let g = length-map requests (λ (held : HeldRequest). (request_ticked now held).0) in
+    omega (arith, h, g)
+
+-- so where something is due and nothing is said, what is held differs
+differs : (now : ℕ) (requests : List HeldRequest)
     → list_any (λ held. is_due now (request_due held)) requests ≡ true → said_at now requests ≡ []
-    → length (after_tick now requests) < length requests
-fewer now [] due says = absurd (true≢false (sym due))
-fewer now (held ∷ requests) due says =
+    → after_tick now requests ≢ requests
+differs now [] due says same = absurd (true≢false (sym due))
+differs now (held ∷ requests) due says same =
     let parts = silent (request_ticked now held).1 (said_at now requests) says in
     let after : HeldRequest = (request_ticked now held).0 in
-    let shorter : length (after_tick now requests) ≤ length requests = let h =
-    not_longer (is_kept_at now) (map (λ held. (request_ticked now held).0) requests) in let g =
-    as_long (λ (held : HeldRequest). (request_ticked now held).0) requests in
-    omega (arith, h, g) in
+    let removal : is_kept_at now after ≡ is_kept_at now held =
+    ap (λ (o : Option ℕ). option_map_or (λ moment. nat_lt now moment) o true)
+    (removal_kept now held) in
+    by_bool (is_kept_at now after)
+    (λ kept. let both =
+    heads after held (after_tick now requests) requests
+    (sym (ap (λ b. cond b (after ∷ after_tick now requests) (after_tick now requests)) kept)
+    ∙ same) in
     by_bool (is_due now (request_due held))
-    (λ its. let dropped : is_kept_at now after
-    ≡ false =
-    ap (λ removal. kept_at now removal) (removal_kept now held)
-    ∙ dropped_by (speaks (request_ticked now held).1) (is_kept_at now held)
-    (request_told now held ∙ its) parts.0 in
-    rw dropped (omega (arith, shorter)))
-    (λ others. let less = fewer now requests
-    (due_step (is_due now (request_due held))
-    (list_any (λ held. is_due now (request_due held)) requests) due others) parts.1 in
-    by_bool (is_kept_at now after) (λ e. rw e (omega (arith, less)))
-    (λ e. rw e (omega (arith, less))))
+    (λ its. changes now held its parts.0 (sym removal ∙ kept) both.0)
+    (λ others. differs now requests (due_step (is_due now (request_due held))
+    (list_any (λ held. is_due now (request_due held)) requests) due others) parts.1 both.1))
+    (λ dropped.
+    let less = shorter now requests in
+    let long : length (after_tick now requests) ≡ length (held ∷ requests) =
+    ap (λ (hs : List HeldRequest). length hs)
+    (sym (ap (λ b. cond b (after ∷ after_tick now requests) (after_tick now requests)) dropped)
+    ∙ same) in
+    absurd (omega (arith, less, long)))
 
 pub busy_from : (state : State) (now : ℕ) → is_due now (next_due state) ≡ true
     → tick_taken state now ≢ quiet state
 busy_from state now due same =
-    let less =
-    fewer now state.requests (sym (requests_due now state.requests)
-    ∙ due) (ap (λ (taken : Taken). taken.1) same) in
-    let long : length (after_tick now state.requests) ≡ length state.requests =
-    ap (λ (taken : Taken). length (taken.0).requests) same in
-    absurd (omega (arith, less, long))
+    differs now state.requests (sym (requests_due now state.requests) ∙ due)
+    (ap (λ (taken : Taken). taken.1) same) (ap (λ (taken : Taken). (taken.0).requests) same)

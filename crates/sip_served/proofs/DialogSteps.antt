@@ -3,6 +3,7 @@
 use Rattle.std.proofs.Common.{ℕ, Bool, true, false, not, ◌&&◌, cond, List, [], refl}
 use Rattle.std.specs.Prelude.{Option, None, Some, find, is_some, if◌then◌else◌}
 use Rattle.indexmap.specs.IndexMap.{insert_entry}
+use Rattle.sip_model.proofs.Ordered.{by_bool}
 use Rattle.sip_dialog.specs.Fault.{ended_fault}
 use Rattle.sip_dialog.specs.Opening.{contact_uri}
 use Rattle.sip_dialog.specs.Step.{confirmed_by, with_accepted, with_target}
@@ -22,11 +23,12 @@ use Rattle.sip_served.specs.declared.item.CallOut.{CallOut}
 use Rattle.sip_served.specs.declared.refusal.Refusal.{Refusal}
 use Rattle.sip_served.specs.Acknowledgment.{ack_noted, acknowledged_invite}
 use Rattle.sip_served.specs.Arrival.{arrival_of, by_case, bye_taken, case_of, noted, request_held}
+use Rattle.sip_served.specs.Cancel.{by_cancelled, cancelled_request, is_unanswered_invite}
 use Rattle.sip_served.specs.Dialogs.{confirmed, dialog_changed, early_ended, ended_at, is_early_of, is_named, numbered, refreshed, retargeted, takes, visited}
 use Rattle.sip_served.specs.Requests.{dialog_name, is_bye, is_cancel, is_inside, is_invite}
 use Rattle.sip_served.specs.Respond.{answer_to, by_refusal, by_request, confirms_dialog, made_dialog, makes_dialog, refusal_for, rejects, respond_taken}
 use Rattle.sip_served.specs.State.{Dialogs, State, Taken, has_id}
-use Rattle.sip_served.specs.Step.{kind_taken}
+use Rattle.sip_served.specs.Step.{arrival_taken, kind_taken}
 use Rattle.sip_served.proofs.Heard.{AreApart, Keeps, Leads, keeps_then, leads_changed, leads_filtered, leads_made, leads_removed, leads_same, leads_then}
 
 -- ---- changes of a dialog
@@ -58,12 +60,8 @@ refreshed_keeps request held =
 visited_keeps : (request : Message) (held : HeldDialog) → Keeps held (visited request held)
 visited_keeps request held =
     let number = (request.cseq).number in
-    elim (is_cancel request) as (λ b.
-    Keeps held (if b then held else refreshed request (numbered number held))) [
-      | true ↦ (refl, refl)
-      | false ↦ keeps_then held (numbered number held) (refreshed request (numbered number held))
-          (numbered_keeps number held) (refreshed_keeps request (numbered number held))
-    ]
+    keeps_then held (numbered number held) (refreshed request (numbered number held))
+    (numbered_keeps number held) (refreshed_keeps request (numbered number held))
 
 pub confirmed_keeps : (response : Message) (held : HeldDialog)
     → Keeps held (confirmed response held)
@@ -116,20 +114,40 @@ module _ (Makes : Id → Type 0) where
       (λ later. bye_leads (is_inside arrival.request && is_bye arrival.request) held name
       (ended_at name held.dialogs).1 later)
 
-  pub kind_leads : (state : State) (tag : List ℕ) (up : Up) (kind : Kind) → AreApart state.dialogs
-      → Leads Makes state.dialogs ((kind_taken state tag up kind).0).dialogs
-  kind_leads state tag up (Request request reply_to) apart =
-      case_leads (case_of state.requests state.dialogs (dialog_name request tag) request) state
-      (dialog_name request tag) (arrival_of up tag request reply_to) apart
-  kind_leads state tag up (Ack ack) apart = ack_leads (acknowledged_invite ack state.requests)
+  cancel_leads : (state : State) (arrival : Arrival) (now : ℕ) (o : Option HeldRequest)
+      → AreApart state.dialogs
+      → Leads Makes state.dialogs ((by_cancelled state arrival now o).0).dialogs
+  cancel_leads state arrival now None apart = leads_same Makes state.dialogs apart
+  cancel_leads state arrival now (Some held) apart =
+      by_bool (is_unanswered_invite held)
+      (λ e. rw e (leads_filtered Makes (λ dialog. not (is_early_of held.id dialog)) state.dialogs
+      apart))
+      (λ e. rw e (leads_same Makes state.dialogs apart))
+
+  arrival_leads : (state : State) (arrival : Arrival) (now : ℕ) → AreApart state.dialogs
+      → Leads Makes state.dialogs ((arrival_taken state arrival now).0).dialogs
+  arrival_leads state arrival now apart =
+      let name = dialog_name arrival.request arrival.tag in
+      by_bool (is_cancel arrival.request)
+      (λ e. rw e (cancel_leads state arrival now
+      (cancelled_request arrival.key state.requests) apart))
+      (λ e. rw e (case_leads (case_of state.requests state.dialogs name arrival.request) state name
+      arrival apart))
+
+  pub kind_leads : (state : State) (tag : List ℕ) (up : Up) (kind : Kind) (now : ℕ)
+      → AreApart state.dialogs
+      → Leads Makes state.dialogs ((kind_taken state tag up kind now).0).dialogs
+  kind_leads state tag up (Request request reply_to) now apart =
+      arrival_leads state (arrival_of up tag request reply_to) now apart
+  kind_leads state tag up (Ack ack) now apart = ack_leads (acknowledged_invite ack state.requests)
     where
       ack_leads : (o : Option Id) → Leads Makes state.dialogs
           ((ack_noted state up.call_id ack o).0).dialogs
       ack_leads None = leads_same Makes state.dialogs apart
       ack_leads (Some invite) = leads_same Makes state.dialogs apart
-  kind_leads state tag up (Response response) apart = leads_same Makes state.dialogs apart
-  kind_leads state tag up Timeout apart = leads_same Makes state.dialogs apart
-  kind_leads state tag up Failed apart = leads_same Makes state.dialogs apart
+  kind_leads state tag up (Response response) now apart = leads_same Makes state.dialogs apart
+  kind_leads state tag up Timeout now apart = leads_same Makes state.dialogs apart
+  kind_leads state tag up Failed now apart = leads_same Makes state.dialogs apart
 
 -- ---- an answer of the user
 

@@ -9,8 +9,9 @@ pub mod Mapped
 pub mod Names
 pub mod NoStarts
 pub mod Numbers
-pub mod OneWaits
+pub mod FewWait
 pub mod Places
 pub mod Shows
 pub mod Stories
+pub mod Terminations
 pub mod Ticks

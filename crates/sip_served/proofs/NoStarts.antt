@@ -7,6 +7,7 @@ use Rattle.std.specs.Map.{values_of}
 use Rattle.std.specs.Option.{option_map_or}
 use Rattle.std.proofs.lemmas.List.Elements.{filter_map-append}
 use Rattle.indexmap.specs.IndexMap.{insert_entry}
+use Rattle.sip_model.proofs.Ordered.{by_bool}
 use Rattle.sip_message.specs.declared.id.Id.{Id}
 use Rattle.sip_message.specs.declared.key.Key.{Key}
 use Rattle.sip_message.specs.declared.message.Message.{Message}
@@ -28,16 +29,20 @@ use Rattle.sip_served.specs.declared.held_request.HeldRequest.{HeldRequest}
 use Rattle.sip_served.specs.declared.held_request.Success.{Success}
 use Rattle.sip_served.specs.declared.item.CallOut.{CallOut}
 use Rattle.sip_served.specs.declared.item.CallOut.TheVariants as out
-use Rattle.sip_served.specs.declared.notice.Notice.{Notice}
+use Rattle.sip_served.specs.declared.provisionals.NumberedResponse.{NumberedResponse}
 use Rattle.sip_served.specs.declared.refusal.Refusal.{Refusal}
+use Rattle.sip_served.specs.declared.tick.SuccessDue.{SuccessDue}
+use Rattle.sip_served.specs.declared.tick.SuccessDue.TheVariants as repeat
+use Rattle.sip_served.specs.Provisionals.{of_numbers}
 use Rattle.sip_served.specs.Acknowledgment.{ack_noted, acknowledged_invite}
 use Rattle.sip_served.specs.Arrival.{arrival_of, by_case, case_of, noted, request_held}
+use Rattle.sip_served.specs.Cancel.{by_cancelled, cancelled_request, is_unanswered_invite}
 use Rattle.sip_served.specs.Dialogs.{confirmed, dialog_at, dialog_changed, early_ended, ended_at, ended_notice, is_early_of, is_named}
-use Rattle.sip_served.specs.Requests.{dialog_name, is_bye, is_inside}
+use Rattle.sip_served.specs.Requests.{dialog_name, is_bye, is_cancel, is_inside}
 use Rattle.sip_served.specs.Respond.{answer_to, by_refusal, by_request, confirms_dialog, made_dialog, makes_dialog, refusal_for, rejects, respond_taken}
 use Rattle.sip_served.specs.State.{Dialogs, State, Taken, has_id}
-use Rattle.sip_served.specs.Step.{kind_taken}
-use Rattle.sip_served.specs.Tick.{provisional_of, request_ticked, success_answer, success_of, success_ticked, tick_taken, told_of}
+use Rattle.sip_served.specs.Step.{arrival_taken, kind_taken}
+use Rattle.sip_served.specs.Tick.{provisionals_ticked, provisionals_told, request_ticked, success_answer, success_of, success_ticked, success_told, tick_taken}
 
 -- a transaction of a client that is started, by its id and its key
 abbrev pub start_of : Id → Order → Option (Id × Key)
@@ -104,19 +109,34 @@ case_starts ForUser state name arrival =
     (record before { dialogs = (ended_at name before.dialogs).0 })
     (ended_starts name before.dialogs)
 
-pub kind_starts : (state : State) (tag : List ℕ) (up : Up) (kind : Kind)
-    → starts (kind_taken state tag up kind).1 ≡ []
-kind_starts state tag up (Request request reply_to) =
-    case_starts (case_of state.requests state.dialogs (dialog_name request tag) request) state
-    (dialog_name request tag) (arrival_of up tag request reply_to)
-kind_starts state tag up (Ack ack) = by_invite (acknowledged_invite ack state.requests)
+cancel_starts : (state : State) (arrival : Arrival) (now : ℕ) (o : Option HeldRequest)
+    → starts (by_cancelled state arrival now o).1 ≡ []
+cancel_starts state arrival now None = refl
+cancel_starts state arrival now (Some held) =
+    by_bool (is_unanswered_invite held) (λ e. rw e (early_starts held.id state.dialogs))
+    (λ e. rw e refl)
+
+arrival_starts : (state : State) (arrival : Arrival) (now : ℕ)
+    → starts (arrival_taken state arrival now).1 ≡ []
+arrival_starts state arrival now =
+    let name = dialog_name arrival.request arrival.tag in
+    by_bool (is_cancel arrival.request)
+    (λ e. rw e (cancel_starts state arrival now (cancelled_request arrival.key state.requests)))
+    (λ e. rw e (case_starts (case_of state.requests state.dialogs name arrival.request) state name
+    arrival))
+
+pub kind_starts : (state : State) (tag : List ℕ) (up : Up) (kind : Kind) (now : ℕ)
+    → starts (kind_taken state tag up kind now).1 ≡ []
+kind_starts state tag up (Request request reply_to) now =
+    arrival_starts state (arrival_of up tag request reply_to) now
+kind_starts state tag up (Ack ack) now = by_invite (acknowledged_invite ack state.requests)
   where
     by_invite : (o : Option Id) → starts (ack_noted state up.call_id ack o).1 ≡ []
     by_invite None = refl
     by_invite (Some invite) = refl
-kind_starts state tag up (Response response) = refl
-kind_starts state tag up Timeout = refl
-kind_starts state tag up Failed = refl
+kind_starts state tag up (Response response) now = refl
+kind_starts state tag up Timeout now = refl
+kind_starts state tag up Failed now = refl
 
 -- ---- an answer of the user
 
@@ -154,30 +174,35 @@ respond_starts state event r now =
 
 -- ---- a tick
 
-told_starts : (t : Tick) (held : HeldRequest) (response : Message) (notice : Notice)
-    → starts (told_of t held response notice) ≡ []
-told_starts tick.Nothing held response notice = refl
-told_starts tick.Again held response notice = refl
-told_starts tick.GivenUp held response notice = refl
+told_starts : (t : SuccessDue) (held : HeldRequest) (response : Message)
+    → starts (success_told t held response) ≡ []
+told_starts repeat.Nothing held response = refl
+told_starts repeat.Again held response = refl
+told_starts repeat.GivenUp held response = refl
 
 success_starts : (now : ℕ) (held : HeldRequest) (o : Option Success)
     → starts (success_of now held o).1 ≡ []
 success_starts now held None = refl
 success_starts now held (Some success) =
-    told_starts (success_answer now success) held success.response _
+    told_starts (success_answer now success) held success.response
 
-provisional_starts : (now : ℕ) (held : HeldRequest) (o : Option Message)
-    → starts (provisional_of now held o).1 ≡ []
-provisional_starts now held None = refl
-provisional_starts now held (Some response) =
-    told_starts (tick_answer held.ledger now) held response _
+repeats_start : (held : HeldRequest) (responses : List NumberedResponse)
+    → starts (map (λ one. out.Command held.id (order.Answer held.key one.response)) responses) ≡ []
+repeats_start held [] = refl
+repeats_start held (one ∷ responses) = repeats_start held responses
+
+provisionals_start : (t : Tick) (held : HeldRequest) → starts (provisionals_told t held) ≡ []
+provisionals_start tick.Nothing held = refl
+provisionals_start (tick.Again numbers) held =
+    repeats_start held (of_numbers numbers.items held.provisionals)
+provisionals_start tick.GivenUp held = refl
 
 ticked_starts : (now : ℕ) (held : HeldRequest) → starts (request_ticked now held).1 ≡ []
 ticked_starts now held =
     let first = success_ticked now held in
-    none_of_both first.1 (provisional_of now first.0 (first.0).provisional).1
+    none_of_both first.1 (provisionals_ticked now first.0).1
     (success_starts now held held.success)
-    (provisional_starts now first.0 (first.0).provisional)
+    (provisionals_start (tick_answer (first.0).ledger now) first.0)
 
 pub tick_starts : (state : State) (now : ℕ) → starts (tick_taken state now).1 ≡ []
 tick_starts state now =

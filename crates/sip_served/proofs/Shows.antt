@@ -11,6 +11,7 @@ use Rattle.sip_message.specs.declared.message.Message.{Message}
 use Rattle.sip_reliable.specs.declared.tick.Tick.{Tick}
 use Rattle.sip_reliable.specs.declared.tick.Tick.TheVariants as tick
 use Rattle.sip_reliable.specs.Ledger.{tick_answer}
+use Rattle.sip_transactions.specs.declared.input.Command.TheVariants.{Answer as ByAnswer}
 use Rattle.sip_transactions.specs.declared.output.Kind.{Kind}
 use Rattle.sip_transactions.specs.declared.output.Kind.TheVariants.{Request, Ack, Response, Timeout, Failed}
 use Rattle.sip_transactions.specs.declared.output.Up.{Up}
@@ -25,19 +26,24 @@ use Rattle.sip_served.specs.declared.held_dialog.HeldDialog.{HeldDialog}
 use Rattle.sip_served.specs.declared.held_request.HeldRequest.{HeldRequest}
 use Rattle.sip_served.specs.declared.held_request.Success.{Success}
 use Rattle.sip_served.specs.declared.item.CallOut.{CallOut}
+use Rattle.sip_served.specs.declared.item.CallOut.TheVariants.{Command}
 use Rattle.sip_served.specs.declared.item.Item.TheVariants as item
-use Rattle.sip_served.specs.declared.notice.Notice.TheVariants.{NoAck, NoPrack}
+use Rattle.sip_served.specs.declared.provisionals.NumberedResponse.{NumberedResponse}
 use Rattle.sip_served.specs.declared.refusal.Refusal.{Refusal}
+use Rattle.sip_served.specs.declared.tick.SuccessDue.{SuccessDue}
+use Rattle.sip_served.specs.declared.tick.SuccessDue.TheVariants as repeat
 use Rattle.sip_served.specs.Acknowledgment.{ack_noted, acknowledged_invite}
-use Rattle.sip_served.specs.Arrival.{by_case, bye_taken, case_of}
+use Rattle.sip_served.specs.Arrival.{arrival_of, by_case, bye_taken, case_of}
+use Rattle.sip_served.specs.Cancel.{by_cancelled, cancelled_request, is_unanswered_invite}
 use Rattle.sip_served.specs.Dialogs.{dialog_at, ended_at, ended_notice, is_early_of}
-use Rattle.sip_served.specs.Requests.{dialog_name, is_bye, is_inside}
+use Rattle.sip_served.specs.Requests.{dialog_name, is_bye, is_cancel, is_inside}
+use Rattle.sip_served.specs.Provisionals.{of_numbers}
 use Rattle.sip_served.specs.Respond.{answer_to, by_refusal, by_request, confirms_dialog, dialogs_answered, makes_dialog, refusal_for, rejects}
 use Rattle.sip_served.specs.Run.{Event, Takes, Ticks, event_taken}
 use Rattle.sip_served.specs.Shown.{brings, for_user, for_user_of, if_for_user, is_request, request_in, told_from}
 use Rattle.sip_served.specs.State.{Dialogs, State, has_id, is_id}
 use Rattle.sip_served.specs.Step.{command_taken, kind_taken}
-use Rattle.sip_served.specs.Tick.{provisional_of, provisional_ticked, request_ticked, success_answer, success_of, success_ticked, told_of}
+use Rattle.sip_served.specs.Tick.{provisionals_ticked, provisionals_told, request_ticked, success_answer, success_of, success_ticked, success_told}
 
 abbrev shown : List CallOut → List Id
 shown outs = filter_map request_in outs
@@ -58,21 +64,21 @@ success_shows : (now : ℕ) (held : HeldRequest) (o : Option Success)
 success_shows now held None = refl
 success_shows now held (Some success) = told (success_answer now success)
   where
-    told : (t : Tick) → shown (told_of t held success.response (NoAck held.request.call_id held.id))
-        ≡ []
-    told tick.Nothing = refl
-    told tick.Again = refl
-    told tick.GivenUp = refl
+    told : (t : SuccessDue) → shown (success_told t held success.response) ≡ []
+    told repeat.Nothing = refl
+    told repeat.Again = refl
+    told repeat.GivenUp = refl
 
-provisional_shows : (now : ℕ) (held : HeldRequest) (o : Option Message)
-    → shown (provisional_of now held o).1 ≡ []
-provisional_shows now held None = refl
-provisional_shows now held (Some response) = told (tick_answer held.ledger now)
-  where
-    told : (t : Tick) → shown (told_of t held response (NoPrack held.request.call_id held.id)) ≡ []
-    told tick.Nothing = refl
-    told tick.Again = refl
-    told tick.GivenUp = refl
+repeats_show : (held : HeldRequest) (responses : List NumberedResponse)
+    → shown (map (λ one. Command held.id (ByAnswer held.key one.response)) responses) ≡ []
+repeats_show held [] = refl
+repeats_show held (one ∷ responses) = repeats_show held responses
+
+provisionals_show : (t : Tick) (held : HeldRequest) → shown (provisionals_told t held) ≡ []
+provisionals_show tick.Nothing held = refl
+provisionals_show (tick.Again numbers) held =
+    repeats_show held (of_numbers numbers.items held.provisionals)
+provisionals_show tick.GivenUp held = refl
 
 none_of_both : (xs ys : List CallOut) → shown xs ≡ [] → shown ys ≡ [] → shown (xs ++ ys) ≡ []
 none_of_both xs ys first second = filter_map-append request_in xs ys ∙ (λ i. first i ++ second i)
@@ -84,8 +90,9 @@ ticks_show now (held ∷ requests) =
     let first = (success_ticked now held).0 in
     none_of_both (request_ticked now held).1
     (flat_map (λ held. (request_ticked now held).1) requests)
-    (none_of_both (success_ticked now held).1 (provisional_ticked now first).1
-    (success_shows now held held.success) (provisional_shows now first first.provisional))
+    (none_of_both (success_ticked now held).1 (provisionals_ticked now first).1
+    (success_shows now held held.success)
+    (provisionals_show (tick_answer first.ledger now) first))
     (ticks_show now requests)
 
 -- ---- each case
@@ -106,6 +113,14 @@ case_shows OutOfOrder state name arrival = refl
 case_shows (Acknowledges invite rseq) state name arrival = refl
 case_shows AcknowledgesNothing state name arrival = refl
 case_shows ForUser state name arrival = ap (λ rest. arrival.id ∷ rest) (bye_shows arrival name _)
+
+cancel_shows : (state : State) (arrival : Arrival) (now : ℕ) (o : Option HeldRequest)
+    → shown (by_cancelled state arrival now o).1 ≡ []
+cancel_shows state arrival now None = refl
+cancel_shows state arrival now (Some held) =
+    by_bool (is_unanswered_invite held)
+    (λ e. rw e (ends_show (filter (is_early_of held.id) (values_of state.dialogs))))
+    (λ e. rw e refl)
 
 ack_shows : (state : State) (call_id : List ℕ) (ack : Message) (o : Option Id)
     → shown (ack_noted state call_id ack o).1 ≡ []
@@ -133,16 +148,19 @@ respond_shows state event r now None = refl
 respond_shows state event r now (Some held) =
     refusal_shows state event r now held (refusal_for state.dialogs r held)
 
-kind_shows : (state : State) (tag : List ℕ) (up : Up) (kind : Kind)
-    → shown (kind_taken state tag up kind).1 ≡ for_user_of state tag up.id kind
-kind_shows state tag up (Request request reply_to) =
-    case_shows (case_of state.requests state.dialogs (dialog_name request tag) request) state
-    (dialog_name request tag) _
-kind_shows state tag up (Ack ack) =
+kind_shows : (state : State) (tag : List ℕ) (up : Up) (kind : Kind) (now : ℕ)
+    → shown (kind_taken state tag up kind now).1 ≡ for_user_of state tag up.id kind
+kind_shows state tag up (Request request reply_to) now =
+    let arrival = arrival_of up tag request reply_to in
+    by_bool (is_cancel request)
+    (λ e. rw e (cancel_shows state arrival now (cancelled_request up.key state.requests)))
+    (λ e. rw e (case_shows (case_of state.requests state.dialogs (dialog_name request tag) request)
+    state (dialog_name request tag) arrival))
+kind_shows state tag up (Ack ack) now =
     ack_shows state up.call_id ack (acknowledged_invite ack state.requests)
-kind_shows state tag up (Response response) = refl
-kind_shows state tag up Timeout = refl
-kind_shows state tag up Failed = refl
+kind_shows state tag up (Response response) now = refl
+kind_shows state tag up Timeout now = refl
+kind_shows state tag up Failed now = refl
 
 command_shows : (state : State) (id : Id) (c : UserCommand) (now : ℕ)
     → shown (command_taken state id c now).1 ≡ []
@@ -157,7 +175,7 @@ command_shows state id (command.Cancel i) now = refl
 
 pub event_shows : (state : State) (event : Event)
     → shown (event_taken state event).1 ≡ for_user state event
-event_shows state (Takes tag id (item.Up up) now) = kind_shows state tag up up.kind
+event_shows state (Takes tag id (item.Up up) now) = kind_shows state tag up up.kind now
 event_shows state (Takes tag id (item.User c) now) = command_shows state id c now
 event_shows state (Ticks now) = ticks_show now state.requests
 
@@ -199,8 +217,9 @@ case_often p one ForUser false is = rw is (omega arith)
 kind_often : (state : State) (id : Id) (tag : List ℕ) (one : Id) (kind : Kind)
     → often (is_id id) (for_user_of state tag one kind) ≤ cond (is_request kind (is_id id one)) 1 0
 kind_often state id tag one (Request request reply_to) =
-    case_often (is_id id) one (case_of state.requests state.dialogs
-    (dialog_name request tag) request) (is_id id one) refl
+    by_bool (is_cancel request) (λ e. rw e (omega arith))
+    (λ e. rw e (case_often (is_id id) one (case_of state.requests state.dialogs
+    (dialog_name request tag) request) (is_id id one) refl))
 kind_often state id tag one (Ack ack) = omega arith
 kind_often state id tag one (Response response) = omega arith
 kind_often state id tag one Timeout = omega arith

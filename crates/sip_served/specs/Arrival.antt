@@ -1,5 +1,5 @@
--- A request that comes up: which case it is, and what becomes of it (RFC 3261, sections 8.2 and
--- 12.2.2; RFC 3262, section 3).
+-- A request that comes up, other than a CANCEL: which case it is, and what becomes of it (RFC 3261,
+-- sections 8.2 and 12.2.2; RFC 3262, section 3).
 use Rattle.std.specs.Prelude.{ℕ, Bool, false, not, ◌&&◌, ◌||◌, ◌==◌, List, [], ◌∷◌, ◌++◌, Option, None, Some, codes, find, filter, if◌then◌else◌}
 use Rattle.std.specs.List.{list_any, join_by}
 use Rattle.std.specs.Option.{option_map, option_map_or}
@@ -26,7 +26,8 @@ use Rattle.sip_served.specs.declared.item.CallOut.TheVariants.{Notice, Command}
 use Rattle.sip_served.specs.declared.notice.Notice.TheVariants.{Prack}
 use Rattle.sip_served.specs.Dialogs.{dialog_at, dialog_changed, ended_at, is_named, takes, visited}
 use Rattle.sip_served.specs.Notices.{request_notice}
-use Rattle.sip_served.specs.Requests.{dialog_name, is_bye, is_cancel, is_inside, is_invite, is_prack, is_unknown_option, supports_100rel}
+use Rattle.sip_served.specs.Provisionals.{without}
+use Rattle.sip_served.specs.Requests.{dialog_name, is_bye, is_inside, is_invite, is_prack, is_unknown_option, supports_100rel}
 use Rattle.sip_served.specs.State.{Dialogs, State, Taken, changed_at, followed, is_id, quiet}
 
 -- ---- which case it is
@@ -66,7 +67,7 @@ prack_case requests name born (Some rack) =
 abbrev pub case_inside : List HeldRequest → DialogName → Message → Option HeldDialog → ArrivalCase
 case_inside requests name request None = NoDialog
 case_inside requests name request (Some held) =
-    if not (is_cancel request) && not (takes held request.cseq.number) then OutOfOrder
+    if not (takes held request.cseq.number) then OutOfOrder
     else (if is_prack request then prack_case requests name held.born request.rack
     else ForUser)
 
@@ -78,7 +79,7 @@ case_outside request = if is_bye request || is_prack request then NoDialog else 
 abbrev pub case_of : List HeldRequest → Dialogs → DialogName → Message → ArrivalCase
 case_of requests dialogs name request =
     if not (is_inside request) && list_any (is_merged request) requests then Merged
-    else (if not (is_cancel request) && list_any is_unknown_option request.require then BadExtension
+    else (if list_any is_unknown_option request.require then BadExtension
     else (if is_inside request then case_inside requests name request (dialog_at name dialogs)
     else case_outside request))
 
@@ -114,7 +115,10 @@ no_such_dialog arrival = answered_with arrival 481 (codes "Call/Transaction Does
 -- ---- a PRACK that names a response which waits for it
 
 abbrev pub pracked : ℕ → HeldRequest → HeldRequest
-pracked rseq held = record held { ledger = acknowledged rseq held.ledger; provisional = None }
+pracked rseq held = record held {
+  ledger = acknowledged rseq held.ledger;
+  provisionals = without rseq held.provisionals;
+}
 
 abbrev pub prack_taken : State → Arrival → Id → ℕ → Taken
 prack_taken state arrival invite rseq = (
@@ -147,7 +151,7 @@ held_for arrival dialog = record {
   tag = arrival.tag;
   dialog = dialog;
   ledger = ledger_after first_rseq (supports_100rel arrival.request) [];
-  provisional = None;
+  provisionals = [];
   success = None;
   removal = None;
 }

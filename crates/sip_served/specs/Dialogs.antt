@@ -16,7 +16,7 @@ use Rattle.sip_served.specs.declared.held_dialog.HeldDialog.{HeldDialog}
 use Rattle.sip_served.specs.declared.item.CallOut.{CallOut}
 use Rattle.sip_served.specs.declared.item.CallOut.TheVariants.{Notice}
 use Rattle.sip_served.specs.declared.notice.Notice.TheVariants.{Ended}
-use Rattle.sip_served.specs.Requests.{is_cancel, is_invite}
+use Rattle.sip_served.specs.Requests.{is_invite}
 use Rattle.sip_served.specs.State.{Dialogs, is_id}
 
 -- the name of a dialog is this one
@@ -60,10 +60,8 @@ retargeted (Some uri) held =
 abbrev pub refreshed : Message → HeldDialog → HeldDialog
 refreshed request held = if is_invite request then retargeted (contact_uri request) held else held
 
--- a CANCEL has the number of the request that it cancels
 abbrev pub visited : Message → HeldDialog → HeldDialog
-visited request held =
-    if is_cancel request then held else refreshed request (numbered request.cseq.number held)
+visited request held = refreshed request (numbered request.cseq.number held)
 
 -- ---- how it is confirmed and how it ends
 

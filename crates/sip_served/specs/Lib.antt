@@ -1,11 +1,13 @@
 pub mod Acknowledgment
 pub mod Arrival
+pub mod Cancel
 pub mod Command
 pub mod Dialogs
 pub mod Lending
 pub mod Notices
 pub mod Refusal
 pub mod Requests
+pub mod Provisionals
 pub mod Respond
 pub mod Run
 pub mod ServerSide

@@ -1,9 +1,9 @@
 -- The user's answer to a held request: when it is refused, what is sent, and what is held then (RFC
 -- 3261, sections 8.2.6, 12.1.1 and 13.3.1; RFC 3262, section 3).
-use Rattle.std.specs.Prelude.{ℕ, ◌+◌, Bool, true, false, not, ◌&&◌, ◌||◌, nat_lt, nat_le, List, [], ◌∷◌, length, Option, None, Some, codes, find, is_some, is_none, if◌then◌else◌}
+use Rattle.std.specs.Prelude.{ℕ, ◌+◌, Bool, true, false, not, ◌&&◌, ◌||◌, nat_lt, nat_le, List, [], ◌∷◌, ◌++◌, length, Option, None, Some, Result, Ok, Err, codes, find, is_some, is_none, if◌then◌else◌}
 use Rattle.std.specs.List.{list_any}
 use Rattle.std.specs.Option.{option_map, option_map_or}
-use Rattle.std.specs.Result.{is_ok, result_ok}
+use Rattle.std.specs.Result.{result_ok}
 use Rattle.indexmap.specs.IndexMap.{insert_entry}
 use Rattle.sip_message.specs.declared.addr.Addr.{Addr}
 use Rattle.sip_message.specs.declared.id.Id.{Id}
@@ -14,7 +14,7 @@ use Rattle.sip_dialog.specs.Opening.{opened_by_request}
 use Rattle.sip_dialog.specs.Request.{contact_of}
 use Rattle.sip_reliable.specs.declared.send_fault.SendFault.{SendFault}
 use Rattle.sip_reliable.specs.declared.send_fault.SendFault.TheVariants as send
-use Rattle.sip_reliable.specs.Ledger.{Ledger, closed_now, send_answer, send_fault, with_sent}
+use Rattle.sip_reliable.specs.Ledger.{closed_now, send_answer, send_fault, with_sent}
 use Rattle.sip_transactions.specs.declared.input.Command.TheVariants.{Answer}
 use Rattle.sip_served.specs.declared.command.Reliability.{Reliability}
 use Rattle.sip_served.specs.declared.command.Reliability.TheVariants.{Plain, Reliable}
@@ -26,7 +26,7 @@ use Rattle.sip_served.specs.declared.item.CallOut.{CallOut}
 use Rattle.sip_served.specs.declared.item.CallOut.TheVariants.{Notice, Command}
 use Rattle.sip_served.specs.declared.notice.Notice.TheVariants.{Refused}
 use Rattle.sip_served.specs.declared.refusal.Refusal.{Refusal}
-use Rattle.sip_transactions.specs.declared.timers.TheConstants.{LIFETIME, T1}
+use Rattle.sip_timers.specs.declared.estimate.TheConstants.{LIFETIME, T1}
 use Rattle.sip_served.specs.declared.refusal.Refusal.TheVariants.{NoSuchRequest, AlreadyFinal, BadStatus, ReliablePending, NotSupported, SequenceUsedUp, DialogEnded}
 use Rattle.sip_served.specs.Dialogs.{confirmed, dialog_changed, early_ended, is_named, lives}
 use Rattle.sip_served.specs.Requests.{dialog_name, is_final, is_inside, is_invite, is_provisional, is_success, requires_100rel, supports_100rel}
@@ -67,7 +67,7 @@ refusal_of_fault send.NotSupported = NotSupported
 refusal_of_fault send.Unacknowledged = ReliablePending
 refusal_of_fault send.NumbersUsedUp = SequenceUsedUp
 
--- no other reliable response waits, or with a 2xx none that has a body; and a number is left
+-- another reliable response may be sent, or with a 2xx none that has a body waits
 abbrev pub reliable_refusal : HeldRequest → Respond → Option Refusal
 reliable_refusal held respond =
     if is_sent_reliably held respond then option_map refusal_of_fault (send_fault held.ledger)
@@ -118,18 +118,17 @@ answer_to local held respond =
 
 -- ---- the request after it
 
--- a number is taken where one is left
-abbrev pub ledger_sent : Bool → ℕ → Ledger → Ledger
-ledger_sent has_body now ledger =
-    if is_ok (send_answer ledger) then with_sent has_body now ledger else ledger
-
--- a reliable provisional response waits for its PRACK
-abbrev pub sent_reliably : Message → ℕ → HeldRequest → HeldRequest
-sent_reliably response now held =
+-- a reliable provisional response waits for its PRACK, with the number that it has
+abbrev pub sent_as : Result ℕ SendFault → Message → ℕ → HeldRequest → HeldRequest
+sent_as (Ok number) response now held =
     record held {
-      ledger = ledger_sent (nat_lt 0 (length response.body)) now held.ledger;
-      provisional = Some response;
+      ledger = with_sent (nat_lt 0 (length response.body)) now held.ledger;
+      provisionals = held.provisionals ++ record { number = number; response = response } ∷ [];
     }
+sent_as (Err fault) response now held = held
+
+abbrev pub sent_reliably : Message → ℕ → HeldRequest → HeldRequest
+sent_reliably response now held = sent_as (send_answer held.ledger) response now held
 
 -- A 2xx to an INVITE is sent again after T1, and given up 64*T1 after it was sent, where its ACK
 -- doesn't come.

@@ -1,9 +1,9 @@
 -- The server side of a call after all that happened to it.
-use Rattle.std.specs.Prelude.{ℕ, ◌≤◌, List, length, fold}
+use Rattle.std.specs.Prelude.{ℕ, List, fold}
 use Rattle.std.specs.List.{AllByRecursion}
 use Rattle.sip_message.specs.declared.addr.Addr.{Addr}
 use Rattle.sip_message.specs.declared.id.Id.{Id}
-use Rattle.sip_served.specs.declared.held_request.HeldRequest.{HeldRequest}
+use Rattle.sip_reliable.specs.Ledger.{FewWait}
 use Rattle.sip_served.specs.declared.item.Item.{Item}
 use Rattle.sip_served.specs.ServerSide.{empty_at}
 use Rattle.sip_served.specs.State.{State, Taken}
@@ -23,9 +23,7 @@ event_taken state (Ticks now) = tick_taken state now
 abbrev pub state_after : Addr → List Event → State
 state_after local events = fold (λ state event. (event_taken state event).0) (empty_at local) events
 
--- of each held request at most one reliable provisional response waits for its PRACK
-abbrev pub OneWaits : HeldRequest → Type 0
-OneWaits held = length held.ledger.waiting ≤ 1
-
-abbrev pub OneWaitsEach : State → Type 0
-OneWaitsEach state = AllByRecursion OneWaits state.requests
+-- of each held request at most 8 reliable provisional responses wait for their PRACK, and none but
+-- the first until that one was acknowledged
+abbrev pub FewWaitEach : State → Type 0
+FewWaitEach state = AllByRecursion (λ held. FewWait held.ledger) state.requests

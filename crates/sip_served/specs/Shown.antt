@@ -1,5 +1,5 @@
 -- The requests that come up for the user of a call, and those that the user is told of.
-use Rattle.std.specs.Prelude.{ℕ, Bool, false, List, [], ◌∷◌, ◌++◌, Option, None, Some}
+use Rattle.std.specs.Prelude.{ℕ, Bool, false, List, [], ◌∷◌, ◌++◌, Option, None, Some, if◌then◌else◌}
 use Rattle.std.specs.List.{filter_map}
 use Rattle.sip_message.specs.declared.id.Id.{Id}
 use Rattle.sip_transactions.specs.declared.output.Kind.{Kind}
@@ -11,7 +11,7 @@ use Rattle.sip_served.specs.declared.item.CallOut.TheVariants.{Notice}
 use Rattle.sip_served.specs.declared.item.Item.TheVariants.{Up as FromBelow}
 use Rattle.sip_served.specs.declared.notice.Notice.TheVariants as notice
 use Rattle.sip_served.specs.Arrival.{case_of}
-use Rattle.sip_served.specs.Requests.{dialog_name}
+use Rattle.sip_served.specs.Requests.{dialog_name, is_cancel}
 use Rattle.sip_served.specs.Run.{Event, Takes, event_taken}
 use Rattle.sip_served.specs.State.{State, is_id}
 
@@ -29,14 +29,15 @@ told_from state [] = []
 told_from state (event ∷ events) =
     told_by state event ++ told_from (event_taken state event).0 events
 
--- the request that comes up by an event, where it is one for the user
+-- the request that comes up by an event, where it is one for the user; a CANCEL never is
 abbrev pub if_for_user : Id → ArrivalCase → List Id
 if_for_user id ForUser = id ∷ []
 if_for_user id _ = []
 
 abbrev pub for_user_of : State → List ℕ → Id → Kind → List Id
 for_user_of state tag id (Request request reply_to) =
-    if_for_user id (case_of state.requests state.dialogs (dialog_name request tag) request)
+    if is_cancel request then []
+    else if_for_user id (case_of state.requests state.dialogs (dialog_name request tag) request)
 for_user_of state tag id _ = []
 
 abbrev pub for_user : State → Event → List Id

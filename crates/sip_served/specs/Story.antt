@@ -1,7 +1,8 @@
 -- The server side of a call as a story: each held dialog by the message that it began with and what
 -- happened in it since, and each held request by what came for it.
-use Rattle.std.specs.Prelude.{ℕ, ◌+◌, ◌*◌, Bool, true, false, List, [], length, map, fold, Option, None, Some, if◌then◌else◌}
-use Rattle.std.specs.List.{last_or, filter_map}
+use Rattle.std.specs.Prelude.{ℕ, ◌+◌, ◌*◌, ◌==◌, Bool, List, [], length, map, fold, Option, None, Some, if◌then◌else◌}
+use Rattle.std.specs.List.{filter_map}
+use Rattle.std.specs.Map.{lookup}
 use Rattle.std.specs.Option.{option_map}
 use Rattle.sip_message.specs.declared.addr.Addr.{Addr}
 use Rattle.sip_message.specs.declared.id.Id.{Id}
@@ -9,7 +10,8 @@ use Rattle.sip_message.specs.declared.message.Message.{Message}
 use Rattle.sip_dialog.specs.Life.{Happening, accepted_number, dialog_after, greater}
 use Rattle.sip_dialog.specs.Opening.{Opening, opened}
 use Rattle.sip_reliable.specs.Happening as reliable
-use Rattle.sip_reliable.specs.Ledger.{Provisional, ledger_after, waiting_after}
+use Rattle.sip_reliable.specs.Ledger.{Ledger, ledger_after}
+use Rattle.sip_reliable.specs.Provisional.{Provisional}
 use Rattle.sip_transactions.specs.declared.step.Pace.TheVariants.{Capped}
 use Rattle.sip_transactions.specs.Timers.{interval}
 use Rattle.sip_served.specs.declared.arrival.Arrival.{Arrival}
@@ -19,7 +21,8 @@ use Rattle.sip_served.specs.declared.held_dialog.HeldDialog.{HeldDialog}
 use Rattle.sip_served.specs.declared.held_request.HeldRequest.{HeldRequest}
 use Rattle.sip_served.specs.declared.held_request.Retransmission.{Retransmission}
 use Rattle.sip_served.specs.declared.held_request.Success.{Success}
-use Rattle.sip_transactions.specs.declared.timers.TheConstants.{T1}
+use Rattle.sip_served.specs.declared.provisionals.NumberedResponse.{NumberedResponse}
+use Rattle.sip_timers.specs.declared.estimate.TheConstants.{T1}
 use Rattle.sip_served.specs.Arrival.{first_rseq, held_for}
 use Rattle.sip_served.specs.Requests.{supports_100rel}
 use Rattle.sip_served.specs.State.{Dialogs, State}
@@ -75,34 +78,30 @@ success_of story = record {
 -- ---- a request
 
 -- how it came up, the dialog that it came in or that its answer made, what happened to its reliable
--- provisional responses and which these were, its 2xx, and the moment of its final response
+-- provisional responses, each of these by its number, the latest first, its 2xx, and the moment of
+-- its final response
 pub record RequestStory : Type 0 where
   pub arrival : Arrival
   pub dialog : Option DialogLife
   pub provisionals : List reliable.Happening
-  pub responses : List Message
+  pub responses : List (ℕ × Message)
   pub success : Option SuccessStory
   pub answered : Option ℕ
 
--- no PRACK came after the last reliable provisional response
-abbrev pub is_open_by : Bool → reliable.Happening → Bool
-is_open_by was (reliable.Sends number has_body now) = true
-is_open_by was (reliable.Repeats number now) = was
-is_open_by was reliable.GivesUp = was
-is_open_by was (reliable.Acknowledges number) = false
-is_open_by was reliable.Closes = was
+abbrev pub ledger_of : RequestStory → Ledger
+ledger_of story =
+    ledger_after first_rseq (supports_100rel story.arrival.request) story.provisionals
 
-abbrev pub is_open : List reliable.Happening → Bool
-is_open life = fold is_open_by false life
-
--- the reliable provisional responses that were sent and have no PRACK after them
-abbrev pub unacknowledged : RequestStory → List Provisional
-unacknowledged story = waiting_after story.provisionals
+-- each response that waits for its PRACK, with its number
+abbrev pub responses_of : List (ℕ × Message) → List Provisional → List NumberedResponse
+responses_of responses waiting =
+    filter_map (λ p. option_map (λ response. record { number = p.number; response = response })
+    (lookup (λ number. number == p.number) responses)) waiting
 
 abbrev pub request_of : RequestStory → HeldRequest
 request_of story = record (held_for story.arrival story.dialog) {
-  ledger = ledger_after first_rseq (supports_100rel story.arrival.request) story.provisionals;
-  provisional = if is_open story.provisionals then last_or None story.responses else None;
+  ledger = ledger_of story;
+  provisionals = responses_of story.responses (ledger_of story).waiting;
   success = option_map success_of story.success;
   removal = option_map (λ moment. moment + 64 * T1) story.answered;
 }

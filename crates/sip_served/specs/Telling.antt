@@ -9,8 +9,6 @@ use Rattle.sip_message.specs.declared.message.Message.{Message}
 use Rattle.sip_dialog.specs.Fault.{ended_fault}
 use Rattle.sip_dialog.specs.Life.{Happening, Accepts, Refreshes, Confirms}
 use Rattle.sip_dialog.specs.Opening.{ByRequest, contact_uri}
-use Rattle.sip_reliable.specs.declared.tick.Tick.{Tick}
-use Rattle.sip_reliable.specs.declared.tick.Tick.TheVariants as tick
 use Rattle.sip_reliable.specs.Happening as reliable
 use Rattle.sip_reliable.specs.Ledger.{happenings_of, tick_answer}
 use Rattle.sip_transactions.specs.declared.output.Kind.{Kind}
@@ -28,12 +26,15 @@ use Rattle.sip_served.specs.declared.item.Item.TheVariants as item
 use Rattle.sip_served.specs.declared.refusal.Refusal.{Refusal}
 use Rattle.sip_served.specs.Acknowledgment.{acknowledged_invite}
 use Rattle.sip_served.specs.Arrival.{arrival_of, case_of, own_dialog}
+use Rattle.sip_served.specs.Cancel.{cancelled_request, is_unanswered_invite, request_terminated}
 use Rattle.sip_served.specs.Dialogs.{is_early_of, is_named, takes}
 use Rattle.sip_served.specs.Requests.{dialog_name, is_bye, is_cancel, is_final, is_inside, is_invite, is_success}
 use Rattle.sip_served.specs.Respond.{answer_to, confirms_dialog, is_sent_reliably, makes_dialog, refusal_for, rejects}
 use Rattle.sip_served.specs.Run.{Event, Takes, Ticks}
 use Rattle.sip_served.specs.State.{changed_first, has_id}
-use Rattle.sip_served.specs.Story.{DialogStories, DialogStory, RequestStory, Story, SuccessStory, dialog_of, held_by, request_of, success_of}
+use Rattle.sip_served.specs.Story.{DialogStories, DialogStory, RequestStory, Story, SuccessStory, dialog_of, held_by, ledger_of, request_of, success_of}
+use Rattle.sip_served.specs.declared.tick.SuccessDue.{SuccessDue}
+use Rattle.sip_served.specs.declared.tick.SuccessDue.TheVariants as repeat
 use Rattle.sip_served.specs.Tick.{is_kept_at, success_answer}
 
 -- ---- dialogs
@@ -57,11 +58,8 @@ abbrev pub refreshes : Message → DialogStory → DialogStory
 refreshes request story =
     if is_invite request then retargets (contact_uri request) story else story
 
--- a CANCEL has the number of the request that it cancels
 abbrev pub visits : Message → DialogStory → DialogStory
-visits request story =
-    if is_cancel request then story
-    else refreshes request (numbers request.cseq.number story)
+visits request story = refreshes request (numbers request.cseq.number story)
 
 -- a 2xx confirms a dialog that hasn't ended
 abbrev pub confirms : Message → DialogStory → DialogStory
@@ -121,10 +119,10 @@ acks request = record request { success = option_map success_ends request.succes
 -- a reliable provisional response is sent, with the next number
 abbrev pub sends : Message → ℕ → RequestStory → RequestStory
 sends response now request =
-    let next = (request_of request).ledger.next in
+    let next = (ledger_of request).next in
     let sending = reliable.Sends next (nat_lt 0 (length response.body)) now in
     record (provisionals_go (sending ∷ []) request) {
-      responses = request.responses ++ response ∷ [];
+      responses = (next, response) ∷ request.responses;
     }
 
 -- a final response is the last one, and a 2xx to an INVITE waits for its ACK
@@ -201,6 +199,28 @@ request_told story arrival =
     told_by_case (case_of (held_by story).requests (held_by story).dialogs name arrival.request)
     story name arrival
 
+-- ---- a CANCEL
+
+-- the INVITE has its final response, and its early dialogs end
+abbrev pub terminates : Message → Id → ℕ → Story → Story
+terminates response invite now story =
+    record (at_request invite (finishes response 487 now) story) {
+      dialogs = ends_early invite story.dialogs;
+    }
+
+abbrev pub cancel_told : Story → ℕ → Option HeldRequest → Story
+cancel_told story now None = story
+cancel_told story now (Some held) =
+    if is_unanswered_invite held
+    then terminates (request_terminated held) held.id now story
+    else story
+
+abbrev pub arrival_told : Story → Arrival → ℕ → Story
+arrival_told story arrival now =
+    if is_cancel arrival.request
+    then cancel_told story now (cancelled_request arrival.key (held_by story).requests)
+    else request_told story arrival
+
 -- ---- an ACK
 
 abbrev pub ack_told : Story → Option Id → Story
@@ -238,23 +258,21 @@ told_by_request story event respond now (Some held) =
 -- ---- a tick
 
 -- the 2xx is sent again, or given up
-abbrev pub success_goes : Tick → ℕ → SuccessStory → SuccessStory
-success_goes tick.Nothing now story = story
-success_goes tick.Again now story = record story { repeats = story.repeats ++ now ∷ [] }
-success_goes tick.GivenUp now story = success_ends story
+abbrev pub success_goes : SuccessDue → ℕ → SuccessStory → SuccessStory
+success_goes repeat.Nothing now story = story
+success_goes repeat.Again now story = record story { repeats = story.repeats ++ now ∷ [] }
+success_goes repeat.GivenUp now story = success_ends story
 
 abbrev pub success_passes : ℕ → SuccessStory → SuccessStory
 success_passes now story = success_goes (success_answer now (success_of story)) now story
 
--- the reliable provisional response that waits is sent again, or given up
-abbrev pub provisionals_pass : ℕ → HeldRequest → List reliable.Happening
-provisionals_pass now held =
-    if is_some held.provisional then happenings_of (tick_answer held.ledger now) held.ledger now
-    else []
+-- the reliable provisional responses that wait are sent again, or given up
+abbrev pub provisionals_pass : ℕ → RequestStory → List reliable.Happening
+provisionals_pass now request = happenings_of (tick_answer (ledger_of request) now) now
 
 abbrev pub request_passes : ℕ → RequestStory → RequestStory
 request_passes now request =
-    record (provisionals_go (provisionals_pass now (request_of request)) request) {
+    record (provisionals_go (provisionals_pass now request) request) {
       success = option_map (success_passes now) request.success;
     }
 
@@ -267,13 +285,14 @@ tick_told story now = record story {
 
 -- ---- all of it
 
-abbrev pub kind_told : Story → List ℕ → Up → Kind → Story
-kind_told story tag up (Request request reply_to) =
-    request_told story (arrival_of up tag request reply_to)
-kind_told story tag up (Ack ack) = ack_told story (acknowledged_invite ack (held_by story).requests)
-kind_told story tag up (Response response) = story
-kind_told story tag up Timeout = story
-kind_told story tag up Failed = story
+abbrev pub kind_told : Story → List ℕ → Up → Kind → ℕ → Story
+kind_told story tag up (Request request reply_to) now =
+    arrival_told story (arrival_of up tag request reply_to) now
+kind_told story tag up (Ack ack) now =
+    ack_told story (acknowledged_invite ack (held_by story).requests)
+kind_told story tag up (Response response) now = story
+kind_told story tag up Timeout now = story
+kind_told story tag up Failed now = story
 
 abbrev pub command_told : Story → Id → UserCommand → ℕ → Story
 command_told story id (command.Respond respond) now =
@@ -281,7 +300,7 @@ command_told story id (command.Respond respond) now =
 command_told story id _ now = story
 
 abbrev pub event_told : Story → Event → Story
-event_told story (Takes tag id (item.Up up) now) = kind_told story tag up up.kind
+event_told story (Takes tag id (item.Up up) now) = kind_told story tag up up.kind now
 event_told story (Takes tag id (item.User command) now) = command_told story id command now
 event_told story (Ticks now) = tick_told story now
 

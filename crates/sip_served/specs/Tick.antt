@@ -15,32 +15,35 @@ use Rattle.sip_served.specs.declared.held_request.Success.{Success}
 use Rattle.sip_served.specs.declared.item.CallOut.{CallOut}
 use Rattle.sip_served.specs.declared.item.CallOut.TheVariants as out
 use Rattle.sip_served.specs.declared.item.CallOut.TheVariants.{Command}
-use Rattle.sip_served.specs.declared.notice.Notice.{Notice}
 use Rattle.sip_served.specs.declared.notice.Notice.TheVariants.{NoAck, NoPrack}
 use Rattle.sip_transactions.specs.declared.timers.TheConstants.{T2}
+use Rattle.sip_served.specs.declared.tick.SuccessDue.{SuccessDue}
+use Rattle.sip_served.specs.declared.tick.SuccessDue.TheVariants as repeat
+use Rattle.sip_served.specs.Provisionals.{of_numbers}
 use Rattle.sip_served.specs.State.{State, Taken}
 
 -- a held request after a tick, and what is told
 abbrev pub Ticked : Type 0
 Ticked = HeldRequest × List CallOut
 
--- what is told of a response: it is sent once more, or the notice that it was given up
-abbrev pub told_of : Tick → HeldRequest → Message → Notice → List CallOut
-told_of tick.Nothing held response notice = []
-told_of tick.Again held response notice = Command held.id (Answer held.key response) ∷ []
-told_of tick.GivenUp held response notice = out.Notice notice ∷ []
-
 -- ---- the 2xx to an INVITE
 
--- giving it up comes before sending it again
-abbrev pub due_with : ℕ → ℕ → Option Retransmission → Tick
-due_with now end None = tick.Nothing
-due_with now end (Some retransmission) =
-    if nat_le end now then tick.GivenUp
-    else (if nat_le retransmission.due now then tick.Again
-    else tick.Nothing)
+-- what is told of it: it is sent once more, or the notice that it was given up
+abbrev pub success_told : SuccessDue → HeldRequest → Message → List CallOut
+success_told repeat.Nothing held response = []
+success_told repeat.Again held response = Command held.id (Answer held.key response) ∷ []
+success_told repeat.GivenUp held response =
+    out.Notice (NoAck held.request.call_id held.id) ∷ []
 
-abbrev pub success_answer : ℕ → Success → Tick
+-- giving it up comes before sending it again
+abbrev pub due_with : ℕ → ℕ → Option Retransmission → SuccessDue
+due_with now end None = repeat.Nothing
+due_with now end (Some retransmission) =
+    if nat_le end now then repeat.GivenUp
+    else (if nat_le retransmission.due now then repeat.Again
+    else repeat.Nothing)
+
+abbrev pub success_answer : ℕ → Success → SuccessDue
 success_answer now success = due_with now success.end success.retransmission
 
 -- the next interval is twice the last, up to T2, and counts from this moment
@@ -48,10 +51,10 @@ abbrev pub next_retransmission : ℕ → Retransmission → Retransmission
 next_retransmission now last =
     record { due = now + min (2 * last.interval) T2; interval = min (2 * last.interval) T2 }
 
-abbrev pub retransmission_after : Tick → ℕ → Option Retransmission → Option Retransmission
-retransmission_after tick.Nothing now last = last
-retransmission_after tick.Again now last = option_map (next_retransmission now) last
-retransmission_after tick.GivenUp now last = None
+abbrev pub retransmission_after : SuccessDue → ℕ → Option Retransmission → Option Retransmission
+retransmission_after repeat.Nothing now last = last
+retransmission_after repeat.Again now last = option_map (next_retransmission now) last
+retransmission_after repeat.GivenUp now last = None
 
 abbrev pub with_retransmission : Success → Option Retransmission → Success
 with_retransmission success retransmission = record success { retransmission = retransmission }
@@ -65,31 +68,41 @@ abbrev pub success_of : ℕ → HeldRequest → Option Success → Ticked
 success_of now held None = (held, [])
 success_of now held (Some success) = (
   record held { success = Some (success_after now success) },
-  told_of (success_answer now success) held success.response (NoAck held.request.call_id held.id),
+  success_told (success_answer now success) held success.response,
 )
 
 abbrev pub success_ticked : ℕ → HeldRequest → Ticked
 success_ticked now held = success_of now held held.success
 
--- ---- the reliable provisional response that waits for its PRACK
+-- ---- the reliable provisional responses that wait for their PRACK
 
-abbrev pub provisional_of : ℕ → HeldRequest → Option Message → Ticked
-provisional_of now held None = (held, [])
-provisional_of now held (Some response) = (
-  record held { ledger = ticked (tick_answer held.ledger now) held.ledger now },
-  told_of (tick_answer held.ledger now) held response (NoPrack held.request.call_id held.id),
+-- those of these numbers are sent once more
+abbrev pub sent_again : List ℕ → HeldRequest → List CallOut
+sent_again numbers held =
+    map (λ one. Command held.id (Answer held.key one.response))
+    (of_numbers numbers held.provisionals)
+
+abbrev pub provisionals_told : Tick → HeldRequest → List CallOut
+provisionals_told tick.Nothing held = []
+provisionals_told (tick.Again numbers) held = sent_again numbers.items held
+provisionals_told tick.GivenUp held = out.Notice (NoPrack held.request.call_id held.id) ∷ []
+
+abbrev pub provisionals_by : Tick → ℕ → HeldRequest → Ticked
+provisionals_by answer now held = (
+  record held { ledger = ticked answer held.ledger now },
+  provisionals_told answer held,
 )
 
-abbrev pub provisional_ticked : ℕ → HeldRequest → Ticked
-provisional_ticked now held = provisional_of now held held.provisional
+abbrev pub provisionals_ticked : ℕ → HeldRequest → Ticked
+provisionals_ticked now held = provisionals_by (tick_answer held.ledger now) now held
 
 -- ---- one request, and all
 
--- first the 2xx and then the provisional response
+-- first the 2xx and then the provisional responses
 abbrev pub request_ticked : ℕ → HeldRequest → Ticked
 request_ticked now held =
     let first = success_ticked now held in
-    let second = provisional_ticked now first.0 in
+    let second = provisionals_ticked now first.0 in
     (second.0, first.1 ++ second.1)
 
 -- a request that isn't due to be removed
@@ -115,7 +128,7 @@ success_moment success =
 abbrev pub request_due : HeldRequest → Option ℕ
 request_due held =
     earlier (earlier (option_and_then success_moment held.success)
-    (option_and_then (λ _. next_moment held.ledger) held.provisional)) held.removal
+    (next_moment held.ledger)) held.removal
 
 -- the first moment at which a tick does something
 abbrev pub next_due_of : List HeldRequest → Option ℕ

@@ -81,7 +81,7 @@ fn prack_one(held: &mut HeldRequest, rseq: u32)
     ensures { held.new ≡ pracked rseq held.old }
 {
     acknowledge_number(&mut held.ledger, rseq);
-    held.provisional = None;
+    held.provisionals.remove(rseq);
 }
 
 fn acknowledge_number(ledger: &mut Outbound, rseq: u32)

@@ -9,12 +9,12 @@ ghost use Rattle.sip_served.specs.Requests.{is_unknown_option};
 use crate::dialogs::{Dialogs, takes};
 use crate::held_dialog::{DialogLife, DialogName, HeldDialog};
 use crate::held_request::HeldRequest;
-use crate::request::{
-    is_bye, is_cancel, is_inside, is_invite, is_prack, is_unknown_option, supports_100rel,
-};
+use crate::provisionals::Provisionals;
+use crate::request::{is_bye, is_inside, is_invite, is_prack, is_unknown_option, supports_100rel};
 use sip_message::{Addr, CallId, Id, Key, Message, RAck, Token};
 use sip_reliable::Outbound;
 use sip_text::{Boxed, token_eq};
+use std::alloc::Global;
 
 /// A request that came up, with all that comes up with it.
 pub(crate) struct Arrival {
@@ -33,7 +33,7 @@ const FIRST_RSEQ: u32 = 1;
 
 impl Arrival {
     /// What is held of it, in this dialog or in none.
-    pub(crate) fn into_held(self, dialog: Option<DialogLife>) -> HeldRequest
+    pub(crate) fn into_held(self, alloc: Global, dialog: Option<DialogLife>) -> HeldRequest
         ensures { result ≡ arrival.held_for self dialog }
     {
         let Arrival {
@@ -53,7 +53,7 @@ impl Arrival {
             tag,
             dialog,
             ledger,
-            provisional: None,
+            provisionals: Provisionals::new(alloc),
             success: None,
             removal: None,
         }
@@ -73,7 +73,7 @@ impl Drop for Arrival {
     }
 }
 
-/// What a request that comes up is (RFC 3261, sections 8.2 and 12.2.2).
+/// What a request that comes up, other than a CANCEL, is (RFC 3261, sections 8.2 and 12.2.2).
 #[derive(Clone, Copy)]
 pub(crate) enum ArrivalCase {
     /// The same request is held already: it came on another way.
@@ -104,7 +104,7 @@ pub(crate) fn case_of(
     if !is_inside(request) && merges(requests, request) {
         return ArrivalCase::Merged;
     }
-    if !is_cancel(request) && requires_unknown(request) {
+    if requires_unknown(request) {
         return ArrivalCase::BadExtension;
     }
     if is_inside(request) {
@@ -136,7 +136,7 @@ fn case_inside(
     let Some(held) = dialog else {
         return ArrivalCase::NoDialog;
     };
-    if !is_cancel(request) && !takes(held, request.cseq.number) {
+    if !takes(held, request.cseq.number) {
         return ArrivalCase::OutOfOrder;
     }
     if is_prack(request) {

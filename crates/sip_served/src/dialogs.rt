@@ -7,7 +7,7 @@ ghost use Rattle.sip_served.specs.Arrival.{life_at, own_dialog};
 use crate::held_dialog::{DialogLife, DialogName, HeldDialog};
 use crate::item::CallOut;
 use crate::notice::Notice;
-use crate::request::{is_cancel, is_inside, is_invite};
+use crate::request::{is_inside, is_invite};
 use indexmap::IndexMap;
 use sip_dialog::{DialogFault, DialogState, Endpoint};
 use sip_message::{Id, Message};
@@ -84,9 +84,6 @@ pub(crate) fn visit(
 fn visit_dialog(held: &mut HeldDialog, request: &Message) -> Result<(), AllocError>
     ensures { OnOk result (held.new ≡ spec.visited request.now held.old) }
 {
-    if is_cancel(request) {
-        return Ok(());
-    }
     number(held, request.cseq.number);
     refresh(held, request)
 }

@@ -1,6 +1,7 @@
 //! A server request that is held.
 
 use crate::held_dialog::DialogLife;
+use crate::provisionals::Provisionals;
 use sip_message::{Addr, Id, Key, Message, Token};
 use sip_reliable::Outbound;
 use sip_text::Boxed;
@@ -19,8 +20,8 @@ pub struct HeldRequest {
     pub dialog: Option<DialogLife>,
     /// The reliable provisional responses to it that were sent.
     pub ledger: Outbound,
-    /// The last of them, until its PRACK came.
-    pub provisional: Option<Boxed<Message>>,
+    /// Those of them that wait for their PRACK.
+    pub provisionals: Provisionals,
     /// The 2xx to an INVITE.
     pub success: Option<Success>,
     /// After the final response: the moment in ms at which it is removed.
@@ -54,7 +55,7 @@ impl Drop for HeldRequest {
             tag: _,
             dialog: _,
             ledger: _,
-            provisional: _,
+            provisionals: _,
             success: _,
             removal: _,
         } = self;

@@ -3,6 +3,7 @@
 ghost use Rattle.std.specs.Prelude.{◌≡◌, ◌<◌, ◌≤◌, ◌^◌, ◌∷◌, IfOk, OnOk, Some, filter, length, slice_set};
 ghost use Rattle.sip_served.specs.Acknowledgment.{ack_taken};
 ghost use Rattle.sip_served.specs.Arrival as arrived;
+ghost use Rattle.sip_served.specs.Cancel as cancels;
 ghost use Rattle.sip_served.specs.Respond as answers;
 ghost use Rattle.sip_served.specs.Step as step;
 ghost use Rattle.std.specs.List.{slice_get};
@@ -11,8 +12,12 @@ ghost use Rattle.sip_served.specs.declared.held_request.HeldRequest.{HeldRequest
 
 use crate::acknowledgment::{acknowledge, acknowledged_invite, prack};
 use crate::arrival::{Arrival, ArrivalCase, case_of};
+use crate::cancel::{
+    cancel_accepted, cancelled_request, is_unanswered_invite, request_terminated, terminate,
+    termination_told,
+};
 use crate::command::{Respond, UserCommand};
-use crate::dialogs::{Dialogs, end, own_dialog, visit};
+use crate::dialogs::{Dialogs, end, end_early, own_dialog, visit};
 use crate::held_dialog::DialogName;
 use crate::held_request::HeldRequest;
 use crate::item::{CallOut, Item};
@@ -22,7 +27,7 @@ use crate::outputs::{
     tell,
 };
 use crate::refusal::Refusal;
-use crate::request::{dialog_name, is_bye, is_inside};
+use crate::request::{dialog_name, is_bye, is_cancel, is_inside};
 use crate::requests::place_of;
 use crate::respond::{answer_to, dialogs_answered, note_answer, note_dialog, refusal_for};
 use crate::tick::{is_kept, next_due, tick_requests};
@@ -106,16 +111,17 @@ impl Holdings {
             ≡ step.item_taken self.old tag id item now) }
     {
         match item {
-            Item::Up(up) => self.come_up(tag, up),
+            Item::Up(up) => self.come_up(tag, up, now),
             Item::User(UserCommand::Respond(respond)) => self.respond(id, respond, now),
             Item::User(_) => Ok(Vec::new(self.alloc)),
         }
     }
 
     // What a transaction hands up.
-    fn come_up(&mut self, tag: Token, up: Up) -> Result<Vec<CallOut>, AllocError>
+    fn come_up(&mut self, tag: Token, up: Up, now: u64) -> Result<Vec<CallOut>, AllocError>
+        requires { now ≤ 2 ^ 62 }
         ensures { IfOk result (λ outs. (self.new, outs.items)
-            ≡ step.kind_taken self.old tag up up.kind) }
+            ≡ step.kind_taken self.old tag up up.kind now) }
     {
         let Up {
             key,
@@ -124,14 +130,17 @@ impl Holdings {
             kind,
         } = up;
         match kind {
-            Kind::Request(request, reply_to) => self.request(Arrival {
-                key,
-                id,
-                call_id,
-                request,
-                reply_to,
-                tag,
-            }),
+            Kind::Request(request, reply_to) => {
+                let arrival = Arrival {
+                    key,
+                    id,
+                    call_id,
+                    request,
+                    reply_to,
+                    tag,
+                };
+                self.arrive(arrival, now)
+            }
             Kind::Ack(ack) => self.ack(call_id, ack.get()),
             Kind::Response(_) => Ok(Vec::new(self.alloc)),
             Kind::Timeout => tell(self.alloc, Notice::Timeout { call_id, id }),
@@ -139,7 +148,53 @@ impl Holdings {
         }
     }
 
-    // A request.
+    // A request. A CANCEL is a case of its own.
+    fn arrive(&mut self, arrival: Arrival, now: u64) -> Result<Vec<CallOut>, AllocError>
+        requires { now ≤ 2 ^ 62 }
+        ensures { IfOk result (λ outs. (self.new, outs.items)
+            ≡ step.arrival_taken self.old arrival now) }
+    {
+        if is_cancel(arrival.request.get()) {
+            self.cancel(arrival, now)
+        } else {
+            self.request(arrival)
+        }
+    }
+
+    // A CANCEL.
+    fn cancel(&mut self, arrival: Arrival, now: u64) -> Result<Vec<CallOut>, AllocError>
+        requires { now ≤ 2 ^ 62 }
+        ensures { IfOk result (λ outs. (self.new, outs.items)
+            ≡ cancels.cancel_taken self.old arrival now) }
+    {
+        let Some(held) = cancelled_request(self.requests.as_slice(), &arrival.key) else {
+            return no_such_dialog(self.alloc, &arrival);
+        };
+        if !is_unanswered_invite(held) {
+            return one(self.alloc, cancel_accepted(self.alloc, &arrival, held)?);
+        }
+        let (invite, response) = (held.id, request_terminated(self.alloc, held)?);
+        let told = termination_told(self.alloc, &arrival, held, &response)?;
+        let ended = self.terminate(invite, &response, now)?;
+        joined(told, ended)
+    }
+
+    // An INVITE that a CANCEL names has its final response, and its early dialogs end.
+    fn terminate(
+        &mut self,
+        invite: Id,
+        response: &Message,
+        now: u64,
+    ) -> Result<Vec<CallOut>, AllocError>
+        requires { now ≤ 2 ^ 62 }
+        ensures { IfOk result (λ outs. (self.new, outs.items)
+            ≡ cancels.invite_terminated response.now invite now self.old) }
+    {
+        terminate(self.alloc, &mut self.requests, invite, response, now)?;
+        end_early(self.alloc, &mut self.dialogs, invite)
+    }
+
+    // Any other request.
     fn request(&mut self, arrival: Arrival) -> Result<Vec<CallOut>, AllocError>
         ensures { IfOk result (λ outs. (self.new, outs.items)
             ≡ arrived.request_taken self.old arrival) }
@@ -234,7 +289,7 @@ impl Holdings {
         if self.requests.is_empty() {
             self.requests.reserve_exact(1)?;
         }
-        self.requests.push(arrival.into_held(dialog))?;
+        self.requests.push(arrival.into_held(self.alloc, dialog))?;
         tell(self.alloc, notice)
     }
 

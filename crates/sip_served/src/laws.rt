@@ -1,17 +1,23 @@
 //! Laws of the server side of a call.
 
-ghost use Rattle.std.specs.Prelude.{◌≡◌, ◌≢◌, ◌≤◌, ℕ, List, count_by, length, map, true, false};
+ghost use Rattle.std.specs.Prelude.{◌≡◌, ◌≢◌, ◌≤◌, ℕ, List, [], ◌∷◌, Some, count_by, find, map, true, false};
 ghost use Rattle.std.specs.List.{AllByRecursion};
 ghost use Rattle.sip_message.specs.declared.id.Id.{Id};
 ghost use Rattle.sip_message.specs.declared.addr.Addr.{Addr};
+ghost use Rattle.sip_reliable.specs.Ledger.{FewWait};
 ghost use Rattle.sip_timers.specs.Queue.{is_due};
-ghost use Rattle.sip_served.specs.Run.{Event, OneWaitsEach, state_after};
+ghost use Rattle.sip_transactions.specs.declared.input.Command.TheVariants.{Answer};
+ghost use Rattle.sip_served.specs.Cancel.{invite_terminated, is_unanswered_invite, request_terminated, user_termination};
+ghost use Rattle.sip_served.specs.Respond.{respond_taken};
+ghost use Rattle.sip_served.specs.Run.{Event, FewWaitEach, state_after};
 ghost use Rattle.sip_served.specs.ServerSide.{empty_at};
 ghost use Rattle.sip_served.specs.Shown.{brings, for_user, told_by, told_from};
-ghost use Rattle.sip_served.specs.State.{State, is_id, quiet};
-ghost use Rattle.sip_served.specs.Story.{greatest_accepted, held_by, unacknowledged};
+ghost use Rattle.sip_served.specs.State.{State, followed, has_id, is_id, quiet};
+ghost use Rattle.sip_served.specs.Story.{greatest_accepted, held_by, ledger_of};
 ghost use Rattle.sip_served.specs.Telling.{story_after};
 ghost use Rattle.sip_served.specs.Tick.{next_due, tick_taken};
+ghost use Rattle.sip_served.specs.declared.held_request.HeldRequest.{HeldRequest};
+ghost use Rattle.sip_served.specs.declared.item.CallOut.TheVariants.{Command};
 
 /// Before the moment at which something is due a tick does nothing and says nothing; from then on
 /// it does or says something. Where nothing is ever due no tick does anything.
@@ -22,13 +28,14 @@ pub fn ticks_when_due()
         → tick_taken state now ≢ quiet state }
 {}
 
-/// Whatever happened to the server side of a call, of each held request at most one reliable
-/// provisional response waits for its PRACK; of those that were sent at most one has no PRACK after
-/// it (RFC 3262, section 3).
-pub fn at_most_one_waits()
-    ensures held { (local : Addr) (events : List Event) → OneWaitsEach (state_after local events) }
+/// Whatever happened to the server side of a call, of each held request at most 8 reliable
+/// provisional responses wait for their PRACK, and none but the first until that one was
+/// acknowledged; so of those that were sent at most 8 have no PRACK after them, and none but the
+/// first until it has one (RFC 3262, section 3).
+pub fn few_provisionals_wait()
+    ensures held { (local : Addr) (events : List Event) → FewWaitEach (state_after local events) }
     ensures sent { (local : Addr) (events : List Event)
-        → AllByRecursion (λ request. length (unacknowledged request) ≤ 1)
+        → AllByRecursion (λ request. FewWait (ledger_of request))
         (story_after local events).requests }
 {}
 
@@ -54,4 +61,14 @@ pub fn each_request_is_told_once()
         → told_by state event ≡ for_user state event }
     ensures once { (local : Addr) (events : List Event) (id : Id)
         → count_by (is_id id) (told_from (empty_at local) events) ≤ count_by (brings id) events }
+{}
+
+/// An INVITE that a CANCEL terminates is answered, and left, as by the 487 of the user: the same
+/// response goes out, it is its final one, and its early dialogs end (RFC 3261, section 9.2).
+pub fn a_cancel_answers_as_the_user_would()
+    ensures { (state : State) (event : Id) (call_id : List ℕ) (now : ℕ) (held : HeldRequest)
+        → find (has_id held.id) state.requests ≡ Some held → is_unanswered_invite held ≡ true
+        → respond_taken state event (user_termination call_id held.id) now
+        ≡ followed (state, Command held.id (Answer held.key (request_terminated held)) ∷ [])
+        (invite_terminated (request_terminated held) held.id now) }
 {}

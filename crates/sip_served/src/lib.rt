@@ -4,6 +4,7 @@
 
 mod acknowledgment;
 mod arrival;
+mod cancel;
 mod command;
 mod debt;
 pub mod dialogs;
@@ -14,6 +15,7 @@ mod item;
 mod laws;
 mod notice;
 mod outputs;
+mod provisionals;
 mod refusal;
 pub mod request;
 mod requests;
@@ -32,9 +34,10 @@ pub use held_dialog::{DialogLife, DialogName, HeldDialog};
 pub use held_request::{HeldRequest, Retransmission, Success};
 pub use item::{CallOut, Item};
 pub use laws::{
-    at_most_one_waits, each_request_is_told_once, holds_what_its_story_says,
-    the_remote_cseq_is_the_greatest_accepted, ticks_when_due,
+    a_cancel_answers_as_the_user_would, each_request_is_told_once, few_provisionals_wait,
+    holds_what_its_story_says, the_remote_cseq_is_the_greatest_accepted, ticks_when_due,
 };
 pub use notice::Notice;
+pub use provisionals::{NumberedResponse, Provisionals};
 pub use refusal::Refusal;
 pub use served::Served;

@@ -13,7 +13,7 @@ use crate::item::CallOut;
 use crate::notice::Notice;
 use crate::request::local_tag;
 use crate::unsupported::unsupported;
-use sip_message::{Header, Message, Reason, StatusCode, response_to};
+use sip_message::{Header, Message, Reason, StatusCode, Token, response_to};
 use sip_text::{Boxed, Text};
 use sip_transactions::Command;
 use std::alloc::{AllocError, Global};
@@ -58,16 +58,17 @@ fn response_with(
     arrival: &Arrival,
     status: u16,
     reason: &[u8],
+    tag: &Token,
 ) -> Result<Message, AllocError>
     requires low { 100 ≤ status }
     requires high { status ≤ 699 }
     requires reason { IsTrue (is_reason reason.now) }
     ensures { IfOk result (λ response. response
-        ≡ response_of arrival.now.request status reason.now arrival.now.tag) }
+        ≡ response_of arrival.now.request status reason.now tag.now) }
 {
     let reason = Reason::from_text(Text::copy_of(alloc, reason)?);
     let status = StatusCode::from_code(status);
-    response_to(alloc, arrival.request.get(), status, reason, &arrival.tag)
+    response_to(alloc, arrival.request.get(), status, reason, tag)
 }
 
 /// The agent's own answer to a request.
@@ -83,11 +84,8 @@ pub(crate) fn reply(
     ensures { IfOk result (λ out. out ≡ arrived.command_for arrival.now
         (response_of arrival.now.request status reason.now arrival.now.tag)) }
 {
-    command_for(
-        alloc,
-        arrival,
-        response_with(alloc, arrival, status, reason)?,
-    )
+    let response = response_with(alloc, arrival, status, reason, &arrival.tag)?;
+    command_for(alloc, arrival, response)
 }
 
 /// The agent's own answer to a request, alone.
@@ -122,7 +120,8 @@ pub(crate) fn out_of_order(alloc: Global, arrival: &Arrival) -> Result<Vec<CallO
     answered_with(alloc, arrival, 500, b"Server Internal Error")
 }
 
-/// The 481 to a request for a dialog that isn't held, or to a PRACK for nothing that waits for it.
+/// The 481 to a request for a dialog that isn't held, to a PRACK for nothing that waits for it, or
+/// to a CANCEL of no held request.
 pub(crate) fn no_such_dialog(alloc: Global, arrival: &Arrival) -> Result<Vec<CallOut>, AllocError>
     ensures { IfOk result (λ outs. outs.items ≡ arrived.no_such_dialog arrival.now) }
 {
@@ -134,7 +133,20 @@ pub(crate) fn ok(alloc: Global, arrival: &Arrival) -> Result<CallOut, AllocError
     ensures { IfOk result (λ out. out ≡ arrived.command_for arrival.now
         (response_of arrival.now.request 200 (codes "OK") arrival.now.tag)) }
 {
-    reply(alloc, arrival, 200, b"OK")
+    ok_with_tag(alloc, arrival, &arrival.tag)
+}
+
+/// The 200 to a request, with this tag in To where the request has none.
+pub(crate) fn ok_with_tag(
+    alloc: Global,
+    arrival: &Arrival,
+    tag: &Token,
+) -> Result<CallOut, AllocError>
+    ensures { IfOk result (λ out. out ≡ arrived.command_for arrival.now
+        (response_of arrival.now.request 200 (codes "OK") tag.now)) }
+{
+    let response = response_with(alloc, arrival, 200, b"OK", tag)?;
+    command_for(alloc, arrival, response)
 }
 
 /// The 420 to a request that requires options that the agent doesn't know; it names them (RFC 3261,
@@ -155,7 +167,7 @@ fn bad_extension_response(alloc: Global, arrival: &Arrival) -> Result<Message, A
         (response_of arrival.now.request 420 (codes "Bad Extension") arrival.now.tag)) }
 {
     let header = unsupported(alloc, arrival.request.get().require.as_slice())?;
-    let mut response = response_with(alloc, arrival, 420, b"Bad Extension")?;
+    let mut response = response_with(alloc, arrival, 420, b"Bad Extension", &arrival.tag)?;
     add_header(&mut response, header)?;
     Ok(response)
 }

@@ -13,6 +13,7 @@ use crate::dialogs::{Dialogs, confirm, end_early, lives};
 use crate::held_dialog::{DialogLife, HeldDialog};
 use crate::held_request::{HeldRequest, Retransmission, Success};
 use crate::item::CallOut;
+use crate::provisionals::NumberedResponse;
 use crate::refusal::Refusal;
 use crate::request::{
     dialog_name, is_final, is_inside, is_invite, is_provisional, is_success, requires_100rel,
@@ -22,7 +23,8 @@ use sip_dialog::{Dialog, own_contact};
 use sip_message::{Addr, Id, Message, StatusCode, Token, response_to};
 use sip_reliable::{Inbound, SendFault};
 use sip_text::{Boxed, Series, Text};
-use sip_transactions::{Command, LIFETIME, T1};
+use sip_timers::{LIFETIME, T1};
+use sip_transactions::Command;
 use std::alloc::{AllocError, Global};
 
 /// The least status that the user may answer with.
@@ -209,12 +211,16 @@ fn send_reliably(
     requires { now ≤ 2 ^ 62 }
     ensures { OnOk result (held.new ≡ spec.sent_reliably response.now now held.old) }
 {
-    let _ = held.ledger.send(now, !response.body.is_empty());
-    held.provisional = Some(Boxed::new(alloc, response.clone()?)?);
-    Ok(())
+    let Ok(number) = held.ledger.send(now, !response.body.is_empty()) else {
+        return Ok(());
+    };
+    let response = Boxed::new(alloc, response.clone()?)?;
+    held.provisionals
+        .push(NumberedResponse { number, response })
 }
 
-fn finish(
+/// A final response to a held request is the last one.
+pub(crate) fn finish(
     alloc: Global,
     held: &mut HeldRequest,
     response: &Message,

@@ -11,8 +11,8 @@ use sip_model::ShardFault;
 use std::alloc::{AllocError, Global};
 use std::marker::Model;
 
-/// The server requests and the dialogs of one Call-ID (RFC 3261, sections 8.2, 12 and 13.3; RFC
-/// 3262, section 3).
+/// The server requests and the dialogs of one Call-ID (RFC 3261, sections 8.2, 9.2, 12 and 13.3;
+/// RFC 3262, section 3).
 ///
 /// A contract sees what is held, and whether an earlier call answered `NoMemory`: then it holds
 /// nothing, and every later call that can fail answers `Broken`.

@@ -2,8 +2,8 @@
 
 ghost use Rattle.std.specs.Prelude.{◌≡◌, ◌≤◌, ◌^◌, ◌++◌, [], IfOk, OnOk, map, None};
 ghost use Rattle.std.specs.List.{flat_map};
-ghost use Rattle.std.specs.Option.{option_and_then, option_map, option_map_or};
-ghost use Rattle.sip_reliable.specs.Ledger.{next_moment};
+ghost use Rattle.std.specs.Option.{option_and_then, option_map};
+ghost use Rattle.sip_reliable.specs.Happening.{is_among};
 ghost use Rattle.sip_served.specs.Tick as spec;
 ghost use Rattle.sip_served.specs.declared.notice.Notice.TheVariants as notices;
 
@@ -16,6 +16,16 @@ use sip_reliable::Tick;
 use sip_timers::earlier;
 use sip_transactions::T2;
 use std::alloc::{AllocError, Global};
+
+/// What is due of the 2xx to an INVITE (RFC 3261, section 13.3.1.4).
+#[derive(Clone, Copy)]
+enum SuccessDue {
+    Nothing,
+    /// It is to be sent again.
+    Again,
+    /// Its ACK didn't come in time: it isn't sent again.
+    GivenUp,
+}
 
 /// Does what is due of each held request at the moment `now`, in ms.
 pub(crate) fn tick_requests(
@@ -36,7 +46,7 @@ pub(crate) fn tick_requests(
     Ok(())
 }
 
-// First the 2xx, and then the reliable provisional response.
+// First the 2xx, and then the reliable provisional responses.
 fn tick_request(
     alloc: Global,
     held: &mut HeldRequest,
@@ -49,7 +59,7 @@ fn tick_request(
         ++ (spec.request_ticked now held.old).1) }
 {
     tick_success(alloc, held, now, outs)?;
-    tick_provisional(alloc, held, now, outs)
+    tick_provisionals(alloc, held, now, outs)
 }
 
 // What is due of the 2xx to an INVITE.
@@ -68,13 +78,13 @@ fn tick_success(
         return Ok(());
     };
     match success_answer(success, now) {
-        Tick::Nothing => Ok(()),
-        Tick::Again => {
+        SuccessDue::Nothing => Ok(()),
+        SuccessDue::Again => {
             outs.push(answer_command(alloc, held, success.response.get())?)?;
             repeat_success(held, now);
             Ok(())
         }
-        Tick::GivenUp => {
+        SuccessDue::GivenUp => {
             outs.push(CallOut::Notice(no_ack(held)?))?;
             stop_success(held);
             Ok(())
@@ -82,18 +92,18 @@ fn tick_success(
     }
 }
 
-fn success_answer(success: &Success, now: u64) -> Tick
+fn success_answer(success: &Success, now: u64) -> SuccessDue
     ensures { result ≡ spec.success_answer now success.now }
 {
     let Some(retransmission) = success.retransmission else {
-        return Tick::Nothing;
+        return SuccessDue::Nothing;
     };
     if success.end <= now {
-        Tick::GivenUp
+        SuccessDue::GivenUp
     } else if retransmission.due <= now {
-        Tick::Again
+        SuccessDue::Again
     } else {
-        Tick::Nothing
+        SuccessDue::Nothing
     }
 }
 
@@ -131,44 +141,63 @@ fn no_ack(held: &HeldRequest) -> Result<Notice, AllocError>
     })
 }
 
-// What is due of the reliable provisional response that waits.
-fn tick_provisional(
+// What is due of the reliable provisional responses that wait.
+fn tick_provisionals(
     alloc: Global,
     held: &mut HeldRequest,
     now: u64,
     outs: &mut Vec<CallOut>,
 ) -> Result<(), AllocError>
     requires { now ≤ 2 ^ 62 }
-    ensures held { OnOk result (held.new ≡ (spec.provisional_ticked now held.old).0) }
+    ensures held { OnOk result (held.new ≡ (spec.provisionals_ticked now held.old).0) }
     ensures outs { OnOk result (outs.new.items ≡ outs.old.items
-        ++ (spec.provisional_ticked now held.old).1) }
+        ++ (spec.provisionals_ticked now held.old).1) }
 {
-    if held.provisional.is_none() {
-        return Ok(());
-    }
     let tick = held.ledger.tick(now);
-    tell_provisional(alloc, held, tick, outs)
+    tell_provisionals(alloc, held, tick, outs)
 }
 
-fn tell_provisional(
+fn tell_provisionals(
     alloc: Global,
     held: &HeldRequest,
     tick: Tick,
     outs: &mut Vec<CallOut>,
 ) -> Result<(), AllocError>
     ensures { OnOk result (outs.new.items ≡ outs.old.items
-        ++ option_map_or (λ response. spec.told_of tick held.now response
-        (notices.NoPrack held.now.request.call_id held.now.id)) held.now.provisional []) }
+        ++ spec.provisionals_told tick held.now) }
 {
-    let Some(response) = &held.provisional else {
-        return Ok(());
-    };
     match tick {
-        Tick::Nothing => {}
-        Tick::Again => outs.push(answer_command(alloc, held, response.get())?)?,
-        Tick::GivenUp => outs.push(CallOut::Notice(no_prack(held)?))?,
+        Tick::Nothing => Ok(()),
+        Tick::Again(numbers) => send_again(alloc, held, numbers.as_slice(), outs),
+        Tick::GivenUp => {
+            outs.push(CallOut::Notice(no_prack(held)?))?;
+            Ok(())
+        }
+    }
+}
+
+// Those of these numbers.
+fn send_again(
+    alloc: Global,
+    held: &HeldRequest,
+    numbers: &[u32],
+    outs: &mut Vec<CallOut>,
+) -> Result<(), AllocError>
+    ensures { OnOk result (outs.new.items ≡ outs.old.items
+        ++ spec.sent_again numbers.now held.now) }
+{
+    for one in held.provisionals.as_slice() {
+        if is_among(numbers, one.number) {
+            outs.push(answer_command(alloc, held, one.response.get())?)?;
+        }
     }
     Ok(())
+}
+
+fn is_among(numbers: &[u32], wanted: u32) -> bool
+    ensures { result ≡ is_among numbers.now wanted }
+{
+    numbers.iter().any(|number| wanted == *number)
 }
 
 fn no_prack(held: &HeldRequest) -> Result<Notice, AllocError>
@@ -201,7 +230,7 @@ fn request_due(held: &HeldRequest) -> Option<u64>
     ensures { result ≡ spec.request_due held.now }
 {
     earlier(
-        earlier(success_due(held), provisional_due(held)),
+        earlier(success_due(held), held.ledger.next_due()),
         held.removal,
     )
 }
@@ -212,14 +241,4 @@ fn success_due(held: &HeldRequest) -> Option<u64>
     let success = held.success.as_ref()?;
     let retransmission = success.retransmission?;
     Some(success.end.min(retransmission.due))
-}
-
-fn provisional_due(held: &HeldRequest) -> Option<u64>
-    ensures { result ≡ option_and_then (λ _. next_moment held.now.ledger) held.now.provisional }
-{
-    if held.provisional.is_some() {
-        held.ledger.next_due()
-    } else {
-        None
-    }
 }

@@ -22,7 +22,7 @@ use Rattle.sip_transactions.specs.declared.step.Handed.TheVariants as up
 use Rattle.sip_transactions.specs.declared.step.Next.TheVariants.{Same, Ended, Become}
 use Rattle.sip_transactions.specs.declared.step.Sent.TheVariants as send
 use Rattle.sip_transactions.specs.declared.step.Step.{Step}
-use Rattle.sip_transactions.specs.declared.timers.TheConstants.{LIFETIME}
+use Rattle.sip_timers.specs.declared.estimate.TheConstants.{LIFETIME}
 use Rattle.sip_transactions.specs.declared.trigger.Class.TheVariants as class
 use Rattle.sip_transactions.specs.declared.trigger.Trigger.{Trigger}
 use Rattle.sip_transactions.specs.declared.trigger.Trigger.TheVariants as on

@@ -16,7 +16,7 @@ use Rattle.sip_message.specs.declared.key.Key.TheVariants as key
 use Rattle.sip_message.specs.declared.message.Message.{Message}
 use Rattle.sip_message.specs.declared.start_line.StartLine.{StartLine}
 use Rattle.sip_message.specs.declared.start_line.StartLine.TheVariants as start
-use Rattle.sip_message.specs.Ack.{ack_of}
+use Rattle.sip_message.specs.HopByHop.{ack_of}
 use Rattle.sip_message.specs.Message.{is_request_message, is_request_line}
 use Rattle.sip_message.specs.Written.{written, head_text, start_text, identity_text, routes_text, extensions_text, content_text, via_line, number_line}
 use Rattle.sip_model.specs.Machine.{outputs_from, IsWithinLife, Timed}

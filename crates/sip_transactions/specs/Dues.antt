@@ -1,6 +1,7 @@
 -- The due moments of a transaction, as its timers keep them.
 use Rattle.std.specs.Prelude.{ℕ, zero, suc, ◌+◌, ◌*◌, ◌^◌, min, Bool, true, false, nat_le, Option, None, Some}
-use Rattle.sip_transactions.specs.declared.timers.TheConstants.{T1, T2}
+use Rattle.sip_timers.specs.declared.estimate.TheConstants.{T1}
+use Rattle.sip_transactions.specs.declared.timers.TheConstants.{T2}
 
 -- at most one moment to send again, how often it has fired since it was first set, and at most one
 -- moment to end

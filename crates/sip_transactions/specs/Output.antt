@@ -5,7 +5,7 @@ use Rattle.sip_message.specs.declared.key.Key.{Key}
 use Rattle.sip_message.specs.declared.message.Message.{Message}
 use Rattle.sip_message.specs.declared.start_line.StartLine.{StartLine}
 use Rattle.sip_message.specs.declared.start_line.StartLine.TheVariants as start
-use Rattle.sip_message.specs.Ack.{ack_of}
+use Rattle.sip_message.specs.HopByHop.{ack_of}
 use Rattle.sip_message.specs.Response.{response_of}
 use Rattle.sip_message.specs.Written.{written}
 use Rattle.sip_transactions.specs.declared.life.Life.{Life}

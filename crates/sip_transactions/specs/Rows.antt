@@ -7,7 +7,8 @@ use Rattle.sip_transactions.specs.declared.state.State.{State}
 use Rattle.sip_transactions.specs.declared.state.State.TheVariants.{Calling, Trying, Proceeding, Completed, Accepted, Confirmed}
 use Rattle.sip_transactions.specs.declared.state.Role.{Role}
 use Rattle.sip_transactions.specs.declared.state.Role.TheVariants.{InviteClient, Client, InviteServer, Server}
-use Rattle.sip_transactions.specs.declared.timers.TheConstants.{T4, LIFETIME}
+use Rattle.sip_timers.specs.declared.estimate.TheConstants.{LIFETIME}
+use Rattle.sip_transactions.specs.declared.timers.TheConstants.{T4}
 use Rattle.sip_transactions.specs.declared.trigger.Class.{Class}
 use Rattle.sip_transactions.specs.declared.trigger.Class.TheVariants as class
 use Rattle.sip_transactions.specs.declared.trigger.Trigger.{Trigger}

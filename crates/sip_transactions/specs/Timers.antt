@@ -4,7 +4,8 @@ use Rattle.sip_timers.specs.Queue.{is_due}
 use Rattle.sip_timers.specs.Earlier.{earlier}
 use Rattle.sip_transactions.specs.declared.step.Due.{Due}
 use Rattle.sip_transactions.specs.declared.step.Due.TheVariants.{Keep, Clear, Ending, Both, Again}
-use Rattle.sip_transactions.specs.declared.timers.TheConstants.{T1, T2, LIFETIME}
+use Rattle.sip_timers.specs.declared.estimate.TheConstants.{LIFETIME, T1}
+use Rattle.sip_transactions.specs.declared.timers.TheConstants.{T2}
 use Rattle.sip_transactions.specs.declared.step.Pace.{Pace}
 use Rattle.sip_transactions.specs.declared.step.Pace.TheVariants.{Doubled, Capped, Even}
 use Rattle.sip_transactions.specs.Dues.{Dues}

@@ -23,4 +23,4 @@ pub use shard::Shard;
 pub use sip_model::ShardFault;
 pub use state::State;
 pub use stray::is_stray;
-pub use timers::{LIFETIME, T1, T2};
+pub use timers::T2;

@@ -8,11 +8,12 @@ ghost use Rattle.sip_transactions.specs.Rows.{row_of, rows_of, invite_client_row
 use crate::state::Role;
 use crate::state::State::{self, Accepted, Calling, Completed, Confirmed, Proceeding, Trying};
 use crate::step::{Due, Handed, Pace, Sent, Step};
-use crate::timers::{LIFETIME, T4};
+use crate::timers::T4;
 use crate::trigger::Class;
 use crate::trigger::Trigger::{
     self, Ack, Answer, Failed, Request, Response, RetransmitDue, Start, TimeoutDue,
 };
+use sip_timers::LIFETIME;
 
 /// The row of a table that fits a state and a trigger. No state is `None`.
 pub fn step_of(role: Role, state: Option<State>, trigger: Trigger) -> Option<Step>

@@ -5,20 +5,15 @@ ghost use Rattle.sip_timers.specs.Queue.{is_due};
 ghost use Rattle.sip_transactions.specs.Timers.{interval, rearmed, first_due, IsTimely};
 
 use crate::step::{Due, Pace};
-use sip_timers::earlier;
+use sip_timers::{LIFETIME, T1, earlier};
 use std::marker::Model;
 
-/// T1, the first interval between repeats, in ms (RFC 3261, section 17.1.1.1; so are T2 and T4).
-pub const T1: u32 = 500;
-
-/// T2, the greatest interval where intervals are capped, in ms.
+/// T2, the greatest interval where intervals are capped, in ms (RFC 3261, section 17.1.2.2; so is
+/// T4).
 pub const T2: u32 = 4_000;
 
 /// T4, how long a message may stay in the network, in ms: timers I and K.
 pub(crate) const T4: u32 = 5_000;
-
-/// 64 times T1, how long a transaction waits, in ms: timers B, D, F, H, J, L and M.
-pub const LIFETIME: u32 = 64 * T1;
 
 /// At most one moment to send again, and at most one to end, in milliseconds.
 #[derive(Drop)]

@@ -31,6 +31,14 @@ fn nothing_follows_the_last_number(rt: HostRuntime) {
     }
 }
 
+// Whether those of these numbers are to be sent again.
+fn is_again(tick: &Tick, numbers: &[u32]) -> bool {
+    match tick {
+        Tick::Again(due) => due.as_slice() == numbers,
+        Tick::Nothing | Tick::GivenUp => false,
+    }
+}
+
 #[test]
 fn sends_again_until_it_is_given_up(rt: HostRuntime) {
     let mut outbound = Outbound::new(1, true);
@@ -38,23 +46,17 @@ fn sends_again_until_it_is_given_up(rt: HostRuntime) {
     assert!(rt; outbound.send(0, false) == Ok(1));
     assert!(rt; outbound.next_due() == Some(500));
     assert!(rt; !outbound.body_waits());
-    for (now, tick) in [
-        (499u32, Tick::Nothing),
-        (500, Tick::Again),
-        (1499, Tick::Nothing),
-        (1500, Tick::Again),
-        (3500, Tick::Again),
-        (7500, Tick::Again),
-        (15_500, Tick::Again),
-        (31_499, Tick::Nothing),
-        (31_500, Tick::Again),
-        (31_999, Tick::Nothing),
-        (32_000, Tick::GivenUp),
-        (32_000, Tick::Nothing),
-        (99_000, Tick::Nothing),
-    ] {
-        assert!(rt; outbound.tick(u64::from(now)) == tick, "at {now}");
+    for now in [500u32, 1500, 3500, 7500, 15_500, 31_500] {
+        assert!(rt;
+            outbound.tick(u64::from(now) - 1) == Tick::Nothing,
+            "before {now}"
+        );
+        assert!(rt; is_again(&outbound.tick(u64::from(now)), &[1]), "at {now}");
     }
+    assert!(rt; outbound.tick(31_999) == Tick::Nothing);
+    assert!(rt; outbound.tick(32_000) == Tick::GivenUp);
+    assert!(rt; outbound.tick(32_000) == Tick::Nothing);
+    assert!(rt; outbound.tick(99_000) == Tick::Nothing);
     assert!(rt; outbound.next_due().is_none());
     assert!(rt; outbound.acknowledge(1) == Ok(()));
     assert!(rt; outbound.send(99_000, true) == Ok(2));
@@ -62,14 +64,30 @@ fn sends_again_until_it_is_given_up(rt: HostRuntime) {
     assert!(rt; outbound.next_due() == Some(99_500));
 }
 
+// After the first was acknowledged several wait, each with its own repeats, until one was given up.
 #[test]
-fn is_given_up_at_a_late_tick(rt: HostRuntime) {
-    let mut outbound = Outbound::new(1, true);
-    assert!(rt; outbound.send(0, false) == Ok(1));
-    assert!(rt; outbound.tick(499) == Tick::Nothing);
-    assert!(rt; outbound.tick(500) == Tick::Again);
-    assert!(rt; outbound.tick(1499) == Tick::Nothing);
+fn several_wait(rt: HostRuntime) {
+    let mut outbound = Outbound::new(4_294_967_286, true);
+    assert!(rt; outbound.send(0, false) == Ok(4_294_967_286));
+    assert!(rt; outbound.acknowledge(4_294_967_286) == Ok(()));
+    for number in 4_294_967_287u32..4_294_967_295 {
+        assert!(rt; outbound.send(0, false) == Ok(number));
+    }
+    assert!(rt; outbound.send(0, false) == Err(SendFault::Unacknowledged));
+    for number in 4_294_967_287u32..4_294_967_294 {
+        assert!(rt; outbound.acknowledge(number) == Ok(()));
+    }
+    assert!(rt; outbound.send(200, true) == Ok(4_294_967_295));
+    assert!(rt; outbound.next_due() == Some(500));
+    assert!(rt; is_again(&outbound.tick(500), &[4_294_967_294]));
+    assert!(rt; outbound.next_due() == Some(700));
+    assert!(rt; is_again(&outbound.tick(1600), &[4_294_967_294, 4_294_967_295]));
     assert!(rt; outbound.tick(32_000) == Tick::GivenUp);
+    assert!(rt; outbound.next_due().is_none());
+    assert!(rt; outbound.acknowledge(4_294_967_294) == Ok(()));
+    assert!(rt; outbound.send(32_000, false) == Err(SendFault::Unacknowledged));
+    assert!(rt; outbound.acknowledge(4_294_967_295) == Ok(()));
+    assert!(rt; outbound.send(32_000, false) == Err(SendFault::NumbersUsedUp));
 }
 
 #[test]
@@ -87,6 +105,11 @@ fn refuses_in_order(rt: HostRuntime) {
     assert!(rt; unsupported.send(0, false) == Err(SendFault::NotSupported));
     unsupported.close();
     assert!(rt; unsupported.send(0, false) == Err(SendFault::Closed));
+    let mut last = Outbound::new(4_294_967_294, true);
+    assert!(rt; last.send(0, false) == Ok(4_294_967_294));
+    assert!(rt; last.acknowledge(4_294_967_294) == Ok(()));
+    assert!(rt; last.send(0, false) == Ok(4_294_967_295));
+    assert!(rt; last.send(0, false) == Err(SendFault::NumbersUsedUp));
     let mut waiting = Outbound::new(1, true);
     assert!(rt; waiting.send(0, false) == Ok(1));
     waiting.close();

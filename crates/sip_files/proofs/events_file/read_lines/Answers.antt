@@ -5,36 +5,39 @@ use Rattle.sip_files.proofs.events_file.read_lines.Goals as goal
 
 pub loop-left-init : goal.loop-left-init
 loop-left-init c =
-    rw c.new-draft.ensures (record { so_far = nothing_yet c.args.text.now; few = omega arith })
+    rw c.new-draft.ensures (record {
+      so_far = nothing_yet c.args.version c.args.text.now;
+      few = omega arith;
+    })
 
 pub returns-in_default : goal.returns-in_default
 returns-in_default c =
     let some : 0 < length c.loop-left.left.now = grind (arith, nat_tests) in
-    without_end c.loop-left.draft c.loop-left.number c.args.text.now c.loop-left.left.now
-    c.loop-left.invariant.so_far (λ e. omega (arith, some, ap length e))
+    without_end c.args.version c.loop-left.draft c.loop-left.number c.args.text.now
+    c.loop-left.left.now c.loop-left.invariant.so_far (λ e. omega (arith, some, ap length e))
     c.in_default.ensures.parts
 
 pub returns-in_default-2 : goal.returns-in_default-2
 returns-in_default-2 c =
     let some : 0 < length c.loop-left.left.now = grind (arith, nat_tests) in
-    no_such_line c.loop-left.draft c.loop-left.number c.args.text.now c.loop-left.left.now
-    c.in-Some.line.now c.in-Some.after.now c.loop-left.invariant.so_far
+    no_such_line c.args.version c.loop-left.draft c.loop-left.number c.args.text.now
+    c.loop-left.left.now c.loop-left.invariant.so_far c.in-Some.line.now c.in-Some.after.now
     (λ e. omega (arith, some, ap length e)) c.in-Some.ensures.parts
     (rw c.in_default-2.is at c.in_ok-line.ensures)
 
 pub returns-in_default-3 : goal.returns-in_default-3
 returns-in_default-3 c =
     let some : 0 < length c.loop-left.left.now = grind (arith, nat_tests) in
-    not_there c.loop-left.draft c.loop-left.number c.args.text.now c.loop-left.left.now
-    c.in-Some.line.now c.in-Some.after.now c.in-Some-2.line c.loop-left.invariant.so_far
-    (λ e. omega (arith, some, ap length e)) c.in-Some.ensures.parts
+    not_there c.args.version c.loop-left.draft c.loop-left.number c.args.text.now
+    c.loop-left.left.now c.loop-left.invariant.so_far c.in-Some.line.now c.in-Some.after.now
+    c.in-Some-2.line (λ e. omega (arith, some, ap length e)) c.in-Some.ensures.parts
     (rw c.in-Some-2.is at c.in_ok-line.ensures) (rw c.in_default-3.is at c.in_ok-next.ensures)
 
 pub loop-left-preserved : goal.loop-left-preserved
 loop-left-preserved c = record {
-  so_far = one_further c.loop-left.draft c.in-Some-3.next c.loop-left.number c.args.text.now
-      c.loop-left.left.now c.in-Some.line.now c.in-Some.after.now c.in-Some-2.line
-      c.loop-left.invariant.so_far c.in-Some.ensures.parts
+  so_far = one_further c.args.version c.loop-left.draft c.loop-left.number c.args.text.now
+      c.loop-left.left.now c.loop-left.invariant.so_far c.in-Some-3.next c.in-Some.line.now
+      c.in-Some.after.now c.in-Some-2.line c.in-Some.ensures.parts
       (rw c.in-Some-2.is at c.in_ok-line.ensures) (rw c.in-Some-3.is at c.in_ok-next.ensures);
   few = omega (arith, c.in-Some.ensures.length);
 }

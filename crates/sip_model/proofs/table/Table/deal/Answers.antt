@@ -1,6 +1,6 @@
 use Rattle.std.proofs.Common.{◌≡◌, rules, sym, subst, Some}
 use Rattle.sip_model.specs.Machine.{ticks_of}
-use Rattle.sip_model.specs.Phase.{Phase, DealsPhase, phase_at}
+use Rattle.sip_model.specs.Phase.{DealsPhase, phase_at}
 use Rattle.sip_model.specs.Table.{Held}
 use Rattle.sip_model.specs.Told.{groups}
 use Rattle.sip_model.proofs.Phases.{deals_phase, adds_phase}

@@ -1,0 +1,114 @@
+-- The user's command to cancel an INVITE (RFC 3261, section 9.1).
+use Rattle.std.specs.Prelude.{Bool, not, ◌||◌, List, [], ◌∷◌, ◌++◌, Option, None, Some, if◌then◌else◌}
+use Rattle.std.specs.Option.{is_some, option_map}
+use Rattle.sip_message.specs.HopByHop.{cancel_of}
+use Rattle.sip_message.specs.TopVia.{top_branch}
+use Rattle.sip_message.specs.declared.id.Id.{Id}
+use Rattle.sip_served.specs.declared.command.Cancel.{Cancel}
+use Rattle.sip_served.specs.declared.item.CallOut.{CallOut}
+use Rattle.sip_served.specs.declared.refusal.Refusal.{Refusal}
+use Rattle.sip_served.specs.declared.refusal.Refusal.TheVariants.{AlreadyFinal, NoSuchRequest}
+use Rattle.sip_clients.specs.declared.cancel.CancelCase.{CancelCase}
+use Rattle.sip_clients.specs.declared.cancel.CancelCase.TheVariants as case
+use Rattle.sip_clients.specs.declared.cancel.Cancellation.{Cancellation}
+use Rattle.sip_clients.specs.declared.client.Asks.TheVariants.{Plain}
+use Rattle.sip_clients.specs.declared.client.Cancelling.{Cancelling}
+use Rattle.sip_clients.specs.declared.client.Cancelling.TheVariants.{NotAsked, Waits, Sent}
+use Rattle.sip_clients.specs.declared.client.Client.{Client}
+use Rattle.sip_clients.specs.declared.event.Event.{Event}
+use Rattle.sip_clients.specs.Client.{Clients, Side, Taken, client_at, client_changed, client_for, with_client}
+use Rattle.sip_clients.specs.Outputs.{refused_notice, start_under}
+use Rattle.sip_clients.specs.Reply.{is_inviting}
+
+-- ---- the CANCEL
+
+-- a request outside of dialogs, to where the INVITE was sent
+abbrev pub cancel_client : Id → Client → Client
+cancel_client id invite = client_for id Plain (cancel_of invite.request) invite.to
+
+-- its transaction has the branch of the INVITE
+unfoldable pub cancel_command : Id → Client → CallOut
+cancel_command id invite = start_under id (top_branch invite.request) (cancel_client id invite)
+
+-- the CANCEL of an INVITE that the event of this id asked for
+abbrev pub cancellation : Id → Client → Cancellation
+cancellation id invite =
+    record { client = cancel_client id invite; start = cancel_command id invite }
+
+-- it is sent: it is held, and its transaction starts after what was told
+abbrev pub sent_beside : Option Cancellation → Clients × List CallOut → Clients × List CallOut
+sent_beside None done = done
+sent_beside (Some cancel) done =
+    (with_client (cancel.client).id cancel.client done.0, done.1 ++ cancel.start ∷ [])
+
+-- ---- the command
+
+-- it is sent at once where a provisional response came, and otherwise waits for one
+abbrev pub asking_case : Bool → Cancelling → CancelCase
+asking_case provisional NotAsked = if provisional then case.Starts else case.Waits
+asking_case provisional (Waits id) = case.Repeated
+asking_case provisional Sent = case.Repeated
+
+-- of an INVITE alone, and not once a 2xx came
+abbrev pub cancel_case : Client → CancelCase
+cancel_case client =
+    if not (is_inviting client.asks) then case.Refused NoSuchRequest
+    else (if is_some client.removal then case.Refused AlreadyFinal
+    else asking_case client.provisional client.cancel)
+
+abbrev pub asked : Cancelling → Client → Client
+asked cancel client = record client { cancel = cancel }
+
+abbrev pub refusing : Event → Cancel → Refusal → Clients → Clients × List CallOut
+refusing event command refusal clients =
+    (clients, refused_notice event command.call_id refusal ∷ [])
+
+abbrev pub cancelled_as : CancelCase → Event → Cancel → Client → Clients → Clients × List CallOut
+cancelled_as (case.Refused refusal) event command invite clients =
+    refusing event command refusal clients
+cancelled_as case.Repeated event command invite clients = (clients, [])
+cancelled_as case.Waits event command invite clients =
+    (client_changed command.id (asked (Waits event.id)) clients, [])
+cancelled_as case.Starts event command invite clients =
+    sent_beside (Some (cancellation event.id invite))
+    (client_changed command.id (asked Sent) clients, [])
+
+abbrev pub cancelled_of : Option Client → Event → Cancel → Clients → Clients × List CallOut
+cancelled_of None event command clients = refusing event command NoSuchRequest clients
+cancelled_of (Some invite) event command clients =
+    cancelled_as (cancel_case invite) event command invite clients
+
+abbrev pub cancelled : Event → Cancel → Clients → Clients × List CallOut
+cancelled event command clients =
+    cancelled_of (client_at command.id clients) event command clients
+
+-- it does nothing to the dialogs
+abbrev pub cancel_taken : Event → Cancel → Side → Taken
+cancel_taken event command side =
+    let after = cancelled event command side.clients in
+    (record side { clients = after.0 }, after.1)
+
+-- ---- a response
+
+-- a CANCEL that waits is sent after a provisional response, and forgotten after a final one
+abbrev pub cancelling_after : Bool → Cancelling → Cancelling
+cancelling_after final NotAsked = NotAsked
+cancelling_after final (Waits id) = if final then NotAsked else Sent
+cancelling_after final Sent = Sent
+
+-- the INVITE when the response has come
+abbrev pub noted : Bool → Client → Client
+noted final client = record client {
+  provisional = client.provisional || not final;
+  cancel = cancelling_after final client.cancel;
+}
+
+abbrev pub freed_by : Bool → Cancelling → Option Id
+freed_by final NotAsked = None
+freed_by final (Waits id) = if final then None else Some id
+freed_by final Sent = None
+
+-- the CANCEL that waited for it
+abbrev pub cancel_freed : Bool → Client → Option Cancellation
+cancel_freed final invite =
+    option_map (λ id. cancellation id invite) (freed_by final invite.cancel)

@@ -1,0 +1,236 @@
+-- Of each held request few reliable provisional responses wait for their PRACK.
+use Rattle.std.proofs.Common.{◌≡◌, ℕ, Bool, true, false, not, ◌==◌, cond, List, [], ◌∷◌, ◌++◌, map, refl}
+use Rattle.std.specs.Prelude.{Option, None, Some, filter, find, fold}
+use Rattle.std.specs.List.{AllByRecursion}
+use Rattle.sip_model.proofs.Ordered.{by_bool}
+use Rattle.sip_message.specs.declared.addr.Addr.{Addr}
+use Rattle.sip_message.specs.declared.id.Id.{Id}
+use Rattle.sip_message.specs.declared.message.Message.{Message}
+use Rattle.sip_reliable.specs.declared.send_fault.SendFault.{SendFault}
+use Rattle.sip_reliable.specs.declared.tick.Tick.{Tick}
+use Rattle.sip_reliable.specs.declared.tick.Tick.TheVariants as tick
+use Rattle.sip_reliable.specs.Ledger.{FewWait, ok_unless, send_fault, tick_answer}
+use Rattle.sip_reliable.specs.Sound.{IsSound}
+use Rattle.sip_reliable.proofs.Sounds.{few_wait as few_by, free, sound_given_up, sound_kept, sound_new, sound_repeated, sound_sent}
+use Rattle.sip_transactions.specs.declared.output.Kind.{Kind}
+use Rattle.sip_transactions.specs.declared.output.Kind.TheVariants.{Request, Ack, Response, Timeout, Failed}
+use Rattle.sip_transactions.specs.declared.output.Up.{Up}
+use Rattle.sip_served.specs.declared.arrival.Arrival.{Arrival}
+use Rattle.sip_served.specs.declared.arrival.ArrivalCase.{ArrivalCase}
+use Rattle.sip_served.specs.declared.arrival.ArrivalCase.TheVariants.{Merged, BadExtension, NoDialog, OutOfOrder, Acknowledges, AcknowledgesNothing, ForUser}
+use Rattle.sip_served.specs.declared.command.Respond.{Respond as Answer}
+use Rattle.sip_served.specs.declared.command.UserCommand.{UserCommand}
+use Rattle.sip_served.specs.declared.command.UserCommand.TheVariants as command
+use Rattle.sip_served.specs.declared.held_dialog.DialogName.{DialogName}
+use Rattle.sip_served.specs.declared.held_request.HeldRequest.{HeldRequest}
+use Rattle.sip_served.specs.declared.held_request.Success.{Success}
+use Rattle.sip_served.specs.declared.item.Item.TheVariants as item
+use Rattle.sip_served.specs.declared.refusal.Refusal.{Refusal}
+use Rattle.sip_served.specs.Acknowledgment.{ack_noted, acked, acknowledged_invite}
+use Rattle.sip_served.specs.Arrival.{arrival_of, first_rseq, by_case, case_of, noted, pracked, bye_taken}
+use Rattle.sip_served.specs.Cancel.{by_cancelled, cancelled_request, is_unanswered_invite, request_terminated}
+use Rattle.sip_served.specs.Requests.{dialog_name, is_bye, is_cancel, is_inside}
+use Rattle.sip_served.specs.Respond.{answered, by_refusal, by_request, finished, makes_dialog, sent_as, refusal_for, with_dialog, is_sent_reliably}
+use Rattle.sip_served.specs.Requests.{is_final}
+use Rattle.sip_served.specs.Run.{Event, Takes, Ticks, FewWaitEach, event_taken, state_after}
+use Rattle.sip_served.specs.ServerSide.{empty_at}
+use Rattle.sip_served.specs.State.{State, changed_first, has_id}
+use Rattle.sip_served.specs.Step.{arrival_taken, command_taken, kind_taken}
+use Rattle.sip_served.specs.Tick.{is_kept_at, provisionals_by, request_ticked, success_of, success_ticked}
+
+-- ---- lists
+
+module _ {X : Type 0} (P : X → Type 0) where
+  appended : (xs : List X) (x : X) → AllByRecursion P xs → P x → AllByRecursion P (xs ++ x ∷ [])
+  appended [] x all one = (one, tt)
+  appended (y ∷ ys) x all one = (all.0, appended ys x all.1 one)
+
+  changed_step : (test : X → Bool) (change : X → X) (x : X) (xs : List X) (b : Bool) → P (change x)
+      → P x → AllByRecursion P xs → AllByRecursion P (changed_first test change xs)
+      → AllByRecursion P (cond b (change x ∷ xs) (x ∷ changed_first test change xs))
+  changed_step test change x xs true its one all rest = (its, all)
+  changed_step test change x xs false its one all rest = (one, rest)
+
+  changed_all : (test : X → Bool) (change : X → X) → ((x : X) → P x → P (change x)) → (xs : List X)
+      → AllByRecursion P xs → AllByRecursion P (changed_first test change xs)
+  changed_all test change keeps [] all = tt
+  changed_all test change keeps (x ∷ xs) all =
+      changed_step test change x xs (test x) (keeps x all.0) all.0 all.1
+      (changed_all test change keeps xs all.1)
+
+  filter_step : (x : X) (rest : List X) (b : Bool) → P x → AllByRecursion P rest
+      → AllByRecursion P (cond b (x ∷ rest) rest)
+  filter_step x rest true one all = (one, all)
+  filter_step x rest false one all = all
+
+  mapped_all : (test : X → Bool) (f : X → X) → ((x : X) → P x → P (f x)) → (xs : List X)
+      → AllByRecursion P xs → AllByRecursion P (filter test (map f xs))
+  mapped_all test f keeps [] all = tt
+  mapped_all test f keeps (x ∷ xs) all =
+      filter_step (f x) (filter test (map f xs)) (test (f x)) (keeps x all.0)
+      (mapped_all test f keeps xs all.1)
+
+-- ---- one request
+
+-- what holds of the responses to it that wait
+abbrev pub IsKept : HeldRequest → Type 0
+IsKept held = IsSound held.ledger.first held.ledger.next held.ledger.waiting
+
+abbrev pub IsKeptEach : State → Type 0
+IsKeptEach state = AllByRecursion IsKept state.requests
+
+sent_keeps : (o : Option SendFault) (response : Message) (now : ℕ) (held : HeldRequest)
+    → send_fault held.ledger ≡ o → IsKept held
+    → IsKept (sent_as (ok_unless o held.ledger.next) response now held)
+sent_keeps None response now held is kept =
+    sound_sent held.ledger.first held.ledger.next held.ledger.waiting _ refl
+    (free held.ledger is).0 kept
+sent_keeps (Some fault) response now held is kept = kept
+
+answered_keeps : (r : Answer) (response : Message) (now : ℕ) (held : HeldRequest) → IsKept held
+    → IsKept (answered r response now held)
+answered_keeps r response now held kept =
+    by_bool (is_sent_reliably held r)
+    (λ e. rw e (sent_keeps (send_fault held.ledger) response now held refl kept))
+    (λ e. by_bool (is_final r.status) (λ f. rw (e, f) kept) (λ f. rw (e, f) kept))
+
+dialog_keeps : (event : Id) (r : Answer) (held : HeldRequest) → IsKept held
+    → IsKept (with_dialog event r held)
+dialog_keeps event r held kept =
+    by_bool (makes_dialog held r.status) (λ e. rw e kept) (λ e. rw e kept)
+
+pracked_keeps : (rseq : ℕ) (held : HeldRequest) → IsKept held → IsKept (pracked rseq held)
+pracked_keeps rseq held kept =
+    sound_kept held.ledger.first held.ledger.next (λ p. not (p.number == rseq))
+    held.ledger.waiting kept
+
+provisionals_keep : (t : Tick) (now : ℕ) (held : HeldRequest) → IsKept held
+    → IsKept (provisionals_by t now held).0
+provisionals_keep tick.Nothing now held kept = kept
+provisionals_keep (tick.Again numbers) now held kept =
+    sound_repeated held.ledger.first held.ledger.next now held.ledger.waiting kept
+provisionals_keep tick.GivenUp now held kept =
+    sound_given_up held.ledger.first held.ledger.next held.ledger.waiting kept
+
+success_keeps : (now : ℕ) (held : HeldRequest) (o : Option Success) → IsKept held
+    → IsKept (success_of now held o).0
+success_keeps now held None kept = kept
+success_keeps now held (Some success) kept = kept
+
+request_keeps : (now : ℕ) (held : HeldRequest) → IsKept held
+    → IsKept (request_ticked now held).0
+request_keeps now held kept = let first = (success_ticked now held).0 in
+    provisionals_keep (tick_answer first.ledger now) now first
+    (success_keeps now held held.success kept)
+
+-- ---- each case
+
+noted_keeps : (state : State) (name : DialogName) (request : Message) → IsKeptEach state
+    → IsKeptEach (noted state name request)
+noted_keeps state name request all = by_bool (is_inside request) (λ e. rw e all) (λ e. rw e all)
+
+bye_keeps : (arrival : Arrival) (name : DialogName) (state : State) → IsKeptEach state
+    → IsKeptEach (bye_taken arrival name state).0
+bye_keeps arrival name state all =
+    by_bool (is_inside arrival.request)
+    (λ e. by_bool (is_bye arrival.request) (λ f. rw (e, f) all) (λ f. rw (e, f) all))
+    (λ e. rw e all)
+
+case_keeps : (case : ArrivalCase) (state : State) (name : DialogName) (arrival : Arrival)
+    → IsKeptEach state → IsKeptEach (by_case case state name arrival).0
+case_keeps Merged state name arrival all = all
+case_keeps BadExtension state name arrival all = all
+case_keeps NoDialog state name arrival all = all
+case_keeps OutOfOrder state name arrival all = all
+case_keeps (Acknowledges invite rseq) state name arrival all =
+    changed_all IsKept (has_id invite) (pracked rseq) (pracked_keeps rseq)
+    (noted state name arrival.request).requests (noted_keeps state name arrival.request all)
+case_keeps AcknowledgesNothing state name arrival all = noted_keeps state name arrival.request all
+case_keeps ForUser state name arrival all =
+    bye_keeps arrival name _ (appended IsKept (noted state name arrival.request).requests _
+    (noted_keeps state name arrival.request all) (sound_new first_rseq))
+
+cancel_keeps : (state : State) (arrival : Arrival) (now : ℕ) (o : Option HeldRequest)
+    → IsKeptEach state → IsKeptEach (by_cancelled state arrival now o).0
+cancel_keeps state arrival now None all = all
+cancel_keeps state arrival now (Some held) all =
+    by_bool (is_unanswered_invite held)
+    (λ e. rw e (changed_all IsKept (has_id held.id) (finished (request_terminated held) 487 now)
+    (λ one kept. kept) state.requests all))
+    (λ e. rw e all)
+
+arrival_keeps : (state : State) (arrival : Arrival) (now : ℕ) → IsKeptEach state
+    → IsKeptEach (arrival_taken state arrival now).0
+arrival_keeps state arrival now all =
+    let name = dialog_name arrival.request arrival.tag in
+    by_bool (is_cancel arrival.request)
+    (λ e. rw e (cancel_keeps state arrival now
+    (cancelled_request arrival.key state.requests) all))
+    (λ e. rw e (case_keeps (case_of state.requests state.dialogs name arrival.request) state name
+    arrival all))
+
+ack_keeps : (state : State) (call_id : List ℕ) (ack : Message) (o : Option Id) → IsKeptEach state
+    → IsKeptEach (ack_noted state call_id ack o).0
+ack_keeps state call_id ack None all = all
+ack_keeps state call_id ack (Some invite) all =
+    changed_all IsKept (has_id invite) acked (λ held one. one) state.requests all
+
+refusal_keeps : (state : State) (event : Id) (r : Answer) (now : ℕ) (held : HeldRequest)
+    (o : Option Refusal) → IsKeptEach state → IsKeptEach (by_refusal state event r now held o).0
+refusal_keeps state event r now held (Some refusal) all = all
+refusal_keeps state event r now held None all =
+    changed_all IsKept (has_id r.id) (λ held. answered r _ now (with_dialog event r held))
+    (λ held one. answered_keeps r _ now (with_dialog event r held) (dialog_keeps event r held one))
+    state.requests all
+
+respond_keeps : (state : State) (event : Id) (r : Answer) (now : ℕ) (o : Option HeldRequest)
+    → IsKeptEach state → IsKeptEach (by_request state event r now o).0
+respond_keeps state event r now None all = all
+respond_keeps state event r now (Some held) all =
+    refusal_keeps state event r now held (refusal_for state.dialogs r held) all
+
+kind_keeps : (state : State) (tag : List ℕ) (up : Up) (kind : Kind) (now : ℕ)
+    → IsKeptEach state → IsKeptEach (kind_taken state tag up kind now).0
+kind_keeps state tag up (Request request reply_to) now all =
+    arrival_keeps state (arrival_of up tag request reply_to) now all
+kind_keeps state tag up (Ack ack) now all =
+    ack_keeps state up.call_id ack (acknowledged_invite ack state.requests) all
+kind_keeps state tag up (Response response) now all = all
+kind_keeps state tag up Timeout now all = all
+kind_keeps state tag up Failed now all = all
+
+command_keeps : (state : State) (id : Id) (c : UserCommand) (now : ℕ) → IsKeptEach state
+    → IsKeptEach (command_taken state id c now).0
+command_keeps state id (command.Invite i) now all = all
+command_keeps state id (command.Plain i) now all = all
+command_keeps state id (command.Request i) now all = all
+command_keeps state id (command.Respond r) now all =
+    respond_keeps state id r now (find (has_id r.id) state.requests) all
+command_keeps state id (command.Ack i) now all = all
+command_keeps state id (command.Prack i) now all = all
+command_keeps state id (command.Cancel i) now all = all
+
+pub event_keeps : (state : State) (event : Event) → IsKeptEach state
+    → IsKeptEach (event_taken state event).0
+event_keeps state (Takes tag id (item.Up up) now) all = kind_keeps state tag up up.kind now all
+event_keeps state (Takes tag id (item.User c) now) all = command_keeps state id c now all
+event_keeps state (Ticks now) all =
+    mapped_all IsKept (is_kept_at now) (λ held. (request_ticked now held).0)
+    (request_keeps now) state.requests all
+
+from_keeps : (events : List Event) (state : State) → IsKeptEach state
+    → IsKeptEach (fold (λ state event. (event_taken state event).0) state events)
+from_keeps [] state all = all
+from_keeps (event ∷ events) state all =
+    from_keeps events (event_taken state event).0 (event_keeps state event all)
+
+pub kept_after : (local : Addr) (events : List Event) → IsKeptEach (state_after local events)
+kept_after local events = from_keeps events (empty_at local) tt
+
+pub few_of : (requests : List HeldRequest) → AllByRecursion IsKept requests
+    → AllByRecursion (λ held. FewWait held.ledger) requests
+few_of [] all = tt
+few_of (held ∷ requests) all = (few_by held.ledger all.0, few_of requests all.1)
+
+pub few_wait : (local : Addr) (events : List Event) → FewWaitEach (state_after local events)
+few_wait local events = few_of (state_after local events).requests (kept_after local events)

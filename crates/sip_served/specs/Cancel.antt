@@ -1,0 +1,96 @@
+-- A CANCEL that comes up (RFC 3261, section 9.2).
+use Rattle.std.specs.Prelude.{ℕ, Bool, false, ◌&&◌, ◌==◌, List, [], ◌∷◌, Option, None, Some, codes, find, is_none, reverse, if◌then◌else◌}
+use Rattle.std.specs.Str.{bytes_eq}
+use Rattle.sip_message.specs.declared.id.Id.{Id}
+use Rattle.sip_message.specs.declared.key.Key.{Key}
+use Rattle.sip_message.specs.declared.key.Key.TheVariants.{Server}
+use Rattle.sip_message.specs.declared.message.Message.{Message}
+use Rattle.sip_message.specs.Response.{response_of}
+use Rattle.sip_transactions.specs.declared.input.Command.TheVariants.{Answer}
+use Rattle.sip_served.specs.declared.arrival.Arrival.{Arrival}
+use Rattle.sip_served.specs.declared.command.Reliability.TheVariants.{Plain}
+use Rattle.sip_served.specs.declared.command.Respond.{Respond}
+use Rattle.sip_served.specs.declared.held_request.HeldRequest.{HeldRequest}
+use Rattle.sip_served.specs.declared.item.CallOut.{CallOut}
+use Rattle.sip_served.specs.declared.item.CallOut.TheVariants.{Notice, Command}
+use Rattle.sip_served.specs.declared.notice.Notice.TheVariants.{Cancel}
+use Rattle.sip_served.specs.Arrival.{command_for, no_such_dialog}
+use Rattle.sip_served.specs.Dialogs.{early_ended}
+use Rattle.sip_served.specs.Requests.{is_invite, local_tag_of}
+use Rattle.sip_served.specs.Respond.{finished}
+use Rattle.sip_served.specs.State.{State, Taken, changed_at, followed}
+
+-- ---- the request that it names
+
+-- the keys of two requests have the same branch and sent-by, whatever their methods
+abbrev pub is_same_branch : Key → Key → Bool
+is_same_branch (Server branch sent_by method) (Server other other_sent_by other_method) =
+    bytes_eq branch other && bytes_eq sent_by.host other_sent_by.host
+    && (sent_by.port == other_sent_by.port)
+is_same_branch _ _ = false
+
+-- it has the branch and the sent-by of the CANCEL; of several it is the last that came up
+abbrev pub cancelled_request : Key → List HeldRequest → Option HeldRequest
+cancelled_request cancel requests =
+    find (λ held. is_same_branch cancel held.key) (reverse requests)
+
+-- an INVITE without a final response; a CANCEL gives up nothing else
+abbrev pub is_unanswered_invite : HeldRequest → Bool
+is_unanswered_invite held = is_invite held.request && is_none held.removal
+
+-- ---- what is answered
+
+-- the 200 to the CANCEL has the local tag of that request
+abbrev pub cancel_accepted : Arrival → HeldRequest → CallOut
+cancel_accepted arrival held =
+    command_for arrival
+    (response_of arrival.request 200 (codes "OK") (local_tag_of held.request held.tag))
+
+-- the final response to the INVITE
+abbrev pub request_terminated : HeldRequest → Message
+request_terminated held = response_of held.request 487 (codes "Request Terminated") held.tag
+
+-- first the CANCEL is answered and then the INVITE, and the user is told
+abbrev pub termination_told : Arrival → HeldRequest → Message → List CallOut
+termination_told arrival held response =
+    cancel_accepted arrival held ∷ Command held.id (Answer held.key response)
+    ∷ Notice (Cancel arrival.call_id held.id) ∷ []
+
+-- ---- what becomes of the INVITE
+
+-- it has its final response, and its early dialogs end
+abbrev pub invite_terminated : Message → Id → ℕ → State → Taken
+invite_terminated response invite now state = (
+  record state {
+    requests = changed_at invite (finished response 487 now) state.requests;
+    dialogs = (early_ended invite state.dialogs).0;
+  },
+  (early_ended invite state.dialogs).1,
+)
+
+-- what the user would answer to it
+abbrev pub user_termination : List ℕ → Id → Respond
+user_termination call_id invite = record {
+  call_id = call_id;
+  id = invite;
+  status = 487;
+  reliability = Plain;
+  body = [];
+  reason = codes "Request Terminated";
+}
+
+-- ---- all of it
+
+abbrev pub by_cancelled : State → Arrival → ℕ → Option HeldRequest → Taken
+by_cancelled state arrival now None = (state, no_such_dialog arrival)
+by_cancelled state arrival now (Some held) =
+    let response = request_terminated held in
+    if is_unanswered_invite held
+    then followed (state, termination_told arrival held response)
+    (invite_terminated response held.id now)
+    else (state, cancel_accepted arrival held ∷ [])
+
+-- A CANCEL is never held, and no dialog notes it.
+abbrev pub cancel_taken : State → Arrival → ℕ → Taken
+cancel_taken state arrival now =
+    by_cancelled state arrival now (cancelled_request arrival.key state.requests)

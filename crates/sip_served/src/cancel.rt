@@ -1,0 +1,146 @@
+//! A CANCEL that comes up (RFC 3261, section 9.2).
+
+ghost use Rattle.std.specs.Prelude.{◌≡◌, ◌≤◌, ◌^◌, IfOk, OnOk};
+ghost use Rattle.std.specs.Option.{option_copied};
+ghost use Rattle.sip_served.specs.Cancel as spec;
+ghost use Rattle.sip_served.specs.Requests.{local_tag_of};
+ghost use Rattle.sip_served.specs.Respond.{finished};
+ghost use Rattle.sip_served.specs.State.{changed_at};
+
+use crate::arrival::Arrival;
+use crate::held_request::HeldRequest;
+use crate::item::CallOut;
+use crate::notice::Notice;
+use crate::outputs::{ok_with_tag, one};
+use crate::request::is_invite;
+use crate::requests::place_of;
+use crate::respond::{answer_command, finish};
+use sip_message::{Id, Key, Message, Reason, StatusCode, Token, response_to};
+use sip_text::Text;
+use std::alloc::{AllocError, Global};
+
+/// The status of the final response to an INVITE that is cancelled.
+const REQUEST_TERMINATED: u16 = 487;
+
+/// The held request that a CANCEL names: of several the last that came up.
+pub(crate) fn cancelled_request<'a>(
+    requests: &'a [HeldRequest],
+    cancel: &Key,
+) -> Option<&'a HeldRequest>
+    ensures { option_copied result ≡ spec.cancelled_request cancel.now requests.now }
+{
+    requests
+        .iter()
+        .rev()
+        .find(|held| is_same_branch(cancel, &held.key))
+}
+
+// Whether the keys of two requests have the same branch and sent-by.
+fn is_same_branch(one: &Key, other: &Key) -> bool
+    ensures { result ≡ spec.is_same_branch one.now other.now }
+{
+    match (one, other) {
+        (
+            Key::Server {
+                branch,
+                sent_by,
+                ..
+            },
+            Key::Server {
+                branch: other_branch,
+                sent_by: other_sent_by,
+                ..
+            },
+        ) => {
+            *branch == *other_branch
+                && sent_by.host == other_sent_by.host
+                && sent_by.port == other_sent_by.port
+        }
+        _ => false,
+    }
+}
+
+/// Whether a held request is an INVITE without a final response.
+pub(crate) fn is_unanswered_invite(held: &HeldRequest) -> bool
+    ensures { result ≡ spec.is_unanswered_invite held.now }
+{
+    is_invite(held.request.get()) && held.removal.is_none()
+}
+
+/// The 200 to a CANCEL, with the tag of the request that it names.
+pub(crate) fn cancel_accepted(
+    alloc: Global,
+    arrival: &Arrival,
+    held: &HeldRequest,
+) -> Result<CallOut, AllocError>
+    ensures { IfOk result (λ out. out ≡ spec.cancel_accepted arrival.now held.now) }
+{
+    let tag = tag_of_answers(alloc, held)?;
+    ok_with_tag(alloc, arrival, &tag)
+}
+
+// The tag that the answers to a held request carry in To.
+fn tag_of_answers(alloc: Global, held: &HeldRequest) -> Result<Token, AllocError>
+    ensures { IfOk result (λ tag. tag ≡ local_tag_of held.now.request held.now.tag) }
+{
+    let to = &held.request.get().to;
+    let own = to.tag();
+    if own.is_empty() {
+        return held.tag.clone();
+    }
+    let _parameters = to.parameters.as_slice();
+    Ok(Token::from_text(Text::copy_of(alloc, own)?))
+}
+
+/// The 487 to an INVITE that a CANCEL names.
+pub(crate) fn request_terminated(alloc: Global, held: &HeldRequest) -> Result<Message, AllocError>
+    ensures { IfOk result (λ response. response ≡ spec.request_terminated held.now) }
+{
+    let status = StatusCode::from_code(REQUEST_TERMINATED);
+    let reason = Reason::from_text(Text::copy_of(alloc, b"Request Terminated")?);
+    response_to(alloc, held.request.get(), status, reason, &held.tag)
+}
+
+/// What is told where a CANCEL names an INVITE without a final response: both are answered, and the
+/// user is told.
+pub(crate) fn termination_told(
+    alloc: Global,
+    arrival: &Arrival,
+    held: &HeldRequest,
+    response: &Message,
+) -> Result<Vec<CallOut>, AllocError>
+    ensures { IfOk result (λ outs. outs.items
+        ≡ spec.termination_told arrival.now held.now response.now) }
+{
+    let mut outs = one(alloc, cancel_accepted(alloc, arrival, held)?)?;
+    outs.push(answer_command(alloc, held, response)?)?;
+    outs.push(CallOut::Notice(Notice::Cancel {
+        call_id: arrival.call_id.clone()?,
+        id: held.id,
+    }))?;
+    Ok(outs)
+}
+
+/// The INVITE of this id has its final response.
+pub(crate) fn terminate(
+    alloc: Global,
+    requests: &mut Vec<HeldRequest>,
+    invite: Id,
+    response: &Message,
+    now: u64,
+) -> Result<(), AllocError>
+    requires { now ≤ 2 ^ 62 }
+    ensures { OnOk result (requests.new.items
+        ≡ changed_at invite (finished response.now 487 now) requests.old.items) }
+{
+    match place_of(requests.as_slice(), invite) {
+        Some(index) => finish(
+            alloc,
+            &mut requests[index],
+            response,
+            REQUEST_TERMINATED,
+            now,
+        ),
+        None => Ok(()),
+    }
+}

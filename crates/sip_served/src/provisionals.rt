@@ -1,0 +1,67 @@
+//! The reliable provisional responses to an INVITE that wait for their PRACK.
+
+ghost use Rattle.std.specs.Prelude.{◌≡◌, ◌++◌, ◌∷◌, [], OnOk};
+ghost use Rattle.sip_served.specs.Provisionals.{without};
+
+use sip_message::Message;
+use sip_text::Boxed;
+use std::alloc::{AllocError, Global};
+use std::marker::Model;
+
+/// A reliable provisional response that was sent.
+#[derive(Drop)]
+pub struct NumberedResponse {
+    /// Its RSeq.
+    pub number: u32,
+    pub response: Boxed<Message>,
+}
+
+/// The reliable provisional responses to an INVITE that wait for their PRACK, in the order of their
+/// numbers.
+///
+/// Contracts see them as a list.
+#[derive(Drop)]
+pub struct Provisionals {
+    responses: Vec<NumberedResponse>,
+}
+
+impl Model for Provisionals {
+    ghost use Rattle.std.specs.Prelude.{List};
+    ghost use Rattle.sip_served.specs.declared.provisionals.NumberedResponse.{NumberedResponse};
+
+    ghost Value = { List NumberedResponse };
+
+    ghost view = { λ p. p.responses.items };
+}
+
+impl Provisionals {
+    /// None waits. Takes no memory.
+    pub(crate) fn new(alloc: Global) -> Provisionals
+        ensures { result ≡ [] }
+    {
+        Provisionals {
+            responses: Vec::new(alloc),
+        }
+    }
+
+    pub(crate) fn as_slice(&self) -> &[NumberedResponse]
+        ensures { result.now ≡ self.now }
+    {
+        self.responses.as_slice()
+    }
+
+    /// One more was sent.
+    pub(crate) fn push(&mut self, response: NumberedResponse) -> Result<(), AllocError>
+        ensures { OnOk result (self.new ≡ self.old ++ response ∷ []) }
+    {
+        self.responses.push(response)?;
+        Ok(())
+    }
+
+    /// The PRACK of the one with this number came.
+    pub(crate) fn remove(&mut self, number: u32)
+        ensures { self.new ≡ without number self.old }
+    {
+        self.responses.retain(|one| one.number != number);
+    }
+}
