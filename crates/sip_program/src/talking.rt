@@ -9,7 +9,7 @@ use crate::words::{CallWords, ListenWords, call_words, listen_words};
 use clap::ArgMatches;
 use sip_message::{Addr, CallId, Uri};
 use sip_text::Text;
-use sip_udp::{UaFault, call, listen};
+use sip_udp::{UaFault, call_until, listen_ringing};
 use std::alloc::{AllocError, Global};
 use std::io::Write;
 use std::net::{Ipv4Addr, Net, SocketAddrV4, UdpSocket};
@@ -43,11 +43,11 @@ fn listen_by<T: Threads + Clock + Net + RandomSource + Sync, W: Write>(
 ) -> Result<(), TalkFault>
     ensures { IfErr result (λ fault. fault ≡ BadArgument → notices.new ≡ notices.old) }
 {
-    let ListenWords { local, turns } = words;
+    let ListenWords { local, ring, turns } = words;
     let local = address_of(alloc, local)?.ok_or(TalkFault::BadArgument)?;
     let seed = random_seed(rt)?;
     let socket = bound(rt, local)?;
-    listen(rt, alloc, socket, local, seed, turns, notices).map_err(TalkFault::Ua)
+    listen_ringing(rt, alloc, socket, local, seed, ring, turns, notices).map_err(TalkFault::Ua)
 }
 
 fn call_by<T: Threads + Clock + Net + RandomSource + Sync, W: Write>(
@@ -64,9 +64,9 @@ fn call_by<T: Threads + Clock + Net + RandomSource + Sync, W: Write>(
     let call_id = CallId::new(text_of(alloc, words.call_id)?).ok_or(TalkFault::BadArgument)?;
     let seed = random_seed(rt)?;
     let socket = bound(rt, local)?;
-    let turns = words.turns;
-    call(
-        rt, alloc, socket, local, to, uri, call_id, seed, turns, notices,
+    let CallWords { leaves, turns, .. } = words;
+    call_until(
+        rt, alloc, socket, local, to, uri, call_id, seed, leaves, turns, notices,
     )
     .map_err(TalkFault::Ua)
 }

@@ -3,7 +3,7 @@
 ghost use Rattle.std.specs.Prelude.{◌≡◌, ◌<◌, ◌≤◌, map};
 ghost use Rattle.sip_program.specs.Words as spec;
 
-use clap::{Arg, ArgMatches, Command, Error, value_parser};
+use clap::{Arg, ArgAction, ArgMatches, Command, Error, value_parser};
 use std::alloc::{AllocError, Global};
 use std::convert::AsStr;
 use std::rt::Env;
@@ -65,6 +65,7 @@ pub(crate) struct ReplayWords {
 #[derive(Clone, Copy)]
 pub(crate) struct ListenWords<'a> {
     pub local: &'a str,
+    pub ring: Option<u32>,
     pub turns: u32,
 }
 
@@ -75,6 +76,7 @@ pub(crate) struct CallWords<'a> {
     pub to: &'a str,
     pub uri: &'a str,
     pub call_id: &'a str,
+    pub leaves: bool,
     pub turns: u32,
 }
 
@@ -142,6 +144,7 @@ pub(crate) fn listen_words<'a>(matches: &ArgMatches<'a>) -> Option<ListenWords<'
     let listen = matches.subcommand_matches("listen")?;
     Some(ListenWords {
         local: listen.get_str("local")?,
+        ring: listen.get_one::<u32>("ring"),
         turns: listen.get_one::<u32>("turns")?,
     })
 }
@@ -154,11 +157,20 @@ pub(crate) fn call_words<'a>(matches: &ArgMatches<'a>) -> Option<CallWords<'a>> 
         to: call.get_str("to")?,
         uri: call.get_str("uri")?,
         call_id: call.get_str("call-id")?,
+        leaves: call.get_flag("leave"),
         turns: call.get_one::<u32>("turns")?,
     })
 }
 
 fn listen_command<'a>(alloc: Global) -> Result<Command<'a>, AllocError> {
+    let ring = Arg::new(alloc, "ring")
+        .long("ring")
+        .value_name("MS")
+        .value_parser(value_parser!(u32))
+        .help(
+            "An INVITE is answered with 180, and so many ms later with 200, unless its caller \
+            cancels it",
+        );
     Command::new(alloc, "listen")
         .about(
             "Answers calls over UDP: 200 to INVITE, BYE and OPTIONS, 501 to all else; a line for \
@@ -166,7 +178,8 @@ fn listen_command<'a>(alloc: Global) -> Result<Command<'a>, AllocError> {
         )
         .after_help(LISTEN_EXAMPLE)
         .arg(local_argument(alloc))?
-        .arg(turns_argument(alloc))
+        .arg(turns_argument(alloc))?
+        .arg(ring)
 }
 
 fn call_command<'a>(alloc: Global) -> Result<Command<'a>, AllocError> {
@@ -185,6 +198,10 @@ fn call_command<'a>(alloc: Global) -> Result<Command<'a>, AllocError> {
         .value_name("TEXT")
         .default_value("ua-call")
         .help("The Call-ID; another one for each call");
+    let leave = Arg::new(alloc, "leave")
+        .long("leave")
+        .action(ArgAction::SetTrue)
+        .help("A call that isn't answered one second before the last turn is cancelled");
     Command::new(alloc, "call")
         .about(
             "Calls a URI over UDP and hangs up as soon as it is answered; a line for each notice",
@@ -194,7 +211,8 @@ fn call_command<'a>(alloc: Global) -> Result<Command<'a>, AllocError> {
         .arg(to)?
         .arg(uri)?
         .arg(turns_argument(alloc))?
-        .arg(call_id)
+        .arg(call_id)?
+        .arg(leave)
 }
 
 fn local_argument<'a>(alloc: Global) -> Arg<'a> {

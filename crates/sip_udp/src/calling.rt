@@ -2,28 +2,52 @@
 
 ghost use Rattle.std.specs.Prelude.{◌≡◌, IfOk, codes};
 
+use crate::answer::answer;
 use crate::user::User;
-use sip_message::{CallId, StatusCode, Token};
+use sip_message::{CallId, Id, StatusCode, Token};
 use sip_round::Event;
-use sip_served::{DialogBody, DialogRequest, Invite, Notice, UserCommand};
+use sip_served::{Cancel, DialogBody, DialogRequest, Invite, Notice, UserCommand};
 use sip_text::Text;
 use std::alloc::{AllocError, Global};
 
-/// Sends an INVITE and, after the first 2xx, ends the call by a BYE. Where that 2xx has a body, its
-/// ACK waits for the user, who gives it, without a body, before the BYE.
+/// The id of the INVITE: it is the first event of the first round.
+const INVITE: Id = Id { round: 0, place: 1 };
+
+/// How many turns before the last a call that isn't answered is given up, where it is to be.
+const TURNS_OF_LEAVING: u32 = 100;
+
+/// How far the call is.
+#[derive(Clone, Copy, PartialEq, Eq)]
+enum Stage {
+    /// The INVITE has no final response.
+    Asked,
+    /// It has none, and it was cancelled.
+    Cancelled,
+    /// It was answered or refused.
+    Over,
+}
+
+/// Sends an INVITE and ends each dialog that a 2xx to it confirms by a BYE. Where that 2xx has a
+/// body, its ACK waits for the user, who gives it, without a body, before the BYE. BYE and OPTIONS
+/// of the peer are answered with 200, every other request with 501. A call that isn't answered is
+/// cancelled one second before the last turn, where it is to be.
 #[derive(Drop)]
 pub(crate) struct Calling {
     // Until it was sent.
     invite: Option<Invite>,
-    is_answered: bool,
+    call_id: CallId,
+    leaves: bool,
+    stage: Stage,
 }
 
 impl Calling {
-    pub(crate) fn new(invite: Invite) -> Calling {
-        Calling {
+    pub(crate) fn new(invite: Invite, leaves: bool) -> Result<Calling, AllocError> {
+        Ok(Calling {
+            call_id: invite.call_id.clone()?,
             invite: Some(invite),
-            is_answered: false,
-        }
+            leaves,
+            stage: Stage::Asked,
+        })
     }
 }
 
@@ -38,30 +62,67 @@ impl User for Calling {
     fn told(
         &mut self,
         alloc: Global,
+        _now: u64,
         notice: &Notice,
         events: &mut Vec<Event>,
     ) -> Result<(), AllocError> {
-        let Notice::Response {
-            call_id,
-            status,
-            local_tag,
-            remote_tag,
-            body,
-            ..
-        } = notice
-        else {
-            return Ok(());
-        };
-        if self.is_answered || !is_success(*status) {
-            return Ok(());
+        match notice {
+            Notice::Request {
+                call_id,
+                id,
+                method,
+                ..
+            } => events.push(answer(alloc, call_id, *id, method.as_slice())?)?,
+            Notice::Response {
+                call_id,
+                id,
+                status,
+                local_tag,
+                remote_tag,
+                body,
+            } if *id == INVITE && status.code() >= 200 => {
+                self.stage = Stage::Over;
+                if is_success(*status) {
+                    end(alloc, call_id, local_tag, remote_tag, body, events)?;
+                }
+            }
+            _ => {}
         }
-        if !body.is_empty() {
-            events.push(ack(alloc, call_id, local_tag, remote_tag)?)?;
-        }
-        events.push(bye(alloc, call_id, local_tag, remote_tag)?)?;
-        self.is_answered = true;
         Ok(())
     }
+
+    fn turn(
+        &mut self,
+        _alloc: Global,
+        _now: u64,
+        turns_left: u32,
+        events: &mut Vec<Event>,
+    ) -> Result<(), AllocError> {
+        if self.leaves && self.stage == Stage::Asked && turns_left <= TURNS_OF_LEAVING {
+            self.stage = Stage::Cancelled;
+            events.push(Event::Command(UserCommand::Cancel(Cancel {
+                call_id: self.call_id.clone()?,
+                id: INVITE,
+            })))?;
+        }
+        Ok(())
+    }
+}
+
+// A dialog that was confirmed ends, after its ACK.
+fn end(
+    alloc: Global,
+    call_id: &CallId,
+    local_tag: &Text,
+    remote_tag: &Text,
+    body: &Text,
+    events: &mut Vec<Event>,
+) -> Result<(), AllocError> {
+    if !body.is_empty() {
+        events.push(ack(alloc, call_id, local_tag, remote_tag)?)?;
+    }
+    events.push(bye(alloc, call_id, local_tag, remote_tag)?)?;
+    Ok(())
 }
 
 fn is_success(status: StatusCode) -> bool {

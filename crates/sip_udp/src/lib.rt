@@ -2,6 +2,7 @@
 //! two users.
 #![tactic(auto)]
 
+mod answer;
 mod answering;
 mod calling;
 mod fault;
@@ -19,4 +20,4 @@ pub use inlet::{Inlet, Received};
 pub use listener::{Flags, Heard, hear};
 pub use outlet::{Asked, Outlet};
 pub use sending::send_all;
-pub use talk::{call, listen};
+pub use talk::{call, call_until, listen, listen_ringing};

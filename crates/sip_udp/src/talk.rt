@@ -44,16 +44,36 @@ pub fn listen<R: Threads + Clock + Sync, W: Write>(
     turns: u32,
     notices: &mut W,
 ) -> Result<(), UaFault> {
+    listen_ringing(rt, alloc, socket, local, seed, None, turns, notices)
+}
+
+/// Does what [`listen`] does; where `ring` is given, an INVITE is answered with 180 first, and so
+/// many ms later with 200, unless its caller cancels it.
+///
+/// # Errors
+///
+/// The first fault. All is joined then, too.
+pub fn listen_ringing<R: Threads + Clock + Sync, W: Write>(
+    rt: &R,
+    alloc: Global,
+    socket: UdpSocket,
+    local: Addr,
+    seed: [u8; 32],
+    ring: Option<u32>,
+    turns: u32,
+    notices: &mut W,
+) -> Result<(), UaFault> {
     let config = Config {
         local,
         seed,
         first: 0,
     };
-    talk(rt, alloc, socket, config, Answering, turns, notices)
+    let user = Answering::new(alloc, ring);
+    talk(rt, alloc, socket, config, user, turns, notices)
 }
 
-/// Calls a URI at an address, ends the call after the first 2xx, and takes so many turns of 10 ms.
-/// Each notice is written as a line of an output file.
+/// Calls a URI at an address, ends each dialog that a 2xx confirms, and takes so many turns of 10
+/// ms. Each notice is written as a line of an output file.
 ///
 /// # Errors
 ///
@@ -67,6 +87,31 @@ pub fn call<R: Threads + Clock + Sync, W: Write>(
     uri: Uri,
     call_id: CallId,
     seed: [u8; 32],
+    turns: u32,
+    notices: &mut W,
+) -> Result<(), UaFault> {
+    let leaves = false;
+    call_until(
+        rt, alloc, socket, local, to, uri, call_id, seed, leaves, turns, notices,
+    )
+}
+
+/// Does what [`call`] does; where `leaves` says so, a call that isn't answered one second before
+/// the last turn is cancelled.
+///
+/// # Errors
+///
+/// The first fault. All is joined then, too.
+pub fn call_until<R: Threads + Clock + Sync, W: Write>(
+    rt: &R,
+    alloc: Global,
+    socket: UdpSocket,
+    local: Addr,
+    to: Addr,
+    uri: Uri,
+    call_id: CallId,
+    seed: [u8; 32],
+    leaves: bool,
     turns: u32,
     notices: &mut W,
 ) -> Result<(), UaFault> {
@@ -84,15 +129,8 @@ pub fn call<R: Threads + Clock + Sync, W: Write>(
         support: ProvisionalSupport::None,
         body: Text::from_vec(Vec::new(alloc)),
     };
-    talk(
-        rt,
-        alloc,
-        socket,
-        config,
-        Calling::new(invite),
-        turns,
-        notices,
-    )
+    let user = Calling::new(invite, leaves)?;
+    talk(rt, alloc, socket, config, user, turns, notices)
 }
 
 // `sip:ua@` and the local IP.

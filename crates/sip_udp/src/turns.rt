@@ -88,10 +88,12 @@ impl<U: User> Turns<U> {
     ) -> Result<(), UaFault>
         ensures { KeepsLines desk.old desk.new }
     {
-        for _ in 0..turns {
+        for turns_left in (0..turns).rev() {
             if listener_ended.load(Ordering::SeqCst) {
                 break;
             }
+            self.user
+                .turn(self.alloc, self.moment, turns_left, &mut self.waiting)?;
             self.collect(desk)?;
             let outputs = self.run_round(rt)?;
             let mut failed = send_all(self.alloc, outlet, &outputs)?;
@@ -147,7 +149,8 @@ impl<U: User> Turns<U> {
     fn tell_user(&mut self, outputs: &[Output]) -> Result<(), AllocError> {
         for output in outputs {
             if let Output::Notice(notice) = output {
-                self.user.told(self.alloc, notice, &mut self.waiting)?;
+                self.user
+                    .told(self.alloc, self.moment, notice, &mut self.waiting)?;
             }
         }
         Ok(())

@@ -8,7 +8,10 @@ use sip_message::{Addr, CallId, Key, Token, Uri};
 use sip_round::{Event, Output};
 use sip_text::{Series, Text};
 use sip_transactions::DropReason;
-use sip_udp::{Asked, Flags, Inlet, Outlet, Received, UaFault, call, hear, listen, send_all};
+use sip_udp::{
+    Asked, Flags, Inlet, Outlet, Received, UaFault, call, call_until, hear, listen, listen_ringing,
+    send_all,
+};
 use std::alloc::{AllocError, Global};
 use std::net::{Ipv4Addr, Net, SocketAddrV4, UdpSocket};
 use std::process::Abort;
@@ -188,32 +191,55 @@ fn listened<R: Threads + Clock + Sync>(
     Some(notices)
 }
 
-// The notices of a caller that takes so many turns.
+// The notices of a listener that rings for a minute, or until it is cancelled.
+fn rung<R: Threads + Clock + Sync>(
+    rt: &R,
+    alloc: Global,
+    socket: UdpSocket,
+    local: Addr,
+    turns: u32,
+) -> Option<Vec<u8>> {
+    let mut notices = Vec::new(alloc);
+    listen_ringing(
+        rt,
+        alloc,
+        socket,
+        local,
+        [7; 32],
+        Some(60_000),
+        turns,
+        &mut notices,
+    )
+    .ok()?;
+    Some(notices)
+}
+
+// The notices of a caller that takes so many turns, and may give the call up before the last.
 fn called<R: Threads + Clock + Sync>(
     rt: &R,
     alloc: Global,
     socket: UdpSocket,
     local: Addr,
     to: Addr,
+    leaves: bool,
     turns: u32,
 ) -> Option<Vec<u8>> {
     let uri = Uri::new(Text::copy_of(alloc, b"sip:b@127.0.0.1").ok()?)?;
     let call_id = CallId::new(Text::copy_of(alloc, b"c1").ok()?)?;
     let mut notices = Vec::new(alloc);
     let seed = [8; 32];
-    call(
-        rt,
-        alloc,
-        socket,
-        local,
-        to,
-        uri,
-        call_id,
-        seed,
-        turns,
-        &mut notices,
-    )
-    .ok()?;
+    let told = &mut notices;
+    if leaves {
+        call_until(
+            rt, alloc, socket, local, to, uri, call_id, seed, true, turns, told,
+        )
+        .ok()?;
+    } else {
+        call(
+            rt, alloc, socket, local, to, uri, call_id, seed, turns, told,
+        )
+        .ok()?;
+    }
     Some(notices)
 }
 
@@ -237,7 +263,7 @@ fn a_call_between_two_agents_on_loopback(rt: HostRuntime) -> Result<(), Fail> {
     let (heard, told) = thread::join(
         &rt,
         || listened(&rt, alloc, theirs, to, 400),
-        || called(&rt, alloc, own, from, to, 200),
+        || called(&rt, alloc, own, from, to, false, 200),
     );
     let heard = heard.ok_or("a listener that ends")?;
     let told = told.ok_or("a caller that ends")?;
@@ -257,6 +283,36 @@ fn a_call_between_two_agents_on_loopback(rt: HostRuntime) -> Result<(), Fail> {
         " 200 ",
     ];
     assert!(rt; stand_in_order(&told, &answered)?);
+    Ok(())
+}
+
+// The call is cancelled one second before its last turn, and no final response but 487 comes.
+#[test]
+fn a_call_that_is_given_up_while_it_rings(rt: HostRuntime) -> Result<(), Fail> {
+    let (theirs, to) = bound(&rt)?;
+    let (own, from) = bound(&rt)?;
+    let alloc = rt.alloc();
+    let (heard, told) = thread::join(
+        &rt,
+        || rung(&rt, alloc, theirs, to, 300),
+        || called(&rt, alloc, own, from, to, true, 150),
+    );
+    let heard = heard.ok_or("a listener that ends")?;
+    let told = told.ok_or("a caller that ends")?;
+    let cancelled = [
+        " request ",
+        " INVITE ",
+        "notice c1 cancel ",
+        "notice c1 ended ",
+    ];
+    assert!(rt; stand_in_order(&heard, &cancelled)?);
+    let given_up = [
+        " response 0.1 180 ",
+        " response 0.1 487 ",
+        "notice c1 ended ",
+    ];
+    assert!(rt; stand_in_order(&told, &given_up)?);
+    assert!(rt; !stand_in_order(&told, &[" response 0.1 200 "])?);
     Ok(())
 }
 
