@@ -255,7 +255,7 @@ class Call:
         tag = message.to_tag or self.agent.name(told.id, 0)
         dialog = self.find(message.to_tag, message.from_tag) if message.to_tag else None
         status, *others = self.agents_own(message, dialog)
-        if dialog and message.method != "CANCEL" and status not in (BAD_EXTENSION, OUT_OF_ORDER):
+        if dialog and status not in (BAD_EXTENSION, OUT_OF_ORDER):
             dialog.accepted.append(message.cseq[0])
         if message.method == "PRACK" and status is None:
             status = self.acknowledged(message, dialog)
@@ -278,11 +278,11 @@ class Call:
         unknown = [one for one in message.require if lower(one) != "100rel"]
         if same and not message.to_tag:
             return (MERGED,)  # 8.2.2.2
-        if unknown and method != "CANCEL":
+        if unknown:
             return BAD_EXTENSION, ("Unsupported", ", ".join(unknown))  # 8.2.2.3
         if not dialog and (message.to_tag or method in ("BYE", "PRACK")):
             return (NOT_THERE,)  # 12.2.2, 15.1.2; RFC 3262, 3
-        if dialog and method != "CANCEL" and not dialog.takes(number):
+        if dialog and not dialog.takes(number):
             return (OUT_OF_ORDER,)  # 12.2.2
         return (None,)
 
