@@ -1,6 +1,6 @@
 -- An input of a call starts transactions of clients alone, each under the id of its event or of a
 -- command whose CANCEL waited; a tick starts none.
-use Rattle.std.proofs.Common.{◌≡◌, ℕ, Bool, true, false, List, [], ◌∷◌, ◌++◌, refl, sym, subst}
+use Rattle.std.proofs.Common.{◌≡◌, ℕ, Bool, true, false, List, [], refl, sym, subst}
 use Rattle.std.specs.Prelude.{Option, None, Some}
 use Rattle.sip_message.specs.declared.id.Id.{Id}
 use Rattle.sip_transactions.specs.declared.output.Kind.{Kind}
@@ -13,7 +13,7 @@ use Rattle.sip_served.specs.declared.item.Item.TheVariants.{Up, User}
 use Rattle.sip_served.specs.Tick as served
 use Rattle.sip_served.proofs.NoStarts.{kind_starts, none_of_both, respond_starts, starts, tick_starts}
 use Rattle.sip_clients.specs.declared.event.Event.{Event}
-use Rattle.sip_clients.specs.Client.{Clients, Side, client_at}
+use Rattle.sip_clients.specs.Client.{Side, client_at}
 use Rattle.sip_clients.specs.Clients.{lost}
 use Rattle.sip_clients.specs.Tick.{clients_left, over_notices}
 pub use Rattle.sip_clients.proofs.FewStarts.{AllClients, Fits, IsClient, how_many, ids_of, waiting}

@@ -1,5 +1,5 @@
 -- A command that is refused gives its notice alone, and changes nothing.
-use Rattle.std.proofs.Common.{◌≡◌, ℕ, true, false, List, refl, ap}
+use Rattle.std.proofs.Common.{◌≡◌, ℕ, false, List, refl, ap}
 use Rattle.std.specs.Prelude.{Option, None, Some, filter, find}
 use Rattle.std.specs.Map.{values_of}
 use Rattle.std.specs.List.{list_any}
@@ -27,7 +27,7 @@ use Rattle.sip_calls.specs.Call.{command_taken, event_of, first_command_taken, k
 use Rattle.sip_calls.specs.RefusedCommands.{RefusedAlone}
 use Rattle.sip_calls.specs.Sides.{by_clients, by_server, side_of}
 use Rattle.sip_calls.specs.declared.call.Call.{Call}
-use Rattle.sip_clients.specs.RefusedCommands.{is_refusal, only_refused, IsRefusedAlone}
+use Rattle.sip_clients.specs.RefusedCommands.{is_refusal, IsRefusedAlone}
 use Rattle.sip_clients.proofs.RefusedAlone.{ack_alone, by_bool, cancel_alone, ends_told, prack_alone, request_alone, silent, told_alone}
 
 -- ---- an answer

@@ -1,5 +1,6 @@
 //! Laws of calls.
 
+ghost use Rattle.sip_calls.specs.OwnCall.{EachNoticeIsOwn};
 ghost use Rattle.sip_calls.specs.Provisionals.{ShownConsecutive, ShownInOrder, ShownOnce};
 ghost use Rattle.sip_calls.specs.RefusedCommands.{RefusedAlone};
 
@@ -17,4 +18,11 @@ pub fn provisionals_shown_in_order()
 /// and changes nothing.
 pub fn refused_commands_change_nothing()
     ensures { RefusedAlone }
+{}
+
+/// All that is held of a call is of its own Call-ID, and so is all that the user is told of it:
+/// where what is held and what happens are of a Call-ID, so are what is held then and each notice
+/// (RFC 3261, section 8.1.1.4).
+pub fn each_notice_is_of_its_call()
+    ensures { EachNoticeIsOwn }
 {}

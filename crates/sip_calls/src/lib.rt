@@ -8,7 +8,9 @@ mod shard;
 
 pub use call::Call;
 pub use calls::{CallInput, Calls};
-pub use laws::{provisionals_shown_in_order, refused_commands_change_nothing};
+pub use laws::{
+    each_notice_is_of_its_call, provisionals_shown_in_order, refused_commands_change_nothing,
+};
 pub use shard::CallShard;
 pub use sip_clients::{Client, Clients, names_differ};
 pub use sip_served::{CallOut, Item, Notice, Refusal, Respond, UserCommand};

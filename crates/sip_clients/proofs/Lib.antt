@@ -3,6 +3,7 @@ pub mod AgainReply
 pub mod AgainSides
 pub mod Calm
 pub mod ClientDialogs
+pub mod EachValue
 pub mod FewStarts
 pub mod FirstInvite
 pub mod FirstReply
@@ -10,6 +11,8 @@ pub mod FirstSides
 pub mod Hearing
 pub mod Hex
 pub mod Names
+pub mod OwnCall
+pub mod OwnDialogs
 pub mod Results
 pub mod RefusedAlone
 pub mod Tally

@@ -7,6 +7,7 @@ pub mod Debts
 pub mod Dialogs
 pub mod Event
 pub mod Name
+pub mod OwnCall
 pub mod Outputs
 pub mod Outside
 pub mod Provisionals

@@ -1,9 +1,20 @@
-//! Laws of made names and of ticks.
+//! Laws of made names, of ticks, and of the Call-ID of what is held and told.
 
-ghost use Rattle.std.specs.Prelude.{◌≡◌, ℕ, false};
+ghost use Rattle.std.specs.Prelude.{◌≡◌, ℕ, Bool, List, false};
+ghost use Rattle.sip_message.specs.declared.id.Id.{Id};
+ghost use Rattle.sip_message.specs.declared.message.Message.{Message};
 ghost use Rattle.sip_timers.specs.Queue.{is_due};
+ghost use Rattle.sip_served.specs.declared.command.Cancel.{Cancel};
+ghost use Rattle.sip_served.specs.declared.command.DialogBody.{DialogBody};
+ghost use Rattle.sip_served.specs.declared.command.DialogRequest.{DialogRequest};
+ghost use Rattle.sip_served.specs.declared.command.Invite.{Invite};
+ghost use Rattle.sip_served.specs.declared.command.Plain.{Plain};
+ghost use Rattle.sip_clients.specs.declared.event.Event.{Event};
+ghost use Rattle.sip_clients.specs.Cancel.{cancel_taken};
 ghost use Rattle.sip_clients.specs.Client.{Side, quiet};
+ghost use Rattle.sip_clients.specs.Clients.{ack_taken, invite_taken, lost, plain_taken, prack_taken, request_taken, response_taken};
 ghost use Rattle.sip_clients.specs.Name.{NamesDiffer};
+ghost use Rattle.sip_clients.specs.OwnCall.{KeepsTo, on_side};
 ghost use Rattle.sip_clients.specs.Tick.{next_due, tick_taken};
 
 /// Names of different rounds, places or indexes differ, whatever the seeds.
@@ -15,4 +26,28 @@ pub fn names_differ()
 pub fn quiet_until_due()
     ensures { (side : Side) (now : ℕ) → is_due now (next_due side.clients) ≡ false
         → tick_taken side now ≡ quiet side }
+{}
+
+/// Where each held dialog, and the request of each held client request, has the Call-ID of its
+/// call, that is still so after a response, the loss of a request, a command of the user or a tick,
+/// and every notice that the user is given has it too (RFC 3261, sections 8.1.1.4, 9.1, 12.1.2 and
+/// 12.2.1.1).
+pub fn each_notice_is_of_its_call()
+    ensures response { (event : Event) (id : Id) (call_id : List ℕ) (response : Message)
+        → KeepsTo call_id (response_taken event id call_id response) }
+    ensures lost { (call_id : List ℕ) (id : Id) (timed_out : Bool)
+        → KeepsTo call_id (lost id timed_out) }
+    ensures invite { (event : Event) (invite : Invite)
+        → KeepsTo invite.call_id (on_side (invite_taken event invite)) }
+    ensures plain { (event : Event) (plain : Plain)
+        → KeepsTo plain.call_id (on_side (plain_taken event plain)) }
+    ensures request { (event : Event) (command : DialogRequest)
+        → KeepsTo command.call_id (request_taken event command) }
+    ensures ack { (event : Event) (command : DialogBody)
+        → KeepsTo command.call_id (ack_taken event command) }
+    ensures prack { (event : Event) (command : DialogBody)
+        → KeepsTo command.call_id (prack_taken event command) }
+    ensures cancel { (event : Event) (command : Cancel)
+        → KeepsTo command.call_id (cancel_taken event command) }
+    ensures tick { (call_id : List ℕ) (now : ℕ) → KeepsTo call_id (λ side. tick_taken side now) }
 {}

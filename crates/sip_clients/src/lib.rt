@@ -24,5 +24,5 @@ pub use answers::{Answers, SentAck};
 pub use client::{Asks, Cancelling, Client};
 pub use clients::Clients;
 pub use event::Event;
-pub use laws::{names_differ, quiet_until_due};
+pub use laws::{each_notice_is_of_its_call, names_differ, quiet_until_due};
 pub use name::made_name;

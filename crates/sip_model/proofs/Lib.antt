@@ -10,5 +10,6 @@ pub mod Ordered
 pub mod Parts
 pub mod Phases
 pub mod Shards
+pub mod Spoken
 pub mod Tick
 pub mod Token

@@ -64,10 +64,10 @@ ticks_raise id now states (key ∷ keys) =
 
 -- ---- each arrival hands up one thing at most
 
-abbrev TellsAt : ℕ → List ((ℕ × Key) × List Out) → List Out
+abbrev pub TellsAt : ℕ → List ((ℕ × Key) × List Out) → List Out
 TellsAt place told = joined (filter (λ said. nat_eq (said.0).0 place) told)
 
-none_later : (place from : ℕ) (states : Key → Option Life)
+pub none_later : (place from : ℕ) (states : Key → Option Life)
     (items : List (model.Item Key (Timed Input)))
     → suc place ≤ from → Climbs from (map (λ item. item.place) items)
     → TellsAt place (told_items key_cmp transaction_machine states items) ≡ []
@@ -164,7 +164,7 @@ one_climbs now round place (arrival.User command) rest climbs =
     climbs_from_less place (suc place) (map (λ item. item.place) (timed_items now rest))
     (omega arith) climbs
 
-arrivals_climb : (now : ℕ) (local : Addr) (round place : ℕ) (events : List Event)
+pub arrivals_climb : (now : ℕ) (local : Addr) (round place : ℕ) (events : List Event)
     → Climbs place (map (λ item. item.place)
     (timed_items now (transaction_items (arrivals_from local round place events))))
 arrivals_climb now local round place [] = tt

@@ -6,6 +6,8 @@ pub mod Climbing
 pub mod Cutting
 pub mod EventsRise
 pub mod FewUps
+pub mod GivenNotices
+pub mod GivenSends
 pub mod Leading
 pub mod IdleShards
 pub mod IdleRound
@@ -14,6 +16,10 @@ pub mod Lives
 pub mod Living
 pub mod NamesRise
 pub mod Numbered
+pub mod OwnItems
+pub mod OwnNotices
+pub mod OwnRequests
+pub mod OwnSends
 pub mod Piled
 pub mod Placed
 pub mod Runs

@@ -3,7 +3,7 @@
 use Rattle.std.proofs.Common.{◌≡◌, ◌⊎◌, inl, inr, ℕ, suc, ◌≤◌, Bool, true, false, cond, List, [], ◌∷◌, ◌++◌, map, refl, sym, ap, subst, ◌∙◌, append_assoc, append-nil, arith}
 use Rattle.std.specs.Prelude.{Option, None, Some, Result, Ok, Err, filter, filter_map, if◌then◌else◌}
 use Rattle.std.specs.BTreeMap.{is_at}
-use Rattle.std.specs.List.{AllByRecursion, IsDistinct, cons_option, flat_map}
+use Rattle.std.specs.List.{IsDistinct, cons_option, flat_map}
 use Rattle.std.proofs.lemmas.Bool.{false≢true}
 use Rattle.std.proofs.lemmas.List.Elements.{filter_map-append}
 use Rattle.sip_message.specs.declared.addr.Addr.{Addr}
@@ -41,7 +41,6 @@ use Rattle.sip_served.specs.declared.item.Item.{Item}
 use Rattle.sip_served.proofs.NoStarts.{start_in, start_of, starts}
 use Rattle.sip_calls.specs.declared.call.Call.{Call}
 use Rattle.sip_calls.specs.declared.calls.Calls.{Calls}
-use Rattle.sip_calls.specs.declared.calls.CallInput.TheVariants.{Tick}
 use Rattle.sip_calls.specs.Call.{call_machine, tick_input}
 use Rattle.sip_calls.specs.CallShard.{call_cmp, item_input}
 use Rattle.sip_calls.proofs.CallStarts.{AllClients, IsClient, call_starts, how_many, ids_of}
@@ -55,7 +54,6 @@ use Rattle.sip_round.specs.Answers.{Past, calls_of, first, given_second, items_o
 use Rattle.sip_round.specs.Arrivals.{arrival_of, arrivals_from, datagram_arrival, message_arrival}
 use Rattle.sip_round.specs.Outputs.{command_of, joined}
 use Rattle.sip_round.specs.Phases.{call_items, command_items, transaction_item, transaction_items}
-use Rattle.sip_round.proofs.CallEvents.{item_event, round_placed}
 use Rattle.sip_round.proofs.EventsRise.{Places, Rise, places_from, rise_after, rise_apart}
 use Rattle.sip_round.proofs.StartedOnce.{distinct_of_once, one_more_beside, one_more_of_both, started_from, started_once, how_many-append, ticks_start}
 
@@ -346,12 +344,14 @@ module _ (config : Config) where
       ∙ sym (append_assoc (names k one.items) (names k two.items) (names_in k more))
 
   -- the phases of later rounds
-  record Later (number : ℕ) (past : Past) (rounds : List Round) (Holds : List (Phase Key (Timed Input)) → Type 0) : Type 0 where
-    more : List (Phase Key (Timed Input))
-    transactions : (past_from config number past rounds).transactions ≡ past.transactions ++ more
-    holds : Holds more
+  pub record Later (number : ℕ) (past : Past) (rounds : List Round)
+      (Holds : List (Phase Key (Timed Input)) → Type 0) : Type 0 where
+    pub more : List (Phase Key (Timed Input))
+    pub transactions : (past_from config number past rounds).transactions
+        ≡ past.transactions ++ more
+    pub holds : Holds more
 
-  one_round_more : (number : ℕ) (past : Past) (round : Round) (rounds : List Round)
+  pub one_round_more : (number : ℕ) (past : Past) (round : Round) (rounds : List Round)
       (Holds After : List (Phase Key (Timed Input)) → Type 0)
       → ((more : List (Phase Key (Timed Input))) → Holds more
       → After (first config number past round ∷ third config number past round ∷ more))

@@ -1,9 +1,8 @@
 -- In any rounds a transaction of a client is started once at most under an id: under that of the
 -- event by which it starts, or under that of the command whose CANCEL waited.
-use Rattle.std.proofs.Common.{◌≡◌, ℕ, suc, ◌+◌, ◌≤◌, Bool, true, false, cond, List, [], ◌∷◌, ◌++◌, map, refl, sym, ap, subst, ◌∙◌, zero-add, arith}
-use Rattle.std.specs.Prelude.{Option, None, Some, filter, filter_map}
-use Rattle.std.specs.BTreeMap.{is_at}
-use Rattle.std.specs.List.{AllByRecursion, IsDistinct, cons_option, flat_map}
+use Rattle.std.proofs.Common.{◌≡◌, ℕ, suc, ◌+◌, ◌≤◌, true, false, cond, List, [], ◌∷◌, ◌++◌, map, refl, sym, ap, subst, ◌∙◌, zero-add, arith}
+use Rattle.std.specs.Prelude.{Option, filter}
+use Rattle.std.specs.List.{AllByRecursion, IsDistinct}
 use Rattle.std.proofs.lemmas.Grind.{common_steps}
 use Rattle.std.proofs.lemmas.Cmp.{nat_list_cmp_total}
 use Rattle.std.proofs.lemmas.List.{map-append}
@@ -12,16 +11,12 @@ use Rattle.std.proofs.lemmas.List.Sums.{sum_by-append, sum_by-cons}
 use Rattle.std.proofs.lemmas.Map.Lookups.{exact_bytes}
 use Rattle.std.proofs.lemmas.Map.Keys.{IsDistinct-cons, IsDistinct-head, IsDistinct-tail}
 use Rattle.sip_message.specs.declared.id.Id.{Id}
-use Rattle.sip_message.specs.declared.key.Key.{Key}
-use Rattle.sip_message.specs.Key.{key_cmp}
-use Rattle.sip_model.specs.declared.item.Item as model
 use Rattle.sip_model.specs.Machine.{Machine, adds, next, Timed}
-use Rattle.sip_model.specs.Phase.{keys_of_phases, states_after, states_then, ticked, timed_items, told_items}
+use Rattle.sip_model.specs.Phase.{keys_of_phases, states_after, states_then, timed_items}
 use Rattle.sip_model.specs.Told.{speaks}
 use Rattle.sip_model.proofs.Ordered.{by_bool}
 use Rattle.sip_model.proofs.Phases.{states_after_phase}
 use Rattle.sip_model.proofs.Token.{Budget, KeepsToken, Spent, budget_from, budget_kept, coming_with, spend_items}
-use Rattle.sip_transactions.specs.declared.input.Command.{Command}
 use Rattle.sip_served.specs.declared.item.CallOut.{CallOut}
 use Rattle.sip_served.specs.declared.item.Item.{Item}
 use Rattle.sip_served.specs.State.{is_id}
@@ -37,7 +32,7 @@ use Rattle.sip_calls.specs.Provisionals.{event_in}
 use Rattle.sip_calls.proofs.CallStarts.{call_starts, count_option, how_many, id_exact, ids_of, tick_silent, waiting_in, weight}
 use Rattle.sip_round.specs.declared.config.Config.{Config}
 use Rattle.sip_round.specs.declared.round.Round.{Round}
-use Rattle.sip_round.specs.Answers.{Past, calls_of, given_second, items_of_round, no_past, past_after, past_from, said_by_calls, second}
+use Rattle.sip_round.specs.Answers.{Past, calls_of, given_second, items_of_round, no_past, past_after, said_by_calls, second}
 use Rattle.sip_round.specs.Outputs.{joined}
 use Rattle.sip_round.specs.Phases.{call_items}
 use Rattle.sip_round.proofs.CallEvents.{item_event, round_placed}

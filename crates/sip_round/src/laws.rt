@@ -1,6 +1,7 @@
 //! Laws of whole runs.
 
 ghost use Rattle.std.specs.Prelude.{List};
+ghost use Rattle.sip_round.specs.Given.{AnswersGiveOwnNotices, AnswersGiveOwnSends};
 ghost use Rattle.sip_round.specs.Laws.{NothingAfterEachEnd, OneRequestInEachLife, ProvisionalsInLives};
 ghost use Rattle.sip_round.specs.declared.round.Round.{Round};
 
@@ -41,3 +42,15 @@ pub fn provisionals_in_each_life(config: &Config)
     laws_of_phases(&calls);
     provisionals_shown_in_order();
 }
+
+/// In any rounds, the Sends with a transaction's key, among all that they give, are in order just
+/// what that transaction's own history says to send.
+pub fn own_sends_given()
+    ensures { AnswersGiveOwnSends }
+{}
+
+/// In any rounds, the notices with a Call-ID, among all that they give, are in order just those
+/// that the call's own history says.
+pub fn own_notices_given()
+    ensures { AnswersGiveOwnNotices }
+{}

@@ -2,12 +2,16 @@
 
 ghost use Rattle.std.specs.Prelude.{◌≡◌, ◌⊎◌, ◌<◌, ◌≤◌, Bool, IfOk, IfErr, None, Some, map};
 ghost use Rattle.sip_round.specs.Answers as answers;
+ghost use Rattle.sip_round.specs.Given.{GivesOwnNotices, GivesOwnSends};
 ghost use Rattle.sip_round.specs.Laws.{NothingAfterEnds, OneRequestInLives, ProvisionalsInLives};
 ghost use Rattle.sip_round.specs.declared.round_fault.RoundFault.TheVariants as round_fault;
 
 use crate::agent::Agent;
 use crate::config::Config;
-use crate::laws::{nothing_after_each_end, one_request_in_each_life, provisionals_in_each_life};
+use crate::laws::{
+    nothing_after_each_end, one_request_in_each_life, own_notices_given, own_sends_given,
+    provisionals_in_each_life,
+};
 use crate::output::Output;
 use crate::round::Round;
 use crate::round_fault::RoundFault;
@@ -21,8 +25,11 @@ use std::thread::Threads;
 ///
 /// So of these rounds: each life of a server transaction hands its request up once
 /// (`each_request_once`); of the reliable provisional responses that come to an INVITE in one life
-/// of a dialog the user is told in order, of each once (`provisionals_in_order`); and a
-/// transaction's life that has ended hands nothing up (`nothing_after_the_end`).
+/// of a dialog the user is told in order, of each once (`provisionals_in_order`); a transaction's
+/// life that has ended hands nothing up (`nothing_after_the_end`); and of all that they give, the
+/// Sends with a transaction's key are in order just what that transaction's own history says to
+/// send (`sends_of_each_transaction`), and the notices with a Call-ID just those that the call's
+/// own history says (`notices_of_each_call`).
 ///
 /// # Errors
 ///
@@ -53,10 +60,16 @@ pub fn run<R: Threads + Sync, C: Cut + Drop, G: Gate>(
     ensures each_request_once { OneRequestInLives config rounds.now }
     ensures provisionals_in_order { ProvisionalsInLives config rounds.now }
     ensures nothing_after_the_end { NothingAfterEnds config rounds.now }
+    ensures sends_of_each_transaction { IfOk result (λ made.
+        GivesOwnSends config rounds.now (map (λ outputs. outputs.items) made.items)) }
+    ensures notices_of_each_call { IfOk result (λ made.
+        GivesOwnNotices config rounds.now (map (λ outputs. outputs.items) made.items)) }
 {
     one_request_in_each_life();
     provisionals_in_each_life(&config);
     nothing_after_each_end();
+    own_sends_given();
+    own_notices_given();
     let Ok(mut agent) = Agent::new(alloc, config, shards, cut) else {
         return Err((0, RoundFault::NoMemory { broken: true }));
     };

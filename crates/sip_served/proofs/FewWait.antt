@@ -1,6 +1,6 @@
 -- Of each held request few reliable provisional responses wait for their PRACK.
-use Rattle.std.proofs.Common.{◌≡◌, ℕ, Bool, true, false, not, ◌==◌, cond, List, [], ◌∷◌, ◌++◌, map, refl}
-use Rattle.std.specs.Prelude.{Option, None, Some, filter, find, fold}
+use Rattle.std.proofs.Common.{◌≡◌, ℕ, not, ◌==◌, List, [], ◌∷◌, map, refl}
+use Rattle.std.specs.Prelude.{Option, None, Some, find, fold}
 use Rattle.std.specs.List.{AllByRecursion}
 use Rattle.sip_model.proofs.Ordered.{by_bool}
 use Rattle.sip_message.specs.declared.addr.Addr.{Addr}
@@ -34,41 +34,10 @@ use Rattle.sip_served.specs.Respond.{answered, by_refusal, by_request, finished,
 use Rattle.sip_served.specs.Requests.{is_final}
 use Rattle.sip_served.specs.Run.{Event, Takes, Ticks, FewWaitEach, event_taken, state_after}
 use Rattle.sip_served.specs.ServerSide.{empty_at}
-use Rattle.sip_served.specs.State.{State, changed_first, has_id}
+use Rattle.sip_served.specs.State.{State, has_id}
 use Rattle.sip_served.specs.Step.{arrival_taken, command_taken, kind_taken}
 use Rattle.sip_served.specs.Tick.{is_kept_at, provisionals_by, request_ticked, success_of, success_ticked}
-
--- ---- lists
-
-module _ {X : Type 0} (P : X → Type 0) where
-  appended : (xs : List X) (x : X) → AllByRecursion P xs → P x → AllByRecursion P (xs ++ x ∷ [])
-  appended [] x all one = (one, tt)
-  appended (y ∷ ys) x all one = (all.0, appended ys x all.1 one)
-
-  changed_step : (test : X → Bool) (change : X → X) (x : X) (xs : List X) (b : Bool) → P (change x)
-      → P x → AllByRecursion P xs → AllByRecursion P (changed_first test change xs)
-      → AllByRecursion P (cond b (change x ∷ xs) (x ∷ changed_first test change xs))
-  changed_step test change x xs true its one all rest = (its, all)
-  changed_step test change x xs false its one all rest = (one, rest)
-
-  changed_all : (test : X → Bool) (change : X → X) → ((x : X) → P x → P (change x)) → (xs : List X)
-      → AllByRecursion P xs → AllByRecursion P (changed_first test change xs)
-  changed_all test change keeps [] all = tt
-  changed_all test change keeps (x ∷ xs) all =
-      changed_step test change x xs (test x) (keeps x all.0) all.0 all.1
-      (changed_all test change keeps xs all.1)
-
-  filter_step : (x : X) (rest : List X) (b : Bool) → P x → AllByRecursion P rest
-      → AllByRecursion P (cond b (x ∷ rest) rest)
-  filter_step x rest true one all = (one, all)
-  filter_step x rest false one all = all
-
-  mapped_all : (test : X → Bool) (f : X → X) → ((x : X) → P x → P (f x)) → (xs : List X)
-      → AllByRecursion P xs → AllByRecursion P (filter test (map f xs))
-  mapped_all test f keeps [] all = tt
-  mapped_all test f keeps (x ∷ xs) all =
-      filter_step (f x) (filter test (map f xs)) (test (f x)) (keeps x all.0)
-      (mapped_all test f keeps xs all.1)
+use Rattle.sip_served.proofs.Each as each
 
 -- ---- one request
 
@@ -143,19 +112,19 @@ case_keeps BadExtension state name arrival all = all
 case_keeps NoDialog state name arrival all = all
 case_keeps OutOfOrder state name arrival all = all
 case_keeps (Acknowledges invite rseq) state name arrival all =
-    changed_all IsKept (has_id invite) (pracked rseq) (pracked_keeps rseq)
+    each.changed IsKept (has_id invite) (pracked rseq) (pracked_keeps rseq)
     (noted state name arrival.request).requests (noted_keeps state name arrival.request all)
 case_keeps AcknowledgesNothing state name arrival all = noted_keeps state name arrival.request all
 case_keeps ForUser state name arrival all =
-    bye_keeps arrival name _ (appended IsKept (noted state name arrival.request).requests _
-    (noted_keeps state name arrival.request all) (sound_new first_rseq))
+    bye_keeps arrival name _ (each.both IsKept (noted state name arrival.request).requests _
+    (noted_keeps state name arrival.request all) (sound_new first_rseq, tt))
 
 cancel_keeps : (state : State) (arrival : Arrival) (now : ℕ) (o : Option HeldRequest)
     → IsKeptEach state → IsKeptEach (by_cancelled state arrival now o).0
 cancel_keeps state arrival now None all = all
 cancel_keeps state arrival now (Some held) all =
     by_bool (is_unanswered_invite held)
-    (λ e. rw e (changed_all IsKept (has_id held.id) (finished (request_terminated held) 487 now)
+    (λ e. rw e (each.changed IsKept (has_id held.id) (finished (request_terminated held) 487 now)
     (λ one kept. kept) state.requests all))
     (λ e. rw e all)
 
@@ -173,13 +142,13 @@ ack_keeps : (state : State) (call_id : List ℕ) (ack : Message) (o : Option Id)
     → IsKeptEach (ack_noted state call_id ack o).0
 ack_keeps state call_id ack None all = all
 ack_keeps state call_id ack (Some invite) all =
-    changed_all IsKept (has_id invite) acked (λ held one. one) state.requests all
+    each.changed IsKept (has_id invite) acked (λ held one. one) state.requests all
 
 refusal_keeps : (state : State) (event : Id) (r : Answer) (now : ℕ) (held : HeldRequest)
     (o : Option Refusal) → IsKeptEach state → IsKeptEach (by_refusal state event r now held o).0
 refusal_keeps state event r now held (Some refusal) all = all
 refusal_keeps state event r now held None all =
-    changed_all IsKept (has_id r.id) (λ held. answered r _ now (with_dialog event r held))
+    each.changed IsKept (has_id r.id) (λ held. answered r _ now (with_dialog event r held))
     (λ held one. answered_keeps r _ now (with_dialog event r held) (dialog_keeps event r held one))
     state.requests all
 
@@ -215,8 +184,9 @@ pub event_keeps : (state : State) (event : Event) → IsKeptEach state
 event_keeps state (Takes tag id (item.Up up) now) all = kind_keeps state tag up up.kind now all
 event_keeps state (Takes tag id (item.User c) now) all = command_keeps state id c now all
 event_keeps state (Ticks now) all =
-    mapped_all IsKept (is_kept_at now) (λ held. (request_ticked now held).0)
-    (request_keeps now) state.requests all
+    each.filtered IsKept (is_kept_at now) (map (λ held. (request_ticked now held).0) state.requests)
+    (each.mapped IsKept IsKept (λ held. (request_ticked now held).0) (request_keeps now)
+    state.requests all)
 
 from_keeps : (events : List Event) (state : State) → IsKeptEach state
     → IsKeptEach (fold (λ state event. (event_taken state event).0) state events)

@@ -2,6 +2,7 @@ pub mod Calm
 pub mod Changes
 pub mod DialogSteps
 pub mod Dues
+pub mod Each
 pub mod Entries
 pub mod Heard
 pub mod Joined
@@ -9,6 +10,7 @@ pub mod Mapped
 pub mod Names
 pub mod NoStarts
 pub mod Numbers
+pub mod OwnCall
 pub mod FewWait
 pub mod Places
 pub mod Shows

@@ -5,6 +5,7 @@ pub mod Command
 pub mod Dialogs
 pub mod Lending
 pub mod Notices
+pub mod OwnCall
 pub mod Refusal
 pub mod Requests
 pub mod Provisionals

@@ -8,8 +8,9 @@ ghost use Rattle.sip_reliable.specs.Ledger.{FewWait};
 ghost use Rattle.sip_timers.specs.Queue.{is_due};
 ghost use Rattle.sip_transactions.specs.declared.input.Command.TheVariants.{Answer};
 ghost use Rattle.sip_served.specs.Cancel.{invite_terminated, is_unanswered_invite, request_terminated, user_termination};
+ghost use Rattle.sip_served.specs.OwnCall.{IsEventOf, IsNoticeOf, IsStateOf};
 ghost use Rattle.sip_served.specs.Respond.{respond_taken};
-ghost use Rattle.sip_served.specs.Run.{Event, FewWaitEach, state_after};
+ghost use Rattle.sip_served.specs.Run.{Event, FewWaitEach, event_taken, state_after};
 ghost use Rattle.sip_served.specs.ServerSide.{empty_at};
 ghost use Rattle.sip_served.specs.Shown.{brings, for_user, told_by, told_from};
 ghost use Rattle.sip_served.specs.State.{State, followed, has_id, is_id, quiet};
@@ -71,4 +72,15 @@ pub fn a_cancel_answers_as_the_user_would()
         → respond_taken state event (user_termination call_id held.id) now
         ≡ followed (state, Command held.id (Answer held.key (request_terminated held)) ∷ [])
         (invite_terminated (request_terminated held) held.id now) }
+{}
+
+/// All that the server side of a call holds is of its own Call-ID, and so is all that it tells the
+/// user: where what is held and what happens are of a Call-ID, so are what is held then and each
+/// notice (RFC 3261, section 8.1.1.4).
+pub fn each_notice_is_of_its_call()
+    ensures state { (call_id : List ℕ) (state : State) (event : Event) → IsStateOf call_id state
+        → IsEventOf call_id event → IsStateOf call_id (event_taken state event).0 }
+    ensures notices { (call_id : List ℕ) (state : State) (event : Event) → IsStateOf call_id state
+        → IsEventOf call_id event
+        → AllByRecursion (IsNoticeOf call_id) (event_taken state event).1 }
 {}

@@ -1,6 +1,7 @@
-use Rattle.std.proofs.Common.{◌≤◌, ◌∙◌, true, refl, sym, ap, inl, inr, length, arith}
+use Rattle.std.proofs.Common.{◌≤◌, ◌∙◌, true, refl, sym, ap, subst, inl, inr, length, arith}
 use Rattle.std.proofs.lemmas.List.{take_all}
 use Rattle.sip_round.specs.Answers.{answers, refused}
+use Rattle.sip_round.specs.Given.{GivesOwnNotices, GivesOwnSends}
 use Rattle.sip_round.proofs.SoFar.{at_start, one_more, one_unrefused, ends, fine_where_ok}
 use Rattle.sip_round.proofs.whole_run.run.Goals as goal
 
@@ -109,3 +110,13 @@ returns-in_default-push-clause-nothing_after_the_end g c =
 pub returns-clause-nothing_after_the_end : goal.returns-clause-nothing_after_the_end
 returns-clause-nothing_after_the_end g c =
     c.nothing_after_each_end.ensures c.args.config c.args.rounds.now
+
+pub returns-clause-sends_of_each_transaction : goal.returns-clause-sends_of_each_transaction
+returns-clause-sends_of_each_transaction g c =
+    subst (GivesOwnSends c.args.config c.args.rounds.now) (sym (returns-clause-answers g c))
+    (c.own_sends_given.ensures c.args.config c.args.rounds.now)
+
+pub returns-clause-notices_of_each_call : goal.returns-clause-notices_of_each_call
+returns-clause-notices_of_each_call g c =
+    subst (GivesOwnNotices c.args.config c.args.rounds.now) (sym (returns-clause-answers g c))
+    (c.own_notices_given.ensures c.args.config c.args.rounds.now)

@@ -1,0 +1,245 @@
+-- A call holds and tells what is of its own Call-ID, and nothing else.
+use Rattle.std.proofs.Common.{◌≡◌, ℕ, Bool, true, false, List, [], ◌∷◌, subst}
+use Rattle.std.specs.Prelude.{Option, None, Some}
+use Rattle.std.specs.List.{AllByRecursion}
+use Rattle.sip_model.specs.Machine.{Timed, adds, next, outputs_from, state_after, state_from}
+use Rattle.sip_model.proofs.Ordered.{by_bool}
+use Rattle.sip_message.specs.declared.addr.Addr.{Addr}
+use Rattle.sip_transactions.specs.declared.output.Kind.{Kind}
+use Rattle.sip_transactions.specs.declared.output.Kind.TheVariants as kind
+use Rattle.sip_transactions.specs.declared.output.Up.{Up as AnUp}
+use Rattle.sip_served.specs.declared.command.UserCommand.{UserCommand}
+use Rattle.sip_served.specs.declared.command.UserCommand.TheVariants.{Invite, Plain, Request, Respond, Ack, Prack, Cancel}
+use Rattle.sip_served.specs.declared.item.Item.{Item}
+use Rattle.sip_served.specs.declared.item.Item.TheVariants.{Up, User}
+use Rattle.sip_served.specs.Command.{call_of_command}
+use Rattle.sip_served.specs.State.{Taken as ServedTaken}
+use Rattle.sip_served.specs.Tick as served
+use Rattle.sip_served.proofs.Each.{both}
+use Rattle.sip_served.proofs.OwnCall as server
+use Rattle.sip_clients.specs.Cancel.{cancel_taken}
+use Rattle.sip_clients.specs.Client.{Side, Taken as ClientTaken}
+use Rattle.sip_clients.specs.Clients.{ack_taken, invite_taken, lost, plain_taken, prack_taken, request_taken, response_taken}
+use Rattle.sip_clients.specs.OwnCall.{AreNoticesOf, IsSideOf, KeepsTo, on_side}
+use Rattle.sip_clients.specs.Name.{name_of}
+use Rattle.sip_clients.specs.Tick as clients
+use Rattle.sip_clients.specs.declared.event.Event.{Event}
+use Rattle.sip_clients.proofs.OwnCall.{ack_own, cancel_own, dialog_request_own, invite_own, lost_own, plain_own, prack_own, response_own, tick_own}
+use Rattle.sip_calls.specs.declared.call.Call.{Call}
+use Rattle.sip_calls.specs.declared.calls.Calls.{Calls}
+use Rattle.sip_calls.specs.declared.calls.CallInput.{CallInput}
+use Rattle.sip_calls.specs.declared.calls.CallInput.TheVariants.{Tick, Item as AnItem}
+use Rattle.sip_calls.specs.Call.{Taken, call_machine, call_step, command_taken, event_of, first_command_taken, kept, lost_taken, new_call, served_taken, up_taken}
+use Rattle.sip_calls.specs.OwnCall.{AreSidesOf, EachNoticeIsOwn, IsCallOf, IsInputOf, IsItemOf, IsNoticeOf}
+use Rattle.sip_calls.specs.Sides.{CallTaken, by_clients, by_server, followed, holds_any, side_of, ticked}
+
+-- a step that keeps to a Call-ID keeps to an equal one
+keeps_same : (step : Side → ClientTaken) (own call_id : List ℕ) → own ≡ call_id
+    → KeepsTo own step → KeepsTo call_id step
+keeps_same step own call_id same keeps =
+    subst (λ (c : List ℕ). KeepsTo c step) same keeps
+
+module _ (call_id : List ℕ) where
+  -- both sides of a call, and what is told
+  abbrev IsDoneOf : CallTaken → Type 0
+  IsDoneOf done = AreSidesOf call_id done.0 × AreNoticesOf call_id done.1
+
+  -- what is held then, if anything, and what is told
+  abbrev IsTakenOf : Taken → Type 0
+  IsTakenOf taken = IsCallOf call_id taken.0 × AreNoticesOf call_id taken.1
+
+  -- ---- one side of a call takes something
+
+  side_own : (call : Call) → AreSidesOf call_id call → IsSideOf call_id (side_of call)
+  side_own call own = record { dialogs = (own.state).dialogs; clients = own.clients }
+
+  server_own : (call : Call) (taken : ServedTaken) → AreSidesOf call_id call
+      → server.IsTakenOf call_id taken → IsDoneOf (by_server call taken)
+  server_own call taken own its = (record { state = its.0; clients = own.clients }, its.1)
+
+  clients_own : (call : Call) (step : Side → ClientTaken) → AreSidesOf call_id call
+      → KeepsTo call_id step → IsDoneOf (by_clients call (step (side_of call)))
+  clients_own call step own keeps =
+      let its = keeps (side_of call) (side_own call own) in (
+        record {
+          state = record { requests = (own.state).requests; dialogs = (its.0).dialogs };
+          clients = (its.0).clients;
+        },
+        its.1,
+      )
+
+  -- one thing after another
+  after : (done : CallTaken) (more : Call → CallTaken) → IsDoneOf done
+      → ((call : Call) → AreSidesOf call_id call → IsDoneOf (more call))
+      → IsDoneOf (followed done more)
+  after done more first second =
+      let later = second done.0 first.0 in
+      (later.0, both (IsNoticeOf call_id) done.1 (more done.0).1 first.1 later.1)
+
+  -- ---- what comes up
+
+  served_own : (call : Call) (event : Event) (item : Item) → IsItemOf call_id item
+      → AreSidesOf call_id call → IsDoneOf (served_taken call event item)
+  served_own call event item its own =
+      server_own call _ own
+      (server.item_is call_id (call.served).state (name_of event.seed event.id 0) event.id item
+      event.moment its own.state)
+
+  lose_own : (call : Call) (event : Event) (up : AnUp) (timed_out : Bool)
+      → IsItemOf call_id (Up up) → AreSidesOf call_id call
+      → IsDoneOf (lost_taken call event up timed_out)
+  lose_own call event up timed_out its own =
+      after (served_taken call event (Up up))
+      (λ call. by_clients call (lost up.id timed_out (side_of call)))
+      (served_own call event (Up up) its own)
+      (λ call own. clients_own call (lost up.id timed_out) own (lost_own call_id up.id timed_out))
+
+  up_own : (call : Call) (event : Event) (up : AnUp) (k : Kind) → IsItemOf call_id (Up up)
+      → AreSidesOf call_id call → IsDoneOf (up_taken call event up k)
+  up_own call event up (kind.Request request reply_to) its own =
+      served_own call event (Up up) its own
+  up_own call event up (kind.Ack ack) its own = served_own call event (Up up) its own
+  up_own call event up (kind.Response response) its own =
+      let step = response_taken event up.id up.call_id response in
+      clients_own call step own
+      (keeps_same step up.call_id call_id its.0 (response_own event up.id up.call_id response))
+  up_own call event up kind.Timeout its own = lose_own call event up true its own
+  up_own call event up kind.Failed its own = lose_own call event up false its own
+
+  -- ---- commands of the user, and a tick
+
+  first_command_own : (call : Call) (event : Event) (command : UserCommand)
+      → call_of_command command ≡ call_id → AreSidesOf call_id call
+      → IsDoneOf (first_command_taken call event command)
+  first_command_own call event (Invite invite) its own =
+      let step = on_side (invite_taken event invite) in
+      clients_own call step own
+      (keeps_same step invite.call_id call_id its (invite_own event invite))
+  first_command_own call event (Plain plain) its own =
+      let step = on_side (plain_taken event plain) in
+      clients_own call step own
+      (keeps_same step plain.call_id call_id its (plain_own event plain))
+  first_command_own call event (Request request) its own = (own, (its, tt))
+  first_command_own call event (Respond respond) its own = (own, (its, tt))
+  first_command_own call event (Ack ack) its own = (own, (its, tt))
+  first_command_own call event (Prack prack) its own = (own, (its, tt))
+  first_command_own call event (Cancel cancel) its own = (own, (its, tt))
+
+  command_own : (call : Call) (event : Event) (command : UserCommand)
+      → call_of_command command ≡ call_id → AreSidesOf call_id call
+      → IsDoneOf (command_taken call event command)
+  command_own call event (Invite invite) its own = (own, (its, tt))
+  command_own call event (Plain plain) its own = (own, (its, tt))
+  command_own call event (Request request) its own =
+      let step = request_taken event request in
+      clients_own call step own
+      (keeps_same step request.call_id call_id its (dialog_request_own event request))
+  command_own call event (Respond respond) its own =
+      served_own call event (User (Respond respond)) its own
+  command_own call event (Ack ack) its own =
+      let step = ack_taken event ack in
+      clients_own call step own (keeps_same step ack.call_id call_id its (ack_own event ack))
+  command_own call event (Prack prack) its own =
+      let step = prack_taken event prack in
+      clients_own call step own
+      (keeps_same step prack.call_id call_id its (prack_own event prack))
+  command_own call event (Cancel cancel) its own =
+      let step = cancel_taken event cancel in
+      clients_own call step own
+      (keeps_same step cancel.call_id call_id its (cancel_own event cancel))
+
+  ticked_own : (call : Call) (now : ℕ) → AreSidesOf call_id call → IsDoneOf (ticked call now)
+  ticked_own call now own =
+      let first = served.tick_taken (call.served).state now in
+      after (by_server call first)
+      (λ call. by_clients call (clients.tick_taken (side_of call) now))
+      (server_own call first own (server.tick_is call_id (call.served).state now own.state))
+      (λ call own. clients_own call (λ side. clients.tick_taken side now) own
+      (tick_own call_id now))
+
+  -- ---- all of it
+
+  -- a call under which nothing is held is over
+  kept_own : (done : CallTaken) → IsDoneOf done → IsTakenOf (kept done)
+  kept_own done its = (
+    by_bool (holds_any done.0) (λ some. rw some its.0) (λ none. rw none tt),
+    its.1,
+  )
+
+  new_own : (local : Addr) → AreSidesOf call_id (new_call local)
+  new_own local = record { state = server.empty_is call_id local; clients = tt }
+
+  pub step_own : (calls : Calls) (state : Option Call) (input : CallInput) (now : ℕ)
+      → IsCallOf call_id state → IsInputOf call_id input
+      → IsCallOf call_id (call_step calls state input now).0
+      × AreNoticesOf call_id (call_step calls state input now).1
+  step_own calls None Tick now own its = (tt, tt)
+  step_own calls (Some call) Tick now own its =
+      kept_own (ticked call now) (ticked_own call now own)
+  step_own calls None (AnItem id (Up up)) now own its =
+      let call = new_call calls.local in
+      let event = event_of calls id now in
+      kept_own (up_taken call event up up.kind)
+      (up_own call event up up.kind its (new_own calls.local))
+  step_own calls None (AnItem id (User command)) now own its =
+      let call = new_call calls.local in
+      let event = event_of calls id now in
+      kept_own (first_command_taken call event command)
+      (first_command_own call event command its (new_own calls.local))
+  step_own calls (Some call) (AnItem id (Up up)) now own its =
+      let event = event_of calls id now in
+      kept_own (up_taken call event up up.kind) (up_own call event up up.kind its own)
+  step_own calls (Some call) (AnItem id (User command)) now own its =
+      let event = event_of calls id now in
+      kept_own (command_taken call event command) (command_own call event command its own)
+
+  -- ---- the machine of a call
+
+  -- each of these inputs is of that Call-ID
+  abbrev pub AreInputsOf : List (Timed CallInput) → Type 0
+  AreInputsOf inputs = AllByRecursion (λ timed. IsInputOf call_id timed.input) inputs
+
+  pub next_own : (calls : Calls) (key : List ℕ) (state : Option Call) (timed : Timed CallInput)
+      → IsCallOf call_id state → IsInputOf call_id timed.input
+      → IsCallOf call_id (next (call_machine calls) key state timed)
+  next_own calls key state timed own its =
+      (step_own calls state timed.input timed.moment own its).0
+
+  pub adds_own : (calls : Calls) (key : List ℕ) (state : Option Call) (timed : Timed CallInput)
+      → IsCallOf call_id state → IsInputOf call_id timed.input
+      → AreNoticesOf call_id (adds (call_machine calls) key state timed)
+  adds_own calls key state timed own its =
+      (step_own calls state timed.input timed.moment own its).1
+
+  -- what is held after a list of inputs, and each notice that they give
+  pub state_from_own : (calls : Calls) (key : List ℕ) (state : Option Call)
+      (inputs : List (Timed CallInput)) → IsCallOf call_id state → AreInputsOf inputs
+      → IsCallOf call_id (state_from (call_machine calls) key state inputs)
+  state_from_own calls key state [] own its = own
+  state_from_own calls key state (timed ∷ inputs) own its =
+      state_from_own calls key (next (call_machine calls) key state timed) inputs
+      (next_own calls key state timed own its.0) its.1
+
+  pub outputs_from_own : (calls : Calls) (key : List ℕ) (state : Option Call)
+      (inputs : List (Timed CallInput)) → IsCallOf call_id state → AreInputsOf inputs
+      → AreNoticesOf call_id (outputs_from (call_machine calls) key state inputs)
+  outputs_from_own calls key state [] own its = tt
+  outputs_from_own calls key state (timed ∷ inputs) own its =
+      let later = next (call_machine calls) key state timed in
+      both (IsNoticeOf call_id) (adds (call_machine calls) key state timed)
+      (outputs_from (call_machine calls) key later inputs)
+      (adds_own calls key state timed own its.0)
+      (outputs_from_own calls key later inputs (next_own calls key state timed own its.0) its.1)
+
+  -- over all inputs of a call, of which nothing was held before
+  pub call_own : (calls : Calls) (inputs : List (Timed CallInput)) → AreInputsOf inputs
+      → IsCallOf call_id (state_after (call_machine calls) call_id inputs)
+      × AreNoticesOf call_id (outputs_from (call_machine calls) call_id None inputs)
+  call_own calls inputs its = (
+    state_from_own calls call_id None inputs tt its,
+    outputs_from_own calls call_id None inputs tt its,
+  )
+
+pub each_notice_is_own : EachNoticeIsOwn
+each_notice_is_own calls call_id state input now own its =
+    step_own call_id calls state input now own its

@@ -1,0 +1,5 @@
+use Rattle.sip_calls.proofs.OwnCall.{each_notice_is_own}
+use Rattle.sip_calls.proofs.laws.each_notice_is_of_its_call.Goals as goal
+
+pub returns : goal.returns
+returns c = each_notice_is_own

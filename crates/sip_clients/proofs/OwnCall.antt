@@ -1,0 +1,468 @@
+-- What is held and told on the client side of a call stays of its own Call-ID.
+use Rattle.std.proofs.Common.{◌≡◌, ℕ, Bool, true, false, cond, List, [], ◌∷◌, ◌++◌, refl, ◌∙◌}
+use Rattle.std.specs.Prelude.{Option, None, Some, Result, Ok, Err, IfSome, codes, not}
+use Rattle.std.specs.Map.{set_value, values_of}
+use Rattle.std.specs.Option.{option_map, option_map_or}
+use Rattle.sip_message.specs.declared.id.Id.{Id}
+use Rattle.sip_message.specs.declared.message.Message.{Message}
+use Rattle.sip_served.specs.declared.command.Cancel.{Cancel}
+use Rattle.sip_served.specs.declared.command.DialogBody.{DialogBody}
+use Rattle.sip_served.specs.declared.command.DialogRequest.{DialogRequest}
+use Rattle.sip_served.specs.declared.command.Invite.{Invite}
+use Rattle.sip_served.specs.declared.command.Plain.{Plain as PlainCommand}
+use Rattle.sip_served.specs.declared.command.ProvisionalSupport.{ProvisionalSupport}
+use Rattle.sip_served.specs.declared.command.ProvisionalSupport.TheVariants as support
+use Rattle.sip_served.specs.declared.debt.Debt.{Debt}
+use Rattle.sip_served.specs.declared.debt.Debt.TheVariants.{Ack, Prack}
+use Rattle.sip_served.specs.declared.held_dialog.DialogName.{DialogName}
+use Rattle.sip_served.specs.declared.held_dialog.HeldDialog.{HeldDialog}
+use Rattle.sip_served.specs.declared.item.CallOut.{CallOut}
+use Rattle.sip_served.specs.declared.refusal.Refusal.{Refusal}
+use Rattle.sip_served.specs.declared.refusal.Refusal.TheVariants.{BadMethod}
+use Rattle.sip_served.specs.Dialogs.{dialog_at, early_ended, is_named}
+use Rattle.sip_served.specs.Requests.{is_final}
+use Rattle.sip_served.specs.State.{Dialogs, is_id}
+use Rattle.sip_clients.specs.declared.answers.SentAck.{SentAck}
+use Rattle.sip_clients.specs.declared.cancel.CancelCase.{CancelCase}
+use Rattle.sip_clients.specs.declared.cancel.CancelCase.TheVariants as ask
+use Rattle.sip_clients.specs.declared.client.Asks.{Asks}
+use Rattle.sip_clients.specs.declared.client.Asks.TheVariants.{First, Again, Inside, Plain}
+use Rattle.sip_clients.specs.declared.client.Cancelling.{Cancelling}
+use Rattle.sip_clients.specs.declared.client.Cancelling.TheVariants as cancel
+use Rattle.sip_clients.specs.declared.client.Client.{Client}
+use Rattle.sip_clients.specs.declared.debts.DebtKind.TheVariants as kind
+use Rattle.sip_clients.specs.declared.event.Event.{Event}
+use Rattle.sip_clients.specs.declared.outputs.Rest.{Rest}
+use Rattle.sip_clients.specs.declared.outputs.Rest.TheVariants.{Stays, Over, Starts}
+use Rattle.sip_clients.specs.declared.reply.Reply.{Reply as Answer}
+use Rattle.sip_clients.specs.declared.reply.ReplyCase.{ReplyCase}
+use Rattle.sip_clients.specs.declared.reply.ReplyCase.TheVariants as reply
+use Rattle.sip_clients.specs.declared.service.Service.{Service}
+use Rattle.sip_clients.specs.declared.service.Service.TheVariants.{Sent, Waits, Refused}
+use Rattle.sip_clients.specs.Answers.{ack_of}
+use Rattle.sip_clients.specs.Cancel.{asked, cancel_case, cancel_client, cancel_command, cancel_taken, cancellation, cancelled_as, cancelled_of, freed_by, noted, sent_beside}
+use Rattle.sip_clients.specs.Client.{Clients, Side, Taken as ClientTaken, client_at, client_changed, client_for}
+use Rattle.sip_clients.specs.Clients.{ack_noted, ack_paid, ack_taken, acked_with, found_taken, invite_taken, lost, lost_of, paid_or_refused, plain_taken, prack_paid, prack_taken, reply_name, reply_of, reply_settled, request_taken, response_taken, settled, started, status_of}
+use Rattle.sip_clients.specs.Commands.{ack_told, bye_ended, debt_for, is_bad_outside, name_in, requested_by}
+use Rattle.sip_clients.specs.Dialogs.{accepted, opened, paid_at}
+use Rattle.sip_clients.specs.Outputs.{ack_said, direct, refused_notice, request_said, start_command}
+use Rattle.sip_clients.specs.Outside.{bare_invite, bare_plain, bare_request, invite_of, plain_of, supporting}
+use Rattle.sip_clients.specs.OwnCall.{AreClientsOf, AreDialogsOf, AreNoticesOf, IsDialogOf, IsNoticeOf, IsRequestOf, IsSideOf, KeepsTo, on_side}
+use Rattle.sip_clients.specs.Replied.{InDialog, Replied, ack_owed, after_dialog, by_case, ends_dialog, finished, heard_again, heard_first, offer_to, prack_owed, replied_in, reply_taken, with_dialog}
+use Rattle.sip_clients.specs.Reply.{is_last, reply_case}
+use Rattle.sip_clients.specs.Tick.{ends_at, is_over, notices_of, tick_taken}
+use Rattle.sip_clients.proofs.EachValue.{all_of_both, all_of_each, each_but_one, each_changed, each_inserted, each_left, each_set, found_one}
+use Rattle.sip_clients.proofs.OwnDialogs.{IsServedOf, IsServiceOf, accepted_own, body_kept, bye_own, dialog_own, early_own, ended_with_own, heard_own, opened_own, owed_own, paid_own, requested_by_own}
+
+supporting_kept : (asked_for : ProvisionalSupport) (message : Message)
+    → (supporting asked_for message).call_id ≡ message.call_id
+supporting_kept support.None message = refl
+supporting_kept support.Supported message = refl
+supporting_kept support.Required message = refl
+
+module _ (call_id : List ℕ) where
+  -- ---- what a step makes
+
+  -- a request that is sent
+  abbrev IsRestOf : Rest → Type 0
+  IsRestOf Stays = Unit {0}
+  IsRestOf Over = Unit {0}
+  IsRestOf (Starts client) = IsRequestOf call_id client
+
+  -- the requests, and what is told
+  abbrev AreSettledOf : Clients × List CallOut → Type 0
+  AreSettledOf done = AreClientsOf call_id done.0 × AreNoticesOf call_id done.1
+
+  abbrev IsTakenOf : ClientTaken → Type 0
+  IsTakenOf taken = IsSideOf call_id taken.0 × AreNoticesOf call_id taken.1
+
+  hears_own : (asks : Asks) (rseq : ℕ) (client : Client) → IsRequestOf call_id client
+      → IsRequestOf call_id (heard_again asks rseq client)
+  hears_own First rseq client its = its
+  hears_own (Again life) rseq client its = its
+  hears_own (Inside life) rseq client its = its
+  hears_own Plain rseq client its = its
+
+  -- ---- what is told beside it
+
+  request_said_own : (event : Event) (of : List ℕ) → of ≡ call_id → (name : DialogName)
+      (service : Service) → IsServiceOf call_id service
+      → AreNoticesOf call_id (request_said event of name service).0
+      × IsRestOf (request_said event of name service).1
+  request_said_own event of is name (Sent sending) own = (tt, own)
+  request_said_own event of is name Waits own = (tt, tt)
+  request_said_own event of is name (Refused refusal) own = ((is, tt), tt)
+
+  ack_said_own : (event : Event) (of : List ℕ) → of ≡ call_id → (service : Service)
+      → AreNoticesOf call_id (ack_said event of service).0
+  ack_said_own event of is (Sent sending) = (tt, tt)
+  ack_said_own event of is Waits = tt
+  ack_said_own event of is (Refused refusal) = (is, tt)
+
+  again_own : (ack : Option SentAck)
+      → AreNoticesOf call_id (option_map_or (λ ack. direct ack ∷ []) ack [])
+  again_own None = tt
+  again_own (Some ack) = (tt, tt)
+
+  started_own : (event : Event) (client : Client) (clients : Clients)
+      → IsRequestOf call_id client → AreClientsOf call_id clients
+      → AreSettledOf (started event client clients)
+  unfolding start_command
+  started_own event client clients its own =
+      (each_inserted (IsRequestOf call_id) is_id event.id client its clients own, (tt, tt))
+
+  settled_own : (event : Event) (id : Id) (rest : Rest) (clients : Clients) → IsRestOf rest
+      → AreClientsOf call_id clients → AreSettledOf (settled event id rest clients)
+  settled_own event id Stays clients its own = (own, tt)
+  settled_own event id Over clients its own =
+      (each_but_one (IsRequestOf call_id) (is_id id) clients own, tt)
+  settled_own event id (Starts client) clients its own =
+      started_own event client clients its own
+
+  -- a CANCEL that may be sent after the rest
+  beside_own : (freed : Option Id) (invite : Client) → IsRequestOf call_id invite
+      → (done : Clients × List CallOut) → AreSettledOf done
+      → AreSettledOf (sent_beside (option_map (λ id. cancellation id invite) freed) done)
+  unfolding cancel_command
+  beside_own None invite its done own = own
+  beside_own (Some id) invite its done own = (
+    each_inserted (IsRequestOf call_id) is_id id (cancel_client id invite) its done.0 own.0,
+    all_of_both (IsNoticeOf call_id) done.1 (cancel_command id invite ∷ []) own.1 (tt, tt),
+  )
+
+  -- ---- a response
+
+  -- the request, the dialog, what is told, and the request that is sent
+  record IsInDialogOf (done : InDialog) : Type 0 where
+    pub client : IsRequestOf call_id done.0
+    pub dialog : IfSome done.1 (IsDialogOf call_id)
+    pub told : AreNoticesOf call_id done.2
+    pub rest : IsRestOf done.3
+
+  -- the same with all dialogs
+  record IsRepliedOf (done : Replied) : Type 0 where
+    pub client : IsRequestOf call_id done.0
+    pub dialogs : AreDialogsOf call_id done.1
+    pub told : AreNoticesOf call_id done.2
+    pub rest : IsRestOf done.3
+
+  ack_owed_own : (client : Client) (held : HeldDialog) (answer : Answer)
+      → IsDialogOf call_id held → IsServedOf call_id (ack_owed client held answer)
+  unfolding ack_owed
+  ack_owed_own client held answer own =
+      owed_own call_id answer.event (Ack client.id client.request.cseq.number)
+      (offer_to client answer.response) held own
+
+  prack_owed_own : (rseq : ℕ) (client : Client) (held : HeldDialog) (answer : Answer)
+      → IsDialogOf call_id held → IsServedOf call_id (prack_owed rseq client held answer)
+  unfolding prack_owed
+  prack_owed_own rseq client held answer own =
+      owed_own call_id answer.event (Prack rseq client.request.cseq.number)
+      (offer_to client answer.response) (heard_first client.asks rseq held)
+      (heard_own call_id client.asks rseq held own)
+
+  case_own : (case : ReplyCase) (client : Client) (found : Option HeldDialog) (answer : Answer)
+      → answer.call_id ≡ call_id → IsRequestOf call_id client
+      → IfSome found (IsDialogOf call_id) → IsInDialogOf (by_case case client found answer)
+  case_own reply.Repeated client found answer is its own = record {
+    client = its;
+    dialog = tt;
+    told = again_own (ack_of answer.name client.answers);
+    rest = tt;
+  }
+  case_own reply.Accepted client found answer is its own =
+      let held = accepted client answer found in
+      let holds = accepted_own call_id client answer found its own in
+      let owed = ack_owed_own client held answer holds in
+      record {
+        client = its;
+        dialog = owed.0;
+        told = (is, ack_said_own answer.event answer.call_id is (ack_owed client held answer).1);
+        rest = tt;
+      }
+  case_own reply.Late client found answer is its own =
+      record { client = its; dialog = tt; told = (is, tt); rest = tt }
+  case_own (reply.Reliable rseq) client found answer is its own =
+      let held = opened client answer found in
+      let holds = opened_own call_id client answer found its own in
+      let owed = prack_owed_own rseq client held answer holds in
+      let said = request_said_own answer.event answer.call_id is answer.name
+      (prack_owed rseq client held answer).1 owed.1 in
+      record {
+        client = hears_own client.asks rseq client its;
+        dialog = owed.0;
+        told = (is, said.0);
+        rest = said.1;
+      }
+  case_own reply.Passed client found answer is its own =
+      record { client = its; dialog = tt; told = tt; rest = tt }
+  case_own reply.Early client found answer is its own = record {
+    client = its;
+    dialog = opened_own call_id client answer found its own;
+    told = (is, tt);
+    rest = tt;
+  }
+  case_own reply.Told client found answer is its own =
+      record { client = its; dialog = tt; told = (is, tt); rest = tt }
+
+  with_dialog_own : (name : DialogName) (o : Option HeldDialog) (dialogs : Dialogs)
+      → IfSome o (IsDialogOf call_id) → AreDialogsOf call_id dialogs
+      → AreDialogsOf call_id (with_dialog name o dialogs)
+  with_dialog_own name None dialogs its own = own
+  with_dialog_own name (Some held) dialogs its own =
+      each_inserted (IsDialogOf call_id) is_named name held its dialogs own
+
+  reply_own : (client : Client) (dialogs : Dialogs) (answer : Answer)
+      → answer.call_id ≡ call_id → IsRequestOf call_id client → AreDialogsOf call_id dialogs
+      → IsRepliedOf (reply_taken client dialogs answer)
+  reply_own client dialogs answer is its own = by_last (is_last client.asks answer.status)
+    where
+      found : Option HeldDialog
+      found = dialog_at answer.name dialogs
+
+      by_last : (last : Bool)
+          → IsRepliedOf (cond {A = Replied} last (finished client dialogs answer)
+          (after_dialog answer.name dialogs (replied_in client found answer)))
+      by_last true =
+          let ended = ended_with_own call_id client (ends_dialog answer.status) dialogs own in
+          record { client = its; dialogs = ended.0; told = (is, ended.1); rest = tt }
+      by_last false =
+          let so = case_own (reply_case client found answer) client found answer is its
+          (dialog_own call_id answer.name dialogs own) in
+          record {
+            client = so.client;
+            dialogs = with_dialog_own answer.name (replied_in client found answer).1 dialogs
+                so.dialog own;
+            told = so.told;
+            rest = so.rest;
+          }
+
+  replied_own : (answer : Answer) (client : Client) (side : Side) → answer.call_id ≡ call_id
+      → IsRequestOf call_id client → IsSideOf call_id side
+      → IsTakenOf (reply_settled answer client side)
+  replied_own answer client side is its own =
+      let final = is_final answer.status in
+      let done = reply_taken (noted final client) side.dialogs answer in
+      let so = reply_own (noted final client) side.dialogs answer is its own.dialogs in
+      let put = set_value (is_id answer.id) side.clients done.0 in
+      let after = settled answer.event answer.id done.3 put in
+      let settles = settled_own answer.event answer.id done.3 put so.rest
+      (each_set (IsRequestOf call_id) (is_id answer.id) side.clients done.0 so.client
+      own.clients) in
+      let last = beside_own (freed_by final client.cancel) client its
+      (after.0, done.2 ++ after.1)
+      (settles.0, all_of_both (IsNoticeOf call_id) done.2 after.1 so.told settles.1) in
+      (record { dialogs = so.dialogs; clients = last.0 }, last.1)
+
+  found_own : (event : Event) (id : Id) (response : Message) (status : Option ℕ)
+      (found : Option Client) (side : Side) → IfSome found (IsRequestOf call_id)
+      → IsSideOf call_id side
+      → IsTakenOf (found_taken event id call_id response status found side)
+  found_own event id response None found side its own = (own, tt)
+  found_own event id response (Some status) None side its own = (own, tt)
+  found_own event id response (Some status) (Some client) side its own =
+      replied_own (reply_of event id call_id (reply_name client.asks client response) status
+      response) client side refl its own
+
+  client_own : (id : Id) (clients : Clients) → AreClientsOf call_id clients
+      → IfSome (client_at id clients) (IsRequestOf call_id)
+  client_own id clients own = found_one (IsRequestOf call_id) (is_id id) clients own
+
+  -- ---- a request that is lost, and a tick
+
+  lost_one_own : (id : Id) (timed_out : Bool) (found : Option Client) (side : Side)
+      → IsSideOf call_id side → IsTakenOf (lost_of id timed_out found side)
+  lost_one_own id timed_out None side own =
+      let left = each_but_one (IsRequestOf call_id) (is_id id) side.clients own.clients in
+      (record { dialogs = own.dialogs; clients = left }, tt)
+  lost_one_own id timed_out (Some client) side own =
+      let ended = ended_with_own call_id client timed_out side.dialogs own.dialogs in
+      let left = each_but_one (IsRequestOf call_id) (is_id id) side.clients own.clients in
+      (record { dialogs = ended.0; clients = left }, ended.1)
+
+  over_own : (now : ℕ) (dialogs : Dialogs) → AreDialogsOf call_id dialogs → (client : Client)
+      → AreNoticesOf call_id (notices_of now dialogs client)
+  over_own now dialogs own client =
+      elim (is_over now client) as (λ b. AreNoticesOf call_id
+      (cond b (early_ended client.id dialogs).1 [])) [
+        | true ↦ (early_own call_id client.id dialogs own).1
+        | false ↦ tt
+      ]
+
+-- ---- the steps
+
+pub response_own : (event : Event) (id : Id) (call_id : List ℕ) (response : Message)
+    → KeepsTo call_id (response_taken event id call_id response)
+response_own event id call_id response side own =
+    found_own call_id event id response (status_of response.start) (client_at id side.clients)
+    side (client_own call_id id side.clients own.clients) own
+
+pub lost_own : (call_id : List ℕ) (id : Id) (timed_out : Bool) → KeepsTo call_id (lost id timed_out)
+lost_own call_id id timed_out side own =
+    lost_one_own call_id id timed_out (client_at id side.clients) side own
+
+pub tick_own : (call_id : List ℕ) (now : ℕ) → KeepsTo call_id (λ side. tick_taken side now)
+tick_own call_id now side own =
+    let left = each_left (IsDialogOf call_id)
+    (λ entry. not (ends_at now side.clients entry.1)) side.dialogs own.dialogs in
+    let kept = each_left (IsRequestOf call_id) (λ entry. not (is_over now entry.1))
+    side.clients own.clients in (
+      record { dialogs = left; clients = kept },
+      all_of_each (IsNoticeOf call_id) (notices_of now side.dialogs)
+          (over_own call_id now side.dialogs own.dialogs) (values_of side.clients),
+    )
+
+-- ---- commands outside of dialogs
+
+bare_kept : (event : Event) (call_id method uri from to : List ℕ)
+    → (bare_request event call_id method uri from to).call_id ≡ call_id
+unfolding bare_request
+bare_kept event call_id method uri from to = refl
+
+invite_kept : (event : Event) (invite : Invite)
+    → (invite_of event invite).call_id ≡ invite.call_id
+invite_kept event invite =
+    body_kept (bare_invite event invite) invite.body
+    ∙ (supporting_kept invite.support _
+    ∙ bare_kept event invite.call_id (codes "INVITE") invite.request_uri invite.from invite.to)
+
+plain_kept : (event : Event) (plain : PlainCommand)
+    → (plain_of event plain).call_id ≡ plain.call_id
+plain_kept event plain =
+    body_kept (bare_plain event plain) plain.body
+    ∙ bare_kept event plain.call_id plain.method plain.request_uri plain.from plain.to
+
+pub invite_own : (event : Event) (invite : Invite)
+    → KeepsTo invite.call_id (on_side (invite_taken event invite))
+invite_own event invite side own =
+    let client = client_for event.id First (invite_of event invite) invite.address in
+    let so = started_own invite.call_id event client side.clients (invite_kept event invite)
+    own.clients in
+    (record { dialogs = own.dialogs; clients = so.0 }, so.1)
+
+plain_by : (b : Bool) (event : Event) (plain : PlainCommand) (clients : Clients)
+    → AreClientsOf plain.call_id clients
+    → AreSettledOf plain.call_id (cond {A = Clients × List CallOut} b
+    (clients, refused_notice event plain.call_id BadMethod ∷ [])
+    (started event (client_for event.id Plain (plain_of event plain) plain.address) clients))
+plain_by true event plain clients own = (own, (refl, tt))
+plain_by false event plain clients own =
+    started_own plain.call_id event
+    (client_for event.id Plain (plain_of event plain) plain.address) clients
+    (plain_kept event plain) own
+
+pub plain_own : (event : Event) (plain : PlainCommand)
+    → KeepsTo plain.call_id (on_side (plain_taken event plain))
+plain_own event plain side own =
+    let so = plain_by (is_bad_outside plain.method) event plain side.clients own.clients in
+    (record { dialogs = own.dialogs; clients = so.0 }, so.1)
+
+-- ---- commands in a dialog
+
+pub dialog_request_own : (event : Event) (command : DialogRequest)
+    → KeepsTo command.call_id (request_taken event command)
+dialog_request_own event command side own =
+    let call_id = command.call_id in
+    let name = name_in command.local_tag command.remote_tag in
+    let done = requested_by name event command side.dialogs in
+    let so = requested_by_own call_id name event command side.dialogs own.dialogs in
+    let said = request_said event call_id name done.1 in
+    let says = request_said_own call_id event call_id refl name done.1 so.1 in
+    let ends = bye_own call_id name command.method done.1 done.0 so.0 in
+    let after = settled event event.id said.1 side.clients in
+    let settles = settled_own call_id event event.id said.1 side.clients says.1 own.clients in
+    let bye = bye_ended name command.method done.1 done.0 in (
+      record { dialogs = ends.0; clients = settles.0 },
+      all_of_both (IsNoticeOf call_id) (said.0 ++ after.1) bye.1
+          (all_of_both (IsNoticeOf call_id) said.0 after.1 says.0 settles.1) ends.1,
+    )
+
+noted_own : (call_id : List ℕ) (debt : Debt) (name : DialogName) (ack : Option SentAck)
+    (clients : Clients) → AreClientsOf call_id clients
+    → AreClientsOf call_id (ack_noted debt name ack clients)
+noted_own call_id (Ack invite number) name None clients own = own
+noted_own call_id (Ack invite number) name (Some ack) clients own =
+    each_changed (IsRequestOf call_id) (is_id invite) (acked_with name ack)
+    (λ client its. its) clients own
+noted_own call_id (Prack rseq number) name ack clients own = own
+
+ack_paid_own : (event : Event) (command : DialogBody) (name : DialogName) (debt : Debt)
+    → KeepsTo command.call_id (ack_paid event command name debt)
+ack_paid_own event command name debt side own =
+    let call_id = command.call_id in
+    let told = ack_told event name debt command side.dialogs in
+    let paid = paid_at name event debt command.body side.dialogs in
+    let so = paid_own call_id name event debt command.body side.dialogs own.dialogs in
+    let noted = noted_own call_id debt name told.2 side.clients own.clients in (
+      record { dialogs = so.0; clients = noted },
+      ack_said_own call_id event call_id refl paid.1,
+    )
+
+prack_paid_own : (event : Event) (command : DialogBody) (name : DialogName) (debt : Debt)
+    → KeepsTo command.call_id (prack_paid event command name debt)
+prack_paid_own event command name debt side own =
+    let call_id = command.call_id in
+    let paid = paid_at name event debt command.body side.dialogs in
+    let so = paid_own call_id name event debt command.body side.dialogs own.dialogs in
+    let said = request_said event call_id name paid.1 in
+    let says = request_said_own call_id event call_id refl name paid.1 so.1 in
+    let after = settled event event.id said.1 side.clients in
+    let settles = settled_own call_id event event.id said.1 side.clients says.1 own.clients in (
+      record { dialogs = so.0; clients = settles.0 },
+      all_of_both (IsNoticeOf call_id) said.0 after.1 says.0 settles.1,
+    )
+
+paid_or_refused_own : (event : Event) (command : DialogBody) (pay : Debt → Side → ClientTaken)
+    → ((debt : Debt) → KeepsTo command.call_id (pay debt)) → (o : Result Debt Refusal)
+    → KeepsTo command.call_id (paid_or_refused event command pay o)
+paid_or_refused_own event command pay pays (Err refusal) side own = (own, (refl, tt))
+paid_or_refused_own event command pay pays (Ok debt) side own = pays debt side own
+
+pub ack_own : (event : Event) (command : DialogBody)
+    → KeepsTo command.call_id (ack_taken event command)
+ack_own event command side own =
+    let name = name_in command.local_tag command.remote_tag in
+    paid_or_refused_own event command (ack_paid event command name)
+    (ack_paid_own event command name) (debt_for kind.Ack name side.dialogs) side own
+
+pub prack_own : (event : Event) (command : DialogBody)
+    → KeepsTo command.call_id (prack_taken event command)
+prack_own event command side own =
+    let name = name_in command.local_tag command.remote_tag in
+    paid_or_refused_own event command (prack_paid event command name)
+    (prack_paid_own event command name) (debt_for kind.Prack name side.dialogs) side own
+
+-- ---- CANCEL
+
+asked_own : (call_id : List ℕ) (id : Id) (state : Cancelling) (clients : Clients)
+    → AreClientsOf call_id clients
+    → AreClientsOf call_id (client_changed id (asked state) clients)
+asked_own call_id id state clients own =
+    each_changed (IsRequestOf call_id) (is_id id) (asked state) (λ client its. its) clients own
+
+cancel_by : (as_case : CancelCase) (event : Event) (command : Cancel) (invite : Client)
+    (clients : Clients) → IsRequestOf command.call_id invite
+    → AreClientsOf command.call_id clients
+    → AreSettledOf command.call_id (cancelled_as as_case event command invite clients)
+cancel_by (ask.Refused refusal) event command invite clients its own = (own, (refl, tt))
+cancel_by ask.Repeated event command invite clients its own = (own, tt)
+cancel_by ask.Waits event command invite clients its own =
+    (asked_own command.call_id command.id (cancel.Waits event.id) clients own, tt)
+cancel_by ask.Starts event command invite clients its own =
+    beside_own command.call_id (Some event.id) invite its
+    (client_changed command.id (asked cancel.Sent) clients, [])
+    (asked_own command.call_id command.id cancel.Sent clients own, tt)
+
+cancel_found : (found : Option Client) (event : Event) (command : Cancel) (clients : Clients)
+    → IfSome found (IsRequestOf command.call_id) → AreClientsOf command.call_id clients
+    → AreSettledOf command.call_id (cancelled_of found event command clients)
+cancel_found None event command clients its own = (own, (refl, tt))
+cancel_found (Some invite) event command clients its own =
+    cancel_by (cancel_case invite) event command invite clients its own
+
+pub cancel_own : (event : Event) (command : Cancel)
+    → KeepsTo command.call_id (cancel_taken event command)
+cancel_own event command side own =
+    let so = cancel_found (client_at command.id side.clients) event command side.clients
+    (client_own command.call_id command.id side.clients own.clients) own.clients in
+    (record { dialogs = own.dialogs; clients = so.0 }, so.1)

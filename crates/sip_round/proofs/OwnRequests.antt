@@ -1,0 +1,149 @@
+-- A request is handed up by the input that begins its life, so its message has the life's Call-ID.
+use Rattle.std.proofs.Common.{◌≡◌, ℕ, ◌+◌, true, false, cond, List, [], ◌∷◌, ◌++◌, refl, sym, ◌∙◌, ap, subst, arith}
+use Rattle.std.specs.Prelude.{Option, None, Some, option_to_list, codes, if◌then◌else◌}
+use Rattle.std.specs.List.{AllByRecursion}
+use Rattle.std.specs.Option.{option_map}
+use Rattle.std.proofs.lemmas.Bool.{false≢true}
+use Rattle.std.proofs.lemmas.List.Sums.{sum_by-cons}
+use Rattle.sip_message.specs.declared.addr.Addr.{Addr}
+use Rattle.sip_message.specs.declared.key.Key.{Key}
+use Rattle.sip_message.specs.declared.message.Message.{Message}
+use Rattle.sip_message.specs.declared.start_line.StartLine.{StartLine}
+use Rattle.sip_message.specs.declared.start_line.StartLine.TheVariants as start
+use Rattle.sip_model.specs.Machine.{adds, Timed}
+use Rattle.sip_model.proofs.Ordered.{by_bool}
+use Rattle.sip_transactions.specs.declared.input.Input.{Input}
+use Rattle.sip_transactions.specs.declared.input.Input.TheVariants.{Tick, Receive, Start, Answer, Failed}
+use Rattle.sip_transactions.specs.declared.life.Life.{Life}
+use Rattle.sip_transactions.specs.declared.output.Kind.{Kind}
+use Rattle.sip_transactions.specs.declared.output.Kind.TheVariants as kind
+use Rattle.sip_transactions.specs.declared.output.Out.{Out}
+use Rattle.sip_transactions.specs.declared.output.Out.TheVariants as out
+use Rattle.sip_transactions.specs.declared.output.Up.{Up}
+use Rattle.sip_transactions.specs.declared.step.Handed.{Handed}
+use Rattle.sip_transactions.specs.declared.step.Handed.TheVariants as handed
+use Rattle.sip_transactions.specs.declared.step.Step.{Step}
+use Rattle.sip_transactions.specs.Input.{is_method, message_in, role_of}
+use Rattle.sip_transactions.specs.Laws.{is_request_kind, is_request_up, requests_in}
+use Rattle.sip_transactions.specs.Life.{acted_if, begun, keeps_request, life_by, step_for, stepped, stepped_by}
+use Rattle.sip_transactions.specs.Machine.{transaction_machine}
+use Rattle.sip_transactions.specs.Output.{handed_out, kind_of, made_bytes, outputs_of, send_out, sent_bytes}
+use Rattle.sip_transactions.proofs.OneRequest.{held_silent}
+use Rattle.sip_served.specs.OwnCall.{IsKindOf}
+
+-- a request that is handed up has the Call-ID under which it is
+abbrev pub IsOwnUp : Out → Type 0
+IsOwnUp (out.Up up) = IsKindOf up.call_id up.kind
+IsOwnUp (out.Send key to bytes) = Unit {0}
+IsOwnUp (out.Dropped place why) = Unit {0}
+
+abbrev pub AreOwnUps : List Out → Type 0
+AreOwnUps outs = AllByRecursion IsOwnUp outs
+
+both_own : (xs ys : List Out) → AreOwnUps xs → AreOwnUps ys → AreOwnUps (xs ++ ys)
+both_own [] ys all more = more
+both_own (x ∷ xs) ys all more = (all.0, both_own xs ys all.1 more)
+
+sends_own : (key : Key) (to : Addr) (sent : Option (List ℕ))
+    → AreOwnUps (option_to_list (option_map (send_out key to) sent))
+sends_own key to None = tt
+sends_own key to (Some bytes) = (tt, tt)
+
+-- ---- to a life that is held no request is handed up
+
+none_first : (o : Out) (outs : List Out) → requests_in (o ∷ outs) ≡ 0 → is_request_up o ≡ false
+none_first o outs none =
+    by_bool (is_request_up o)
+    (λ is. let one : requests_in (o ∷ outs) ≡ 1 + requests_in outs =
+    sum_by-cons (λ o. cond (is_request_up o) 1 0) o outs
+    ∙ ap (λ b. cond b 1 0 + requests_in outs) is in
+    absurd (omega (arith, none, one)))
+    (λ isnt. isnt)
+
+none_later : (o : Out) (outs : List Out) → requests_in (o ∷ outs) ≡ 0 → requests_in outs ≡ 0
+none_later o outs none =
+    omega (arith, none, sum_by-cons (λ o. cond (is_request_up o) 1 0) o outs)
+
+kind_own : (call_id : List ℕ) (k : Kind) → is_request_kind k ≡ false → IsKindOf call_id k
+kind_own call_id (kind.Request request reply_to) isnt = absurd (false≢true (sym isnt))
+kind_own call_id (kind.Ack ack) isnt = tt
+kind_own call_id (kind.Response response) isnt = tt
+kind_own call_id kind.Timeout isnt = tt
+kind_own call_id kind.Failed isnt = tt
+
+no_request : (o : Out) → is_request_up o ≡ false → IsOwnUp o
+no_request (out.Up up) isnt = kind_own up.call_id up.kind isnt
+no_request (out.Send key to bytes) isnt = tt
+no_request (out.Dropped place why) isnt = tt
+
+no_requests : (outs : List Out) → requests_in outs ≡ 0 → AreOwnUps outs
+no_requests [] none = tt
+no_requests (o ∷ outs) none =
+    (no_request o (none_first o outs none), no_requests outs (none_later o outs none))
+
+-- ---- what begins a life gives it its Call-ID
+
+message_own : (line : StartLine) (message : Message) (reply_to : Addr)
+    → IsKindOf message.call_id (kind_of line message reply_to)
+message_own (start.Request uri) message reply_to =
+    elim (is_method message.cseq.method (codes "ACK")) as (λ b. IsKindOf message.call_id
+    (if b then kind.Ack message else kind.Request message reply_to)) [
+      | true ↦ tt
+      | false ↦ refl
+    ]
+message_own (start.Response status reason) message reply_to = tt
+
+handed_own : (key : Key) (life : Life) (h : Handed) (message : Message) (reply_to : Addr)
+    → life.call_id ≡ message.call_id
+    → AreOwnUps (option_to_list (handed_out key life h (Some (message, reply_to))))
+unfolding handed_out
+handed_own key life handed.Nothing message reply_to same = tt
+handed_own key life handed.Message message reply_to same = (
+  subst (λ id. IsKindOf id (kind_of message.start message reply_to)) (sym same)
+      (message_own message.start message reply_to),
+  tt,
+)
+handed_own key life handed.Timeout message reply_to same = (tt, tt)
+handed_own key life handed.Failed message reply_to same = (tt, tt)
+handed_own key life handed.NoTransaction message reply_to same = (tt, tt)
+
+handed_nothing : (key : Key) (life : Life) (h : Handed)
+    → AreOwnUps (option_to_list (handed_out key life h None))
+unfolding handed_out
+handed_nothing key life handed.Nothing = tt
+handed_nothing key life handed.Message = tt
+handed_nothing key life handed.Timeout = (tt, tt)
+handed_nothing key life handed.Failed = (tt, tt)
+handed_nothing key life handed.NoTransaction = (tt, tt)
+
+begun_own : (key : Key) (now : ℕ) (input : Input) (step : Step)
+    → AreOwnUps (acted_if key now input (begun (role_of key) input) step).1
+unfolding begun outputs_of
+begun_own key now Tick step = tt
+begun_own key now (Answer id message) step = tt
+begun_own key now (Failed id) step = tt
+begun_own key now (Receive id message reply_to) step =
+    let life = life_by id message.call_id reply_to None in
+    both_own _ _ (handed_own key life step.handed message reply_to refl)
+    (sends_own key life.to (sent_bytes life.last step.sent
+    (made_bytes life.request step.sent (message_in (Receive id message reply_to)))))
+begun_own key now (Start id call_id message to) step =
+    let life = life_by id call_id to
+    (if keeps_request (role_of key) then Some message else None) in
+    both_own _ _ (handed_nothing key life step.handed)
+    (sends_own key life.to (sent_bytes life.last step.sent
+    (made_bytes life.request step.sent (message_in (Start id call_id message to)))))
+
+-- ---- one input
+
+first_own : (key : Key) (timed : Timed Input) (o : Option Step)
+    → AreOwnUps (stepped_by key None timed.moment timed.input o).1
+first_own key timed None = tt
+first_own key timed (Some step) = begun_own key timed.moment timed.input step
+
+pub own_ups : (key : Key) (held : Option Life) (timed : Timed Input)
+    → AreOwnUps (adds transaction_machine key held timed)
+unfolding stepped
+own_ups key None timed = first_own key timed (step_for key None timed.moment timed.input)
+own_ups key (Some life) timed =
+    no_requests (adds transaction_machine key (Some life) timed) (held_silent key life timed)

@@ -1,0 +1,5 @@
+use Rattle.sip_round.proofs.GivenNotices.{notices_given}
+use Rattle.sip_round.proofs.laws.own_notices_given.Goals as goal
+
+pub returns : goal.returns
+returns c = notices_given
