@@ -12,9 +12,10 @@ use Rattle.sip_served.specs.declared.command.UserCommand.TheVariants.{Invite, Pl
 use Rattle.sip_served.specs.declared.held_dialog.DialogLife.{DialogLife}
 use Rattle.sip_served.specs.declared.item.CallOut.{CallOut}
 use Rattle.sip_served.specs.declared.item.Item.TheVariants.{Up, User}
+use Rattle.sip_served.specs.declared.notice.Notice.{Notice}
+use Rattle.sip_served.specs.declared.notice.Notice.TheVariants as notice
 use Rattle.sip_served.specs.State.{is_id}
 use Rattle.sip_served.proofs.Entries.{none_apart}
-use Rattle.sip_clients.specs.declared.event.Event.{Event}
 use Rattle.sip_clients.specs.Client.{Clients, Side, client_at}
 use Rattle.sip_clients.specs.Provisionals.{InTheDialog, told_of}
 use Rattle.sip_clients.proofs.AgainInvite.{AgainResult, AreApart, Keeps, ear_of, keeps_ack, keeps_cancel, keeps_invite, keeps_lost, keeps_plain, keeps_prack, keeps_request, keeps_same, keeps_tick, silent_result}
@@ -24,7 +25,7 @@ use Rattle.sip_calls.specs.declared.call.Call.{Call}
 use Rattle.sip_calls.specs.declared.calls.Calls.{Calls}
 use Rattle.sip_calls.specs.declared.calls.CallInput.{CallInput}
 use Rattle.sip_calls.specs.declared.calls.CallInput.TheVariants.{Tick, Item as AnItem}
-use Rattle.sip_calls.specs.Call.{call_step, command_taken, event_of, first_command_taken, kept, lost_taken, new_call, served_taken, up_taken}
+use Rattle.sip_calls.specs.Call.{call_step, command_taken, event_of, first_command_taken, kept, lost_taken, new_call, up_taken}
 use Rattle.sip_calls.specs.Provisionals.{EventsDiffer, came, done, event_in, event_of_kind, number_in, number_of, number_up, shown, side_held}
 use Rattle.sip_calls.specs.Sides.{CallTaken, side_of, ticked}
 use Rattle.sip_calls.proofs.KeptSides.{kept_side}
@@ -46,14 +47,12 @@ module _ (life : DialogLife) (invite : Id) where
   silent event before after outs keeps =
       silent_result life invite event before after.clients after.dialogs outs keeps
 
-  lost_step : (call : Call) (of : Event) (up : AnUp) (timed_out : Bool) (event : Option Id)
-      → AreApart call.clients → Step event None call.clients (lost_taken call of up timed_out)
-  lost_step call of up timed_out event apart =
-      let first = (served_taken call of (Up up)).0 in
-      let taken = lost_taken call of up timed_out in
-      silent event call.clients (side_of taken.0) taken.1
-      (keeps_lost life invite event up.id timed_out (client_at up.id call.clients)
-      (side_of first) apart)
+  lost_step : (call : Call) (id : Id) (notice : Notice) (timed_out : Bool)
+      → AreApart call.clients → Step None None call.clients (lost_taken call id notice timed_out)
+  lost_step call id notice timed_out apart =
+      let taken = lost_taken call id notice timed_out in
+      silent None call.clients (side_of taken.0) taken.1
+      (keeps_lost life invite None id timed_out (client_at id call.clients) (side_of call) apart)
 
   unchanged : (event : Option Id) (call after : Call) (outs : List CallOut) → AreApart call.clients
       → after.clients ≡ call.clients → Result event None call.clients (side_of after) outs
@@ -76,9 +75,9 @@ module _ (life : DialogLife) (invite : Id) where
       response_again life invite (Some id) (event_of calls id now) refl up.id up.call_id response
       (side_of call) apart once
   up_step call calls id now up kind.Timeout apart once =
-      lost_step call (event_of calls id now) up true None apart
+      lost_step call up.id (notice.Timeout up.call_id up.id) true apart
   up_step call calls id now up kind.Failed apart once =
-      lost_step call (event_of calls id now) up false None apart
+      lost_step call up.id (notice.Failed up.call_id up.id) false apart
 
   -- ---- a command of the user, and a tick
 

@@ -1,6 +1,6 @@
 -- An input of a call starts transactions of clients alone, each under the id of its event or of a
 -- command whose CANCEL waited; a tick starts none.
-use Rattle.std.proofs.Common.{◌≡◌, ℕ, Bool, true, false, List, [], refl, sym, subst}
+use Rattle.std.proofs.Common.{◌≡◌, ℕ, Bool, true, false, List, [], ◌∷◌, refl, sym, subst}
 use Rattle.std.specs.Prelude.{Option, None, Some}
 use Rattle.sip_message.specs.declared.id.Id.{Id}
 use Rattle.sip_transactions.specs.declared.output.Kind.{Kind}
@@ -9,10 +9,12 @@ use Rattle.sip_transactions.specs.declared.output.Up.{Up as AnUp}
 use Rattle.sip_served.specs.declared.command.UserCommand.{UserCommand}
 use Rattle.sip_served.specs.declared.command.UserCommand.TheVariants.{Invite, Plain as PlainCommand, Request, Respond, Ack, Prack, Cancel}
 use Rattle.sip_served.specs.declared.item.CallOut.{CallOut}
+use Rattle.sip_served.specs.declared.item.CallOut.TheVariants.{Notice}
 use Rattle.sip_served.specs.declared.item.Item.TheVariants.{Up, User}
+use Rattle.sip_served.specs.declared.notice.Notice.{Notice as ANotice}
+use Rattle.sip_served.specs.declared.notice.Notice.TheVariants as notice
 use Rattle.sip_served.specs.Tick as served
 use Rattle.sip_served.proofs.NoStarts.{kind_starts, none_of_both, respond_starts, starts, tick_starts}
-use Rattle.sip_clients.specs.declared.event.Event.{Event}
 use Rattle.sip_clients.specs.Client.{Side, client_at}
 use Rattle.sip_clients.specs.Clients.{lost}
 use Rattle.sip_clients.specs.Tick.{clients_left, over_notices}
@@ -24,7 +26,7 @@ use Rattle.sip_calls.specs.declared.call.Call.{Call}
 use Rattle.sip_calls.specs.declared.calls.Calls.{Calls}
 use Rattle.sip_calls.specs.declared.calls.CallInput.{CallInput}
 use Rattle.sip_calls.specs.declared.calls.CallInput.TheVariants.{Tick, Item as AnItem}
-use Rattle.sip_calls.specs.Call.{call_step, command_taken, event_of, first_command_taken, kept, lost_taken, new_call, served_taken, up_taken}
+use Rattle.sip_calls.specs.Call.{call_step, command_taken, event_of, first_command_taken, kept, lost_taken, new_call, tag_of_answers, up_taken}
 use Rattle.sip_calls.specs.Provisionals.{event_in, event_of_kind, side_held}
 use Rattle.sip_calls.specs.Sides.{CallTaken, side_of, ticked}
 use Rattle.sip_calls.proofs.KeptSides.{kept_side}
@@ -38,30 +40,29 @@ Starts event call taken = Fits event call.clients taken.1 (taken.0).clients
 
 -- ---- what comes up
 
-lost_starts : (call : Call) (event : Event) (up : AnUp) (timed_out : Bool)
-    → Starts None call (lost_taken call event up timed_out)
-lost_starts call event up timed_out =
-    let first = served_taken call event (Up up) in
-    let after = lost up.id timed_out (side_of first.0) in
-    quiet_then None call.clients first.1 after.1 (after.0).clients
-    (kind_starts (call.served).state _ up up.kind event.moment)
-    (lost_fits up.id timed_out (client_at up.id (first.0).clients) (side_of first.0))
-
-served_starts : (id : Id) (call : Call) (event : Event) (up : AnUp)
-    → Starts (Some id) call (served_taken call event (Up up))
-served_starts id call event up =
-    stays_quiet (Some id) call.clients (served_taken call event (Up up)).1
-    (kind_starts (call.served).state _ up up.kind event.moment)
+lost_starts : (call : Call) (id : Id) (notice : ANotice) (timed_out : Bool)
+    → Starts None call (lost_taken call id notice timed_out)
+lost_starts call id notice timed_out =
+    let after = lost id timed_out (side_of call) in
+    quiet_then None call.clients (Notice notice ∷ []) after.1 (after.0).clients refl
+    (lost_fits id timed_out (client_at id call.clients) (side_of call))
 
 up_starts : (call : Call) (calls : Calls) (id : Id) (now : ℕ) (up : AnUp) (k : Kind)
     → Starts (event_of_kind id k) call (up_taken call (event_of calls id now) up k)
 up_starts call calls id now up (kind.Request request reply_to) =
-    served_starts id call (event_of calls id now) up
-up_starts call calls id now up (kind.Ack ack) = served_starts id call (event_of calls id now) up
+    let of = event_of calls id now in
+    let k = kind.Request request reply_to in
+    stays_quiet (Some id) call.clients (up_taken call of up k).1
+    (kind_starts (call.served).state (tag_of_answers of request) up k now)
+up_starts call calls id now up (kind.Ack ack) =
+    stays_quiet (Some id) call.clients (up_taken call (event_of calls id now) up (kind.Ack ack)).1
+    (kind_starts (call.served).state [] up (kind.Ack ack) now)
 up_starts call calls id now up (kind.Response response) =
     response_fits (event_of calls id now) up.id up.call_id response (side_of call)
-up_starts call calls id now up kind.Timeout = lost_starts call (event_of calls id now) up true
-up_starts call calls id now up kind.Failed = lost_starts call (event_of calls id now) up false
+up_starts call calls id now up kind.Timeout =
+    lost_starts call up.id (notice.Timeout up.call_id up.id) true
+up_starts call calls id now up kind.Failed =
+    lost_starts call up.id (notice.Failed up.call_id up.id) false
 
 -- ---- commands of the user, and a tick
 

@@ -12,12 +12,13 @@ use Rattle.sip_served.specs.declared.command.UserCommand.TheVariants.{Invite, Pl
 use Rattle.sip_served.specs.declared.held_dialog.DialogLife.{DialogLife}
 use Rattle.sip_served.specs.declared.item.CallOut.{CallOut}
 use Rattle.sip_served.specs.declared.item.Item.TheVariants.{Up, User}
+use Rattle.sip_served.specs.declared.notice.Notice.{Notice}
+use Rattle.sip_served.specs.declared.notice.Notice.TheVariants as notice
 use Rattle.sip_served.specs.Dialogs.{is_named}
 use Rattle.sip_served.specs.State.{Dialogs}
 use Rattle.sip_served.proofs.DialogSteps.{kind_leads, respond_leads}
 use Rattle.sip_served.proofs.Entries.{none_apart}
-use Rattle.sip_served.proofs.Heard.{AreApart, Leads, leads_filtered, leads_same, leads_then}
-use Rattle.sip_clients.specs.declared.event.Event.{Event}
+use Rattle.sip_served.proofs.Heard.{AreApart, Leads, leads_filtered, leads_same}
 use Rattle.sip_clients.specs.Client.{Side, client_at}
 use Rattle.sip_clients.specs.Provisionals.{OfTheCall, told_of}
 use Rattle.sip_clients.specs.Tick.{ends_at}
@@ -27,7 +28,7 @@ use Rattle.sip_calls.specs.declared.call.Call.{Call}
 use Rattle.sip_calls.specs.declared.calls.Calls.{Calls}
 use Rattle.sip_calls.specs.declared.calls.CallInput.{CallInput}
 use Rattle.sip_calls.specs.declared.calls.CallInput.TheVariants.{Tick, Item as AnItem}
-use Rattle.sip_calls.specs.Call.{call_step, command_taken, event_of, first_command_taken, kept, lost_taken, new_call, served_taken, up_taken}
+use Rattle.sip_calls.specs.Call.{call_step, command_taken, event_of, first_command_taken, kept, lost_taken, new_call, tag_of_answers, up_taken}
 use Rattle.sip_calls.specs.Provisionals.{EventsDiffer, came, done, event_in, event_of_kind, number_in, number_of, number_up, shown, side_held}
 use Rattle.sip_calls.specs.Sides.{CallTaken, side_of, ticked}
 use Rattle.sip_calls.proofs.KeptSides.{kept_side}
@@ -41,47 +42,45 @@ module _ (life : DialogLife) where
   abbrev Step : Option Id → Option ℕ → Dialogs → CallTaken → Type 0
   Step event number before taken = ResultOf life event before (dialogs_of taken.0) number taken.1
 
-  lost_step : (call : Call) (event : Event) (up : AnUp) (timed_out : Bool) (of : Option Id)
-      → AreApart (dialogs_of call) → Step of None (dialogs_of call)
-      (lost_taken call event up timed_out)
-  lost_step call event up timed_out of apart =
-      let first = (served_taken call event (Up up)).0 in
-      let taken = lost_taken call event up timed_out in
-      silent life of (dialogs_of call) (dialogs_of taken.0) taken.1
-      (leads_then (λ id. of ≡ Some id) (dialogs_of call) (dialogs_of first) (dialogs_of taken.0)
-      (kind_leads (λ id. of ≡ Some id) (call.served).state _ up up.kind event.moment apart)
-      (lost_leads of up.id timed_out (client_at up.id call.clients) (side_of first)))
-
-  up_step : (call : Call) (calls : Calls) (id : Id) (now : ℕ) (up : AnUp) (k : Kind)
-      → AreApart (dialogs_of call)
-      → Step (event_of_kind id k) (number_up OfTheCall life up.id k (side_of call))
-      (dialogs_of call) (up_taken call (event_of calls id now) up k)
-  up_step call calls id now up (kind.Request request reply_to) apart =
-      let taken = served_taken call (event_of calls id now) (Up up) in
-      silent life (Some id) (dialogs_of call) (dialogs_of taken.0) taken.1
-      (kind_leads (λ x. Some id ≡ Some x) (call.served).state _ up up.kind now apart)
-  up_step call calls id now up (kind.Ack ack) apart =
-      let taken = served_taken call (event_of calls id now) (Up up) in
-      silent life (Some id) (dialogs_of call) (dialogs_of taken.0) taken.1
-      (kind_leads (λ x. Some id ≡ Some x) (call.served).state _ up up.kind now apart)
-  up_step call calls id now up (kind.Response response) apart =
-      response_step life (Some id) (event_of calls id now) refl up.id up.call_id response
-      (side_of call) apart
-  up_step call calls id now up kind.Timeout apart =
-      lost_step call (event_of calls id now) up true None apart
-  up_step call calls id now up kind.Failed apart =
-      lost_step call (event_of calls id now) up false None apart
-
-  no_leads : (id : Id) (call : Call) (outs : List CallOut) → AreApart (dialogs_of call)
-      → ResultOf life (Some id) (dialogs_of call) (dialogs_of call) None outs
-  no_leads id call outs apart = silent life (Some id) (dialogs_of call) (dialogs_of call) outs
-      (leads_same (λ x. Some id ≡ Some x) (dialogs_of call) apart)
+  lost_step : (call : Call) (id : Id) (notice : Notice) (timed_out : Bool)
+      → AreApart (dialogs_of call) → Step None None (dialogs_of call)
+      (lost_taken call id notice timed_out)
+  lost_step call id notice timed_out apart =
+      let taken = lost_taken call id notice timed_out in
+      silent life None (dialogs_of call) (dialogs_of taken.0) taken.1
+      (lost_leads None id timed_out (client_at id call.clients) (side_of call) apart)
 
   leads_of : (id : Id) (call : Call) (taken : CallTaken)
       → Leads (λ x. Some id ≡ Some x) (dialogs_of call) (dialogs_of taken.0)
       → Step (Some id) None (dialogs_of call) taken
   leads_of id call taken leads =
       silent life (Some id) (dialogs_of call) (dialogs_of taken.0) taken.1 leads
+
+  up_step : (call : Call) (calls : Calls) (id : Id) (now : ℕ) (up : AnUp) (k : Kind)
+      → AreApart (dialogs_of call)
+      → Step (event_of_kind id k) (number_up OfTheCall life up.id k (side_of call))
+      (dialogs_of call) (up_taken call (event_of calls id now) up k)
+  up_step call calls id now up (kind.Request request reply_to) apart =
+      let of = event_of calls id now in
+      let k = kind.Request request reply_to in
+      leads_of id call (up_taken call of up k)
+      (kind_leads (λ x. Some id ≡ Some x) (call.served).state (tag_of_answers of request) up k now
+      apart)
+  up_step call calls id now up (kind.Ack ack) apart =
+      leads_of id call (up_taken call (event_of calls id now) up (kind.Ack ack))
+      (kind_leads (λ x. Some id ≡ Some x) (call.served).state [] up (kind.Ack ack) now apart)
+  up_step call calls id now up (kind.Response response) apart =
+      response_step life (Some id) (event_of calls id now) refl up.id up.call_id response
+      (side_of call) apart
+  up_step call calls id now up kind.Timeout apart =
+      lost_step call up.id (notice.Timeout up.call_id up.id) true apart
+  up_step call calls id now up kind.Failed apart =
+      lost_step call up.id (notice.Failed up.call_id up.id) false apart
+
+  no_leads : (id : Id) (call : Call) (outs : List CallOut) → AreApart (dialogs_of call)
+      → ResultOf life (Some id) (dialogs_of call) (dialogs_of call) None outs
+  no_leads id call outs apart = silent life (Some id) (dialogs_of call) (dialogs_of call) outs
+      (leads_same (λ x. Some id ≡ Some x) (dialogs_of call) apart)
 
   first_command_step : (call : Call) (calls : Calls) (id : Id) (now : ℕ) (command : UserCommand)
       → AreApart (dialogs_of call)

@@ -5,15 +5,20 @@ use Rattle.std.specs.List.{AllByRecursion}
 use Rattle.sip_model.specs.Machine.{Timed, adds, next, outputs_from, state_after, state_from}
 use Rattle.sip_model.proofs.Ordered.{by_bool}
 use Rattle.sip_message.specs.declared.addr.Addr.{Addr}
+use Rattle.sip_message.specs.declared.id.Id.{Id}
 use Rattle.sip_transactions.specs.declared.output.Kind.{Kind}
 use Rattle.sip_transactions.specs.declared.output.Kind.TheVariants as kind
 use Rattle.sip_transactions.specs.declared.output.Up.{Up as AnUp}
 use Rattle.sip_served.specs.declared.command.UserCommand.{UserCommand}
 use Rattle.sip_served.specs.declared.command.UserCommand.TheVariants.{Invite, Plain, Request, Respond, Ack, Prack, Cancel}
-use Rattle.sip_served.specs.declared.item.Item.{Item}
+use Rattle.sip_served.specs.declared.item.CallOut.TheVariants.{Notice}
 use Rattle.sip_served.specs.declared.item.Item.TheVariants.{Up, User}
+use Rattle.sip_served.specs.declared.notice.Notice.{Notice as ANotice}
+use Rattle.sip_served.specs.declared.notice.Notice.TheVariants as notice
 use Rattle.sip_served.specs.Command.{call_of_command}
+use Rattle.sip_served.specs.OwnCall.{IsKindOf}
 use Rattle.sip_served.specs.State.{Taken as ServedTaken}
+use Rattle.sip_served.specs.Step.{kind_taken}
 use Rattle.sip_served.specs.Tick as served
 use Rattle.sip_served.proofs.Each.{both}
 use Rattle.sip_served.proofs.OwnCall as server
@@ -21,7 +26,6 @@ use Rattle.sip_clients.specs.Cancel.{cancel_taken}
 use Rattle.sip_clients.specs.Client.{Side, Taken as ClientTaken}
 use Rattle.sip_clients.specs.Clients.{ack_taken, invite_taken, lost, plain_taken, prack_taken, request_taken, response_taken}
 use Rattle.sip_clients.specs.OwnCall.{AreNoticesOf, IsSideOf, KeepsTo, on_side}
-use Rattle.sip_clients.specs.Name.{name_of}
 use Rattle.sip_clients.specs.Tick as clients
 use Rattle.sip_clients.specs.declared.event.Event.{Event}
 use Rattle.sip_clients.proofs.OwnCall.{ack_own, cancel_own, dialog_request_own, invite_own, lost_own, plain_own, prack_own, response_own, tick_own}
@@ -29,7 +33,7 @@ use Rattle.sip_calls.specs.declared.call.Call.{Call}
 use Rattle.sip_calls.specs.declared.calls.Calls.{Calls}
 use Rattle.sip_calls.specs.declared.calls.CallInput.{CallInput}
 use Rattle.sip_calls.specs.declared.calls.CallInput.TheVariants.{Tick, Item as AnItem}
-use Rattle.sip_calls.specs.Call.{Taken, call_machine, call_step, command_taken, event_of, first_command_taken, kept, lost_taken, new_call, served_taken, up_taken}
+use Rattle.sip_calls.specs.Call.{Taken, call_machine, call_step, command_taken, event_of, first_command_taken, kept, lost_taken, new_call, tag_of_answers, up_taken}
 use Rattle.sip_calls.specs.OwnCall.{AreSidesOf, EachNoticeIsOwn, IsCallOf, IsInputOf, IsItemOf, IsNoticeOf}
 use Rattle.sip_calls.specs.Sides.{CallTaken, by_clients, by_server, followed, holds_any, side_of, ticked}
 
@@ -78,33 +82,33 @@ module _ (call_id : List ℕ) where
 
   -- ---- what comes up
 
-  served_own : (call : Call) (event : Event) (item : Item) → IsItemOf call_id item
-      → AreSidesOf call_id call → IsDoneOf (served_taken call event item)
-  served_own call event item its own =
-      server_own call _ own
-      (server.item_is call_id (call.served).state (name_of event.seed event.id 0) event.id item
-      event.moment its own.state)
+  lose_own : (call : Call) (id : Id) (notice : ANotice) (timed_out : Bool)
+      → IsNoticeOf call_id (Notice notice) → AreSidesOf call_id call
+      → IsDoneOf (lost_taken call id notice timed_out)
+  lose_own call id notice timed_out its own =
+      after (call, Notice notice ∷ [])
+      (λ call. by_clients call (lost id timed_out (side_of call))) (own, (its, tt))
+      (λ call own. clients_own call (lost id timed_out) own (lost_own call_id id timed_out))
 
-  lose_own : (call : Call) (event : Event) (up : AnUp) (timed_out : Bool)
-      → IsItemOf call_id (Up up) → AreSidesOf call_id call
-      → IsDoneOf (lost_taken call event up timed_out)
-  lose_own call event up timed_out its own =
-      after (served_taken call event (Up up))
-      (λ call. by_clients call (lost up.id timed_out (side_of call)))
-      (served_own call event (Up up) its own)
-      (λ call own. clients_own call (lost up.id timed_out) own (lost_own call_id up.id timed_out))
-
-  up_own : (call : Call) (event : Event) (up : AnUp) (k : Kind) → IsItemOf call_id (Up up)
-      → AreSidesOf call_id call → IsDoneOf (up_taken call event up k)
-  up_own call event up (kind.Request request reply_to) its own =
-      served_own call event (Up up) its own
-  up_own call event up (kind.Ack ack) its own = served_own call event (Up up) its own
-  up_own call event up (kind.Response response) its own =
+  up_own : (call : Call) (event : Event) (up : AnUp) (k : Kind) → up.call_id ≡ call_id
+      → IsKindOf call_id k → AreSidesOf call_id call → IsDoneOf (up_taken call event up k)
+  up_own call event up (kind.Request request reply_to) its of_kind own =
+      let tag = tag_of_answers event request in
+      let k = kind.Request request reply_to in
+      server_own call (kind_taken (call.served).state tag up k event.moment) own
+      (server.kind_is call_id (call.served).state tag up k event.moment its of_kind own.state)
+  up_own call event up (kind.Ack ack) its of_kind own =
+      server_own call (kind_taken (call.served).state [] up (kind.Ack ack) event.moment) own
+      (server.kind_is call_id (call.served).state [] up (kind.Ack ack) event.moment its of_kind
+      own.state)
+  up_own call event up (kind.Response response) its of_kind own =
       let step = response_taken event up.id up.call_id response in
       clients_own call step own
-      (keeps_same step up.call_id call_id its.0 (response_own event up.id up.call_id response))
-  up_own call event up kind.Timeout its own = lose_own call event up true its own
-  up_own call event up kind.Failed its own = lose_own call event up false its own
+      (keeps_same step up.call_id call_id its (response_own event up.id up.call_id response))
+  up_own call event up kind.Timeout its of_kind own =
+      lose_own call up.id (notice.Timeout up.call_id up.id) true its own
+  up_own call event up kind.Failed its of_kind own =
+      lose_own call up.id (notice.Failed up.call_id up.id) false its own
 
   -- ---- commands of the user, and a tick
 
@@ -135,7 +139,8 @@ module _ (call_id : List ℕ) where
       clients_own call step own
       (keeps_same step request.call_id call_id its (dialog_request_own event request))
   command_own call event (Respond respond) its own =
-      served_own call event (User (Respond respond)) its own
+      server_own call _ own
+      (server.respond_is call_id (call.served).state event.id respond event.moment its own.state)
   command_own call event (Ack ack) its own =
       let step = ack_taken event ack in
       clients_own call step own (keeps_same step ack.call_id call_id its (ack_own event ack))
@@ -180,7 +185,7 @@ module _ (call_id : List ℕ) where
       let call = new_call calls.local in
       let event = event_of calls id now in
       kept_own (up_taken call event up up.kind)
-      (up_own call event up up.kind its (new_own calls.local))
+      (up_own call event up up.kind its.0 its.1 (new_own calls.local))
   step_own calls None (AnItem id (User command)) now own its =
       let call = new_call calls.local in
       let event = event_of calls id now in
@@ -188,7 +193,7 @@ module _ (call_id : List ℕ) where
       (first_command_own call event command its (new_own calls.local))
   step_own calls (Some call) (AnItem id (Up up)) now own its =
       let event = event_of calls id now in
-      kept_own (up_taken call event up up.kind) (up_own call event up up.kind its own)
+      kept_own (up_taken call event up up.kind) (up_own call event up up.kind its.0 its.1 own)
   step_own calls (Some call) (AnItem id (User command)) now own its =
       let event = event_of calls id now in
       kept_own (command_taken call event command) (command_own call event command its own)

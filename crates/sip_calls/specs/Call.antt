@@ -3,19 +3,25 @@
 use Rattle.std.specs.Prelude.{ℕ, Bool, true, false, List, [], ◌∷◌, Option, None, Some, if◌then◌else◌}
 use Rattle.sip_message.specs.declared.addr.Addr.{Addr}
 use Rattle.sip_message.specs.declared.id.Id.{Id}
+use Rattle.sip_message.specs.declared.message.Message.{Message}
 use Rattle.sip_model.specs.Machine.{Machine, Timed, ticks_of}
 use Rattle.sip_transactions.specs.declared.output.Kind.{Kind}
 use Rattle.sip_transactions.specs.declared.output.Kind.TheVariants as kind
 use Rattle.sip_transactions.specs.declared.output.Up.{Up as AnUp}
 use Rattle.sip_served.specs.ServerSide.{empty_at}
-use Rattle.sip_served.specs.Step.{item_taken as served_item}
+use Rattle.sip_served.specs.Acknowledgment.{ack_taken as acknowledged}
+use Rattle.sip_served.specs.Arrival.{arrival_of}
+use Rattle.sip_served.specs.Requests.{local_tag_of}
+use Rattle.sip_served.specs.Respond.{respond_taken}
+use Rattle.sip_served.specs.Step.{arrival_taken}
 use Rattle.sip_served.specs.declared.command.UserCommand.{UserCommand}
 use Rattle.sip_served.specs.declared.command.UserCommand.TheVariants.{Invite, Plain, Request, Respond, Ack, Prack, Cancel}
 use Rattle.sip_served.specs.declared.item.Item.{Item}
 use Rattle.sip_served.specs.declared.item.Item.TheVariants.{Up, User}
 use Rattle.sip_served.specs.declared.item.CallOut.{CallOut}
 use Rattle.sip_served.specs.declared.item.CallOut.TheVariants.{Notice}
-use Rattle.sip_served.specs.declared.notice.Notice.TheVariants.{Refused}
+use Rattle.sip_served.specs.declared.notice.Notice.{Notice as ANotice}
+use Rattle.sip_served.specs.declared.notice.Notice.TheVariants.{Refused, Timeout, Failed}
 use Rattle.sip_served.specs.declared.refusal.Refusal.{Refusal}
 use Rattle.sip_served.specs.declared.refusal.Refusal.TheVariants.{CallInUse, NoSuchCall}
 use Rattle.sip_clients.specs.Cancel.{cancel_taken}
@@ -53,25 +59,25 @@ event_of calls id now = record { local = calls.local; seed = calls.seed; id = id
 
 -- ---- what comes up
 
--- an item of the server side, whose event makes the To tag of a request without one
-abbrev pub served_taken : Call → Event → Item → CallTaken
-served_taken call event item =
-    by_server call (served_item (call.served).state
-    (name_of event.seed event.id 0) event.id item event.moment)
+-- the To tag of the answers to a request: its own, or that which its event makes
+abbrev pub tag_of_answers : Event → Message → List ℕ
+tag_of_answers event request = local_tag_of request (name_of event.seed event.id 0)
 
 -- that a transaction is lost is told, and then what ends with its request ends
-abbrev pub lost_taken : Call → Event → AnUp → Bool → CallTaken
-lost_taken call event up timed_out =
-    followed (served_taken call event (Up up))
-    (λ call. by_clients call (lost up.id timed_out (side_of call)))
+abbrev pub lost_taken : Call → Id → ANotice → Bool → CallTaken
+lost_taken call id notice timed_out =
+    followed (call, Notice notice ∷ []) (λ call. by_clients call (lost id timed_out (side_of call)))
 
 abbrev pub up_taken : Call → Event → AnUp → Kind → CallTaken
-up_taken call event up (kind.Request request reply_to) = served_taken call event (Up up)
-up_taken call event up (kind.Ack ack) = served_taken call event (Up up)
+up_taken call event up (kind.Request request reply_to) =
+    by_server call (arrival_taken (call.served).state
+    (arrival_of up (tag_of_answers event request) request reply_to) event.moment)
+up_taken call event up (kind.Ack ack) =
+    by_server call (acknowledged (call.served).state up.call_id ack)
 up_taken call event up (kind.Response response) =
     by_clients call (response_taken event up.id up.call_id response (side_of call))
-up_taken call event up kind.Timeout = lost_taken call event up true
-up_taken call event up kind.Failed = lost_taken call event up false
+up_taken call event up kind.Timeout = lost_taken call up.id (Timeout up.call_id up.id) true
+up_taken call event up kind.Failed = lost_taken call up.id (Failed up.call_id up.id) false
 
 -- ---- commands of the user
 
@@ -99,7 +105,8 @@ command_taken call event (Invite invite) = (call, refused event invite.call_id C
 command_taken call event (Plain plain) = (call, refused event plain.call_id CallInUse)
 command_taken call event (Request request) =
     by_clients call (request_taken event request (side_of call))
-command_taken call event (Respond respond) = served_taken call event (User (Respond respond))
+command_taken call event (Respond respond) =
+    by_server call (respond_taken (call.served).state event.id respond event.moment)
 command_taken call event (Ack ack) = by_clients call (ack_taken event ack (side_of call))
 command_taken call event (Prack prack) = by_clients call (prack_taken event prack (side_of call))
 command_taken call event (Cancel cancel) =

@@ -4,4 +4,5 @@ pub mod Idle
 pub mod OwnCall
 pub mod Provisionals
 pub mod RefusedCommands
+pub mod Requests
 pub mod Sides

@@ -3,16 +3,16 @@
 ghost use Rattle.std.specs.Prelude.{◌≡◌, ◌≤◌, ◌^◌, IfOk};
 ghost use Rattle.sip_clients.specs.Cancel.{cancel_taken};
 ghost use Rattle.sip_clients.specs.Clients as clients;
-ghost use Rattle.sip_clients.specs.Name.{name_of};
 ghost use Rattle.sip_clients.specs.Tick.{tick_taken};
+ghost use Rattle.sip_served.specs.Acknowledgment.{ack_taken};
 ghost use Rattle.sip_served.specs.Respond.{respond_taken};
-ghost use Rattle.sip_served.specs.Step.{item_taken};
+ghost use Rattle.sip_served.specs.Step.{arrival_taken};
 ghost use Rattle.sip_served.specs.Tick as served;
 ghost use Rattle.sip_calls.specs.Sides as spec;
 
-use sip_clients::{Clients, Event, made_name};
+use sip_clients::{Clients, Event};
 use sip_message::{CallId, Id, Message};
-use sip_served::{CallOut, Cancel, DialogBody, DialogRequest, Item, Respond, Served};
+use sip_served::{Arrival, CallOut, Cancel, DialogBody, DialogRequest, Respond, Served};
 use sip_timers::earlier;
 use std::alloc::{AllocError, Global};
 
@@ -40,20 +40,28 @@ impl Call {
 
     // ---- the server side
 
-    /// The server side takes an item.
-    pub(crate) fn serve(
-        &mut self,
-        alloc: Global,
-        event: Event,
-        item: Item,
-    ) -> Result<Vec<CallOut>, AllocError>
-        requires { event.moment ≤ 2 ^ 62 }
+    /// A request comes up, at the moment `now` in ms.
+    pub(crate) fn arrive(&mut self, arrival: Arrival, now: u64) -> Result<Vec<CallOut>, AllocError>
+        requires { now ≤ 2 ^ 62 }
         ensures { IfOk result (λ outs. (self.new, outs.items)
-            ≡ spec.by_server self.old (item_taken (self.old.served).state
-            (name_of event.seed event.id 0) event.id item event.moment)) }
+            ≡ spec.by_server self.old (arrival_taken (self.old.served).state arrival now)) }
     {
-        let tag = made_name(alloc, event.seed, event.id, 0)?;
-        match self.served.item(tag, event.id, item, event.moment) {
+        match self.served.arrive(arrival, now) {
+            Ok(outs) => Ok(outs),
+            Err(_) => Err(AllocError),
+        }
+    }
+
+    /// The ACK of a 2xx comes up.
+    pub(crate) fn acknowledge(
+        &mut self,
+        call_id: CallId,
+        ack: &Message,
+    ) -> Result<Vec<CallOut>, AllocError>
+        ensures { IfOk result (λ outs. (self.new, outs.items)
+            ≡ spec.by_server self.old (ack_taken (self.old.served).state call_id ack.now)) }
+    {
+        match self.served.ack(call_id, ack) {
             Ok(outs) => Ok(outs),
             Err(_) => Err(AllocError),
         }

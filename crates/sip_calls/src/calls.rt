@@ -8,12 +8,16 @@ ghost use Rattle.sip_calls.specs.Idle.{ticks_are_idle};
 ghost use Rattle.std.proofs.lemmas.Map.Lookups.{exact_bytes};
 
 use crate::call::Call;
-use sip_clients::{Clients, Event};
-use sip_message::{Addr, CallId, Id};
+use sip_clients::{Clients, Event, made_name};
+use sip_message::{Addr, CallId, Id, Message, Token};
 use sip_model::StateMachine;
-use sip_served::{CallOut, Item, Notice, Refusal, Served, UserCommand};
+use sip_served::request::own_tag;
+use sip_served::{Arrival, CallOut, Item, Notice, Refusal, Served, UserCommand};
 use sip_transactions::{Kind, Up};
 use std::alloc::{AllocError, Global};
+
+/// The index of the To tag of answers among the names of its event.
+const ANSWER_TAG_NAME: u8 = 0;
 
 /// What all calls of an agent share.
 #[derive(Clone, Copy)]
@@ -174,38 +178,55 @@ fn take_up(alloc: Global, call: &mut Call, event: Event, up: Up) -> Result<Vec<C
     ensures { IfOk result (λ outs. (call.new, outs.items)
         ≡ spec.up_taken call.old event up up.kind) }
 {
-    match &up.kind {
-        Kind::Timeout => return lose(alloc, call, event, up, true),
-        Kind::Failed => return lose(alloc, call, event, up, false),
-        Kind::Request(..) | Kind::Ack(_) => return call.serve(alloc, event, Item::Up(up)),
-        Kind::Response(_) => {}
-    }
     let Up {
-        key: _,
+        key,
         id,
         call_id,
         kind,
     } = up;
-    let Kind::Response(response) = kind else {
-        unreachable!();
-    };
-    call.response(event, id, call_id, response.into_inner())
+    match kind {
+        Kind::Request(request, reply_to) => {
+            let tag = tag_of_answers(alloc, event, request.get())?;
+            let arrival = Arrival {
+                key,
+                id,
+                call_id,
+                request,
+                reply_to,
+                tag,
+            };
+            call.arrive(arrival, event.moment)
+        }
+        Kind::Ack(ack) => call.acknowledge(call_id, ack.get()),
+        Kind::Response(response) => call.response(event, id, call_id, response.into_inner()),
+        Kind::Timeout => lose(alloc, call, id, Notice::Timeout { call_id, id }, true),
+        Kind::Failed => lose(alloc, call, id, Notice::Failed { call_id, id }, false),
+    }
 }
 
-// A transaction is lost: that is told, and then what ends with it ends.
+// The To tag of the answers to a request: its own, or the one that its event makes.
+fn tag_of_answers(alloc: Global, event: Event, request: &Message) -> Result<Token, AllocError>
+    ensures { IfOk result (λ tag. tag ≡ spec.tag_of_answers event request.now) }
+{
+    match own_tag(alloc, request)? {
+        Some(own) => Ok(own),
+        None => made_name(alloc, event.seed, event.id, ANSWER_TAG_NAME),
+    }
+}
+
+// A transaction is lost: that is told, and then what ends with its request ends.
 fn lose(
     alloc: Global,
     call: &mut Call,
-    event: Event,
-    up: Up,
+    id: Id,
+    notice: Notice,
     timed_out: bool,
 ) -> Result<Vec<CallOut>, AllocError>
-    requires { event.moment ≤ 2 ^ 62 }
     ensures { IfOk result (λ outs. (call.new, outs.items)
-        ≡ spec.lost_taken call.old event up timed_out) }
+        ≡ spec.lost_taken call.old id notice timed_out) }
 {
-    let id = up.id;
-    let mut outs = call.serve(alloc, event, Item::Up(up))?;
+    let mut outs = Vec::new(alloc);
+    outs.push(CallOut::Notice(notice))?;
     outs.append(&mut call.lose(id, timed_out)?)?;
     Ok(outs)
 }

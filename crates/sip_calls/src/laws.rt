@@ -3,6 +3,7 @@
 ghost use Rattle.sip_calls.specs.OwnCall.{EachNoticeIsOwn};
 ghost use Rattle.sip_calls.specs.Provisionals.{ShownConsecutive, ShownInOrder, ShownOnce};
 ghost use Rattle.sip_calls.specs.RefusedCommands.{RefusedAlone};
+ghost use Rattle.sip_calls.specs.Requests.{EachToldOnce};
 
 /// Whatever comes to a call, by events that differ: of the reliable provisional responses that come
 /// to an INVITE in one life of a dialog, from the event that makes it to the one that ends it, the
@@ -25,4 +26,10 @@ pub fn refused_commands_change_nothing()
 /// (RFC 3261, section 8.1.1.4).
 pub fn each_notice_is_of_its_call()
     ensures { EachNoticeIsOwn }
+{}
+
+/// Whatever is held under a Call-ID, the user is told of a request by the input that brings it up,
+/// and once.
+pub fn each_request_is_told_once()
+    ensures { EachToldOnce }
 {}

@@ -9,7 +9,8 @@ mod shard;
 pub use call::Call;
 pub use calls::{CallInput, Calls};
 pub use laws::{
-    each_notice_is_of_its_call, provisionals_shown_in_order, refused_commands_change_nothing,
+    each_notice_is_of_its_call, each_request_is_told_once, provisionals_shown_in_order,
+    refused_commands_change_nothing,
 };
 pub use shard::CallShard;
 pub use sip_clients::{Client, Clients, names_differ};

@@ -11,6 +11,7 @@ pub mod FirstSides
 pub mod Hearing
 pub mod Hex
 pub mod Names
+pub mod NoRequests
 pub mod OwnCall
 pub mod OwnDialogs
 pub mod Results

@@ -1,6 +1,6 @@
 //! The client requests of one Call-ID.
 
-ghost use Rattle.std.specs.Prelude.{◌≡◌, ◌≤◌, ◌==◌, ◌^◌, [], IfOk, OnOk, length};
+ghost use Rattle.std.specs.Prelude.{◌≡◌, ◌≤◌, ◌==◌, ◌^◌, [], IfOk, OnErr, OnOk, length};
 ghost use Rattle.sip_clients.specs.Cancel.{cancelled};
 ghost use Rattle.sip_clients.specs.Clients as spec;
 ghost use Rattle.sip_clients.specs.Tick as ticks;
@@ -21,12 +21,13 @@ use sip_served::{
 };
 use std::alloc::{AllocError, Global};
 use std::marker::Model;
+use std::mem;
 
 /// The requests that were sent under one Call-ID and are held, in the order in which they were
 /// sent. What they do to the dialogs of the Call-ID is done to those that are handed in (RFC 3261,
 /// sections 8.1, 12.2.1, 13.2 and 17.1; RFC 3262, section 4).
 ///
-/// Where a method answers an error, it is not known what is held.
+/// After want of memory no request is held; of the dialogs it isn't known what was done to them.
 pub struct Clients {
     alloc: Global,
     requests: ClientMap,
@@ -67,16 +68,27 @@ impl Clients {
         next_due(&self.requests)
     }
 
+    // The requests, to be put back once all is done.
+    fn take(&mut self) -> ClientMap
+        ensures requests { result.entries ≡ self.old }
+        ensures nothing { self.new ≡ [] }
+    {
+        mem::replace(&mut self.requests, IndexMap::new(self.alloc))
+    }
+
     /// The moment `now`, in ms, has come: an INVITE is removed 64*T1 after its first 2xx, and its
     /// dialogs that are early still end.
     pub fn tick(&mut self, dialogs: &mut Dialogs, now: u64) -> Result<Vec<CallOut>, AllocError>
-        ensures { IfOk result (λ outs.
+        ensures taken { IfOk result (λ outs.
             (record { dialogs = dialogs.new.entries; clients = self.new }, outs.items)
             ≡ ticks.tick_taken record { dialogs = dialogs.old.entries; clients = self.old } now) }
+        ensures err { OnErr result (self.new ≡ []) }
     {
-        let outs = over_notices(self.alloc, dialogs, &self.requests, now)?;
-        drop_dialogs(dialogs, &self.requests, now);
-        drop_clients(&mut self.requests, now);
+        let mut requests = self.take();
+        let outs = over_notices(self.alloc, dialogs, &requests, now)?;
+        drop_dialogs(dialogs, &requests, now);
+        drop_clients(&mut requests, now);
+        self.requests = requests;
         Ok(outs)
     }
 
@@ -93,28 +105,17 @@ impl Clients {
         response: Message,
     ) -> Result<Vec<CallOut>, AllocError>
         requires { event.moment ≤ 2 ^ 62 }
-        ensures { IfOk result (λ outs.
+        ensures taken { IfOk result (λ outs.
             (record { dialogs = dialogs.new.entries; clients = self.new }, outs.items)
             ≡ spec.response_taken event id call_id response
             record { dialogs = dialogs.old.entries; clients = self.old }) }
+        ensures err { OnErr result (self.new ≡ []) }
     {
-        take_response(
-            self.alloc,
-            &mut self.requests,
-            dialogs,
-            event,
-            id,
-            call_id,
-            response,
-        )
-    }
-
-    // What becomes of the requests.
-    fn settle(&mut self, event: Event, id: Id, rest: Rest) -> Result<Vec<CallOut>, AllocError>
-        ensures { IfOk result (λ outs. (self.new, outs.items)
-            ≡ spec.settled event id rest self.old) }
-    {
-        settle(self.alloc, &mut self.requests, event, id, rest)
+        let alloc = self.alloc;
+        let mut requests = self.take();
+        let outs = take_response(alloc, &mut requests, dialogs, event, id, call_id, response)?;
+        self.requests = requests;
+        Ok(outs)
     }
 
     /// The transaction of the request that the event `id` sent timed out, or its message could not
@@ -126,36 +127,44 @@ impl Clients {
         id: Id,
         timed_out: bool,
     ) -> Result<Vec<CallOut>, AllocError>
-        ensures { IfOk result (λ outs.
+        ensures taken { IfOk result (λ outs.
             (record { dialogs = dialogs.new.entries; clients = self.new }, outs.items)
             ≡ spec.lost id timed_out record { dialogs = dialogs.old.entries; clients = self.old }) }
+        ensures err { OnErr result (self.new ≡ []) }
     {
-        lose(self.alloc, &mut self.requests, dialogs, id, timed_out)
+        let mut requests = self.take();
+        let outs = lose(self.alloc, &mut requests, dialogs, id, timed_out)?;
+        self.requests = requests;
+        Ok(outs)
     }
 
     // ---- commands
 
     /// The user starts the call by an INVITE (RFC 3261, section 13.2.1).
     pub fn invite(&mut self, event: Event, invite: &Invite) -> Result<Vec<CallOut>, AllocError>
-        ensures { IfOk result (λ outs. (self.new, outs.items)
+        ensures taken { IfOk result (λ outs. (self.new, outs.items)
             ≡ spec.invite_taken event invite.now self.old) }
+        ensures err { OnErr result (self.new ≡ []) }
     {
-        let message = invite_of(self.alloc, event, invite)?;
-        let client = client_for(self.alloc, event.id, Asks::First, message, invite.address);
-        start(self.alloc, &mut self.requests, event, client)
+        let alloc = self.alloc;
+        let mut requests = self.take();
+        let message = invite_of(alloc, event, invite)?;
+        let client = client_for(alloc, event.id, Asks::First, message, invite.address);
+        let outs = start(alloc, &mut requests, event, client)?;
+        self.requests = requests;
+        Ok(outs)
     }
 
     /// The user sends a request outside of dialogs (RFC 3261, section 8.1.1).
     pub fn plain(&mut self, event: Event, plain: &Plain) -> Result<Vec<CallOut>, AllocError>
-        ensures { IfOk result (λ outs. (self.new, outs.items)
+        ensures taken { IfOk result (λ outs. (self.new, outs.items)
             ≡ spec.plain_taken event plain.now self.old) }
+        ensures err { OnErr result (self.new ≡ []) }
     {
-        if is_bad_outside(&plain.method) {
-            return refused(self.alloc, event, &plain.call_id, Refusal::BadMethod);
-        }
-        let message = plain_of(self.alloc, event, plain)?;
-        let client = client_for(self.alloc, event.id, Asks::Plain, message, plain.address);
-        start(self.alloc, &mut self.requests, event, client)
+        let mut requests = self.take();
+        let outs = plain_told(self.alloc, &mut requests, event, plain)?;
+        self.requests = requests;
+        Ok(outs)
     }
 
     /// The user sends a request in a dialog (RFC 3261, sections 12.2.1.1, 14.1 and 15.1.1).
@@ -165,37 +174,32 @@ impl Clients {
         event: Event,
         command: &DialogRequest,
     ) -> Result<Vec<CallOut>, AllocError>
-        ensures { IfOk result (λ outs.
+        ensures taken { IfOk result (λ outs.
             (record { dialogs = dialogs.new.entries; clients = self.new }, outs.items)
             ≡ spec.request_taken event command.now
             record { dialogs = dialogs.old.entries; clients = self.old }) }
+        ensures err { OnErr result (self.new ≡ []) }
     {
-        let name = name_in(self.alloc, &command.local_tag, &command.remote_tag)?;
-        let told = request_told(self.alloc, dialogs, event, &name, command)?;
-        self.finish_request(event, told)
-    }
-
-    fn finish_request(
-        &mut self,
-        event: Event,
-        told: (Vec<CallOut>, Rest, Vec<CallOut>),
-    ) -> Result<Vec<CallOut>, AllocError>
-        ensures { IfOk result (λ outs. (self.new, outs.items)
-            ≡ spec.request_settled event told.0.items told.1 told.2.items self.old) }
-    {
-        let (mut outs, rest, mut ends) = told;
-        outs.append(&mut self.settle(event, event.id, rest)?)?;
-        outs.append(&mut ends)?;
+        let alloc = self.alloc;
+        let mut requests = self.take();
+        let name = name_in(alloc, &command.local_tag, &command.remote_tag)?;
+        let told = request_told(alloc, dialogs, event, &name, command)?;
+        let outs = finish_request(alloc, &mut requests, event, told)?;
+        self.requests = requests;
         Ok(outs)
     }
 
     /// The user cancels an INVITE: at once where a provisional response to it came, and otherwise
     /// when the first comes (RFC 3261, section 9.1).
     pub fn cancel(&mut self, event: Event, command: &Cancel) -> Result<Vec<CallOut>, AllocError>
-        ensures { IfOk result (λ outs. (self.new, outs.items)
+        ensures taken { IfOk result (λ outs. (self.new, outs.items)
             ≡ cancelled event command.now self.old) }
+        ensures err { OnErr result (self.new ≡ []) }
     {
-        take_cancel(self.alloc, &mut self.requests, event, command)
+        let mut requests = self.take();
+        let outs = take_cancel(self.alloc, &mut requests, event, command)?;
+        self.requests = requests;
+        Ok(outs)
     }
 
     /// The user gives the ACK of the oldest 2xx of a dialog that is owed one (RFC 3261, section
@@ -206,33 +210,15 @@ impl Clients {
         event: Event,
         command: &DialogBody,
     ) -> Result<Vec<CallOut>, AllocError>
-        ensures { IfOk result (λ outs.
+        ensures taken { IfOk result (λ outs.
             (record { dialogs = dialogs.new.entries; clients = self.new }, outs.items)
             ≡ spec.ack_taken event command.now
             record { dialogs = dialogs.old.entries; clients = self.old }) }
+        ensures err { OnErr result (self.new ≡ []) }
     {
-        let name = name_in(self.alloc, &command.local_tag, &command.remote_tag)?;
-        match debt_for(dialogs, &name, DebtKind::Ack) {
-            Err(refusal) => refused(self.alloc, event, &command.call_id, refusal),
-            Ok(debt) => self.pay_ack(dialogs, event, name, command, debt),
-        }
-    }
-
-    fn pay_ack(
-        &mut self,
-        dialogs: &mut Dialogs,
-        event: Event,
-        name: DialogName,
-        command: &DialogBody,
-        debt: Debt,
-    ) -> Result<Vec<CallOut>, AllocError>
-        ensures { IfOk result (λ outs.
-            (record { dialogs = dialogs.new.entries; clients = self.new }, outs.items)
-            ≡ spec.ack_paid event command.now name debt
-            record { dialogs = dialogs.old.entries; clients = self.old }) }
-    {
-        let (outs, ack) = ack_told(self.alloc, dialogs, event, &name, command, debt)?;
-        note_ack(&mut self.requests, debt, name, ack)?;
+        let mut requests = self.take();
+        let outs = take_ack(self.alloc, &mut requests, dialogs, event, command)?;
+        self.requests = requests;
         Ok(outs)
     }
 
@@ -244,33 +230,15 @@ impl Clients {
         event: Event,
         command: &DialogBody,
     ) -> Result<Vec<CallOut>, AllocError>
-        ensures { IfOk result (λ outs.
+        ensures taken { IfOk result (λ outs.
             (record { dialogs = dialogs.new.entries; clients = self.new }, outs.items)
             ≡ spec.prack_taken event command.now
             record { dialogs = dialogs.old.entries; clients = self.old }) }
+        ensures err { OnErr result (self.new ≡ []) }
     {
-        let name = name_in(self.alloc, &command.local_tag, &command.remote_tag)?;
-        match debt_for(dialogs, &name, DebtKind::Prack) {
-            Err(refusal) => refused(self.alloc, event, &command.call_id, refusal),
-            Ok(debt) => self.pay_prack(dialogs, event, name, command, debt),
-        }
-    }
-
-    fn pay_prack(
-        &mut self,
-        dialogs: &mut Dialogs,
-        event: Event,
-        name: DialogName,
-        command: &DialogBody,
-        debt: Debt,
-    ) -> Result<Vec<CallOut>, AllocError>
-        ensures { IfOk result (λ outs.
-            (record { dialogs = dialogs.new.entries; clients = self.new }, outs.items)
-            ≡ spec.prack_paid event command.now name debt
-            record { dialogs = dialogs.old.entries; clients = self.old }) }
-    {
-        let (mut outs, rest) = prack_told(self.alloc, dialogs, event, &name, command, debt)?;
-        outs.append(&mut self.settle(event, event.id, rest)?)?;
+        let mut requests = self.take();
+        let outs = take_prack(self.alloc, &mut requests, dialogs, event, command)?;
+        self.requests = requests;
         Ok(outs)
     }
 }
@@ -282,4 +250,116 @@ impl Drop for Clients {
             requests: _,
         } = self;
     }
+}
+
+// A request outside of dialogs is sent, or its method is refused.
+fn plain_told(
+    alloc: Global,
+    requests: &mut ClientMap,
+    event: Event,
+    plain: &Plain,
+) -> Result<Vec<CallOut>, AllocError>
+    ensures { IfOk result (λ outs. (requests.new.entries, outs.items)
+        ≡ spec.plain_taken event plain.now requests.old.entries) }
+{
+    if is_bad_outside(&plain.method) {
+        return refused(alloc, event, &plain.call_id, Refusal::BadMethod);
+    }
+    let message = plain_of(alloc, event, plain)?;
+    let client = client_for(alloc, event.id, Asks::Plain, message, plain.address);
+    start(alloc, requests, event, client)
+}
+
+// What becomes of the requests after one in a dialog, and what is told in which order.
+fn finish_request(
+    alloc: Global,
+    requests: &mut ClientMap,
+    event: Event,
+    told: (Vec<CallOut>, Rest, Vec<CallOut>),
+) -> Result<Vec<CallOut>, AllocError>
+    ensures { IfOk result (λ outs. (requests.new.entries, outs.items)
+        ≡ spec.request_settled event told.0.items told.1 told.2.items requests.old.entries) }
+{
+    let (mut outs, rest, mut ends) = told;
+    outs.append(&mut settle(alloc, requests, event, event.id, rest)?)?;
+    outs.append(&mut ends)?;
+    Ok(outs)
+}
+
+// An ACK is sent, or why not is told.
+fn take_ack(
+    alloc: Global,
+    requests: &mut ClientMap,
+    dialogs: &mut Dialogs,
+    event: Event,
+    command: &DialogBody,
+) -> Result<Vec<CallOut>, AllocError>
+    ensures { IfOk result (λ outs.
+        (record { dialogs = dialogs.new.entries; clients = requests.new.entries }, outs.items)
+        ≡ spec.ack_taken event command.now
+        record { dialogs = dialogs.old.entries; clients = requests.old.entries }) }
+{
+    let name = name_in(alloc, &command.local_tag, &command.remote_tag)?;
+    match debt_for(dialogs, &name, DebtKind::Ack) {
+        Err(refusal) => refused(alloc, event, &command.call_id, refusal),
+        Ok(debt) => pay_ack(alloc, requests, dialogs, event, name, command, debt),
+    }
+}
+
+fn pay_ack(
+    alloc: Global,
+    requests: &mut ClientMap,
+    dialogs: &mut Dialogs,
+    event: Event,
+    name: DialogName,
+    command: &DialogBody,
+    debt: Debt,
+) -> Result<Vec<CallOut>, AllocError>
+    ensures { IfOk result (λ outs.
+        (record { dialogs = dialogs.new.entries; clients = requests.new.entries }, outs.items)
+        ≡ spec.ack_paid event command.now name debt
+        record { dialogs = dialogs.old.entries; clients = requests.old.entries }) }
+{
+    let (outs, ack) = ack_told(alloc, dialogs, event, &name, command, debt)?;
+    note_ack(requests, debt, name, ack)?;
+    Ok(outs)
+}
+
+// A PRACK is sent, or why not is told.
+fn take_prack(
+    alloc: Global,
+    requests: &mut ClientMap,
+    dialogs: &mut Dialogs,
+    event: Event,
+    command: &DialogBody,
+) -> Result<Vec<CallOut>, AllocError>
+    ensures { IfOk result (λ outs.
+        (record { dialogs = dialogs.new.entries; clients = requests.new.entries }, outs.items)
+        ≡ spec.prack_taken event command.now
+        record { dialogs = dialogs.old.entries; clients = requests.old.entries }) }
+{
+    let name = name_in(alloc, &command.local_tag, &command.remote_tag)?;
+    match debt_for(dialogs, &name, DebtKind::Prack) {
+        Err(refusal) => refused(alloc, event, &command.call_id, refusal),
+        Ok(debt) => pay_prack(alloc, requests, dialogs, event, name, command, debt),
+    }
+}
+
+fn pay_prack(
+    alloc: Global,
+    requests: &mut ClientMap,
+    dialogs: &mut Dialogs,
+    event: Event,
+    name: DialogName,
+    command: &DialogBody,
+    debt: Debt,
+) -> Result<Vec<CallOut>, AllocError>
+    ensures { IfOk result (λ outs.
+        (record { dialogs = dialogs.new.entries; clients = requests.new.entries }, outs.items)
+        ≡ spec.prack_paid event command.now name debt
+        record { dialogs = dialogs.old.entries; clients = requests.old.entries }) }
+{
+    let (mut outs, rest) = prack_told(alloc, dialogs, event, &name, command, debt)?;
+    outs.append(&mut settle(alloc, requests, event, event.id, rest)?)?;
+    Ok(outs)
 }

@@ -23,6 +23,7 @@ pub record TickLeft {K S I O : Type 0} (cmp : K → K → Ordering) (machine : M
     (states : K → Option S) (dues : List (K × ℕ)) (told : List (K × List O)) : Type 0 where
   pub ordered : IsStrictlySortedBy cmp rest
   pub waiting : (q : K) → list_any (is_at (cmp q)) rest ≡ true → states q ≡ old q
+  pub taken : (q : K) → list_any (is_at (cmp q)) rest ≡ true → moment cmp dues q ≡ None
   pub done : (q : K) → list_any (is_at (cmp q)) rest ≡ false
       → states q ≡ next machine q (old q) input
   pub armed : (q : K) → list_any (is_at (cmp q)) rest ≡ false
@@ -41,6 +42,10 @@ later_kept : (now : ℕ) (o : Option ℕ) → is_due now o ≡ false → if_late
 later_kept now None e = refl
 later_kept now (Some due) e = grind (arith, common_steps, e)
 
+none_later : (now : ℕ) (o : Option ℕ) → is_due now o ≡ true → if_later now o ≡ None
+none_later now None e = refl
+none_later now (Some due) e = grind (arith, common_steps, e)
+
 module _ {K S I O : Type 0} {cmp : K → K → Ordering} (total : IsTotalOrder cmp)
     (exact : CmpEqualImpliesEq cmp) (machine : Machine K S I O) (due : S → Option ℕ)
     (input : I) where
@@ -53,6 +58,7 @@ module _ {K S I O : Type 0} {cmp : K → K → Ordering} (total : IsTotalOrder c
   tick_left_at_first now idle old dues keys left are ordered given later = record {
     ordered = ordered;
     waiting = λ q here. refl;
+    taken = λ q here. later q ∙ none_later now (moment cmp dues q) (sym (given q) ∙ here);
     done = λ q gone. sym (ap (λ r. r.0)
         (idle q (old q) (ap (is_due now) (sym (are q)) ∙ sym (given q) ∙ gone)));
     armed = λ q gone. later q ∙ later_kept now (moment cmp dues q) (sym (given q) ∙ gone) ∙ are q;
@@ -110,6 +116,11 @@ module _ {K S I O : Type 0} {cmp : K → K → Ordering} (total : IsTotalOrder c
             ∙ ap (λ x. list_any (is_at (cmp x)) rest) (exact_at total exact k q hit) ∙ among)))
             (λ miss. steps q ∙ ap (λ b. cond b (next machine k (states k) given) (states q)) miss
             ∙ left.waiting q (among_tail q k rest true miss among));
+        taken = λ q among. by_bool (is_at (cmp k) q)
+            (λ hit. absurd (false≢true (sym gone
+            ∙ ap (λ x. list_any (is_at (cmp x)) rest) (exact_at total exact k q hit) ∙ among)))
+            (λ miss. arms q ∙ ap (λ b. cond b (due_of due (next machine k (states k) given))
+            (moment cmp dues q)) miss ∙ left.taken q (among_tail q k rest true miss among));
         done = λ q absent. by_bool (is_at (cmp k) q)
             (λ hit. steps q ∙ ap (λ b. cond b (next machine k (states k) given) (states q)) hit
             ∙ after ∙ ap (λ x. next machine x (old x) input) (exact_at total exact k q hit))

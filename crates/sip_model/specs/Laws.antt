@@ -61,7 +61,9 @@ module _ {K S I O : Type 0} (cmp : K → K → Ordering) (machine : Machine K S 
       said_by key (told_next cmp machine tick before phase)
       ++ said_from key (before ++ phase ∷ []) phases
 
-  -- what all phases say of a key is what that key's own inputs add
+  -- what phases say of a key, after others, is what that key's own inputs add
   abbrev pub EachKeyAlone : Type 0
-  EachKeyAlone = (phases : List (Phase K I)) (key : K)
-      → said_from key [] phases ≡ outputs_from machine key None (history cmp tick phases key)
+  EachKeyAlone = (before phases : List (Phase K I)) (key : K)
+      → said_from key before phases
+      ≡ outputs_from machine key (states_after cmp machine tick before key)
+      (history cmp tick phases key)

@@ -34,7 +34,7 @@ pub(crate) fn deal_items<M: StateMachine>(
 {
     let mut told = Vec::with_capacity(alloc, items.len())?;
     for Item { place, key, input } in items {
-        let outputs = step_key(alloc, machine, states, dues, &key, now, input)?;
+        let outputs = step_key(alloc, machine, states, dues, &key, true, now, input)?;
         told.push((place, outputs))?;
     }
     Ok(told)

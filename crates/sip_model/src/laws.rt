@@ -6,7 +6,7 @@ ghost use Rattle.sip_model.specs.Shards.{ShardsTellAll};
 
 use crate::machine::StateMachine;
 
-/// What all phases say of a key is what that key's own inputs add. A shard that was given its part
+/// What phases say of a key, after others, is what that key's own inputs add. A shard that was given its part
 /// of each phase says its part of what all say, and holds the states of its own keys; and what all
 /// shards say, joined and brought into order, is what all say. What is said to a tick is in the
 /// order of the keys, and what items add in their own.

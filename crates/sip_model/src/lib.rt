@@ -20,4 +20,3 @@ pub use machine::StateMachine;
 pub use merge::by_label;
 pub use replies::Replies;
 pub use table::Table;
-pub use ticks::joined;

@@ -12,17 +12,21 @@ use sip_timers::Queue;
 use std::alloc::{AllocError, Global};
 use std::collections::BTreeMap;
 
-/// Gives one key an input at a moment in ms, and answers what its machine says.
+/// Gives one key an input at a moment in ms, and answers what its machine says. Whether the key is
+/// armed for what is due of its state, where anything is, or isn't armed, is known.
 pub(crate) fn step_key<M: StateMachine>(
     alloc: Global,
     machine: &M,
     states: &mut BTreeMap<M::Key, M::State>,
     dues: &mut Queue<M::Key>,
     key: &M::Key,
+    is_armed: bool,
     now: u64,
     input: M::Input,
 ) -> Result<Vec<M::Output>, AllocError>
-    requires { now ≤ 2 ^ 62 }
+    requires moment { now ≤ 2 ^ 62 }
+    requires armed { moment M.Key.cmp dues.old key.now
+        ≡ cond is_armed (due_of M.due (get M.Key.cmp states.old key.now)) None }
     ensures states { OnOk result ((q : M.Key) → get M.Key.cmp states.new q
         ≡ cond (is_at (M.Key.cmp key.now) q)
         (next (M.machine machine.now) key.now (get M.Key.cmp states.old key.now)
@@ -38,8 +42,9 @@ pub(crate) fn step_key<M: StateMachine>(
         (given_at now input)) }
 {
     let (held, state) = taken(states, key);
+    let former = former_moment(machine, state.as_ref(), is_armed);
     let (after, outputs) = machine.step(alloc, key, state, now, input)?;
-    rearm::<M>(dues, key, due_moment(machine, after.as_ref()))?;
+    rearm::<M>(dues, key, former, due_moment(machine, after.as_ref()))?;
     put_back::<M>(states, key, held, after)?;
     Ok(outputs)
 }
@@ -59,7 +64,7 @@ pub(crate) fn hold_key<M: StateMachine>(
         → moment M.Key.cmp dues.new q ≡ cond (is_at (M.Key.cmp key) q) (M.due state)
         (moment M.Key.cmp dues.old q)) }
 {
-    rearm::<M>(dues, &key, machine.due_of(&state))?;
+    rearm::<M>(dues, &key, dues.moment(&key), machine.due_of(&state))?;
     states.insert(key, state)?;
     Ok(())
 }
@@ -119,17 +124,35 @@ fn due_moment<M: StateMachine>(machine: &M, state: Option<&M::State>) -> Option<
     }
 }
 
-// Arms a key for the moment at which something is due of it, if there is one.
+// The moment for which a key is armed, of which this is held.
+fn former_moment<M: StateMachine>(
+    machine: &M,
+    state: Option<&M::State>,
+    is_armed: bool,
+) -> Option<u64>
+    ensures { result ≡ cond is_armed (due_of M.due (option_copied state.entry)) None }
+{
+    if is_armed {
+        due_moment(machine, state)
+    } else {
+        None
+    }
+}
+
+// Arms a key for the moment at which something is due of it, if there is one, in place of that for
+// which it is armed.
 fn rearm<M: StateMachine>(
     dues: &mut Queue<M::Key>,
     key: &M::Key,
+    former: Option<u64>,
     due: Option<u64>,
 ) -> Result<(), AllocError>
+    requires { former ≡ moment M.Key.cmp dues.old key.now }
     ensures { OnOk result ((q : M.Key)
         → moment M.Key.cmp dues.new q ≡ cond (is_at (M.Key.cmp key.now) q) due
         (moment M.Key.cmp dues.old q)) }
 {
-    if dues.moment(key) == due {
+    if former == due {
         return Ok(());
     }
     match due {
@@ -137,7 +160,7 @@ fn rearm<M: StateMachine>(
             dues.disarm(key);
             Ok(())
         }
-        Some(due) => match dues.arm(key.clone()?, due) {
+        Some(due) => match dues.rearm(key.clone()?, former, due) {
             Ok(()) => Ok(()),
             Err(_) => Err(AllocError),
         },

@@ -1,13 +1,9 @@
 //! What the keys of a table say in a phase.
 
-ghost use Rattle.std.specs.Prelude.{◌≡◌, ◌++◌, IfOk};
-ghost use Rattle.std.specs.List.{flat_map};
 ghost use Rattle.std.specs.Ordering.{nat_cmp};
 ghost use Rattle.sip_model.specs.Told.{Sorts, groups};
 
 use crate::merge::by_label;
-use crate::ticks::joined;
-use std::alloc::{AllocError, Global};
 
 /// What was said in a phase.
 #[derive(Drop)]
@@ -29,23 +25,5 @@ impl<K: Ord + Drop, O: Drop> Replies<K, O> {
             ticks: by_label(ticks),
             items: by_label(items),
         }
-    }
-}
-
-impl<K: Drop, O: Drop> Replies<K, O> {
-    /// All that was said: to the tick, in the order of keys, and then by the items.
-    pub fn joined(self, alloc: Global) -> Result<Vec<O>, AllocError>
-        ensures { IfOk result (λ said. said.items
-            ≡ flat_map (λ group. group.1) (groups self.ticks.items)
-            ++ flat_map (λ group. group.1) (groups self.items.items)) }
-    {
-        let Replies { ticks, items } = self;
-        let mut said = joined(alloc, ticks)?;
-        let mut rest = joined(alloc, items)?;
-        if said.is_empty() {
-            return Ok(rest);
-        }
-        said.append(&mut rest)?;
-        Ok(said)
     }
 }

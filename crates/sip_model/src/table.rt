@@ -1,13 +1,14 @@
 //! The table of the held keys.
 
-ghost use Rattle.std.specs.Prelude.{◌≡◌, ◌≤◌, ◌^◌, ℕ, List, Option, Some, None, [], IfOk, OnOk, OnErr, IsTrue, cond, length, true, count_by, is_some, IsErr, IsSome};
+ghost use Rattle.std.specs.Prelude.{◌≡◌, ◌≤◌, ◌^◌, ℕ, Bool, List, Option, Some, None, [], IfOk, IfSome, OnOk, OnErr, IsTrue, cond, length, true, false, count_by, is_some, IsErr, IsSome};
 ghost use Rattle.std.specs.Option.{option_copied, option_map};
 ghost use Rattle.std.specs.BTreeMap.{get, is_at, BTreeMap};
-ghost use Rattle.sip_model.specs.Machine.{given_at, next, adds, ticks_of};
+ghost use Rattle.sip_model.specs.Machine.{due_of, given_at, next, adds, ticks_of};
 ghost use Rattle.sip_model.specs.Table.{AreDues, Held, IsCalm, state_at, state_in, entries_of, Covers, StepsKey, StepsAll};
 ghost use Rattle.sip_model.specs.Phase.{AddsPhase, DealsPhase, phase_at};
 ghost use Rattle.sip_model.specs.Told.{groups};
 ghost use Rattle.sip_model.specs.History.{AddsInput, AddsInputs};
+ghost use Rattle.sip_timers.specs.Queue.{is_due};
 
 use crate::fault::ShardFault;
 use crate::item::Item;
@@ -62,11 +63,21 @@ impl<M: StateMachine> Model for Live<M> {
 }
 
 impl<M: StateMachine> Live<M> {
+    // The first moment at which something is due.
+    fn next_due(&self) -> Option<u64>
+        ensures before { (now : ℕ) → is_due now result ≡ false
+            → IsCalm M.due (state_in M.Key.cmp self.now) now }
+        ensures due { IfSome result (λ due. (key : M.Key)
+            × (due_of M.due (state_in M.Key.cmp self.now key) ≡ Some due)) }
+    {
+        self.dues.next_due()
+    }
+
     // Whether there is no tick at the moment, or nothing is due at it.
     fn is_calm(&self, now: u64, ticks: bool) -> bool
         ensures { IsTrue result → ticks ≡ true → IsCalm M.due (state_in M.Key.cmp self.now) now }
     {
-        match self.dues.next_due() {
+        match self.next_due() {
             Some(due) if ticks => now < due,
             _ => true,
         }
@@ -192,6 +203,7 @@ impl<M: StateMachine> Table<M> {
             &mut states,
             &mut dues,
             &key,
+            true,
             now,
             input,
         )?;
@@ -218,6 +230,23 @@ impl<M: StateMachine> Table<M> {
         let outputs = joined(self.alloc, told)?;
         self.live = Some(Live { states, dues });
         Ok(outputs)
+    }
+
+    /// The first moment, in ms, at which something is due of a held key, if there is one. A phase
+    /// without items before it, or without a tick, changes nothing and says nothing. Takes no
+    /// memory.
+    pub fn next_due(&self, _machine: &M) -> Option<u64>
+        ensures before { IsSome self.now → (now : ℕ) (ticks : Bool)
+            → (ticks ≡ true → is_due now result ≡ false)
+            → AddsPhase M.Key.cmp (M.machine _machine.now) (ticks_of M.tick)
+            self.now self.now (phase_at now ticks []) [] [] }
+        ensures due { IfSome result (λ due. (key : M.Key)
+            × (due_of M.due (state_at M.Key.cmp self.now key) ≡ Some due)) }
+    {
+        match &self.live {
+            None => None,
+            Some(live) => live.next_due(),
+        }
     }
 
     /// Whether a phase without items at a moment in ms, with a tick or without, changes nothing and

@@ -45,6 +45,7 @@ pub(crate) fn tick_due<M: StateMachine>(
             states,
             dues,
             &key,
+            false,
             now,
             machine.tick_input(),
         )?;
@@ -96,7 +97,10 @@ fn tell<K: Drop, O: Drop>(
 }
 
 /// All that was said, one after the other.
-pub fn joined<L: Drop, O: Drop>(alloc: Global, told: Vec<(L, Vec<O>)>) -> Result<Vec<O>, AllocError>
+pub(crate) fn joined<L: Drop, O: Drop>(
+    alloc: Global,
+    told: Vec<(L, Vec<O>)>,
+) -> Result<Vec<O>, AllocError>
     ensures { IfOk result (λ outputs. outputs.items
         ≡ flat_map (λ group. group.1.items) told.items) }
 {

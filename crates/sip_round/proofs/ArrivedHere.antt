@@ -5,7 +5,6 @@ use Rattle.sip_message.specs.declared.id.Id.{Id}
 use Rattle.sip_message.specs.declared.key.Key.{Key}
 use Rattle.sip_model.specs.declared.item.Item.{Item}
 use Rattle.sip_transactions.specs.declared.input.Input.{Input}
-use Rattle.sip_round.specs.declared.arrival.Arrival.{Arrival}
 use Rattle.sip_round.specs.declared.round.Event.{Event}
 use Rattle.sip_round.specs.declared.waiting.Waiting.{Waiting}
 use Rattle.sip_round.specs.Arrivals.{arrivals_from}
@@ -20,16 +19,15 @@ placed_from local round place [] = tt
 placed_from local round place (e ∷ es) = (refl, placed_from local round (suc place) es)
 
 pub arrived_here : (owner : ℕ → Key → ℕ) (n count : ℕ) (local : Addr) (round : ℕ)
-    (events given : List Event) (arrivals : List (Id × Arrival)) (items : List (Item Key Input))
+    (events given : List Event) (items : List (Item Key Input))
     (parts : List (List (Item Key Input))) (waiting : List (Id × Waiting))
-    → n ≡ count → given ≡ events → arrivals ≡ arrivals_from local round 1 given
-    → items ≡ transaction_items arrivals → waiting ≡ all_waiting arrivals
+    → n ≡ count → given ≡ events → items ≡ transaction_items (arrivals_from local round 1 given)
+    → waiting ≡ all_waiting (arrivals_from local round 1 given)
     → parts ≡ cut_by (owner n) zero n items
     → IsArrived (owner count) count (arrivals_from local round 1 events) parts waiting
-arrived_here owner n count local round events given arrivals items parts waiting same_count
-    same_events are items_are waiting_are parts_are =
-    let here : arrivals ≡ arrivals_from local round 1 events =
-    are ∙ ap (arrivals_from local round 1) same_events in
+arrived_here owner n count local round events given items parts waiting same_count same_events
+    items_are waiting_are parts_are =
+    let here = ap (arrivals_from local round 1) same_events in
     record {
       placed = placed_from local round 1 events;
       parts_are = parts_are ∙ ap (cut_by (owner n) zero n)

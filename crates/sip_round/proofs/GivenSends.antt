@@ -131,7 +131,7 @@ module _ (q : Key) (now round : ℕ) (said : ℕ → List Out) where
 -- ---- one round
 
 -- every item fits
-any_items : (items : List (model.Item Key (Timed Input)))
+pub any_items : (items : List (model.Item Key (Timed Input)))
     → FitItems key_cmp transaction_machine send_in picked AnyHeld AnyInput items
 any_items [] = tt
 any_items (item ∷ items) = (tt, any_items items)

@@ -35,7 +35,7 @@ use Rattle.sip_round.specs.Parts.{owner_of}
 use Rattle.sip_round.specs.Phases.{first_phase, second_phase, third_phase, transaction_items}
 use Rattle.sip_round.specs.Steps.Waiting.{all_waiting, woven}
 use Rattle.sip_round.proofs.Numbered.{places_timed}
-use Rattle.sip_round.proofs.Weaving.{flat_map-map, woven_by_place}
+use Rattle.sip_round.proofs.Weaving.{behind, each, flat_map-map, woven_by_place}
 
 joined_by_place : {K O : Type 0} (told : List ((ℕ × K) × List O))
     → joined (map by_place told) ≡ joined told
@@ -44,10 +44,10 @@ joined_by_place (t ∷ ts) = ap (λ more. t.1 ++ more) (joined_by_place ts)
 
 -- what was said, shard by shard in order, is all that is said
 whole : {K O : Type 0} (told : Told K O) (ticks : List (K × List O)) (said : List (ℕ × List O))
-    (outs : List O) → ticks ≡ told.ticks → said ≡ map by_place told.items
-    → outs ≡ joined ticks ++ joined said → outs ≡ all_said told
-whole told ticks said outs by_tick by_item are =
-    are ∙ ap (λ t. joined t ++ joined said) by_tick
+    → ticks ≡ told.ticks → said ≡ map by_place told.items
+    → joined ticks ++ joined said ≡ all_said told
+whole told ticks said by_tick by_item =
+    ap (λ t. joined t ++ joined said) by_tick
     ∙ ap (λ s. joined told.ticks ++ joined s) by_item
     ∙ ap (λ s. joined told.ticks ++ s) (joined_by_place told.items)
 
@@ -118,39 +118,44 @@ module _ (owner : Key → ℕ) (old new : List (Held Key Life)) (number now : �
 
 pub led_second : (shared : Calls) (owner : List ℕ → ℕ) (old new : List (Held (List ℕ) Call))
     (now : ℕ) (items : List (Id × Item)) (ticks : List (List ℕ × List CallOut))
-    (said : List (ℕ × List CallOut)) (outs : List CallOut)
-    (before outputs : List Output) (none commands : List (Id × Command))
+    (said : List (ℕ × List CallOut)) (before middle outputs : List Output)
+    (none half commands : List (Id × Command))
     → DealsAll call_cmp (call_machine shared) tick_input owner old new
-    (second_phase now items) ticks said → outs ≡ joined ticks ++ joined said
-    → outputs ≡ before ++ flat_map shown_of outs → none ≡ []
-    → commands ≡ none ++ flat_map command_of outs
+    (second_phase now items) ticks said
+    → middle ≡ before ++ each shown_of ticks → outputs ≡ middle ++ each shown_of said → none ≡ []
+    → half ≡ none ++ each command_of ticks → commands ≡ half ++ each command_of said
     → LedSecond shared owner old new now items before outputs commands
-led_second shared owner old new now items ticks said outs before outputs none commands deals are
-    shows nothing commanded = record {
+led_second shared owner old new now items ticks said before middle outputs none half commands deals
+    shows_ticks shows nothing asks_ticks asks = record {
       count = deals.count;
       stands = deals.stands;
-      shown = λ past hold. shows ∙ ap (λ os. before ++ flat_map shown_of os)
-          (whole (said_by_calls shared past (second_phase now items)) ticks said outs
-          (deals.ticks_told past hold) (deals.items_told past hold) are);
-      commanded = λ past hold. commanded ∙ ap (λ cs. cs ++ flat_map command_of outs) nothing
+      shown = λ past hold. behind shown_of ticks said before middle outputs shows_ticks shows
+          ∙ ap (λ os. before ++ flat_map shown_of os)
+          (whole (said_by_calls shared past (second_phase now items)) ticks said
+          (deals.ticks_told past hold) (deals.items_told past hold));
+      commanded = λ past hold. behind command_of ticks said none half commands asks_ticks asks
+          ∙ ap (λ cs. cs ++ flat_map command_of (joined ticks ++ joined said)) nothing
           ∙ ap (flat_map command_of) (whole
-          (said_by_calls shared past (second_phase now items)) ticks said outs
-          (deals.ticks_told past hold) (deals.items_told past hold) are);
+          (said_by_calls shared past (second_phase now items)) ticks said
+          (deals.ticks_told past hold) (deals.items_told past hold));
     }
 
 pub led_third : (owner : Key → ℕ) (old new : List (Held Key Life)) (now : ℕ)
     (commands : List (Id × Command)) (ticks : List (Key × List Out)) (said : List (ℕ × List Out))
-    (outs : List Out) (before outputs : List Output)
+    (before middle outputs : List Output)
     → DealsAll key_cmp transaction_machine tick_at owner old new
-    (third_phase now commands) ticks said → outs ≡ joined ticks ++ joined said
-    → outputs ≡ before ++ flat_map sent_of outs → LedThird owner old new now commands before outputs
-led_third owner old new now commands ticks said outs before outputs deals are sends = record {
-  count = deals.count;
-  stands = deals.stands;
-  sent = λ past hold. sends ∙ ap (λ os. before ++ flat_map sent_of os)
-      (whole (said_by_transactions past (third_phase now commands)) ticks said outs
-      (deals.ticks_told past hold) (deals.items_told past hold) are);
-}
+    (third_phase now commands) ticks said
+    → middle ≡ before ++ each sent_of ticks → outputs ≡ middle ++ each sent_of said
+    → LedThird owner old new now commands before outputs
+led_third owner old new now commands ticks said before middle outputs deals sends_ticks sends =
+    record {
+      count = deals.count;
+      stands = deals.stands;
+      sent = λ past hold. behind sent_of ticks said before middle outputs sends_ticks sends
+          ∙ ap (λ os. before ++ flat_map sent_of os)
+          (whole (said_by_transactions past (third_phase now commands)) ticks said
+          (deals.ticks_told past hold) (deals.items_told past hold));
+    }
 
 -- ---- a round
 

@@ -1,3 +1,4 @@
+pub mod AfterEnds
 pub mod Alone
 pub mod ArrivedHere
 pub mod Beginning
@@ -15,6 +16,8 @@ pub mod LiveShards
 pub mod Lives
 pub mod Living
 pub mod NamesRise
+pub mod NextDue
+pub mod NotTold
 pub mod Numbered
 pub mod OwnItems
 pub mod OwnNotices
@@ -22,6 +25,7 @@ pub mod OwnRequests
 pub mod OwnSends
 pub mod Piled
 pub mod Placed
+pub mod RequestsOnce
 pub mod Runs
 pub mod SoFar
 pub mod StartedOnce

@@ -5,7 +5,7 @@ use Rattle.sip_model.specs.Machine.{Machine, adds, next, outputs_from, state_aft
 use Rattle.sip_model.proofs.Phases.{state_from-append}
 
 module _ {K S I O : Type 0} (machine : Machine K S I O) (key : K) where
-  outputs_append : (state : Option S) (before after : List I)
+  pub outputs_append : (state : Option S) (before after : List I)
       → outputs_from machine key state (before ++ after) ≡ outputs_from machine key state before
       ++ outputs_from machine key (state_from machine key state before) after
   outputs_append state [] after = refl

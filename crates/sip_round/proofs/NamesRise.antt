@@ -66,10 +66,10 @@ names key items = filter_map name_of (inputs_of key_cmp items key)
 -- ---- the first phase
 
 -- an input names nothing, or its own event, and then it is one of a server
-abbrev Named : Id → Key → Input → Type 0
+abbrev pub Named : Id → Key → Input → Type 0
 Named id k input = (naming_id input ≡ None) ⊎ (IsServer k × (naming_id input ≡ Some id))
 
-abbrev ArrivalNamed : Id → Arrival → Type 0
+abbrev pub ArrivalNamed : Id → Arrival → Type 0
 ArrivalNamed id (arrival.Transaction k input) = Named id k input
 ArrivalNamed id (arrival.Dropped why) = Unit {0}
 ArrivalNamed id (arrival.User command) = Unit {0}
@@ -105,7 +105,7 @@ read_named local id from (Ok message) =
           ]
     ]
 
-arrival_named : (local : Addr) (id : Id) (e : Event) → ArrivalNamed id (arrival_of local id e)
+pub arrival_named : (local : Addr) (id : Id) (e : Event) → ArrivalNamed id (arrival_of local id e)
 unfolding arrival_of
 arrival_named local id (event.Datagram from bytes) = read_named local id from (message_at bytes)
 arrival_named local id (event.Failed k) = inl refl

@@ -1,4 +1,5 @@
--- A request is handed up by the input that begins its life, so its message has the life's Call-ID.
+-- A request is handed up by the input that begins its life: so its message has the life's Call-ID,
+-- and it is handed up under the id of that input.
 use Rattle.std.proofs.Common.{◌≡◌, ℕ, ◌+◌, true, false, cond, List, [], ◌∷◌, ◌++◌, refl, sym, ◌∙◌, ap, subst, arith}
 use Rattle.std.specs.Prelude.{Option, None, Some, option_to_list, codes, if◌then◌else◌}
 use Rattle.std.specs.List.{AllByRecursion}
@@ -6,6 +7,7 @@ use Rattle.std.specs.Option.{option_map}
 use Rattle.std.proofs.lemmas.Bool.{false≢true}
 use Rattle.std.proofs.lemmas.List.Sums.{sum_by-cons}
 use Rattle.sip_message.specs.declared.addr.Addr.{Addr}
+use Rattle.sip_message.specs.declared.id.Id.{Id}
 use Rattle.sip_message.specs.declared.key.Key.{Key}
 use Rattle.sip_message.specs.declared.message.Message.{Message}
 use Rattle.sip_message.specs.declared.start_line.StartLine.{StartLine}
@@ -24,30 +26,35 @@ use Rattle.sip_transactions.specs.declared.step.Handed.{Handed}
 use Rattle.sip_transactions.specs.declared.step.Handed.TheVariants as handed
 use Rattle.sip_transactions.specs.declared.step.Step.{Step}
 use Rattle.sip_transactions.specs.Input.{is_method, message_in, role_of}
-use Rattle.sip_transactions.specs.Laws.{is_request_kind, is_request_up, requests_in}
+use Rattle.sip_transactions.specs.Laws.{arrival_id, is_request_kind, is_request_up, naming_id, requests_in}
 use Rattle.sip_transactions.specs.Life.{acted_if, begun, keeps_request, life_by, step_for, stepped, stepped_by}
 use Rattle.sip_transactions.specs.Machine.{transaction_machine}
 use Rattle.sip_transactions.specs.Output.{handed_out, kind_of, made_bytes, outputs_of, send_out, sent_bytes}
 use Rattle.sip_transactions.proofs.OneRequest.{held_silent}
 use Rattle.sip_served.specs.OwnCall.{IsKindOf}
+use Rattle.sip_served.proofs.Each.{both}
 
--- a request that is handed up has the Call-ID under which it is
-abbrev pub IsOwnUp : Out → Type 0
-IsOwnUp (out.Up up) = IsKindOf up.call_id up.kind
-IsOwnUp (out.Send key to bytes) = Unit {0}
-IsOwnUp (out.Dropped place why) = Unit {0}
+-- a request is of this event
+abbrev pub IsKindBy : Option Id → Id → Kind → Type 0
+IsKindBy event id (kind.Request request reply_to) = event ≡ Some id
+IsKindBy event id (kind.Ack ack) = Unit {0}
+IsKindBy event id (kind.Response response) = Unit {0}
+IsKindBy event id kind.Timeout = Unit {0}
+IsKindBy event id kind.Failed = Unit {0}
 
-abbrev pub AreOwnUps : List Out → Type 0
-AreOwnUps outs = AllByRecursion IsOwnUp outs
+-- a request that is handed up has the Call-ID under which it is, and the id of this event
+abbrev pub IsOwnUp : Option Id → Out → Type 0
+IsOwnUp event (out.Up up) = IsKindOf up.call_id up.kind × IsKindBy event up.id up.kind
+IsOwnUp event (out.Send key to bytes) = Unit {0}
+IsOwnUp event (out.Dropped place why) = Unit {0}
 
-both_own : (xs ys : List Out) → AreOwnUps xs → AreOwnUps ys → AreOwnUps (xs ++ ys)
-both_own [] ys all more = more
-both_own (x ∷ xs) ys all more = (all.0, both_own xs ys all.1 more)
+abbrev pub AreOwnUps : Option Id → List Out → Type 0
+AreOwnUps event outs = AllByRecursion (IsOwnUp event) outs
 
-sends_own : (key : Key) (to : Addr) (sent : Option (List ℕ))
-    → AreOwnUps (option_to_list (option_map (send_out key to) sent))
-sends_own key to None = tt
-sends_own key to (Some bytes) = (tt, tt)
+sends_own : (event : Option Id) (key : Key) (to : Addr) (sent : Option (List ℕ))
+    → AreOwnUps event (option_to_list (option_map (send_out key to) sent))
+sends_own event key to None = tt
+sends_own event key to (Some bytes) = (tt, tt)
 
 -- ---- to a life that is held no request is handed up
 
@@ -64,86 +71,104 @@ none_later : (o : Out) (outs : List Out) → requests_in (o ∷ outs) ≡ 0 → 
 none_later o outs none =
     omega (arith, none, sum_by-cons (λ o. cond (is_request_up o) 1 0) o outs)
 
-kind_own : (call_id : List ℕ) (k : Kind) → is_request_kind k ≡ false → IsKindOf call_id k
-kind_own call_id (kind.Request request reply_to) isnt = absurd (false≢true (sym isnt))
-kind_own call_id (kind.Ack ack) isnt = tt
-kind_own call_id (kind.Response response) isnt = tt
-kind_own call_id kind.Timeout isnt = tt
-kind_own call_id kind.Failed isnt = tt
+kind_own : (event : Option Id) (call_id : List ℕ) (id : Id) (k : Kind)
+    → is_request_kind k ≡ false → IsKindOf call_id k × IsKindBy event id k
+kind_own event call_id id (kind.Request request reply_to) isnt = absurd (false≢true (sym isnt))
+kind_own event call_id id (kind.Ack ack) isnt = (tt, tt)
+kind_own event call_id id (kind.Response response) isnt = (tt, tt)
+kind_own event call_id id kind.Timeout isnt = (tt, tt)
+kind_own event call_id id kind.Failed isnt = (tt, tt)
 
-no_request : (o : Out) → is_request_up o ≡ false → IsOwnUp o
-no_request (out.Up up) isnt = kind_own up.call_id up.kind isnt
-no_request (out.Send key to bytes) isnt = tt
-no_request (out.Dropped place why) isnt = tt
+no_request : (event : Option Id) (o : Out) → is_request_up o ≡ false → IsOwnUp event o
+no_request event (out.Up up) isnt = kind_own event up.call_id up.id up.kind isnt
+no_request event (out.Send key to bytes) isnt = tt
+no_request event (out.Dropped place why) isnt = tt
 
-no_requests : (outs : List Out) → requests_in outs ≡ 0 → AreOwnUps outs
-no_requests [] none = tt
-no_requests (o ∷ outs) none =
-    (no_request o (none_first o outs none), no_requests outs (none_later o outs none))
+no_requests : (event : Option Id) (outs : List Out) → requests_in outs ≡ 0 → AreOwnUps event outs
+no_requests event [] none = tt
+no_requests event (o ∷ outs) none =
+    (no_request event o (none_first o outs none), no_requests event outs (none_later o outs none))
 
--- ---- what begins a life gives it its Call-ID
+-- ---- what begins a life gives it its Call-ID and its id
 
-message_own : (line : StartLine) (message : Message) (reply_to : Addr)
+message_own : (id : Id) (line : StartLine) (message : Message) (reply_to : Addr)
     → IsKindOf message.call_id (kind_of line message reply_to)
-message_own (start.Request uri) message reply_to =
+    × IsKindBy (arrival_id line id) id (kind_of line message reply_to)
+message_own id (start.Request uri) message reply_to =
     elim (is_method message.cseq.method (codes "ACK")) as (λ b. IsKindOf message.call_id
-    (if b then kind.Ack message else kind.Request message reply_to)) [
-      | true ↦ tt
-      | false ↦ refl
+    (if b then kind.Ack message else kind.Request message reply_to)
+    × IsKindBy (Some id) id (if b then kind.Ack message else kind.Request message reply_to)) [
+      | true ↦ (tt, tt)
+      | false ↦ (refl, refl)
     ]
-message_own (start.Response status reason) message reply_to = tt
+message_own id (start.Response status reason) message reply_to = (tt, tt)
 
 handed_own : (key : Key) (life : Life) (h : Handed) (message : Message) (reply_to : Addr)
     → life.call_id ≡ message.call_id
-    → AreOwnUps (option_to_list (handed_out key life h (Some (message, reply_to))))
+    → AreOwnUps (arrival_id message.start life.id)
+    (option_to_list (handed_out key life h (Some (message, reply_to))))
 unfolding handed_out
 handed_own key life handed.Nothing message reply_to same = tt
-handed_own key life handed.Message message reply_to same = (
-  subst (λ id. IsKindOf id (kind_of message.start message reply_to)) (sym same)
-      (message_own message.start message reply_to),
-  tt,
-)
-handed_own key life handed.Timeout message reply_to same = (tt, tt)
-handed_own key life handed.Failed message reply_to same = (tt, tt)
+handed_own key life handed.Message message reply_to same =
+    let own = message_own life.id message.start message reply_to in (
+      (
+        subst (λ id. IsKindOf id (kind_of message.start message reply_to)) (sym same) own.0,
+        own.1,
+      ),
+      tt,
+    )
+handed_own key life handed.Timeout message reply_to same = ((tt, tt), tt)
+handed_own key life handed.Failed message reply_to same = ((tt, tt), tt)
 handed_own key life handed.NoTransaction message reply_to same = (tt, tt)
 
-handed_nothing : (key : Key) (life : Life) (h : Handed)
-    → AreOwnUps (option_to_list (handed_out key life h None))
+handed_nothing : (event : Option Id) (key : Key) (life : Life) (h : Handed)
+    → AreOwnUps event (option_to_list (handed_out key life h None))
 unfolding handed_out
-handed_nothing key life handed.Nothing = tt
-handed_nothing key life handed.Message = tt
-handed_nothing key life handed.Timeout = (tt, tt)
-handed_nothing key life handed.Failed = (tt, tt)
-handed_nothing key life handed.NoTransaction = (tt, tt)
+handed_nothing event key life handed.Nothing = tt
+handed_nothing event key life handed.Message = tt
+handed_nothing event key life handed.Timeout = ((tt, tt), tt)
+handed_nothing event key life handed.Failed = ((tt, tt), tt)
+handed_nothing event key life handed.NoTransaction = (tt, tt)
 
 begun_own : (key : Key) (now : ℕ) (input : Input) (step : Step)
-    → AreOwnUps (acted_if key now input (begun (role_of key) input) step).1
+    → AreOwnUps (naming_id input)
+    (acted_if key now input (begun (role_of key) input) step).1
 unfolding begun outputs_of
 begun_own key now Tick step = tt
 begun_own key now (Answer id message) step = tt
 begun_own key now (Failed id) step = tt
 begun_own key now (Receive id message reply_to) step =
     let life = life_by id message.call_id reply_to None in
-    both_own _ _ (handed_own key life step.handed message reply_to refl)
-    (sends_own key life.to (sent_bytes life.last step.sent
+    let event = arrival_id message.start id in
+    both (IsOwnUp event)
+    (option_to_list (handed_out key life step.handed (Some (message, reply_to))))
+    (option_to_list (option_map (send_out key life.to) (sent_bytes life.last step.sent
+    (made_bytes life.request step.sent (message_in (Receive id message reply_to))))))
+    (handed_own key life step.handed message reply_to refl)
+    (sends_own event key life.to (sent_bytes life.last step.sent
     (made_bytes life.request step.sent (message_in (Receive id message reply_to)))))
 begun_own key now (Start id call_id message to) step =
     let life = life_by id call_id to
     (if keeps_request (role_of key) then Some message else None) in
-    both_own _ _ (handed_nothing key life step.handed)
-    (sends_own key life.to (sent_bytes life.last step.sent
+    both (IsOwnUp (Some id))
+    (option_to_list (handed_out key life step.handed None))
+    (option_to_list (option_map (send_out key life.to) (sent_bytes life.last step.sent
+    (made_bytes life.request step.sent (message_in (Start id call_id message to))))))
+    (handed_nothing (Some id) key life step.handed)
+    (sends_own (Some id) key life.to (sent_bytes life.last step.sent
     (made_bytes life.request step.sent (message_in (Start id call_id message to)))))
 
 -- ---- one input
 
 first_own : (key : Key) (timed : Timed Input) (o : Option Step)
-    → AreOwnUps (stepped_by key None timed.moment timed.input o).1
+    → AreOwnUps (naming_id timed.input) (stepped_by key None timed.moment timed.input o).1
 first_own key timed None = tt
 first_own key timed (Some step) = begun_own key timed.moment timed.input step
 
 pub own_ups : (key : Key) (held : Option Life) (timed : Timed Input)
-    → AreOwnUps (adds transaction_machine key held timed)
+    → AreOwnUps (naming_id timed.input) (adds transaction_machine key held timed)
 unfolding stepped
 own_ups key None timed = first_own key timed (step_for key None timed.moment timed.input)
 own_ups key (Some life) timed =
-    no_requests (adds transaction_machine key (Some life) timed) (held_silent key life timed)
+    no_requests (naming_id timed.input) (adds transaction_machine key (Some life) timed)
+    (held_silent key life timed)

@@ -17,28 +17,34 @@ pub at_first : (number : ℕ) → number ≡ number + 0
 at_first number = omega arith
 
 module _ (config : Config) where
-  past_from-push : (number : ℕ) (past : Past) (rounds : List Round) (round : Round)
-      → past_from config number past (rounds ++ round ∷ [])
-      ≡ past_after config (number + length rounds) (past_from config number past rounds) round
-  past_from-push number past [] round = ap (λ n. past_after config n past round) (at_first number)
-  past_from-push number past (r ∷ rs) round =
-      past_from-push (suc number) (past_after config number past r) rs round
-      ∙ ap (λ n. past_after config n
-      (past_from config (suc number) (past_after config number past r) rs) round)
+  pub past_from-append : (number : ℕ) (past : Past) (rounds more : List Round)
+      → past_from config number past (rounds ++ more)
+      ≡ past_from config (number + length rounds) (past_from config number past rounds) more
+  past_from-append number past [] more = ap (λ n. past_from config n past more) (at_first number)
+  past_from-append number past (r ∷ rs) more =
+      past_from-append (suc number) (past_after config number past r) rs more
+      ∙ ap (λ n. past_from config n
+      (past_from config (suc number) (past_after config number past r) rs) more)
       (later number (length rs))
 
-  answers_from-push : (number : ℕ) (past : Past) (rounds : List Round) (round : Round)
-      → answers_from config number past (rounds ++ round ∷ [])
+  pub answers_from-append : (number : ℕ) (past : Past) (rounds more : List Round)
+      → answers_from config number past (rounds ++ more)
       ≡ answers_from config number past rounds
-      ++ answer config (number + length rounds) (past_from config number past rounds) round ∷ []
-  answers_from-push number past [] round =
-      ap (λ n. answer config n past round ∷ []) (at_first number)
-  answers_from-push number past (r ∷ rs) round =
+      ++ answers_from config (number + length rounds) (past_from config number past rounds) more
+  answers_from-append number past [] more =
+      ap (λ n. answers_from config n past more) (at_first number)
+  answers_from-append number past (r ∷ rs) more =
       ap (λ rest. answer config number past r ∷ rest)
-      (answers_from-push (suc number) (past_after config number past r) rs round
+      (answers_from-append (suc number) (past_after config number past r) rs more
       ∙ ap (λ n. answers_from config (suc number) (past_after config number past r) rs
-      ++ answer config n (past_from config (suc number) (past_after config number past r) rs)
-      round ∷ []) (later number (length rs)))
+      ++ answers_from config n (past_from config (suc number) (past_after config number past r) rs)
+      more) (later number (length rs)))
+
+  pub answers_count : (number : ℕ) (past : Past) (rounds : List Round)
+      → length (answers_from config number past rounds) ≡ length rounds
+  answers_count number past [] = refl
+  answers_count number past (r ∷ rs) =
+      ap suc (answers_count (suc number) (past_after config number past r) rs)
 
 last_moment_from-push : (moment : ℕ) (rounds : List Round) (round : Round)
     → last_moment_from moment (rounds ++ round ∷ []) ≡ round.moment
@@ -67,7 +73,7 @@ stands_longer shard_of old new config rounds round outputs leads same_calls same
     let same_past : past_after config old.next_round past round
     ≡ past_of config (rounds ++ round ∷ []) =
     ap (λ n. past_after config n past round) before.number
-    ∙ sym (past_from-push config config.first no_past rounds round) in (
+    ∙ sym (past_from-append config config.first no_past rounds (round ∷ [])) in (
       record {
         shards = led.0;
         sound = led.1;
@@ -88,7 +94,7 @@ stands_longer shard_of old new config rounds round outputs leads same_calls same
             (subst (λ p. HoldCalls old.calls (shard_of old.cut) led.0 p.calls) same_past
             (led.2.calls config past before.shared before.transactions before.calls)));
       },
-      answers_from-push config config.first no_past rounds round
+      answers_from-append config config.first no_past rounds (round ∷ [])
           ∙ ap (λ n. answers config rounds ++ answer config n past round ∷ []) (sym before.number)
           ∙ ap (λ os. answers config rounds ++ os ∷ [])
           (sym (led.2.answered config past before.shared before.transactions before.calls)),

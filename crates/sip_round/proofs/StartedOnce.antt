@@ -45,7 +45,7 @@ pub how_many-append : (x : Id) (xs ys : List Id)
     → how_many x (xs ++ ys) ≡ how_many x xs + how_many x ys
 how_many-append x xs ys = sum_by-append (λ y. cond (is_id x y) 1 0) xs ys
 
-counted : (x y : Id) (ys : List Id)
+pub counted : (x y : Id) (ys : List Id)
     → how_many x (y ∷ ys) ≡ cond (is_id x y) 1 0 + how_many x ys
 counted x y ys = sum_by-cons (λ z. cond (is_id x z) 1 0) y ys
 
@@ -62,7 +62,7 @@ none_counted x [] all = refl
 none_counted x (y ∷ ys) all = counted_none x y ys all.0 ∙ none_counted x ys all.1
 
 -- of ids that differ each is there once at most
-once_of_distinct : (x : Id) (xs : List Id) → IsDistinct is_id xs → how_many x xs ≤ 1
+pub once_of_distinct : (x : Id) (xs : List Id) → IsDistinct is_id xs → how_many x xs ≤ 1
 once_of_distinct x [] apart = omega arith
 once_of_distinct x (y ∷ ys) apart =
     by_bool (is_id x y)
@@ -216,7 +216,7 @@ events_from config number past (round ∷ rounds) =
     events_of (items_of_round config number past round)
     ++ events_from config (suc number) (past_after config number past round) rounds
 
-events_rise : (config : Config) (number : ℕ) (past : Past) (rounds : List Round)
+pub events_rise : (config : Config) (number : ℕ) (past : Past) (rounds : List Round)
     → Rise number 0 (events_from config number past rounds)
 events_rise config number past [] = tt
 events_rise config number past (round ∷ rounds) =

@@ -1,8 +1,8 @@
 -- What the transactions say, woven in among the arrivals in turn, is what they say by place.
-use Rattle.std.proofs.Common.{◌≡◌, ℕ, suc, ◌<◌, true, false, cond, List, [], ◌∷◌, ◌++◌, map, nat_eq, refl, sym, ◌∙◌, ap, subst, arith, append-nil}
+use Rattle.std.proofs.Common.{◌≡◌, ℕ, suc, ◌<◌, true, false, cond, List, [], ◌∷◌, ◌++◌, map, nat_eq, refl, sym, ◌∙◌, ap, subst, arith, append-nil, append_assoc}
 use Rattle.std.specs.Prelude.{filter}
 use Rattle.std.specs.List.{flat_map}
-use Rattle.std.proofs.lemmas.Grind.{common_steps}
+use Rattle.std.proofs.lemmas.Grind.{common_steps, flat_map-append}
 use Rattle.sip_message.specs.declared.id.Id.{Id}
 use Rattle.sip_message.specs.declared.key.Key.{Key}
 use Rattle.sip_model.specs.declared.item.Item as model
@@ -23,6 +23,28 @@ pub flat_map-map : {X Y Z : Type 0} (f : Y → List Z) (g : X → Y) (xs : List 
     → flat_map f (map g xs) ≡ flat_map (λ x. f (g x)) xs
 flat_map-map f g [] = refl
 flat_map-map f g (x ∷ xs) = ap (λ more. f (g x) ++ more) (flat_map-map f g xs)
+
+-- what comes of groups of outputs, group by group
+abbrev pub each : {L X Y : Type 0} → (X → List Y) → List (L × List X) → List Y
+each f groups = flat_map (λ group. flat_map f group.1) groups
+
+pub by_groups : {L X Y : Type 0} (f : X → List Y) (groups : List (L × List X))
+    → each f groups ≡ flat_map f (joined groups)
+by_groups f [] = refl
+by_groups f (g ∷ gs) =
+    ap (λ more. flat_map f g.1 ++ more) (by_groups f gs)
+    ∙ sym (flat_map-append f g.1 (joined gs))
+
+-- what comes of what is said to a tick, and then of what items add, behind what was there
+pub behind : {L M X Y : Type 0} (f : X → List Y) (ticks : List (L × List X))
+    (items : List (M × List X)) (before middle after : List Y) → middle ≡ before ++ each f ticks
+    → after ≡ middle ++ each f items → after ≡ before ++ flat_map f (joined ticks ++ joined items)
+behind f ticks items before middle after first second =
+    second ∙ ap (λ m. m ++ each f items) first
+    ∙ append_assoc before (each f ticks) (each f items)
+    ∙ ap (λ t. before ++ (t ++ each f items)) (by_groups f ticks)
+    ∙ ap (λ i. before ++ (flat_map f (joined ticks) ++ i)) (by_groups f items)
+    ∙ ap (λ o. before ++ o) (sym (flat_map-append f (joined ticks) (joined items)))
 
 abbrev Said : Type 0
 Said = List ((ℕ × Key) × List Out)

@@ -1,21 +1,34 @@
 -- What a run gives, transaction by transaction and call by call.
-use Rattle.std.specs.Prelude.{◌≡◌, ℕ, Bool, false, List, [], ◌∷◌, Some, None, filter}
+use Rattle.std.specs.Prelude.{◌≡◌, ◌≢◌, ℕ, ◌≤◌, ◌&&◌, Bool, false, List, [], ◌∷◌, ◌++◌, AllPairs, Some, None, drop, filter, length}
 use Rattle.std.specs.BTreeMap.{is_at}
-use Rattle.std.specs.List.{flat_map}
+use Rattle.std.specs.List.{AllByRecursion, flat_map}
+use Rattle.sip_message.specs.declared.id.Id.{Id}
 use Rattle.sip_message.specs.declared.key.Key.{Key}
 use Rattle.sip_message.specs.Key.{key_cmp}
+use Rattle.sip_model.specs.Machine.{IsLife, Timed, outputs_from, state_after}
+use Rattle.sip_transactions.specs.declared.input.Input.{Input}
 use Rattle.sip_transactions.specs.declared.output.Out.{Out}
 use Rattle.sip_transactions.specs.declared.output.Out.TheVariants as out
+use Rattle.sip_transactions.specs.Laws.{id_of, same_id}
+use Rattle.sip_transactions.specs.Machine.{transaction_machine}
+use Rattle.sip_served.specs.declared.held_dialog.DialogLife.{DialogLife}
 use Rattle.sip_served.specs.declared.item.CallOut.{CallOut}
 use Rattle.sip_served.specs.declared.item.CallOut.TheVariants as call_out
+use Rattle.sip_served.specs.declared.item.Item.TheVariants.{Up}
+use Rattle.sip_served.specs.declared.notice.Notice.TheVariants as notice
+use Rattle.sip_served.specs.State.{is_id}
+use Rattle.sip_calls.specs.Call.{call_machine}
 use Rattle.sip_calls.specs.CallShard.{call_cmp}
 use Rattle.sip_calls.specs.OwnCall.{call_of_notice}
+use Rattle.sip_calls.specs.Provisionals.{AnInvite, IsConsecutive, came, in_order, shown}
+use Rattle.sip_calls.specs.declared.calls.CallInput.{CallInput}
+use Rattle.sip_calls.specs.declared.calls.CallInput.TheVariants.{Item as AnItem}
 use Rattle.sip_round.specs.declared.config.Config.{Config}
 use Rattle.sip_round.specs.declared.output.Output.{Output}
 use Rattle.sip_round.specs.declared.output.Output.TheVariants as output
 use Rattle.sip_round.specs.declared.round.Round.{Round}
-use Rattle.sip_round.specs.Answers.{answers}
-use Rattle.sip_round.specs.Laws.{said_of, said_of_call}
+use Rattle.sip_round.specs.Answers.{answers, calls_of}
+use Rattle.sip_round.specs.Laws.{NothingAfterEnds, OneRequestInLives, call_inputs_of, inputs_of, said_of, said_of_call}
 
 -- a Send with this key
 abbrev pub is_send_with : Key → Output → Bool
@@ -77,3 +90,84 @@ GivesOwnNotices config rounds given = (call_id : List ℕ)
 abbrev pub AnswersGiveOwnNotices : Type 0
 AnswersGiveOwnNotices =
     (config : Config) (rounds : List Round) → GivesOwnNotices config rounds (answers config rounds)
+
+-- ---- requests
+
+-- a notice `request` of this id
+abbrev pub is_request_of : Id → Output → Bool
+is_request_of id (output.Notice (notice.Request call_id own method local_tag remote_tag body)) =
+    is_id id own
+is_request_of id _ = false
+
+-- all of them, in order
+abbrev pub requests_of : Id → List Output → List Output
+requests_of id outputs = filter (is_request_of id) outputs
+
+-- each life of a server transaction hands its request up once, and of all that rounds give at most
+-- one notice `request` has an id
+pub record GivesRequestsOnce (config : Config) (rounds : List Round) (given : List (List Output))
+    : Type 0 where
+  pub handed_up : OneRequestInLives config rounds
+  pub told : (id : Id) → length (requests_of id (all_given given)) ≤ 1
+
+-- ---- reliable provisional responses
+
+-- What rounds give of a call is what its inputs add, in order; and of the reliable provisional
+-- responses that came among these to an INVITE in a life of a dialog the user is told of those in
+-- order, so of each once.
+pub record TellsProvisionals (config : Config) (rounds : List Round) (given : List (List Output))
+    (call_id : List ℕ) (invite : AnInvite) (life : DialogLife) : Type 0 where
+  pub told : notices_of call_id (all_given given) ≡ flat_map notice_in
+      (outputs_from (call_machine (calls_of config)) call_id None
+      (call_inputs_of config rounds call_id))
+  pub in_its_order : shown (calls_of config) invite life (call_inputs_of config rounds call_id)
+      ≡ in_order (came (calls_of config) invite life (call_inputs_of config rounds call_id))
+  pub consecutive : IsConsecutive
+      (shown (calls_of config) invite life (call_inputs_of config rounds call_id))
+  pub once : AllPairs (λ x y. x ≢ y)
+      (shown (calls_of config) invite life (call_inputs_of config rounds call_id))
+
+abbrev pub GivesProvisionalsInOrder : Config → List Round → List (List Output) → Type 0
+GivesProvisionalsInOrder config rounds given =
+    (call_id : List ℕ) (invite : AnInvite) (life : DialogLife)
+    → TellsProvisionals config rounds given call_id invite life
+
+-- ---- after the end of a transaction
+
+-- a life of this transaction, that has this id, has ended in these rounds
+pub record HasEnded (key : Key) (id : Id) (config : Config) (rounds : List Round) : Type 0 where
+  pub before : List (Timed Input)
+  pub first : Timed Input
+  pub rest : List (Timed Input)
+  pub after : List (Timed Input)
+  pub are : inputs_of config rounds key ≡ before ++ (first ∷ (rest ++ after))
+  pub life : IsLife transaction_machine key before first rest
+  pub over : state_after transaction_machine key (before ++ first ∷ rest) ≡ None
+  pub named : id_of first.input ≡ Some id
+
+-- what a call is given comes from that transaction, under that id
+abbrev pub comes_from : Key → Id → CallInput → Bool
+comes_from key id (AnItem event (Up up)) = is_at (key_cmp key) up.key && same_id id up.id
+comes_from key id _ = false
+
+-- what later rounds give of a call is what some inputs of it add, and none of them comes from that
+-- transaction under that id
+pub record NoneComesFrom (key : Key) (id : Id) (config : Config) (earlier later : List Round)
+    (given : List (List Output)) (call_id : List ℕ) : Type 0 where
+  pub inputs : List (Timed CallInput)
+  pub are : call_inputs_of config (earlier ++ later) call_id
+      ≡ call_inputs_of config earlier call_id ++ inputs
+  pub none : AllByRecursion (λ timed. comes_from key id timed.input ≡ false) inputs
+  pub told : notices_of call_id (all_given (drop (length earlier) given)) ≡ flat_map notice_in
+      (outputs_from (call_machine (calls_of config)) call_id
+      (state_after (call_machine (calls_of config)) call_id
+      (call_inputs_of config earlier call_id)) inputs)
+
+-- a transaction hands nothing up under the id of a life of it that has ended; and in the rounds
+-- after nothing comes from it under that id to any call
+pub record GivesNothingAfterEnds (config : Config) (rounds : List Round)
+    (given : List (List Output)) : Type 0 where
+  pub handed_up : NothingAfterEnds config rounds
+  pub told : (earlier later : List Round) → rounds ≡ earlier ++ later
+      → (key : Key) (id : Id) → HasEnded key id config earlier → (call_id : List ℕ)
+      → NoneComesFrom key id config earlier later given call_id

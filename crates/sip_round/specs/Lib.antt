@@ -4,6 +4,7 @@ pub mod Arrivals
 pub mod Given
 pub mod Laws
 pub mod Live
+pub mod NextDue
 pub mod Outputs
 pub mod Parts
 pub mod Phases

@@ -1,21 +1,20 @@
 //! An agent: its transactions and its calls, led through rounds.
 
-ghost use Rattle.std.specs.Prelude.{◌≡◌, ◌⊎◌, ◌+◌, ◌++◌, ◌∷◌, ◌<◌, ◌≤◌, ◌^◌, IfOk, IfSome, IsSome, IsTrue, OnErr, OnOk, Some, None, Err, List, [], false, true, length, map};
+ghost use Rattle.std.specs.Prelude.{ℕ, ◌≡◌, ◌⊎◌, ◌+◌, ◌++◌, ◌∷◌, ◌<◌, ◌≤◌, ◌^◌, IfOk, IfSome, IsSome, IsTrue, OnErr, OnOk, Some, None, Err, List, [], false, true, length, map};
 ghost use Rattle.sip_message.specs.Key.{branch_in};
 ghost use Rattle.sip_round.specs.Arrivals.{arrivals_from};
 ghost use Rattle.sip_round.specs.Steps.Arrived.{IsArrived};
 ghost use Rattle.sip_round.specs.Parts.{owner_of};
 
-use crate::arrival::arrivals_of;
 use crate::config::Config;
 use crate::output::Output;
 use crate::parts::parts_of;
 use crate::phase::tell_of_each;
-use crate::phases::{Arrived, Ground};
+use crate::phases::{Arrived, PhaseRunner};
 use crate::round::Round;
 use crate::round_fault::RoundFault;
 use crate::shards::Shards;
-use crate::waiting::split;
+use crate::waiting::set_out;
 use sip_calls::Calls;
 use sip_message::Cut;
 use sip_model::laws_of_phases;
@@ -79,6 +78,8 @@ impl<C: Cut + Drop> Agent<C> {
     ghost use Rattle.sip_round.specs.Answers.{StandsFor, answers, past_of};
     ghost use Rattle.sip_round.specs.Steps.Led.{Deals};
     ghost use Rattle.sip_round.specs.Live.{live_of};
+    ghost use Rattle.sip_round.specs.NextDue.{IsDueAfter, IsQuietAfter};
+    ghost use Rattle.sip_timers.specs.Queue.{is_due};
     ghost use Rattle.sip_round.specs.declared.config.Config.{Config};
     ghost use Rattle.sip_round.specs.declared.round.Round.{Round};
     ghost use Rattle.sip_round.specs.declared.round_fault.RoundFault.TheVariants as round_fault;
@@ -118,6 +119,25 @@ impl<C: Cut + Drop> Agent<C> {
         match &self.shards {
             None => (0, 0),
             Some(shards) => shards.live(),
+        }
+    }
+
+    /// The first moment, in ms, at which something is due of what is held, if there is one: until
+    /// then a host may sleep. Takes no memory.
+    pub fn next_due(&self) -> Option<u64>
+        // Of an agent that stands for rounds: a round without events at an earlier moment gives
+        // nothing and changes nothing of what is held; at this moment something is due.
+        ensures before { (config : Config) (rounds : List Round)
+            → StandsFor C.shard_of self.now config rounds
+            → (moment : ℕ) → is_due moment result ≡ false → IsQuietAfter config rounds moment }
+        ensures due { IfSome result (λ due. (config : Config) (rounds : List Round)
+            → StandsFor C.shard_of self.now config rounds → IsDueAfter config rounds due) }
+    {
+        laws_of_phases(&Transactions);
+        laws_of_phases(&self.calls);
+        match &self.shards {
+            None => None,
+            Some(shards) => shards.next_due(&self.calls),
         }
     }
 
@@ -271,16 +291,15 @@ impl<C: Cut + Drop> Agent<C> {
             IsArrived (owner_of (C.shard_of self.now.cut) branch_in (length shards.transactions))
             (length shards.transactions)
             (arrivals_from self.now.calls.local self.now.next_round 1 round.now.events)
-            (map (λ part. part.items) arrived.parts.items) arrived.waiting.items)) }
+            (map (λ part. part.items) arrived.0.items) arrived.1.items)) }
     {
         let Some(shards) = &self.shards else {
             return Err(AllocError);
         };
         let events = round.events.as_slice();
-        let arrivals = arrivals_of(self.alloc, self.calls.local, self.next_round, events)?;
-        let (items, waiting) = split(self.alloc, arrivals)?;
+        let (items, waiting) = set_out(self.alloc, self.calls.local, self.next_round, events)?;
         let parts = parts_of(self.alloc, &self.cut, items, shards.count())?;
-        Ok(Arrived { parts, waiting })
+        Ok((parts, waiting))
     }
 
     // Leads the shards through the three phases. Where memory is refused they are lost.
@@ -299,7 +318,7 @@ impl<C: Cut + Drop> Agent<C> {
             (λ shards. IsArrived (owner_of (C.shard_of self.old.cut) branch_in
             (length shards.transactions)) (length shards.transactions)
             (arrivals_from self.old.calls.local self.old.next_round 1 round.now.events)
-            (map (λ part. part.items) arrived.parts.items) arrived.waiting.items) }
+            (map (λ part. part.items) arrived.0.items) arrived.1.items) }
         ensures calls { self.new.calls ≡ self.old.calls }
         ensures cut { self.new.cut ≡ self.old.cut }
         ensures number { self.new.next_round ≡ self.old.next_round }
@@ -315,14 +334,14 @@ impl<C: Cut + Drop> Agent<C> {
         let Some(shards) = self.shards.take() else {
             return Err(NoMemory);
         };
-        let ground = Ground {
+        let runner = PhaseRunner {
             rt,
             alloc: self.alloc,
             cut: &self.cut,
             workers,
             gate,
         };
-        let (shards, outputs) = ground.round(self.calls, self.next_round, round, shards, arrived)?;
+        let (shards, outputs) = runner.round(self.calls, self.next_round, round, shards, arrived)?;
         self.shards = Some(shards);
         Ok(outputs)
     }

@@ -1,6 +1,6 @@
 //! What an event is for the transactions and the calls.
 
-ghost use Rattle.std.specs.Prelude.{◌≡◌, ◌≤◌, IfOk, length};
+ghost use Rattle.std.specs.Prelude.{◌≡◌, IfOk};
 ghost use Rattle.sip_reader.specs.ReadMessage.{message_at};
 ghost use Rattle.sip_round.specs.Arrivals as arrivals;
 
@@ -23,28 +23,14 @@ pub(crate) enum Arrival {
     User(UserCommand),
 }
 
-/// The arrivals of the events of the round of this number, each with the id of its event, by place.
-pub(crate) fn arrivals_of(
+/// What the event of this id is.
+#[tactic(auto, unfolding(crate::specs::Arrivals::arrival_of))]
+pub(crate) fn arrival_of(
     alloc: Global,
     local: Addr,
-    round: u64,
-    events: &[Event],
-) -> Result<Vec<(Id, Arrival)>, AllocError>
-    requires { length events.now ≤ 65536 }
-    ensures { IfOk result (λ made. made.items ≡ arrivals.arrivals_from local round 1 events.now) }
-{
-    let mut made = Vec::with_capacity(alloc, events.len())?;
-    let mut place = 0;
-    for event in events {
-        place += 1;
-        let id = Id { round, place };
-        made.push((id, arrival_of(alloc, local, id, event)?))?;
-    }
-    Ok(made)
-}
-
-#[tactic(auto, unfolding(crate::specs::Arrivals::arrival_of))]
-fn arrival_of(alloc: Global, local: Addr, id: Id, event: &Event) -> Result<Arrival, AllocError>
+    id: Id,
+    event: &Event,
+) -> Result<Arrival, AllocError>
     ensures { IfOk result (λ arrival. arrival ≡ arrivals.arrival_of local id event.now) }
 {
     match event {

@@ -1,8 +1,10 @@
 //! Laws of whole runs.
 
 ghost use Rattle.std.specs.Prelude.{List};
-ghost use Rattle.sip_round.specs.Given.{AnswersGiveOwnNotices, AnswersGiveOwnSends};
+ghost use Rattle.sip_round.specs.Answers.{answers};
+ghost use Rattle.sip_round.specs.Given.{AnswersGiveOwnNotices, AnswersGiveOwnSends, GivesNothingAfterEnds, GivesProvisionalsInOrder, GivesRequestsOnce};
 ghost use Rattle.sip_round.specs.Laws.{NothingAfterEachEnd, OneRequestInEachLife, ProvisionalsInLives};
+ghost use Rattle.sip_round.specs.declared.config.Config.{Config};
 ghost use Rattle.sip_round.specs.declared.round.Round.{Round};
 
 use crate::config::Config;
@@ -54,3 +56,38 @@ pub fn own_sends_given()
 pub fn own_notices_given()
     ensures { AnswersGiveOwnNotices }
 {}
+
+/// In any rounds, each life of a server transaction hands its request up once, and of all that they
+/// give at most one notice `request` has an id.
+pub fn requests_given_once()
+    ensures { (config : Config) (rounds : List Round)
+        → GivesRequestsOnce config rounds (answers config rounds) }
+{
+    one_request_in_each_life();
+}
+
+/// In any rounds, what they give of a call is what its inputs add, and of the reliable provisional
+/// responses that came among these to an INVITE in one life of a dialog the user is told of those
+/// in order, of each once.
+pub fn provisionals_given_in_order(config: &Config)
+    ensures { (rounds : List Round)
+        → GivesProvisionalsInOrder config.now rounds (answers config.now rounds) }
+{
+    own_notices_given();
+    provisionals_in_each_life(config);
+}
+
+/// In any rounds, nothing is handed up under the id of a transaction's life after that has ended,
+/// and in the rounds after these nothing that a call is given comes from the transaction under it.
+pub fn nothing_given_after_ends(config: &Config)
+    ensures { (rounds : List Round)
+        → GivesNothingAfterEnds config.now rounds (answers config.now rounds) }
+{
+    let calls = Calls {
+        local: config.local,
+        seed: config.seed,
+    };
+    laws_of_phases(&Transactions);
+    laws_of_phases(&calls);
+    nothing_after_each_end();
+}

@@ -4,7 +4,7 @@
 mod agent;
 mod arrival;
 mod config;
-mod dealing;
+mod due;
 mod inputs;
 mod laws;
 mod output;
@@ -14,6 +14,7 @@ mod phase;
 mod phases;
 mod round;
 mod round_fault;
+mod shard_work;
 mod shards;
 mod transfer;
 mod waiting;

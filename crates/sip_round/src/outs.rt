@@ -2,6 +2,7 @@
 
 ghost use Rattle.std.specs.Prelude.{◌≡◌, ◌++◌, OnOk, option_to_list};
 ghost use Rattle.std.specs.List.{flat_map};
+ghost use Rattle.sip_model.specs.Told.{groups};
 ghost use Rattle.sip_round.specs.Outputs.{command_of, raised_of, sent_of, shown_of};
 
 use crate::output::Output;
@@ -28,6 +29,24 @@ pub(crate) fn part(
     Ok(())
 }
 
+/// What groups of transactions say, each as [`part`] does.
+pub(crate) fn part_all<L: Drop>(
+    told: Vec<(L, Vec<Out>)>,
+    id: Id,
+    outputs: &mut Vec<Output>,
+    items: &mut Vec<(Id, Item)>,
+) -> Result<(), AllocError>
+    ensures outputs { OnOk result (outputs.new.items ≡ outputs.old.items
+        ++ flat_map (λ group. flat_map sent_of group.1) (groups told.items)) }
+    ensures items { OnOk result (items.new.items ≡ items.old.items
+        ++ flat_map (λ group. flat_map (raised_of id) group.1) (groups told.items)) }
+{
+    for (_, outs) in told {
+        part(outs, id, outputs, items)?;
+    }
+    Ok(())
+}
+
 // One thing that a transaction says.
 fn put(
     out: Out,
@@ -49,8 +68,21 @@ fn put(
     Ok(())
 }
 
-/// What transactions say to commands: sends go out. A command hands nothing up.
-pub(crate) fn send_all(outs: Vec<Out>, outputs: &mut Vec<Output>) -> Result<(), AllocError>
+/// What transactions say to commands, group by group: sends go out. A command hands nothing up.
+pub(crate) fn send_all<L: Drop>(
+    told: Vec<(L, Vec<Out>)>,
+    outputs: &mut Vec<Output>,
+) -> Result<(), AllocError>
+    ensures { OnOk result (outputs.new.items ≡ outputs.old.items
+        ++ flat_map (λ group. flat_map sent_of group.1) (groups told.items)) }
+{
+    for (_, outs) in told {
+        send(outs, outputs)?;
+    }
+    Ok(())
+}
+
+fn send(outs: Vec<Out>, outputs: &mut Vec<Output>) -> Result<(), AllocError>
     ensures { OnOk result (outputs.new.items ≡ outputs.old.items ++ flat_map sent_of outs.items) }
 {
     for out in outs {
@@ -75,8 +107,25 @@ fn sent(out: Out) -> Option<Output>
     }
 }
 
-/// What calls say: notices and direct sends go out, commands wait for the third phase.
-pub(crate) fn part_calls(
+/// What calls say, group by group: notices and direct sends go out, commands wait for the third
+/// phase.
+pub(crate) fn part_calls<L: Drop>(
+    told: Vec<(L, Vec<CallOut>)>,
+    outputs: &mut Vec<Output>,
+    commands: &mut Vec<(Id, Command)>,
+) -> Result<(), AllocError>
+    ensures outputs { OnOk result (outputs.new.items ≡ outputs.old.items
+        ++ flat_map (λ group. flat_map shown_of group.1) (groups told.items)) }
+    ensures commands { OnOk result (commands.new.items ≡ commands.old.items
+        ++ flat_map (λ group. flat_map command_of group.1) (groups told.items)) }
+{
+    for (_, outs) in told {
+        part_call(outs, outputs, commands)?;
+    }
+    Ok(())
+}
+
+fn part_call(
     outs: Vec<CallOut>,
     outputs: &mut Vec<Output>,
     commands: &mut Vec<(Id, Command)>,
@@ -97,11 +146,4 @@ pub(crate) fn part_calls(
         }
     }
     Ok(())
-}
-
-/// How many commands there are among what calls say.
-pub(crate) fn count_commands(outs: &[CallOut]) -> usize {
-    outs.iter()
-        .filter(|out| matches!(out, CallOut::Command(..)))
-        .count()
 }

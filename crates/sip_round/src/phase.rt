@@ -7,7 +7,7 @@ ghost use Rattle.sip_model.specs.Told.{groups};
 ghost use Rattle.sip_workers.specs.Ran.{IsNumbered};
 ghost use Rattle.sip_round.specs.Steps.Dealt.{DealsParts, IsApart, IsIdle};
 
-use crate::dealing::{Dealing, Dealt};
+use crate::shard_work::{ShardDone, ShardWork};
 use sip_model::{Item, Replies, ShardFault, StateMachine, Table, laws_of_phases};
 use sip_workers::{Gate, NoMemory, Piece, dones_in_order, gather, run_pieces};
 use std::alloc::{AllocError, Global};
@@ -53,7 +53,7 @@ where
         let (ticks, items) = (Vec::new(alloc), Vec::new(alloc));
         return Ok((tables, Replies { ticks, items }));
     }
-    dones_in_order::<Dealing<M>>();
+    dones_in_order::<ShardWork<M>>();
     let pieces = pieces_of(alloc, machine, tables, now, ticks, parts)?;
     let dones = run_pieces(rt, alloc, pieces, workers, gate)?;
     let (tables, replies) = apart(alloc, gather(alloc, dones)?)?;
@@ -130,7 +130,7 @@ fn pieces_of<M: StateMachine + Copy>(
     now: u64,
     ticks: bool,
     parts: Vec<Vec<Item<M::Key, M::Input>>>,
-) -> Result<Vec<Piece<Dealing<M>>>, AllocError>
+) -> Result<Vec<Piece<ShardWork<M>>>, AllocError>
     requires moment { now ≤ 2 ^ 62 }
     requires count { vec_len parts ≡ vec_len tables }
     ensures numbered { IfOk result (λ pieces. IsNumbered pieces.items) }
@@ -150,7 +150,7 @@ fn pieces_of<M: StateMachine + Copy>(
             unreachable!();
         };
         let shard = pieces.len();
-        let job = Dealing {
+        let job = ShardWork {
             machine,
             table,
             now,
@@ -165,7 +165,7 @@ fn pieces_of<M: StateMachine + Copy>(
 // The tables of the shards, and all that was said, shard by shard.
 fn apart<M: StateMachine>(
     alloc: Global,
-    dones: Vec<Result<Dealt<M>, ShardFault>>,
+    dones: Vec<Result<ShardDone<M>, ShardFault>>,
 ) -> Result<(Vec<Table<M>>, Replies<M::Key, M::Output>), NoMemory>
     ensures { IfOk result (λ all. IsApart (λ dealt. dealt.table)
         (λ dealt. groups dealt.replies.ticks.items)
@@ -176,7 +176,7 @@ fn apart<M: StateMachine>(
     let mut ticks = Vec::new(alloc);
     let mut items = Vec::new(alloc);
     for done in dones {
-        let Ok(Dealt { table, mut replies }) = done else {
+        let Ok(ShardDone { table, mut replies }) = done else {
             return Err(NoMemory);
         };
         tables.push(table)?;

@@ -11,15 +11,15 @@ ghost use Rattle.sip_round.specs.Parts.{owner_of};
 
 use crate::inputs::{call_items, command_items};
 use crate::output::Output;
-use crate::outs::{count_commands, part_calls, send_all};
+use crate::outs::{part_calls, send_all};
 use crate::parts::parts_of;
 use crate::phase::deal_phase;
 use crate::round::Round;
 use crate::shards::Shards;
-use crate::waiting::{Waiting, weave};
+use crate::waiting::{Waiting, first_outputs};
 use sip_calls::Calls;
 use sip_message::{Cut, Id, Key};
-use sip_model::{self as model, Table, laws_of_phases};
+use sip_model::{self as model, Replies, Table, laws_of_phases};
 use sip_served::Item;
 use sip_transactions::{Command, Input, Transactions};
 use sip_workers::{Gate, NoMemory};
@@ -29,7 +29,7 @@ use std::thread::Threads;
 /// Where phases are run: names are cut so, and the pieces of work go to so many workers, each told
 /// to the gate.
 #[derive(Drop)]
-pub(crate) struct Ground<'a, R, C, G> {
+pub(crate) struct PhaseRunner<'a, R, C, G> {
     pub(crate) rt: &'a R,
     pub(crate) alloc: Global,
     pub(crate) cut: &'a C,
@@ -38,30 +38,9 @@ pub(crate) struct Ground<'a, R, C, G> {
 }
 
 /// What arrived in a round: the part of each shard, and what waits for what the transactions say.
-pub(crate) struct Arrived {
-    pub(crate) parts: Vec<Vec<model::Item<Key, Input>>>,
-    pub(crate) waiting: Vec<(Id, Waiting)>,
-}
+pub(crate) type Arrived = (Vec<Vec<model::Item<Key, Input>>>, Vec<(Id, Waiting)>);
 
-impl Drop for Arrived {
-    fn drop(self) {
-        let Arrived {
-            parts: _,
-            waiting: _,
-        } = self;
-    }
-}
-
-impl Arrived {
-    fn apart(self) -> (Vec<Vec<model::Item<Key, Input>>>, Vec<(Id, Waiting)>)
-        ensures { result ≡ (self.parts, self.waiting) }
-    {
-        let Arrived { parts, waiting } = self;
-        (parts, waiting)
-    }
-}
-
-impl<'a, R: Threads + Sync, C: Cut, G: Gate> Ground<'a, R, C, G> {
+impl<'a, R: Threads + Sync, C: Cut, G: Gate> PhaseRunner<'a, R, C, G> {
     /// The three phases of a round of this number. Gives the shards back, and the outputs in stamp
     /// order.
     pub(crate) fn round(
@@ -78,7 +57,7 @@ impl<'a, R: Threads + Sync, C: Cut, G: Gate> Ground<'a, R, C, G> {
         requires arrived { IsArrived (owner_of (C.shard_of self.now.cut.now) branch_in
             (length shards.transactions)) (length shards.transactions)
             (arrivals_from calls.local number 1 round.now.events)
-            (map (λ part. part.items) arrived.parts.items) arrived.waiting.items }
+            (map (λ part. part.items) arrived.0.items) arrived.1.items }
         ensures { IfOk result (λ led. Deals calls
             (C.shard_of self.now.cut.now) number round.now shards led.0 led.1.items) }
     {
@@ -110,17 +89,17 @@ impl<'a, R: Threads + Sync, C: Cut, G: Gate> Ground<'a, R, C, G> {
         requires arrived { (arrivals : List (AnId × AnArrival))
             × IsArrived (owner_of (C.shard_of self.now.cut.now) branch_in (length tables.items))
             (length tables.items) arrivals
-            (map (λ part. part.items) arrived.parts.items) arrived.waiting.items }
+            (map (λ part. part.items) arrived.0.items) arrived.1.items }
         requires shards { 0 < length tables.items }
         ensures { IfOk result (λ led. (arrivals : List (AnId × AnArrival))
             → IsArrived (owner_of (C.shard_of self.now.cut.now) branch_in (length tables.items))
             (length tables.items) arrivals
-            (map (λ part. part.items) arrived.parts.items) arrived.waiting.items
+            (map (λ part. part.items) arrived.0.items) arrived.1.items
             → LedFirst (owner_of (C.shard_of self.now.cut.now) branch_in (length tables.items))
             tables.items led.0.items number now arrivals led.1.items led.2.items) }
     {
         laws_of_phases(&Transactions);
-        let (parts, waiting) = arrived.apart();
+        let (parts, waiting) = arrived;
         let (tables, replies) = deal_phase(
             self.rt,
             self.alloc,
@@ -132,7 +111,7 @@ impl<'a, R: Threads + Sync, C: Cut, G: Gate> Ground<'a, R, C, G> {
             self.workers,
             self.gate,
         )?;
-        let (outputs, items) = weave(self.alloc, number, replies, waiting)?;
+        let (outputs, items) = first_outputs(self.alloc, number, replies, waiting)?;
         Ok((tables, outputs, items))
     }
     /// The second phase: every call takes a tick, and then each item goes to its call. Notices and
@@ -168,9 +147,10 @@ impl<'a, R: Threads + Sync, C: Cut, G: Gate> Ground<'a, R, C, G> {
             self.workers,
             self.gate,
         )?;
-        let said = replies.joined(self.alloc)?;
-        let mut commands = Vec::with_capacity(self.alloc, count_commands(&said))?;
-        part_calls(said, outputs, &mut commands)?;
+        let Replies { ticks, items } = replies;
+        let mut commands = Vec::new(self.alloc);
+        part_calls(ticks, outputs, &mut commands)?;
+        part_calls(items, outputs, &mut commands)?;
         Ok((tables, commands))
     }
 
@@ -204,7 +184,9 @@ impl<'a, R: Threads + Sync, C: Cut, G: Gate> Ground<'a, R, C, G> {
             self.workers,
             self.gate,
         )?;
-        send_all(replies.joined(self.alloc)?, outputs)?;
+        let Replies { ticks, items } = replies;
+        send_all(ticks, outputs)?;
+        send_all(items, outputs)?;
         Ok(tables)
     }
 }

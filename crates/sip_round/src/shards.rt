@@ -1,20 +1,24 @@
 //! The tables of all shards.
 
-ghost use Rattle.std.specs.Prelude.{◌≡◌, ◌<◌, ◌≤◌, ℕ, List, Some, [], IfOk, IsTrue, All, count_by, is_some, length, sum_by, true, false, vec_len};
+ghost use Rattle.std.specs.Prelude.{◌≡◌, ◌⊎◌, ◌<◌, ◌≤◌, ℕ, Bool, List, Some, [], IfOk, IfSome, IsSome, IsTrue, All, count_by, is_some, length, sum_by, true, false, vec_len};
 ghost use Rattle.std.specs.List.{AllByRecursion};
-ghost use Rattle.sip_calls.specs.Call.{call_machine, tick_input};
+ghost use Rattle.sip_calls.specs.Call.{call_due, call_machine, tick_input};
 ghost use Rattle.sip_calls.specs.CallShard.{call_cmp};
 ghost use Rattle.sip_message.specs.Key.{key_cmp};
 ghost use Rattle.sip_message.specs.declared.key.Key.{Key};
 ghost use Rattle.sip_model.specs.Table.{Covers, state_at};
 ghost use Rattle.sip_round.specs.Steps.Dealt.{IsIdle};
-ghost use Rattle.sip_transactions.specs.Machine.{transaction_machine, tick_at};
+ghost use Rattle.sip_round.specs.Steps.Dues.{IsDueIn};
+ghost use Rattle.sip_timers.specs.Queue.{is_due};
+ghost use Rattle.sip_transactions.specs.Machine.{life_due, transaction_machine, tick_at};
 
+use crate::due::next_due_in;
 use crate::phase::are_idle;
 use crate::transfer::transfer;
 use sip_calls::Calls;
 use sip_message::Cut;
 use sip_model::{StateMachine, Table};
+use sip_timers::earlier;
 use sip_transactions::Transactions;
 use sip_workers::NoMemory;
 use std::alloc::{AllocError, Global};
@@ -150,6 +154,26 @@ impl Shards {
         are_idle(&Transactions, moment, true, &self.transactions)
             && are_idle(&Transactions, moment, false, &self.transactions)
             && are_idle(calls, moment, true, &self.calls)
+    }
+
+    /// The first moment, in ms, at which something is due in any of them. Takes no memory.
+    pub(crate) fn next_due(&self, calls: &Calls) -> Option<u64>
+        ensures shards { AreShards self.now }
+        ensures transactions { AllByRecursion (λ table. IsSome table) self.now.transactions
+            → (now : ℕ) (ticks : Bool) → (ticks ≡ true → is_due now result ≡ false)
+            → AllByRecursion (IsIdle key_cmp transaction_machine tick_at now ticks)
+            self.now.transactions }
+        ensures calls { AllByRecursion (λ table. IsSome table) self.now.calls
+            → (now : ℕ) (ticks : Bool) → (ticks ≡ true → is_due now result ≡ false)
+            → AllByRecursion (IsIdle call_cmp (call_machine calls.now) tick_input now ticks)
+            self.now.calls }
+        ensures due { IfSome result (λ due. IsDueIn key_cmp life_due due self.now.transactions
+            ⊎ IsDueIn call_cmp call_due due self.now.calls) }
+    {
+        earlier(
+            next_due_in(&Transactions, &self.transactions),
+            next_due_in(calls, &self.calls),
+        )
     }
 
     /// How many transactions and how many calls are held.

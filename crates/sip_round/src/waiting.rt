@@ -1,18 +1,20 @@
-//! Arrivals, split into the inputs of transactions and what waits for what these say.
+//! The events of a round: the inputs of transactions, and what waits for what these say.
 
-ghost use Rattle.std.specs.Prelude.{◌≡◌, ◌++◌, IfOk, OnOk};
+ghost use Rattle.std.specs.Prelude.{◌≡◌, ◌≤◌, ◌++◌, IfOk, OnOk, length};
 ghost use Rattle.std.specs.List.{flat_map};
 ghost use Rattle.std.specs.Vec.Iter.{into_iter_items};
 ghost use Rattle.sip_model.specs.Told.{groups};
+ghost use Rattle.sip_round.specs.Arrivals.{arrivals_from};
 ghost use Rattle.sip_round.specs.Outputs.{joined, raised_of, sent_of};
 ghost use Rattle.sip_round.specs.Phases.{transaction_item, transaction_items};
 ghost use Rattle.sip_round.specs.Steps.Waiting.{all_waiting, items_waiting, outs_next, said_rest, waiting_of, woven};
 
-use crate::arrival::Arrival;
+use crate::arrival::{Arrival, arrival_of};
 use crate::output::Output;
-use crate::outs::part;
-use sip_message::{Id, Key};
-use sip_model::{self as model, Replies, joined};
+use crate::outs::{part, part_all};
+use crate::round::Event;
+use sip_message::{Addr, Id, Key};
+use sip_model::{self as model, Replies};
 use sip_served::{Item, UserCommand};
 use sip_transactions::{DropReason, Input, Out};
 use std::alloc::{AllocError, Global};
@@ -29,25 +31,35 @@ pub(crate) enum Waiting {
     User(UserCommand),
 }
 
-/// The inputs of transactions, and what is left of the arrivals.
-pub(crate) fn split(
+/// The events of the round of this number, read and stamped: the inputs of transactions, and what is
+/// left of each event under its id, by place.
+pub(crate) fn set_out(
     alloc: Global,
-    arrivals: Vec<(Id, Arrival)>,
+    local: Addr,
+    round: u64,
+    events: &[Event],
 ) -> Result<(Vec<model::Item<Key, Input>>, Vec<(Id, Waiting)>), AllocError>
-    ensures items { IfOk result (λ both. both.0.items ≡ transaction_items arrivals.items) }
-    ensures waiting { IfOk result (λ both. both.1.items ≡ all_waiting arrivals.items) }
+    requires { length events.now ≤ 65536 }
+    ensures items { IfOk result (λ both. both.0.items
+        ≡ transaction_items (arrivals_from local round 1 events.now)) }
+    ensures waiting { IfOk result (λ both. both.1.items
+        ≡ all_waiting (arrivals_from local round 1 events.now)) }
 {
-    let mut items = Vec::with_capacity(alloc, arrivals.len())?;
-    let mut waiting = Vec::with_capacity(alloc, arrivals.len())?;
-    for (id, arrival) in arrivals {
-        let left = set_out(id, arrival, &mut items)?;
+    let mut items = Vec::with_capacity(alloc, events.len())?;
+    let mut waiting = Vec::with_capacity(alloc, events.len())?;
+    let mut place = 0;
+    for event in events {
+        place += 1;
+        let id = Id { round, place };
+        let arrival = arrival_of(alloc, local, id, event)?;
+        let left = put_input(id, arrival, &mut items)?;
         waiting.push((id, left))?;
     }
     Ok((items, waiting))
 }
 
 // Puts the input of an arrival on its way, and gives what is left of it.
-fn set_out(
+fn put_input(
     id: Id,
     arrival: Arrival,
     items: &mut Vec<model::Item<Key, Input>>,
@@ -69,7 +81,7 @@ fn set_out(
 
 /// The outputs of the first phase of the round of this number, and the items of the calls: those of
 /// the ticks, and then by place.
-pub(crate) fn weave(
+pub(crate) fn first_outputs(
     alloc: Global,
     round: u64,
     replies: Replies<Key, Out>,
@@ -86,15 +98,14 @@ pub(crate) fn weave(
         (woven waiting.items (groups replies.items.items))) }
 {
     let Replies { ticks, items: said } = replies;
-    let ticked = joined(alloc, ticks)?;
     let mut outputs = Vec::with_capacity(alloc, waiting.len())?;
     let mut items = Vec::with_capacity(alloc, waiting.len())?;
-    part(ticked, Id { round, place: 0 }, &mut outputs, &mut items)?;
-    weave_all(waiting, said, &mut outputs, &mut items)?;
+    part_all(ticks, Id { round, place: 0 }, &mut outputs, &mut items)?;
+    put_by_place(waiting, said, &mut outputs, &mut items)?;
     Ok((outputs, items))
 }
 
-fn weave_all(
+fn put_by_place(
     waiting: Vec<(Id, Waiting)>,
     said: Vec<(usize, Vec<Out>)>,
     outputs: &mut Vec<Output>,
@@ -108,12 +119,12 @@ fn weave_all(
 {
     let mut said = said.into_iter();
     for (id, left) in waiting {
-        weave_one(id, left, &mut said, outputs, items)?;
+        put_one(id, left, &mut said, outputs, items)?;
     }
     Ok(())
 }
 
-fn weave_one(
+fn put_one(
     id: Id,
     left: Waiting,
     said: &mut IntoIter<(usize, Vec<Out>)>,

@@ -2,15 +2,14 @@
 
 ghost use Rattle.std.specs.Prelude.{◌≡◌, ◌⊎◌, ◌<◌, ◌≤◌, Bool, IfOk, IfErr, None, Some, map};
 ghost use Rattle.sip_round.specs.Answers as answers;
-ghost use Rattle.sip_round.specs.Given.{GivesOwnNotices, GivesOwnSends};
-ghost use Rattle.sip_round.specs.Laws.{NothingAfterEnds, OneRequestInLives, ProvisionalsInLives};
+ghost use Rattle.sip_round.specs.Given.{GivesNothingAfterEnds, GivesOwnNotices, GivesOwnSends, GivesProvisionalsInOrder, GivesRequestsOnce};
 ghost use Rattle.sip_round.specs.declared.round_fault.RoundFault.TheVariants as round_fault;
 
 use crate::agent::Agent;
 use crate::config::Config;
 use crate::laws::{
-    nothing_after_each_end, one_request_in_each_life, own_notices_given, own_sends_given,
-    provisionals_in_each_life,
+    nothing_given_after_ends, own_notices_given, own_sends_given, provisionals_given_in_order,
+    requests_given_once,
 };
 use crate::output::Output;
 use crate::round::Round;
@@ -23,13 +22,14 @@ use std::thread::Threads;
 /// The outputs of each round, from an agent that begins with this configuration, of so many shards
 /// among which names are cut so, on up to so many workers.
 ///
-/// So of these rounds: each life of a server transaction hands its request up once
-/// (`each_request_once`); of the reliable provisional responses that come to an INVITE in one life
-/// of a dialog the user is told in order, of each once (`provisionals_in_order`); a transaction's
-/// life that has ended hands nothing up (`nothing_after_the_end`); and of all that they give, the
-/// Sends with a transaction's key are in order just what that transaction's own history says to
-/// send (`sends_of_each_transaction`), and the notices with a Call-ID just those that the call's
-/// own history says (`notices_of_each_call`).
+/// So of what is given: the Sends with a transaction's key are in order just what that
+/// transaction's own history says to send (`sends_of_each_transaction`), and the notices with a
+/// Call-ID just those that the call's own history says (`notices_of_each_call`). At most one notice
+/// `request` has an id, since each life of a server transaction hands its request up once
+/// (`each_request_once`). Of the reliable provisional responses that come to an INVITE in one life
+/// of a dialog the user is told in order, of each once (`provisionals_in_order`). In the rounds
+/// after those in which a transaction has ended nothing that is told of a call comes from it
+/// (`nothing_after_the_end`).
 ///
 /// # Errors
 ///
@@ -57,17 +57,20 @@ pub fn run<R: Threads + Sync, C: Cut + Drop, G: Gate>(
         (λ fault. ((broken : Bool) × (fault.1 ≡ round_fault.NoMemory broken)
         × answers.EndsWithoutMemory config rounds.now fault.0 broken)
         ⊎ (answers.refused config rounds.now ≡ Some fault)) }
-    ensures each_request_once { OneRequestInLives config rounds.now }
-    ensures provisionals_in_order { ProvisionalsInLives config rounds.now }
-    ensures nothing_after_the_end { NothingAfterEnds config rounds.now }
+    ensures each_request_once { IfOk result (λ made.
+        GivesRequestsOnce config rounds.now (map (λ outputs. outputs.items) made.items)) }
+    ensures provisionals_in_order { IfOk result (λ made.
+        GivesProvisionalsInOrder config rounds.now (map (λ outputs. outputs.items) made.items)) }
+    ensures nothing_after_the_end { IfOk result (λ made.
+        GivesNothingAfterEnds config rounds.now (map (λ outputs. outputs.items) made.items)) }
     ensures sends_of_each_transaction { IfOk result (λ made.
         GivesOwnSends config rounds.now (map (λ outputs. outputs.items) made.items)) }
     ensures notices_of_each_call { IfOk result (λ made.
         GivesOwnNotices config rounds.now (map (λ outputs. outputs.items) made.items)) }
 {
-    one_request_in_each_life();
-    provisionals_in_each_life(&config);
-    nothing_after_each_end();
+    requests_given_once();
+    provisionals_given_in_order(&config);
+    nothing_given_after_ends(&config);
     own_sends_given();
     own_notices_given();
     let Ok(mut agent) = Agent::new(alloc, config, shards, cut) else {

@@ -406,8 +406,8 @@ module _ (call_id : List ℕ) where
   kind_is state tag up (Ack ack) now of_call of_kind its =
       ack_is state up.call_id ack (acknowledged_invite ack state.requests) of_call its
   kind_is state tag up (Response response) now of_call of_kind its = (its, tt)
-  kind_is state tag up Timeout now of_call of_kind its = (its, (of_call, tt))
-  kind_is state tag up Failed now of_call of_kind its = (its, (of_call, tt))
+  kind_is state tag up Timeout now of_call of_kind its = (its, tt)
+  kind_is state tag up Failed now of_call of_kind its = (its, tt)
 
   command_is : (state : State) (id : Id) (c : UserCommand) (now : ℕ)
       → call_of_command c ≡ call_id → IsStateOf call_id state

@@ -231,6 +231,17 @@ event_often state id (Takes tag one (item.Up up) now) = kind_often state id tag 
 event_often state id (Takes tag one (item.User c) now) = omega arith
 event_often state id (Ticks now) = omega arith
 
+-- the user is told of a request by the event that brings it, and once
+pub told_often : (state : State) (event : Event) (id : Id)
+    → count_by (is_id id) (shown (event_taken state event).1) ≤ cond (brings id event) 1 0
+told_often state event id =
+    let told : length (filter (is_id id) (shown (event_taken state event).1))
+    ≡ often (is_id id) (for_user state event) =
+    ap (λ ids. often (is_id id) ids) (event_shows state event) in
+    let few = event_often state id event in
+    let counted = length-filter (is_id id) (shown (event_taken state event).1) in
+    omega (arith, told, few, counted)
+
 head_often : (b : Bool) (event : Event) (chosen : List Event) (n m : ℕ) → n ≤ cond b 1 0
     → m ≤ length chosen → n + m ≤ length (cond b (event ∷ chosen) chosen)
 head_often true event chosen n m first rest = omega (arith, first, rest)

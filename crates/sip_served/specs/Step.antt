@@ -1,5 +1,5 @@
 -- What each item makes of the server side of its call.
-use Rattle.std.specs.Prelude.{ℕ, Bool, List, [], ◌∷◌, ◌||◌, length, nat_lt, if◌then◌else◌}
+use Rattle.std.specs.Prelude.{ℕ, Bool, List, ◌||◌, length, nat_lt, if◌then◌else◌}
 use Rattle.sip_message.specs.declared.id.Id.{Id}
 use Rattle.sip_transactions.specs.declared.output.Kind.{Kind}
 use Rattle.sip_transactions.specs.declared.output.Kind.TheVariants.{Request, Ack, Response, Timeout, Failed}
@@ -9,8 +9,6 @@ use Rattle.sip_served.specs.declared.command.UserCommand.{UserCommand}
 use Rattle.sip_served.specs.declared.command.UserCommand.TheVariants as command
 use Rattle.sip_served.specs.declared.item.Item.{Item}
 use Rattle.sip_served.specs.declared.item.Item.TheVariants as item
-use Rattle.sip_served.specs.declared.item.CallOut.TheVariants.{Notice}
-use Rattle.sip_served.specs.declared.notice.Notice.TheVariants as notice
 use Rattle.sip_served.specs.Acknowledgment.{ack_taken}
 use Rattle.sip_served.specs.Arrival.{arrival_of, request_taken}
 use Rattle.sip_served.specs.Cancel.{cancel_taken}
@@ -24,15 +22,15 @@ arrival_taken state arrival now =
     if is_cancel arrival.request then cancel_taken state arrival now
     else request_taken state arrival
 
--- What a transaction hands up; `tag` is the To tag made for a request without one. That a
--- transaction timed out or failed is told, also where its request isn't held.
+-- What a transaction hands up; `tag` is the To tag made for a request without one. Of the server
+-- side are the requests and the ACKs.
 abbrev pub kind_taken : State → List ℕ → Up → Kind → ℕ → Taken
 kind_taken state tag up (Request request reply_to) now =
     arrival_taken state (arrival_of up tag request reply_to) now
 kind_taken state tag up (Ack ack) now = ack_taken state up.call_id ack
 kind_taken state tag up (Response response) now = quiet state
-kind_taken state tag up Timeout now = (state, Notice (notice.Timeout up.call_id up.id) ∷ [])
-kind_taken state tag up Failed now = (state, Notice (notice.Failed up.call_id up.id) ∷ [])
+kind_taken state tag up Timeout now = quiet state
+kind_taken state tag up Failed now = quiet state
 
 -- of the user's commands only answers are for the server side
 abbrev pub command_taken : State → Id → UserCommand → ℕ → Taken

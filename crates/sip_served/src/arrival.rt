@@ -17,15 +17,15 @@ use sip_text::{Boxed, token_eq};
 use std::alloc::Global;
 
 /// A request that came up, with all that comes up with it.
-pub(crate) struct Arrival {
-    pub(crate) key: Key,
-    pub(crate) id: Id,
-    pub(crate) call_id: CallId,
-    pub(crate) request: Boxed<Message>,
+pub struct Arrival {
+    pub key: Key,
+    pub id: Id,
+    pub call_id: CallId,
+    pub request: Boxed<Message>,
     /// Where its answers go.
-    pub(crate) reply_to: Addr,
+    pub reply_to: Addr,
     /// The To tag that its responses get where it has none.
-    pub(crate) tag: Token,
+    pub tag: Token,
 }
 
 /// The RSeq of the first reliable provisional response to a request.

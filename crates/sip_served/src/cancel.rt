@@ -12,7 +12,7 @@ use crate::held_request::HeldRequest;
 use crate::item::CallOut;
 use crate::notice::Notice;
 use crate::outputs::{ok_with_tag, one};
-use crate::request::is_invite;
+use crate::request::{is_invite, own_tag};
 use crate::requests::place_of;
 use crate::respond::{answer_command, finish};
 use sip_message::{Id, Key, Message, Reason, StatusCode, Token, response_to};
@@ -83,13 +83,10 @@ pub(crate) fn cancel_accepted(
 fn tag_of_answers(alloc: Global, held: &HeldRequest) -> Result<Token, AllocError>
     ensures { IfOk result (λ tag. tag ≡ local_tag_of held.now.request held.now.tag) }
 {
-    let to = &held.request.get().to;
-    let own = to.tag();
-    if own.is_empty() {
-        return held.tag.clone();
+    match own_tag(alloc, held.request.get())? {
+        Some(own) => Ok(own),
+        None => held.tag.clone(),
     }
-    let _parameters = to.parameters.as_slice();
-    Ok(Token::from_text(Text::copy_of(alloc, own)?))
 }
 
 /// The 487 to an INVITE that a CANCEL names.

@@ -142,14 +142,12 @@ impl Holdings {
                 self.arrive(arrival, now)
             }
             Kind::Ack(ack) => self.ack(call_id, ack.get()),
-            Kind::Response(_) => Ok(Vec::new(self.alloc)),
-            Kind::Timeout => tell(self.alloc, Notice::Timeout { call_id, id }),
-            Kind::Failed => tell(self.alloc, Notice::Failed { call_id, id }),
+            Kind::Response(_) | Kind::Timeout | Kind::Failed => Ok(Vec::new(self.alloc)),
         }
     }
 
-    // A request. A CANCEL is a case of its own.
-    fn arrive(&mut self, arrival: Arrival, now: u64) -> Result<Vec<CallOut>, AllocError>
+    /// A request comes up, at the moment `now` in ms. A CANCEL is a case of its own.
+    pub(crate) fn arrive(&mut self, arrival: Arrival, now: u64) -> Result<Vec<CallOut>, AllocError>
         requires { now ≤ 2 ^ 62 }
         ensures { IfOk result (λ outs. (self.new, outs.items)
             ≡ step.arrival_taken self.old arrival now) }
@@ -293,8 +291,8 @@ impl Holdings {
         tell(self.alloc, notice)
     }
 
-    // An ACK.
-    fn ack(&mut self, call_id: CallId, ack: &Message) -> Result<Vec<CallOut>, AllocError>
+    /// An ACK comes up.
+    pub(crate) fn ack(&mut self, call_id: CallId, ack: &Message) -> Result<Vec<CallOut>, AllocError>
         ensures { IfOk result (λ outs. (self.new, outs.items)
             ≡ ack_taken self.old call_id ack.now) }
     {

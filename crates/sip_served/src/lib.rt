@@ -24,6 +24,7 @@ mod served;
 mod tick;
 mod unsupported;
 
+pub use arrival::Arrival;
 pub use command::{
     Cancel, DialogBody, DialogRequest, Invite, Plain, ProvisionalSupport, Reliability, Respond,
     UserCommand,

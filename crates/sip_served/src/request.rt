@@ -1,12 +1,12 @@
 //! What a request or a response says.
 
-ghost use Rattle.std.specs.Prelude.{◌≡◌, IfOk};
+ghost use Rattle.std.specs.Prelude.{◌≡◌, ℕ, List, IfOk, unwrap_or};
 ghost use Rattle.std.specs.List.{list_any};
 ghost use Rattle.sip_served.specs.Requests as requests;
 
 use crate::held_dialog::DialogName;
 use sip_message::{Message, Token};
-use sip_text::token_eq;
+use sip_text::{Text, token_eq};
 use std::alloc::{AllocError, Global};
 
 /// The least status of a final response.
@@ -85,6 +85,19 @@ pub(crate) fn local_tag<'a>(request: &'a Message, made: &'a Token) -> &'a [u8]
 {
     let own = request.to.tag();
     if own.is_empty() { made.as_slice() } else { own }
+}
+
+/// The To tag of a request, if it has one: without one its answers get the tag that is made for it.
+pub fn own_tag(alloc: Global, request: &Message) -> Result<Option<Token>, AllocError>
+    ensures { IfOk result (λ own. (made : List ℕ)
+        → unwrap_or own made ≡ requests.local_tag_of request.now made) }
+{
+    let own = request.to.tag();
+    if own.is_empty() {
+        return Ok(None);
+    }
+    let _parameters = request.to.parameters.as_slice();
+    Ok(Some(Token::from_text(Text::copy_of(alloc, own)?)))
 }
 
 /// The name of the dialog that a request is in, or that its answer makes.

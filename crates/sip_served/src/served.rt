@@ -2,11 +2,12 @@
 
 ghost use Rattle.std.specs.Prelude.{◌≡◌, ◌≤◌, ◌^◌, false, Ok, Err, IfErr, IfOk, IsTrue, if◌then◌else◌};
 
+use crate::arrival::Arrival;
 use crate::command::Respond;
 use crate::dialogs::Dialogs;
 use crate::holdings::Holdings;
 use crate::item::{CallOut, Item};
-use sip_message::{Addr, Id, Token};
+use sip_message::{Addr, CallId, Id, Message, Token};
 use sip_model::ShardFault;
 use std::alloc::{AllocError, Global};
 use std::marker::Model;
@@ -35,8 +36,9 @@ impl Served {
     ghost use Rattle.std.specs.Borrow.{sem};
     ghost use Rattle.sip_served.specs.Lending.{ServedLends};
     ghost use Rattle.sip_served.specs.ServerSide.{after, empty_at, lost};
+    ghost use Rattle.sip_served.specs.Acknowledgment.{ack_taken};
     ghost use Rattle.sip_served.specs.Respond.{respond_taken};
-    ghost use Rattle.sip_served.specs.Step.{holds, item_taken};
+    ghost use Rattle.sip_served.specs.Step.{arrival_taken, holds, item_taken};
     ghost use Rattle.sip_served.specs.Tick.{next_due, tick_taken};
 
     /// The server side of a Call-ID under which nothing is held, at the address `local`. Takes no
@@ -98,6 +100,43 @@ impl Served {
     {
         self.check()?;
         let taken = self.holdings.item(tag, id, item, now);
+        self.keep(taken)
+    }
+
+    /// Takes a request that comes up, at the moment `now` in ms, as [`Served::item`] does.
+    ///
+    /// # Errors
+    ///
+    /// `Broken` after an earlier call answered `NoMemory`.
+    pub fn arrive(&mut self, arrival: Arrival, now: u64) -> Result<Vec<CallOut>, ShardFault>
+        requires { now ≤ 2 ^ 62 }
+        ensures broken { IsTrue self.old.broken → result ≡ Err ShardFault.Broken }
+        ensures only_broken { result ≡ Err ShardFault.Broken → IsTrue self.old.broken }
+        ensures broken_stays { result ≡ Err ShardFault.Broken → self.new ≡ self.old }
+        ensures no_memory { result ≡ Err ShardFault.NoMemory → self.new ≡ lost self.old }
+        ensures ok { IfOk result (λ outs. (self.new, outs.items)
+            ≡ after self.old (arrival_taken self.old.state arrival now)) }
+    {
+        self.check()?;
+        let taken = self.holdings.arrive(arrival, now);
+        self.keep(taken)
+    }
+
+    /// Takes an ACK that comes up, as [`Served::item`] does.
+    ///
+    /// # Errors
+    ///
+    /// `Broken` after an earlier call answered `NoMemory`.
+    pub fn ack(&mut self, call_id: CallId, ack: &Message) -> Result<Vec<CallOut>, ShardFault>
+        ensures broken { IsTrue self.old.broken → result ≡ Err ShardFault.Broken }
+        ensures only_broken { result ≡ Err ShardFault.Broken → IsTrue self.old.broken }
+        ensures broken_stays { result ≡ Err ShardFault.Broken → self.new ≡ self.old }
+        ensures no_memory { result ≡ Err ShardFault.NoMemory → self.new ≡ lost self.old }
+        ensures ok { IfOk result (λ outs. (self.new, outs.items)
+            ≡ after self.old (ack_taken self.old.state call_id ack.now)) }
+    {
+        self.check()?;
+        let taken = self.holdings.ack(call_id, ack);
         self.keep(taken)
     }
 

@@ -5,11 +5,11 @@ use Rattle.sip_model.proofs.Shards.{tell_all}
 use Rattle.sip_model.proofs.laws.laws_of_phases.Goals as goal
 
 pub returns-clause-each_key_alone : goal.returns-clause-each_key_alone
-returns-clause-each_key_alone g c = λ phases key.
+returns-clause-each_key_alone g c = λ before phases key.
     said_alone g.met.M.Key.Ord.total g.met.M.StateMachine.exact
     (g.M.StateMachine.machine c.args._machine.now) g.M.StateMachine.due
     (ticks_of g.M.StateMachine.tick)
-    (g.met.M.StateMachine.idle c.args._machine.now) key _ phases
+    (g.met.M.StateMachine.idle c.args._machine.now) key before phases
 
 pub returns-clause-shards_work_apart : goal.returns-clause-shards_work_apart
 returns-clause-shards_work_apart g c =

@@ -1,7 +1,7 @@
 use Rattle.std.proofs.Common.{◌≤◌, ◌∙◌, true, refl, sym, ap, subst, inl, inr, length, arith}
 use Rattle.std.proofs.lemmas.List.{take_all}
 use Rattle.sip_round.specs.Answers.{answers, refused}
-use Rattle.sip_round.specs.Given.{GivesOwnNotices, GivesOwnSends}
+use Rattle.sip_round.specs.Given.{GivesNothingAfterEnds, GivesOwnNotices, GivesOwnSends, GivesProvisionalsInOrder, GivesRequestsOnce}
 use Rattle.sip_round.proofs.SoFar.{at_start, one_more, one_unrefused, ends, fine_where_ok}
 use Rattle.sip_round.proofs.whole_run.run.Goals as goal
 
@@ -59,57 +59,22 @@ returns-clause-unrefused g c =
     ap (refused c.args.config) (sym (take_all c.loop-index.index c.args.rounds.now over))
     ∙ c.loop-index.invariant.unrefused
 
-pub returns-in_default-clause-each_request_once : goal.returns-in_default-clause-each_request_once
-returns-in_default-clause-each_request_once g c =
-    c.one_request_in_each_life.ensures c.args.config c.args.rounds.now
-
-pub returns-in_default-clause-provisionals_in_order :
-    goal.returns-in_default-clause-provisionals_in_order
-returns-in_default-clause-provisionals_in_order g c =
-    c.provisionals_in_each_life.ensures c.args.rounds.now
-
-pub returns-in-Err-clause-each_request_once : goal.returns-in-Err-clause-each_request_once
-returns-in-Err-clause-each_request_once g c =
-    c.one_request_in_each_life.ensures c.args.config c.args.rounds.now
-
-pub returns-in-Err-clause-provisionals_in_order : goal.returns-in-Err-clause-provisionals_in_order
-returns-in-Err-clause-provisionals_in_order g c =
-    c.provisionals_in_each_life.ensures c.args.rounds.now
-
-pub returns-in_default-push-clause-each_request_once :
-    goal.returns-in_default-push-clause-each_request_once
-returns-in_default-push-clause-each_request_once g c =
-    c.one_request_in_each_life.ensures c.args.config c.args.rounds.now
-
-pub returns-in_default-push-clause-provisionals_in_order :
-    goal.returns-in_default-push-clause-provisionals_in_order
-returns-in_default-push-clause-provisionals_in_order g c =
-    c.provisionals_in_each_life.ensures c.args.rounds.now
-
 pub returns-clause-each_request_once : goal.returns-clause-each_request_once
 returns-clause-each_request_once g c =
-    c.one_request_in_each_life.ensures c.args.config c.args.rounds.now
+    subst (GivesRequestsOnce c.args.config c.args.rounds.now) (sym (returns-clause-answers g c))
+    (c.requests_given_once.ensures c.args.config c.args.rounds.now)
 
 pub returns-clause-provisionals_in_order : goal.returns-clause-provisionals_in_order
-returns-clause-provisionals_in_order g c = c.provisionals_in_each_life.ensures c.args.rounds.now
-
-pub returns-in_default-clause-nothing_after_the_end :
-    goal.returns-in_default-clause-nothing_after_the_end
-returns-in_default-clause-nothing_after_the_end g c =
-    c.nothing_after_each_end.ensures c.args.config c.args.rounds.now
-
-pub returns-in-Err-clause-nothing_after_the_end : goal.returns-in-Err-clause-nothing_after_the_end
-returns-in-Err-clause-nothing_after_the_end g c =
-    c.nothing_after_each_end.ensures c.args.config c.args.rounds.now
-
-pub returns-in_default-push-clause-nothing_after_the_end :
-    goal.returns-in_default-push-clause-nothing_after_the_end
-returns-in_default-push-clause-nothing_after_the_end g c =
-    c.nothing_after_each_end.ensures c.args.config c.args.rounds.now
+returns-clause-provisionals_in_order g c =
+    subst (GivesProvisionalsInOrder c.args.config c.args.rounds.now)
+    (sym (returns-clause-answers g c))
+    (c.provisionals_given_in_order.ensures c.args.rounds.now)
 
 pub returns-clause-nothing_after_the_end : goal.returns-clause-nothing_after_the_end
 returns-clause-nothing_after_the_end g c =
-    c.nothing_after_each_end.ensures c.args.config c.args.rounds.now
+    subst (GivesNothingAfterEnds c.args.config c.args.rounds.now)
+    (sym (returns-clause-answers g c))
+    (c.nothing_given_after_ends.ensures c.args.rounds.now)
 
 pub returns-clause-sends_of_each_transaction : goal.returns-clause-sends_of_each_transaction
 returns-clause-sends_of_each_transaction g c =

@@ -15,9 +15,8 @@ returns g c =
     let here = arrived_here (λ n. owner_of (shard_of inside.cut) branch_in n) c.count.result
     (length c.in-Some.shards.transactions) inside.calls.local
     inside.next_round c.args.round.now.events c.as_slice-events.result.now
-    c.in_ok-arrivals.arrivals.items c.in_ok-items.items.items parts c.in_ok-items.waiting.items
-    c.count.ensures.count c.as_slice-events.ensures c.in_ok-arrivals.ensures
-    c.in_ok-items.ensures.items c.in_ok-items.ensures.waiting c.in_ok-parts.ensures in
+    c.in_ok-items.items.items parts c.in_ok-items.waiting.items
+    c.count.ensures.count c.as_slice-events.ensures c.in_ok-items.ensures.items c.in_ok-items.ensures.waiting c.in_ok-parts.ensures in
     subst (λ agent. IfSome agent.shards
     (λ shards. IsArrived (owner_of (shard_of agent.cut) branch_in (length shards.transactions))
     (length shards.transactions)

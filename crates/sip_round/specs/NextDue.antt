@@ -1,0 +1,43 @@
+-- When something is due of an agent, and what a round without events does before.
+use Rattle.std.specs.Prelude.{◌≡◌, ◌⊎◌, ℕ, List, [], ◌∷◌, ◌++◌, Some}
+use Rattle.sip_calls.specs.Call.{call_due, call_machine, tick_input}
+use Rattle.sip_calls.specs.CallShard.{call_cmp}
+use Rattle.sip_message.specs.Key.{key_cmp}
+use Rattle.sip_message.specs.declared.key.Key.{Key}
+use Rattle.sip_model.specs.Machine.{due_of}
+use Rattle.sip_model.specs.Phase.{states_after}
+use Rattle.sip_transactions.specs.Machine.{life_due, tick_at, transaction_machine}
+use Rattle.sip_round.specs.declared.config.Config.{Config}
+use Rattle.sip_round.specs.declared.round.Round.{Round}
+use Rattle.sip_round.specs.Answers.{Past, answers, calls_of, past_of}
+
+-- a round without events at a moment in ms
+abbrev pub without_events : ℕ → Round
+without_events moment = record { moment = moment; events = [] }
+
+-- a past leaves of each transaction and of each call what another leaves
+pub record LeavesAlike (config : Config) (one other : Past) : Type 0 where
+  pub transactions : (key : Key)
+      → states_after key_cmp transaction_machine tick_at one.transactions key
+      ≡ states_after key_cmp transaction_machine tick_at other.transactions key
+  pub calls : (call_id : List ℕ)
+      → states_after call_cmp (call_machine (calls_of config)) tick_input one.calls call_id
+      ≡ states_after call_cmp (call_machine (calls_of config)) tick_input other.calls call_id
+
+-- after these rounds a round without events at this moment gives nothing, and changes nothing of
+-- what is held
+pub record IsQuietAfter (config : Config) (rounds : List Round) (moment : ℕ) : Type 0 where
+  pub gives : answers config (rounds ++ without_events moment ∷ [])
+      ≡ answers config rounds ++ [] ∷ []
+  pub leaves : LeavesAlike config (past_of config (rounds ++ without_events moment ∷ []))
+      (past_of config rounds)
+
+-- after these rounds something is due at this moment, of a transaction or of a call
+abbrev pub IsDueAfter : Config → List Round → ℕ → Type 0
+IsDueAfter config rounds moment =
+    ((key : Key) × (due_of life_due
+    (states_after key_cmp transaction_machine tick_at (past_of config rounds).transactions key)
+    ≡ Some moment))
+    ⊎ ((call_id : List ℕ) × (due_of call_due
+    (states_after call_cmp (call_machine (calls_of config)) tick_input
+    (past_of config rounds).calls call_id) ≡ Some moment))
