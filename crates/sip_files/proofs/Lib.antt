@@ -12,3 +12,4 @@ pub mod LineLaws
 pub mod LowerCase
 pub mod Drafts
 pub mod Files
+pub mod WrittenLaws

@@ -10,3 +10,4 @@ pub mod ReadLine
 pub mod EventFile
 pub mod Drafting
 pub mod Lines
+pub mod Written

@@ -1,7 +1,10 @@
 //! One line of an event file.
 
-ghost use Rattle.std.specs.Prelude.{◌≡◌, IfOk};
+ghost use Rattle.std.specs.Prelude.{◌≡◌, IfNone, IfOk, IfSome};
+ghost use Rattle.sip_served.specs.declared.command.UserCommand as command;
 ghost use Rattle.sip_files.specs.ReadLine as reading;
+ghost use Rattle.sip_files.specs.Written as written;
+ghost use Rattle.sip_files.specs.Written.{SpellsCommand};
 
 use crate::command_line::read_command;
 use crate::failed_line::read_failed;
@@ -10,6 +13,7 @@ use crate::version::Version;
 use crate::words::read_rest;
 use sip_message::Addr;
 use sip_round::Event;
+use sip_served::UserCommand;
 use sip_text::{cut, number_up_to};
 use std::alloc::{AllocError, Global};
 
@@ -44,6 +48,42 @@ pub(crate) fn read_line(
         return Ok(None);
     };
     read_keyword(alloc, version, keyword, fields)
+}
+
+/// The command that a line says, without its end, where it is the line of a command.
+///
+/// # Errors
+///
+/// Want of memory.
+pub fn read_command_line(alloc: Global, line: &[u8]) -> Result<Option<UserCommand>, AllocError>
+    ensures some { IfOk result (λ found. IfSome found (SpellsCommand line.now)) }
+    ensures none { IfOk result (λ found. IfNone found
+        ((given : command.UserCommand) → ¬ SpellsCommand line.now given)) }
+{
+    match read_line(alloc, Version::Two, line)? {
+        Some(said) => Ok(command_in(said)),
+        None => Ok(None),
+    }
+}
+
+fn command_in(line: EventLine) -> Option<UserCommand>
+    ensures { result ≡ written.command_in line }
+{
+    match line {
+        EventLine::Event(event) => command_of(event),
+        EventLine::Local(_) | EventLine::Seed(_) | EventLine::First(_) | EventLine::Round(_) => {
+            None
+        }
+    }
+}
+
+fn command_of(event: Event) -> Option<UserCommand>
+    ensures { result ≡ written.command_of event }
+{
+    match event {
+        Event::Command(command) => Some(command),
+        Event::Datagram { .. } | Event::Failed(_) => None,
+    }
 }
 
 #[tactic(auto, unfolding(crate::specs::ReadLine::keyword_line))]

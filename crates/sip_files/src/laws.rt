@@ -9,6 +9,8 @@ ghost use Rattle.sip_round.specs.declared.config.Config.{Config};
 ghost use Rattle.sip_round.specs.declared.round.Round.{Round};
 ghost use Rattle.sip_files.specs.EventFile.{SpellsEvents};
 ghost use Rattle.sip_files.specs.Events.{AreAlike, SpellsLine};
+ghost use Rattle.sip_files.specs.Written.{IsConfig, IsRound, events_text};
+ghost use Rattle.std.specs.List.{AllByRecursion};
 
 /// The words of two different texts differ.
 pub fn one_text_of_a_word()
@@ -41,4 +43,11 @@ pub fn one_meaning_of_an_event_file()
     ensures { (text : List ℕ) (config other : Config) (rounds others : List Round)
         → SpellsEvents config rounds text → SpellsEvents other others text
         → (config ≡ other) × (rounds ≡ others) }
+{}
+
+/// What is written of a configuration and rounds is their event file, where each of their lines is
+/// one that an event file may have.
+pub fn what_is_written_is_an_event_file()
+    ensures { (config : Config) (rounds : List Round) → IsConfig config
+        → AllByRecursion IsRound rounds → SpellsEvents config rounds (events_text config rounds) }
 {}

@@ -2,12 +2,15 @@
 #![tactic(auto)]
 
 mod command_line;
+mod command_writer;
 mod counted_read;
 mod draft;
 mod event_line;
 mod events_fault;
 mod events_file;
+mod events_writer;
 mod failed_line;
+mod field_writer;
 mod fields;
 mod file_replay;
 pub mod laws;
@@ -17,7 +20,9 @@ mod version;
 mod words;
 
 pub use counted_read::CountedRead;
+pub use event_line::read_command_line;
 pub use events_fault::EventsFault;
 pub use events_file::{MAX_EVENTS, read_events};
+pub use events_writer::{write_head, write_round};
 pub use file_replay::{ReplayFault, replay};
-pub use outputs_file::write_outputs;
+pub use outputs_file::{write_output, write_outputs};

@@ -1,17 +1,19 @@
 //! Output files, version 1: for each round its moment and its outputs.
 
-ghost use Rattle.std.specs.Prelude.{◌≡◌, ◌++◌, IfOk, OnOk, codes, decimal};
+ghost use Rattle.std.specs.Prelude.{◌≡◌, ◌++◌, IfOk, OnOk, codes};
 ghost use Rattle.std.specs.List.{flat_map};
 ghost use Rattle.sip_message.specs.Fault.{fault_text};
 ghost use Rattle.sip_served.specs.declared.notice.Notice.TheVariants as notice;
 ghost use Rattle.sip_files.specs.Field as field;
 ghost use Rattle.sip_files.specs.Outputs as written;
 
-use crate::words::{push_rest, push_word};
-use sip_message::{Addr, CallId, Id, ReadFault, StatusCode, Token, ip_text};
+use crate::field_writer::{
+    push_address, push_id, push_number, push_plain, push_rest_field, push_text,
+};
+use sip_message::{Addr, CallId, Id, ReadFault, StatusCode, Token};
 use sip_round::Output;
 use sip_served::{Notice, Refusal};
-use sip_text::{Text, decimal};
+use sip_text::Text;
 use sip_transactions::DropReason;
 use std::alloc::{AllocError, Global};
 
@@ -24,6 +26,15 @@ pub fn write_outputs(alloc: Global, rounds: &[(u64, Vec<Output>)]) -> Result<Vec
     file.extend_from_slice(b"sip-outputs 1\n")?;
     push_rounds(&mut file, rounds)?;
     Ok(file)
+}
+
+/// The line of an output file that one output has, with its end.
+pub fn write_output(alloc: Global, output: &Output) -> Result<Vec<u8>, AllocError>
+    ensures { IfOk result (λ line. line.items ≡ written.output_line output.now) }
+{
+    let mut line = Vec::new(alloc);
+    push_line(&mut line, output)?;
+    Ok(line)
 }
 
 fn push_rounds(file: &mut Vec<u8>, rounds: &[(u64, Vec<Output>)]) -> Result<(), AllocError>
@@ -272,65 +283,4 @@ fn push_head(file: &mut Vec<u8>, call_id: &CallId, form: &[u8], id: Id) -> Resul
 {
     push_form(file, call_id, form)?;
     push_id(file, id)
-}
-
-// A field that stands for itself.
-#[tactic(auto, unfolding(crate::specs::Field::plain_field))]
-fn push_plain(file: &mut Vec<u8>, text: &[u8]) -> Result<(), AllocError>
-    ensures { OnOk result (file.new.items ≡ file.old.items ++ field.plain_field text.now) }
-{
-    file.push(b' ')?;
-    file.extend_from_slice(text)
-}
-
-// A field that is a number.
-#[tactic(auto, unfolding(crate::specs::Field::number_field))]
-fn push_number(file: &mut Vec<u8>, number: u64) -> Result<(), AllocError>
-    ensures { OnOk result (file.new.items ≡ file.old.items ++ field.number_field number) }
-{
-    file.push(b' ')?;
-    push_digits(file, number)
-}
-
-#[tactic(auto, unfolding(crate::specs::Field::id_field, crate::specs::Field::id_text))]
-fn push_id(file: &mut Vec<u8>, id: Id) -> Result<(), AllocError>
-    ensures { OnOk result (file.new.items ≡ file.old.items ++ field.id_field id) }
-{
-    file.push(b' ')?;
-    push_digits(file, id.round)?;
-    file.push(b'.')?;
-    push_digits(file, u64::from(id.place))
-}
-
-// A field that is a word.
-#[tactic(auto, unfolding(crate::specs::Field::word_field))]
-fn push_text(file: &mut Vec<u8>, text: &[u8]) -> Result<(), AllocError>
-    ensures { OnOk result (file.new.items ≡ file.old.items ++ field.word_field text.now) }
-{
-    file.push(b' ')?;
-    push_word(file, text)
-}
-
-#[tactic(auto, unfolding(crate::specs::Field::rest_field))]
-fn push_rest_field(file: &mut Vec<u8>, text: &[u8]) -> Result<(), AllocError>
-    ensures { OnOk result (file.new.items ≡ file.old.items ++ field.rest_field text.now) }
-{
-    file.push(b' ')?;
-    push_rest(file, text)
-}
-
-fn push_digits(file: &mut Vec<u8>, number: u64) -> Result<(), AllocError>
-    ensures { OnOk result (file.new.items ≡ file.old.items ++ decimal number) }
-{
-    file.extend_from_slice(&decimal(number))
-}
-
-#[tactic(auto, unfolding(crate::specs::Field::address_field))]
-fn push_address(file: &mut Vec<u8>, address: Addr) -> Result<(), AllocError>
-    ensures { OnOk result (file.new.items ≡ file.old.items ++ field.address_field address) }
-{
-    file.push(b' ')?;
-    file.extend_from_slice(&ip_text(address.ip))?;
-    file.push(b':')?;
-    push_digits(file, u64::from(address.port))
 }

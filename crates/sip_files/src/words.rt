@@ -106,6 +106,13 @@ fn letter_of(byte: u8) -> Option<u8>
     }
 }
 
+/// Appends the two hexadecimal digits of a byte, in lower case.
+pub(crate) fn push_hex(line: &mut Vec<u8>, byte: u8) -> Result<(), AllocError>
+    ensures { OnOk result (line.new.items ≡ line.old.items ++ word.hex_pair byte) }
+{
+    line.extend_from_slice(&[hex_digit(byte / 16), hex_digit(byte % 16)])
+}
+
 fn hex_digit(value: u8) -> u8
     requires { value < 16 }
     ensures { result ≡ word.hex_digit value }

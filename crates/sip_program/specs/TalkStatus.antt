@@ -1,6 +1,6 @@
--- The status of `ua listen` and `ua call`: 0 where all turns were taken; 2 for a bad argument; 3
--- for a refused round; 4 for the random source, the socket or an output that failed; 5 for want of
--- memory.
+-- The status of `ua listen`, `ua call` and `ua agent`: 0 where all turns were taken; 2 for a bad
+-- argument; 3 for a refused round; 4 for the random source, the socket, the pipe or an output that
+-- failed; 5 for want of memory; 6 for a call that had to be answered and wasn't.
 use Rattle.std.specs.Prelude.{ℕ}
 use Rattle.sip_udp.specs.declared.fault.UaFault.{UaFault}
 use Rattle.sip_udp.specs.declared.fault.UaFault.TheVariants as ua
@@ -10,8 +10,10 @@ use Rattle.sip_program.specs.RoundStatus.{round_status}
 
 abbrev pub ua_status : UaFault → ℕ
 ua_status ua.Socket = 4
+ua_status ua.Input = 4
 ua_status ua.Output = 4
 ua_status (ua.Round number fault) = round_status fault
+ua_status ua.NotAnswered = 6
 ua_status ua.NoMemory = 5
 
 abbrev pub talk_status : TalkFault → ℕ

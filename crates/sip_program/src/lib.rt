@@ -1,12 +1,14 @@
 //! The program `ua` but for its process: its words, its faults and their statuses.
 #![tactic(auto)]
 
+mod host;
 mod program;
 mod status;
 mod talk_fault;
 mod talking;
 mod words;
 
+pub use host::Host;
 pub use program::ua;
 pub use status::no_words;
 pub use words::given_words;

@@ -7,6 +7,7 @@ ghost use Rattle.sip_program.specs.Inputs.{HasRefusedRound, IsNoEventFile};
 ghost use Rattle.sip_program.specs.Words.{asks_replay};
 ghost use Rattle.sip_files.specs.declared.file_replay.ReplayFault.TheVariants as replay_fault;
 
+use crate::host::Host;
 use crate::status::{finish, finish_talk, tell_words};
 use crate::talking::talk_by;
 use crate::words::{self, CutName, ReplayWords, parse, replay_words};
@@ -16,10 +17,7 @@ use sip_round::Gate;
 use std::alloc::Global;
 use std::convert::AsStr;
 use std::io::{Read, Write};
-use std::net::Net;
-use std::random::RandomSource;
 use std::thread::Threads;
-use std::time::Clock;
 
 /// The gate of the program: it holds no piece of work up.
 struct Open;
@@ -32,10 +30,11 @@ impl Gate for Open {
 /// own name.
 ///
 /// `ua replay` reads an event file from `input` and writes its output file to `output`. `ua listen`
-/// and `ua call` read nothing there, and write the lines of their notices to `output`. A fault is
-/// told on `errors` after `ua: `, and a fault of the words as `clap` tells it. A write to `errors`
-/// that fails is passed over.
-pub fn ua<T: Threads + Clock + Net + RandomSource + Sync, S: AsStr, R: Read, W: Write, E: Write>(
+/// and `ua call` read nothing there, and write the lines of their notices to `output`; so does
+/// `ua agent`, which reads commands from the pipe of `rt`. A fault is told on `errors`
+/// after `ua: `, and a fault of the words as `clap` tells it. A write to `errors` that fails is
+/// passed over.
+pub fn ua<T: Threads + Host, S: AsStr, R: Read, W: Write, E: Write>(
     rt: &T,
     alloc: Global,
     words: &[S],
@@ -68,7 +67,8 @@ pub fn ua<T: Threads + Clock + Net + RandomSource + Sync, S: AsStr, R: Read, W: 
         let words = replay_words(&matches);
         finish(replay_by(rt, alloc, words, input, output), errors)
     } else {
-        finish_talk(talk_by(rt, alloc, &matches, output), errors)
+        let end = talk_by(rt, alloc, &matches, output, errors);
+        finish_talk(end, errors)
     }
 }
 

@@ -26,6 +26,8 @@ const FAILED_DEVICE: u8 = 4;
 
 const NO_MEMORY: u8 = 5;
 
+const NOT_ANSWERED: u8 = 6;
+
 /// What is told of words of which one isn't UTF-8.
 const NOT_UTF8: &str = "\
 error: invalid UTF-8 was detected in one or more arguments
@@ -98,7 +100,10 @@ fn talk_status(fault: TalkFault) -> u8
 {
     match fault {
         TalkFault::BadArgument => BAD_WORDS,
-        TalkFault::Random | TalkFault::Ua(UaFault::Socket | UaFault::Output) => FAILED_DEVICE,
+        TalkFault::Random | TalkFault::Ua(UaFault::Input | UaFault::Socket | UaFault::Output) => {
+            FAILED_DEVICE
+        }
+        TalkFault::Ua(UaFault::NotAnswered) => NOT_ANSWERED,
         TalkFault::Ua(UaFault::NoMemory) => NO_MEMORY,
         TalkFault::Ua(UaFault::Round { fault, .. }) => match fault {
             RoundFault::NoMemory { .. } => NO_MEMORY,

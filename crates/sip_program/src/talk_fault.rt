@@ -1,4 +1,4 @@
-//! Why `ua listen` or `ua call` stopped.
+//! Why `ua listen`, `ua call` or `ua agent` stopped.
 
 ghost use Rattle.std.specs.Prelude.{◌≡◌};
 
@@ -6,7 +6,7 @@ use sip_udp::UaFault;
 use std::alloc::AllocError;
 use thiserror::Error;
 
-/// Why `ua listen` or `ua call` stopped.
+/// Why `ua listen`, `ua call` or `ua agent` stopped.
 #[derive(Clone, Copy, Debug, PartialEq, Eq, Error)]
 pub(crate) enum TalkFault {
     /// A word isn't the address, the URI or the Call-ID that it stands for.

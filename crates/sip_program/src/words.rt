@@ -4,6 +4,7 @@ ghost use Rattle.std.specs.Prelude.{◌≡◌, ◌<◌, ◌≤◌, map};
 ghost use Rattle.sip_program.specs.Words as spec;
 
 use clap::{Arg, ArgAction, ArgMatches, Command, Error, value_parser};
+use sip_udp::Division;
 use std::alloc::{AllocError, Global};
 use std::convert::AsStr;
 use std::rt::Env;
@@ -21,9 +22,10 @@ Examples:
   ua replay < call.events > call.outputs
   ua listen --local 127.0.0.1:5070 --turns 3000
   ua call --local 127.0.0.1:5080 --to 127.0.0.1:5070 --uri sip:b@127.0.0.1 --turns 200
+  ua agent --local 127.0.0.1:5080 --record mine.events < commands
 
 Status: 0 success, 1 no event file, 2 bad words, 3 a refused round, 4 a device that failed, \
-5 no memory";
+5 no memory, 6 not answered";
 
 const REPLAY_EXAMPLE: &str = "\
 Example:
@@ -46,6 +48,13 @@ Example, and what it prints of a call that is answered:
   notice ua-call ended LOCAL-TAG REMOTE-TAG
   notice ua-call response 3.1 200 LOCAL-TAG REMOTE-TAG -";
 
+const AGENT_EXAMPLE: &str = "\
+Example, an OPTIONS to a listener, and what it prints:
+  echo 'plain c1 127.0.0.1:5070 OPTIONS sip:b@127.0.0.1 sip:a@127.0.0.1 sip:b@127.0.0.1 -' |
+    ua agent --local 127.0.0.1:5080
+
+  notice c1 response 0.1 200 LOCAL-TAG REMOTE-TAG -";
+
 /// How names are cut among shards, by the words of the command line.
 #[derive(Clone, Copy)]
 pub(crate) enum CutName {
@@ -66,7 +75,12 @@ pub(crate) struct ReplayWords {
 pub(crate) struct ListenWords<'a> {
     pub local: &'a str,
     pub ring: Option<u32>,
+    pub reliable: bool,
+    pub status: u16,
+    pub body: Option<&'a str>,
     pub turns: u32,
+    pub record: Option<&'a str>,
+    pub stats: bool,
 }
 
 /// The words of `ua call`, as they came.
@@ -76,8 +90,23 @@ pub(crate) struct CallWords<'a> {
     pub to: &'a str,
     pub uri: &'a str,
     pub call_id: &'a str,
+    pub body: Option<&'a str>,
+    pub hold: Option<u32>,
     pub leaves: bool,
+    pub must_answer: bool,
     pub turns: u32,
+    pub record: Option<&'a str>,
+    pub stats: bool,
+}
+
+/// The words of `ua agent`, as they came.
+#[derive(Clone, Copy)]
+pub(crate) struct AgentWords<'a> {
+    pub local: &'a str,
+    pub linger: u32,
+    pub division: Division,
+    pub record: Option<&'a str>,
+    pub stats: bool,
 }
 
 /// The words of the command line, without the program's own name.
@@ -107,14 +136,18 @@ pub(crate) fn asks_replay<S: AsStr>(words: &[S]) -> bool
 /// What `clap` has against them, which may also be the help that they ask for.
 pub(crate) fn parse<'a, S: AsStr>(alloc: Global, words: &'a [S]) -> Result<ArgMatches<'a>, Error> {
     let command = Command::new(alloc, "ua")
-        .about("A SIP user agent's core: it replays event files, and listens and calls over UDP")
+        .about(
+            "A SIP user agent's core: it replays event files, and listens, calls and does what a \
+            pipe asks for over UDP",
+        )
         .after_help(EXAMPLES)
         .bin_name("ua")?
         .no_binary_name(true)
         .subcommand_required(true)
         .subcommand(replay_command(alloc)?)?
         .subcommand(listen_command(alloc)?)?
-        .subcommand(call_command(alloc)?)?;
+        .subcommand(call_command(alloc)?)?
+        .subcommand(agent_command(alloc)?)?;
     command.try_get_matches_from(words)
 }
 
@@ -145,7 +178,12 @@ pub(crate) fn listen_words<'a>(matches: &ArgMatches<'a>) -> Option<ListenWords<'
     Some(ListenWords {
         local: listen.get_str("local")?,
         ring: listen.get_one::<u32>("ring"),
+        reliable: listen.get_flag("reliable"),
+        status: listen.get_one::<u16>("answer")?,
+        body: listen.get_str("body"),
         turns: listen.get_one::<u32>("turns")?,
+        record: listen.get_str("record"),
+        stats: listen.get_flag("stats"),
     })
 }
 
@@ -157,8 +195,28 @@ pub(crate) fn call_words<'a>(matches: &ArgMatches<'a>) -> Option<CallWords<'a>> 
         to: call.get_str("to")?,
         uri: call.get_str("uri")?,
         call_id: call.get_str("call-id")?,
+        body: call.get_str("body"),
+        hold: call.get_one::<u32>("hold"),
         leaves: call.get_flag("leave"),
+        must_answer: call.get_flag("must-answer"),
         turns: call.get_one::<u32>("turns")?,
+        record: call.get_str("record"),
+        stats: call.get_flag("stats"),
+    })
+}
+
+/// The words of `ua agent`, where they ask for it.
+pub(crate) fn agent_words<'a>(matches: &ArgMatches<'a>) -> Option<AgentWords<'a>> {
+    let agent = matches.subcommand_matches("agent")?;
+    Some(AgentWords {
+        local: agent.get_str("local")?,
+        linger: agent.get_one::<u32>("linger")?,
+        division: Division {
+            shards: count(agent, "shards", MAX_SHARDS),
+            workers: count(agent, "workers", MAX_WORKERS),
+        },
+        record: agent.get_str("record"),
+        stats: agent.get_flag("stats"),
     })
 }
 
@@ -167,10 +225,20 @@ fn listen_command<'a>(alloc: Global) -> Result<Command<'a>, AllocError> {
         .long("ring")
         .value_name("MS")
         .value_parser(value_parser!(u32))
+        .help("An INVITE gets 180, and its answer so many ms later, unless its caller cancels it");
+    let reliable = Arg::new(alloc, "reliable")
+        .long("reliable")
+        .action(ArgAction::SetTrue)
         .help(
-            "An INVITE is answered with 180, and so many ms later with 200, unless its caller \
-            cancels it",
+            "Where its caller supports it, an INVITE first gets a reliable 183, and the rest once \
+            that is acknowledged",
         );
+    let answer = Arg::new(alloc, "answer")
+        .long("answer")
+        .value_name("STATUS")
+        .value_parser(value_parser!(u16).range(200..=699))
+        .default_value("200")
+        .help("The status that an INVITE is answered with, from 200 to 699");
     Command::new(alloc, "listen")
         .about(
             "Answers calls over UDP: 200 to INVITE, BYE and OPTIONS, 501 to all else; a line for \
@@ -179,7 +247,12 @@ fn listen_command<'a>(alloc: Global) -> Result<Command<'a>, AllocError> {
         .after_help(LISTEN_EXAMPLE)
         .arg(local_argument(alloc))?
         .arg(turns_argument(alloc))?
-        .arg(ring)
+        .arg(ring)?
+        .arg(reliable)?
+        .arg(answer)?
+        .arg(body_argument(alloc, "The body of a 2xx to an INVITE, an SDP text"))?
+        .arg(record_argument(alloc))?
+        .arg(stats_argument(alloc))
 }
 
 fn call_command<'a>(alloc: Global) -> Result<Command<'a>, AllocError> {
@@ -201,7 +274,19 @@ fn call_command<'a>(alloc: Global) -> Result<Command<'a>, AllocError> {
     let leave = Arg::new(alloc, "leave")
         .long("leave")
         .action(ArgAction::SetTrue)
-        .help("A call that isn't answered one second before the last turn is cancelled");
+        .help(
+            "One second before the last turn a call that isn't answered is cancelled, and one that \
+            is up ended; it stops earlier once nothing is held",
+        );
+    let hold = Arg::new(alloc, "hold")
+        .long("hold")
+        .value_name("MS")
+        .value_parser(value_parser!(u32))
+        .help("How long the call stays up; without it, it ends as soon as it is answered");
+    let must_answer = Arg::new(alloc, "must-answer")
+        .long("must-answer")
+        .action(ArgAction::SetTrue)
+        .help("A call that isn't answered ends in status 6");
     Command::new(alloc, "call")
         .about(
             "Calls a URI over UDP and hangs up as soon as it is answered; a line for each notice",
@@ -212,7 +297,54 @@ fn call_command<'a>(alloc: Global) -> Result<Command<'a>, AllocError> {
         .arg(uri)?
         .arg(turns_argument(alloc))?
         .arg(call_id)?
-        .arg(leave)
+        .arg(leave)?
+        .arg(hold)?
+        .arg(must_answer)?
+        .arg(body_argument(alloc, "The body of the INVITE, an SDP text"))?
+        .arg(record_argument(alloc))?
+        .arg(stats_argument(alloc))
+}
+
+fn agent_command<'a>(alloc: Global) -> Result<Command<'a>, AllocError> {
+    let linger = Arg::new(alloc, "linger")
+        .long("linger")
+        .value_name("MS")
+        .value_parser(value_parser!(u32))
+        .default_value("32000")
+        .help("How long it goes on at most after the end of the input, while something is held");
+    Command::new(alloc, "agent")
+        .about(
+            "Does over UDP what the lines of standard input ask for, each the command of an event \
+            file; a line for each notice and each drop",
+        )
+        .after_help(AGENT_EXAMPLE)
+        .arg(local_argument(alloc))?
+        .arg(linger)?
+        .arg(shards_argument(alloc, "4"))?
+        .arg(workers_argument(alloc, "2"))?
+        .arg(record_argument(alloc))?
+        .arg(stats_argument(alloc))
+}
+
+fn body_argument<'a>(alloc: Global, help: &'a str) -> Arg<'a> {
+    Arg::new(alloc, "body")
+        .long("body")
+        .value_name("FILE")
+        .help(help)
+}
+
+fn stats_argument<'a>(alloc: Global) -> Arg<'a> {
+    Arg::new(alloc, "stats")
+        .long("stats")
+        .action(ArgAction::SetTrue)
+        .help("At the end a line on standard error tells the address and what was counted")
+}
+
+fn record_argument<'a>(alloc: Global) -> Arg<'a> {
+    Arg::new(alloc, "record")
+        .long("record")
+        .value_name("FILE")
+        .help("A new file for the event file of the run, which `ua replay` answers in the same way")
 }
 
 fn local_argument<'a>(alloc: Global) -> Arg<'a> {
@@ -222,7 +354,8 @@ fn local_argument<'a>(alloc: Global) -> Arg<'a> {
         .required(true)
         .help(
             "One's own address, as 192.0.2.1:5060: the socket is bound to it, and it stands in \
-            what is sent",
+            what is sent; a port of 0 is any that is free. With 0.0.0.0 datagrams to each address \
+            of the machine are taken, but peers are told to answer to 0.0.0.0",
         )
 }
 
@@ -235,25 +368,31 @@ fn turns_argument<'a>(alloc: Global) -> Arg<'a> {
         .help("How many turns of 10 ms are taken; 3000 are half a minute")
 }
 
-fn replay_command<'a>(alloc: Global) -> Result<Command<'a>, AllocError> {
-    let shards = Arg::new(alloc, "shards")
+fn shards_argument<'a>(alloc: Global, usual: &'a str) -> Arg<'a> {
+    Arg::new(alloc, "shards")
         .long("shards")
         .value_name("N")
         .value_parser(value_parser!(usize).range(1..=256))
-        .default_value("1")
+        .default_value(usual)
         .help(
             "Into how many parts transactions and calls are cut, from 1 to 256; each part is \
             dealt with by one thread at a time",
-        );
-    let workers = Arg::new(alloc, "workers")
+        )
+}
+
+fn workers_argument<'a>(alloc: Global, usual: &'a str) -> Arg<'a> {
+    Arg::new(alloc, "workers")
         .long("workers")
         .value_name("N")
         .value_parser(value_parser!(usize).range(1..=64))
-        .default_value("1")
+        .default_value(usual)
         .help(
             "On how many threads at most the parts are dealt with, from 1 to 64; with 1 no thread \
             is started",
-        );
+        )
+}
+
+fn replay_command<'a>(alloc: Global) -> Result<Command<'a>, AllocError> {
     let cut = Arg::new(alloc, "cut")
         .long("cut")
         .value_name("CUT")
@@ -266,8 +405,8 @@ fn replay_command<'a>(alloc: Global) -> Result<Command<'a>, AllocError> {
     Command::new(alloc, "replay")
         .about("Runs the rounds of an event file on standard input, and writes its output file")
         .after_help(REPLAY_EXAMPLE)
-        .arg(shards)?
-        .arg(workers)?
+        .arg(shards_argument(alloc, "1"))?
+        .arg(workers_argument(alloc, "1"))?
         .arg(cut)
 }
 

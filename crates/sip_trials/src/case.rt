@@ -1,13 +1,10 @@
 //! One case: what `ua` is run on, and what it is to write.
 
 use crate::difference::{Difference, difference_of};
-use sip_program::ua;
+use sip_program::{Host, ua};
 use std::alloc::AllocError;
-use std::net::Net;
-use std::random::RandomSource;
 use std::rt::Files;
 use std::thread::Threads;
-use std::time::Clock;
 use std::{fs, io};
 
 /// What a run of `ua` ends in and writes.
@@ -48,7 +45,7 @@ impl Case {
     /// # Errors
     ///
     /// Want of memory.
-    pub fn difference<R: AllocGlobal + Threads + Clock + Net + RandomSource + Sync>(
+    pub fn difference<R: AllocGlobal + Threads + Host>(
         &self,
         rt: &R,
     ) -> Result<Option<Difference>, AllocError> {

@@ -3,13 +3,11 @@
 use crate::case::Case;
 use crate::fault::TrialFault;
 use crate::tally::Tally;
+use sip_program::Host;
 use std::fs::{self, DirEntry};
 use std::io::{self, Write};
-use std::net::Net;
-use std::random::RandomSource;
 use std::rt::Files;
 use std::thread::Threads;
-use std::time::Clock;
 
 /// Runs the cases of a folder, which has a folder for each topic, in the order of their names, and
 /// writes of each that differs in what it does.
@@ -19,7 +17,7 @@ use std::time::Clock;
 /// A file that is missing or can't be read, an output that fails, and want of memory.
 pub fn cases_of<R, W>(rt: &R, folder: &str, output: &mut W) -> Result<Tally, TrialFault>
 where
-    R: Files + AllocGlobal + Threads + Clock + Net + RandomSource + Sync + Clone + Drop,
+    R: AllocGlobal + Threads + Host + Clone + Drop,
     W: Write,
 {
     let mut cases: u64 = 0;

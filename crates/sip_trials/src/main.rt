@@ -15,14 +15,11 @@ mod words;
 mod work;
 
 use fault::TrialFault;
+use sip_program::Host;
 use std::env;
 use std::io::{self, Write};
-use std::net::Net;
 use std::process::ExitCode;
-use std::random::RandomSource;
-use std::rt::Files;
 use std::thread::Threads;
-use std::time::Clock;
 use tally::Tally;
 use words::{Task, task_of};
 use work::done;
@@ -60,7 +57,7 @@ fn own_words(rt: &HostRuntime) -> io::Result<Vec<String>> {
 // Does what the words ask for, and says what was counted.
 fn tried<R, W: Write>(rt: &R, words: &[String], output: &mut W) -> Result<(), TrialFault>
 where
-    R: Files + AllocGlobal + Threads + Clock + Net + RandomSource + Sync + Clone + Drop,
+    R: AllocGlobal + Threads + Host + Clone + Drop,
 {
     let words: Vec<&str> = words.iter().map(|word| word.as_str()).collect(rt.alloc())?;
     if words.is_empty() {
@@ -78,7 +75,7 @@ where
 // Does a task, and says what was counted; cases that differ are a fault once all were run.
 fn counted<R, W: Write>(rt: &R, task: Task<'_>, output: &mut W) -> Result<(), TrialFault>
 where
-    R: Files + AllocGlobal + Threads + Clock + Net + RandomSource + Sync + Clone + Drop,
+    R: AllocGlobal + Threads + Host + Clone + Drop,
 {
     let tally = done(rt, task, output)?;
     writeln!(output, "{tally}")?;

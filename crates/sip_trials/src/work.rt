@@ -6,14 +6,11 @@ use crate::load::Load;
 use crate::messages::{answer_often, read_often};
 use crate::tally::Tally;
 use crate::words::Task;
+use sip_program::Host;
 use std::alloc::Global;
 use std::fs;
 use std::io::Write;
-use std::net::Net;
-use std::random::RandomSource;
-use std::rt::Files;
 use std::thread::Threads;
-use std::time::Clock;
 
 /// How long a transaction is held once it is answered, in ms: 64 T1.
 const LIFE: u64 = 32_000;
@@ -31,7 +28,7 @@ pub const REQUESTS_OF_ROUND: u64 = 10_000;
 /// Each of `TrialFault`.
 pub fn done<R, W>(rt: &R, task: Task<'_>, output: &mut W) -> Result<Tally, TrialFault>
 where
-    R: Files + AllocGlobal + Threads + Clock + Net + RandomSource + Sync + Clone + Drop,
+    R: AllocGlobal + Threads + Host + Clone + Drop,
     W: Write,
 {
     match task {

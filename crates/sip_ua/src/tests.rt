@@ -4,22 +4,20 @@ mod desk;
 mod dialog;
 mod files;
 mod reading;
+mod recorded;
 mod reliable;
 mod shards;
 mod two_agents;
 mod udp;
 mod workers;
 
-use sip_program::{given_words, no_words, ua};
+use sip_program::{Host, given_words, no_words, ua};
 use std::alloc::{AllocError, Global};
 use std::env::FillError;
 use std::io::{self, Read, Write};
-use std::net::Net;
-use std::random::RandomSource;
 use std::rt::Env;
 use std::test::Fail;
 use std::thread::Threads;
-use std::time::Clock;
 
 /// How a run of the program ended, and what it wrote.
 #[derive(Drop)]
@@ -30,7 +28,7 @@ struct Ended {
 }
 
 // The program, with these words and this input.
-fn run_on<T: Threads + Clock + Net + RandomSource + Sync, R: Read>(
+fn run_on<T: Threads + Host, R: Read>(
     rt: &T,
     alloc: Global,
     words: &[&str],
@@ -84,7 +82,7 @@ impl Write for Failing {
 
 // A run on an event file whose rounds begin so, and whose last round has so many events, of which
 // each is a failed send of a transaction that isn't there.
-fn run_of_many<T: Threads + Clock + Net + RandomSource + Sync>(
+fn run_of_many<T: Threads + Host>(
     rt: &T,
     alloc: Global,
     rounds: &str,

@@ -1,3 +1,4 @@
 pub mod Ends
 pub mod OwnUri
 pub mod Sendings
+pub mod Told

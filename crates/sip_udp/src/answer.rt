@@ -1,10 +1,18 @@
-//! The answers that both users give to requests.
+//! The answers that the users give to requests.
 
 use sip_message::{CallId, Id, Reason};
 use sip_round::Event;
 use sip_served::{Reliability, Respond, UserCommand};
 use sip_text::Text;
 use std::alloc::{AllocError, Global};
+
+const RINGING_STATUS: u16 = 180;
+
+const SESSION_PROGRESS: u16 = 183;
+
+pub(crate) const SUCCESS: u16 = 200;
+
+const NOT_IMPLEMENTED: u16 = 501;
 
 /// 200 to BYE and OPTIONS, and 501 to all else.
 pub(crate) fn answer(
@@ -13,49 +21,66 @@ pub(crate) fn answer(
     id: Id,
     method: &[u8],
 ) -> Result<Event, AllocError> {
-    if method == b"BYE".as_slice() || method == b"OPTIONS".as_slice() {
-        ok(alloc, call_id, id)
-    } else {
-        not_implemented(alloc, call_id, id)
-    }
-}
-
-/// 200 OK.
-pub(crate) fn ok(alloc: Global, call_id: &CallId, id: Id) -> Result<Event, AllocError> {
-    respond(
-        alloc,
-        call_id,
-        id,
-        200,
-        Reason::from_text(Text::copy_of(alloc, b"OK")?),
-    )
+    let is_served = method == b"BYE".as_slice() || method == b"OPTIONS".as_slice();
+    let status = if is_served { SUCCESS } else { NOT_IMPLEMENTED };
+    let body = Text::from_vec(Vec::new(alloc));
+    respond(alloc, call_id, id, status, Reliability::Plain, body)
 }
 
 /// 180 Ringing.
 pub(crate) fn ringing(alloc: Global, call_id: &CallId, id: Id) -> Result<Event, AllocError> {
-    let reason = Reason::from_text(Text::copy_of(alloc, b"Ringing")?);
-    respond(alloc, call_id, id, 180, reason)
+    let body = Text::from_vec(Vec::new(alloc));
+    respond(alloc, call_id, id, RINGING_STATUS, Reliability::Plain, body)
 }
 
-fn not_implemented(alloc: Global, call_id: &CallId, id: Id) -> Result<Event, AllocError> {
-    let reason = Reason::from_text(Text::copy_of(alloc, b"Not Implemented")?);
-    respond(alloc, call_id, id, 501, reason)
+/// 183 Session Progress, which its caller is to acknowledge (RFC 3262, section 3).
+pub(crate) fn progress(alloc: Global, call_id: &CallId, id: Id) -> Result<Event, AllocError> {
+    let body = Text::from_vec(Vec::new(alloc));
+    respond(
+        alloc,
+        call_id,
+        id,
+        SESSION_PROGRESS,
+        Reliability::Reliable,
+        body,
+    )
 }
 
-// A response without a body, sent once.
-fn respond(
+/// A response of this status, with the usual reason.
+pub(crate) fn respond(
     alloc: Global,
     call_id: &CallId,
     id: Id,
     status: u16,
-    reason: Reason,
+    reliability: Reliability,
+    body: Text,
 ) -> Result<Event, AllocError> {
+    let reason = Reason::new(Text::copy_of(alloc, reason_of(status))?);
     Ok(Event::Command(UserCommand::Respond(Respond {
         call_id: call_id.clone()?,
         id,
         status,
-        reliability: Reliability::Plain,
-        body: Text::from_vec(Vec::new(alloc)),
-        reason,
+        reliability,
+        body,
+        reason: reason.unwrap_or(Reason::nothing(alloc)),
     })))
+}
+
+// The reason that RFC 3261, section 21, gives for a status; an empty one for those not in use here.
+fn reason_of(status: u16) -> &'static [u8] {
+    match status {
+        RINGING_STATUS => b"Ringing",
+        SESSION_PROGRESS => b"Session Progress",
+        SUCCESS => b"OK",
+        302 => b"Moved Temporarily",
+        404 => b"Not Found",
+        480 => b"Temporarily Unavailable",
+        486 => b"Busy Here",
+        488 => b"Not Acceptable Here",
+        NOT_IMPLEMENTED => b"Not Implemented",
+        503 => b"Service Unavailable",
+        600 => b"Busy Everywhere",
+        603 => b"Decline",
+        _ => b"",
+    }
 }

@@ -3,18 +3,20 @@
 ghost use Rattle.std.specs.Prelude.{◌≡◌, IfOk, codes};
 
 use crate::answer::answer;
+use crate::call_plan::CallPlan;
 use crate::user::User;
-use sip_message::{CallId, Id, StatusCode, Token};
+use sip_message::{CallId, Id, StatusCode, Token, Uri};
 use sip_round::Event;
 use sip_served::{Cancel, DialogBody, DialogRequest, Invite, Notice, UserCommand};
 use sip_text::Text;
 use std::alloc::{AllocError, Global};
+use std::io::Write;
 
 /// The id of the INVITE: it is the first event of the first round.
 const INVITE: Id = Id { round: 0, place: 1 };
 
 /// How many turns before the last a call that isn't answered is given up, where it is to be.
-const TURNS_OF_LEAVING: u32 = 100;
+const TURNS_OF_LEAVING: u64 = 100;
 
 /// How far the call is.
 #[derive(Clone, Copy, PartialEq, Eq)]
@@ -23,31 +25,104 @@ enum Stage {
     Asked,
     /// It has none, and it was cancelled.
     Cancelled,
-    /// It was answered or refused.
-    Over,
+    /// A 2xx came.
+    Answered,
+    /// It was rejected, or has failed.
+    Refused,
 }
 
-/// Sends an INVITE and ends each dialog that a 2xx to it confirms by a BYE. Where that 2xx has a
-/// body, its ACK waits for the user, who gives it, without a body, before the BYE. BYE and OPTIONS
-/// of the peer are answered with 200, every other request with 501. A call that isn't answered is
-/// cancelled one second before the last turn, where it is to be.
+/// A dialog that is up until its BYE.
+#[derive(Drop)]
+struct Up {
+    local_tag: Text,
+    remote_tag: Text,
+    /// The moment of the BYE, in ms.
+    due: u64,
+}
+
+/// Sends an INVITE and ends each dialog that a 2xx to it confirms by a BYE, the first one as late as
+/// its plan says. Where that 2xx has a body, its ACK waits for the user, who gives it, without a
+/// body, before the BYE. BYE and OPTIONS of the peer are answered with 200, every other request with
+/// 501. One second before the last turn a call that isn't answered is cancelled and one that is up
+/// is ended, where it is to be.
 #[derive(Drop)]
 pub(crate) struct Calling {
     // Until it was sent.
     invite: Option<Invite>,
     call_id: CallId,
+    hold: Option<u32>,
     leaves: bool,
+    must_answer: bool,
     stage: Stage,
+    up: Option<Up>,
 }
 
 impl Calling {
-    pub(crate) fn new(invite: Invite, leaves: bool) -> Result<Calling, AllocError> {
+    pub(crate) fn new(plan: CallPlan, from: Uri) -> Result<Calling, AllocError> {
+        let hold = plan.hold;
+        let leaves = plan.leaves;
+        let must_answer = plan.must_answer;
+        let invite = plan.invite(from)?;
         Ok(Calling {
             call_id: invite.call_id.clone()?,
             invite: Some(invite),
+            hold,
             leaves,
+            must_answer,
             stage: Stage::Asked,
+            up: None,
         })
+    }
+
+    // A final response to the INVITE, of this status.
+    fn answered(
+        &mut self,
+        alloc: Global,
+        now: u64,
+        status: StatusCode,
+        local_tag: &Text,
+        remote_tag: &Text,
+        body: &Text,
+        events: &mut Vec<Event>,
+    ) -> Result<(), AllocError> {
+        if !is_success(status) {
+            self.refused();
+            return Ok(());
+        }
+        let former = self.stage;
+        self.stage = Stage::Answered;
+        if !body.is_empty() {
+            events.push(ack(alloc, &self.call_id, local_tag, remote_tag)?)?;
+        }
+        match self.hold {
+            Some(hold) if former == Stage::Asked => {
+                self.up = Some(Up {
+                    local_tag: local_tag.clone()?,
+                    remote_tag: remote_tag.clone()?,
+                    due: now.saturating_add(u64::from(hold)),
+                });
+            }
+            _ => events.push(bye(alloc, &self.call_id, local_tag, remote_tag)?)?,
+        }
+        Ok(())
+    }
+
+    // No answer comes any more, where none has come.
+    fn refused(&mut self) {
+        if self.stage != Stage::Answered {
+            self.stage = Stage::Refused;
+        }
+    }
+
+    // The dialog that is up, where it is to end now.
+    fn due_dialog(&mut self, now: u64, is_leaving: bool) -> Option<Up> {
+        match self.up.take() {
+            Some(up) if is_leaving || up.due <= now => Some(up),
+            up => {
+                self.up = up;
+                None
+            }
+        }
     }
 }
 
@@ -62,7 +137,7 @@ impl User for Calling {
     fn told(
         &mut self,
         alloc: Global,
-        _now: u64,
+        now: u64,
         notice: &Notice,
         events: &mut Vec<Event>,
     ) -> Result<(), AllocError> {
@@ -74,31 +149,40 @@ impl User for Calling {
                 ..
             } => events.push(answer(alloc, call_id, *id, method.as_slice())?)?,
             Notice::Response {
-                call_id,
                 id,
                 status,
                 local_tag,
                 remote_tag,
                 body,
+                ..
             } if *id == INVITE && status.code() >= 200 => {
-                self.stage = Stage::Over;
-                if is_success(*status) {
-                    end(alloc, call_id, local_tag, remote_tag, body, events)?;
-                }
+                self.answered(alloc, now, *status, local_tag, remote_tag, body, events)?;
             }
+            Notice::Timeout { id, .. } | Notice::Failed { id, .. } if *id == INVITE => {
+                self.refused();
+            }
+            Notice::Ended { remote_tag, .. } => match &self.up {
+                Some(up) if up.remote_tag == *remote_tag => self.up = None,
+                _ => {}
+            },
             _ => {}
         }
         Ok(())
     }
 
-    fn turn(
+    fn turn<E: Write>(
         &mut self,
-        _alloc: Global,
-        _now: u64,
-        turns_left: u32,
+        alloc: Global,
+        now: u64,
+        turns_left: u64,
         events: &mut Vec<Event>,
+        _errors: &mut E,
     ) -> Result<(), AllocError> {
-        if self.leaves && self.stage == Stage::Asked && turns_left <= TURNS_OF_LEAVING {
+        let is_leaving = self.leaves && turns_left <= TURNS_OF_LEAVING;
+        if let Some(up) = self.due_dialog(now, is_leaving) {
+            events.push(bye(alloc, &self.call_id, &up.local_tag, &up.remote_tag)?)?;
+        }
+        if is_leaving && self.stage == Stage::Asked {
             self.stage = Stage::Cancelled;
             events.push(Event::Command(UserCommand::Cancel(Cancel {
                 call_id: self.call_id.clone()?,
@@ -107,22 +191,18 @@ impl User for Calling {
         }
         Ok(())
     }
-}
 
-// A dialog that was confirmed ends, after its ACK.
-fn end(
-    alloc: Global,
-    call_id: &CallId,
-    local_tag: &Text,
-    remote_tag: &Text,
-    body: &Text,
-    events: &mut Vec<Event>,
-) -> Result<(), AllocError> {
-    if !body.is_empty() {
-        events.push(ack(alloc, call_id, local_tag, remote_tag)?)?;
+    fn is_over(&self, _now: u64, holds: bool) -> bool {
+        self.leaves && !holds && matches!(self.stage, Stage::Answered | Stage::Refused)
     }
-    events.push(bye(alloc, call_id, local_tag, remote_tag)?)?;
-    Ok(())
+
+    fn is_eager(&self) -> bool {
+        false
+    }
+
+    fn is_content(&self) -> bool {
+        !self.must_answer || self.stage == Stage::Answered
+    }
 }
 
 fn is_success(status: StatusCode) -> bool {

@@ -12,12 +12,18 @@ pub enum UaFault {
     /// The socket can't be used, the clock fails, or the thread of the listener can't be started.
     #[error("socket failed")]
     Socket,
+    /// The pipe can't be read.
+    #[error("input failed")]
+    Input,
     /// The notices can't be written.
     #[error("output failed")]
     Output,
     /// The round of this number was refused.
     #[error("round {number}: {fault}")]
     Round { number: u64, fault: RoundFault },
+    /// No 2xx came to a call that had to be answered.
+    #[error("not answered")]
+    NotAnswered,
     #[error("no memory")]
     NoMemory,
 }

@@ -1,23 +1,36 @@
 //! A user agent over a UDP socket: a listener on a thread of its own, turns on the caller's, and
-//! two users.
+//! three users.
 #![tactic(auto)]
 
 mod answer;
 mod answering;
+mod call_plan;
 mod calling;
+mod counts;
+mod division;
+mod endpoint;
 mod fault;
 mod inlet;
+mod listen_plan;
 mod listener;
 mod notices;
 mod outlet;
+mod pipe;
+mod piped;
+mod record;
 mod sending;
 mod talk;
 mod turns;
 mod user;
 
+pub use call_plan::CallPlan;
+pub use division::Division;
+pub use endpoint::Endpoint;
 pub use fault::UaFault;
 pub use inlet::{Inlet, Received};
+pub use listen_plan::ListenPlan;
 pub use listener::{Flags, Heard, hear};
 pub use outlet::{Asked, Outlet};
+pub use pipe::{PipeLine, feed};
 pub use sending::send_all;
-pub use talk::{call, call_until, listen, listen_ringing};
+pub use talk::{agent, call, call_from, listen, listen_at};

@@ -42,6 +42,8 @@ pub struct Heard {
     pub end: Option<Ended<Event>>,
     /// Why it ended before it was told to.
     pub fault: Option<UaFault>,
+    /// How many datagrams the line had no room for.
+    pub lost: u64,
 }
 
 /// Posts each datagram that comes in, until it is told to stop, and ends the line. A datagram for
@@ -55,10 +57,19 @@ pub fn hear<I: Inlet + Drop>(
 ) -> Heard
     ensures { IfSome result.end (λ end. IsEndOfLine line end) }
 {
-    let fault = post_all(alloc, &mut inlet, &mut buffer, &mut line, &flags.stop).err();
+    let mut lost = 0;
+    let posted = post_all(
+        alloc,
+        &mut inlet,
+        &mut buffer,
+        &mut line,
+        &flags.stop,
+        &mut lost,
+    );
+    let fault = posted.err();
     let end = line.finish().ok();
     flags.ended.store(true, Ordering::SeqCst);
-    Heard { end, fault }
+    Heard { end, fault, lost }
 }
 
 // Posts datagrams until it is told to stop.
@@ -68,6 +79,7 @@ fn post_all<I: Inlet>(
     buffer: &mut [u8],
     line: &mut Poster<Event>,
     stop: &AtomicBool,
+    lost: &mut u64,
 ) -> Result<(), UaFault>
     ensures { SameLine line.old line.new }
 {
@@ -78,7 +90,9 @@ fn post_all<I: Inlet>(
         }
         match inlet.receive(buffer) {
             Received::Datagram { from, length } => {
-                post(alloc, line, from, &buffer[..length])?;
+                if !post(alloc, line, from, &buffer[..length])? {
+                    *lost = lost.saturating_add(1);
+                }
                 failed = 0;
             }
             Received::Nothing => failed = 0,
@@ -89,11 +103,15 @@ fn post_all<I: Inlet>(
     Ok(())
 }
 
-// Posts a datagram, where there is room.
-fn post(alloc: Global, line: &mut Poster<Event>, from: Addr, bytes: &[u8]) -> Result<(), AllocError>
+// Posts a datagram, where there is room, and says whether there was.
+fn post(
+    alloc: Global,
+    line: &mut Poster<Event>,
+    from: Addr,
+    bytes: &[u8],
+) -> Result<bool, AllocError>
     ensures { SameLine line.old line.new }
 {
     let bytes = Text::copy_of(alloc, bytes)?;
-    let _ = line.post(Event::Datagram { from, bytes });
-    Ok(())
+    Ok(line.post(Event::Datagram { from, bytes }).is_ok())
 }

@@ -1,21 +1,25 @@
-//! The two user agents: one that listens, and one that calls.
+//! The user agents: one that listens, one that calls, and one that does what a pipe asks for.
 
 ghost use Rattle.std.specs.Prelude.{◌≡◌, IfOk, IfSome, OnOk};
 ghost use Rattle.sip_desk.specs.Lines.{IsEndOfLine, IsPosterOf, IsEndOf, all_posted, taken};
 
 use crate::answering::Answering;
+use crate::call_plan::CallPlan;
 use crate::calling::Calling;
+use crate::endpoint::Endpoint;
 use crate::fault::UaFault;
+use crate::listen_plan::ListenPlan;
 use crate::listener::{Flags, Heard, hear};
+use crate::pipe::feed;
+use crate::piped::Piped;
 use crate::turns::{LINE_CAPACITY, Turns};
 use crate::user::User;
 use sip_desk::{Desk, NoMemory, Poster, open};
 use sip_message::{Addr, CallId, Uri, ip_text};
-use sip_round::{Config, Event};
-use sip_served::{Invite, ProvisionalSupport};
+use sip_round::Event;
 use sip_text::Text;
 use std::alloc::{AllocError, Global};
-use std::io::{self, Write};
+use std::io::{self, BufRead, Write};
 use std::net::UdpSocket;
 use std::snapshot::Snapshot;
 use std::sync::Arc;
@@ -44,32 +48,29 @@ pub fn listen<R: Threads + Clock + Sync, W: Write>(
     turns: u32,
     notices: &mut W,
 ) -> Result<(), UaFault> {
-    listen_ringing(rt, alloc, socket, local, seed, None, turns, notices)
+    let endpoint = Endpoint::new(socket, local, seed, None::<Vec<u8>>);
+    let plan = ListenPlan::usual(alloc);
+    let mut errors = Vec::new(alloc);
+    listen_at(rt, alloc, endpoint, plan, turns, notices, &mut errors)
 }
 
-/// Does what [`listen`] does; where `ring` is given, an INVITE is answered with 180 first, and so
-/// many ms later with 200, unless its caller cancels it.
+/// Does what [`listen`] does, at an endpoint, and answers INVITEs by a plan. That a record was given
+/// up is told on `errors`.
 ///
 /// # Errors
 ///
 /// The first fault. All is joined then, too.
-pub fn listen_ringing<R: Threads + Clock + Sync, W: Write>(
+pub fn listen_at<R: Threads + Clock + Sync, F: Write + Drop, W: Write, E: Write>(
     rt: &R,
     alloc: Global,
-    socket: UdpSocket,
-    local: Addr,
-    seed: [u8; 32],
-    ring: Option<u32>,
+    endpoint: Endpoint<F>,
+    plan: ListenPlan,
     turns: u32,
     notices: &mut W,
+    errors: &mut E,
 ) -> Result<(), UaFault> {
-    let config = Config {
-        local,
-        seed,
-        first: 0,
-    };
-    let user = Answering::new(alloc, ring);
-    talk(rt, alloc, socket, config, user, turns, notices)
+    let user = Answering::new(alloc, plan);
+    talk(rt, alloc, endpoint, user, u64::from(turns), notices, errors)
 }
 
 /// Calls a URI at an address, ends each dialog that a 2xx confirms, and takes so many turns of 10
@@ -90,47 +91,68 @@ pub fn call<R: Threads + Clock + Sync, W: Write>(
     turns: u32,
     notices: &mut W,
 ) -> Result<(), UaFault> {
-    let leaves = false;
-    call_until(
-        rt, alloc, socket, local, to, uri, call_id, seed, leaves, turns, notices,
-    )
+    let endpoint = Endpoint::new(socket, local, seed, None::<Vec<u8>>);
+    let plan = CallPlan::usual(alloc, to, uri, call_id);
+    let mut errors = Vec::new(alloc);
+    call_from(rt, alloc, endpoint, plan, turns, notices, &mut errors)
 }
 
-/// Does what [`call`] does; where `leaves` says so, a call that isn't answered one second before
-/// the last turn is cancelled.
+/// Does what [`call`] does, from an endpoint and by a plan. That a record was given up is told on
+/// `errors`.
 ///
 /// # Errors
 ///
 /// The first fault. All is joined then, too.
-pub fn call_until<R: Threads + Clock + Sync, W: Write>(
+pub fn call_from<R: Threads + Clock + Sync, F: Write + Drop, W: Write, E: Write>(
     rt: &R,
     alloc: Global,
-    socket: UdpSocket,
-    local: Addr,
-    to: Addr,
-    uri: Uri,
-    call_id: CallId,
-    seed: [u8; 32],
-    leaves: bool,
+    endpoint: Endpoint<F>,
+    plan: CallPlan,
     turns: u32,
     notices: &mut W,
+    errors: &mut E,
 ) -> Result<(), UaFault> {
-    let config = Config {
-        local,
-        seed,
-        first: 0,
+    let from = own_uri(alloc, endpoint.config.local)?;
+    let user = Calling::new(plan, from)?;
+    talk(rt, alloc, endpoint, user, u64::from(turns), notices, errors)
+}
+
+/// Does what the lines of the input ask for, each the command of an event file, and writes each
+/// notice and each drop as a line of an output file. A line that is no command is told on `errors`
+/// with its number. After the end of the input it goes on until nothing is held or so many ms are
+/// over.
+///
+/// # Errors
+///
+/// The first fault; the input may not have ended then.
+pub fn agent<
+    R: Threads + Clock + Sync,
+    F: Write + Drop,
+    I: BufRead + Send + Drop + 'static,
+    W: Write,
+    E: Write,
+>(
+    rt: &R,
+    alloc: Global,
+    endpoint: Endpoint<F>,
+    input: I,
+    linger: u32,
+    notices: &mut W,
+    errors: &mut E,
+) -> Result<(), UaFault> {
+    let (pipe, line) = one_line(alloc)?;
+    let Ok(flags) = Arc::new(alloc, Flags::new()) else {
+        return Err(UaFault::NoMemory);
     };
-    let invite = Invite {
-        call_id,
-        address: to,
-        request_uri: uri.clone()?,
-        from: own_uri(alloc, local)?,
-        to: uri,
-        support: ProvisionalSupport::None,
-        body: Text::from_vec(Vec::new(alloc)),
+    let their_flags = flags.clone()?;
+    let user = Piped::new(pipe, flags.clone()?, linger);
+    let Ok(feeder) = thread::spawn(rt, move || feed(alloc, input, line, their_flags)) else {
+        return Err(UaFault::Socket);
     };
-    let user = Calling::new(invite, leaves)?;
-    talk(rt, alloc, socket, config, user, turns, notices)
+    let end = talk(rt, alloc, endpoint, user, u64::MAX, notices, errors);
+    flags.stop.store(true, Ordering::SeqCst);
+    end?;
+    feeder.join(rt)
 }
 
 // `sip:ua@` and the local IP.
@@ -150,19 +172,26 @@ impl Promise<Heard> for OfLine {
 }
 
 // Starts the listener, takes the turns, and joins and settles the listener.
-fn talk<R: Threads + Clock + Sync, U: User, W: Write>(
+fn talk<R: Threads + Clock + Sync, U: User, F: Write + Drop, W: Write, E: Write>(
     rt: &R,
     alloc: Global,
-    mut socket: UdpSocket,
-    config: Config,
+    endpoint: Endpoint<F>,
     user: U,
-    turns: u32,
+    turns: u64,
     notices: &mut W,
+    errors: &mut E,
 ) -> Result<(), UaFault> {
+    let Endpoint {
+        mut socket,
+        config,
+        division,
+        record,
+        is_counted,
+    } = endpoint;
     let Ok(theirs) = listening(&socket) else {
         return Err(UaFault::Socket);
     };
-    let mut own = Turns::new(rt, alloc, config, user)?;
+    let mut own = Turns::new(rt, alloc, config, division, record, user, errors)?;
     let (mut desk, line) = one_line(alloc)?;
     let buffer = vec![in alloc; 0u8; BUFFER]?;
     let Ok(flags) = Arc::new(alloc, Flags::new()) else {
@@ -175,11 +204,24 @@ fn talk<R: Threads + Clock + Sync, U: User, W: Write>(
     }) else {
         return Err(UaFault::Socket);
     };
-    let end = own.take(rt, turns, &mut desk, &mut socket, notices, &flags.ended);
+    let has_ended = &flags.ended;
+    let end = own.take(
+        rt,
+        turns,
+        &mut desk,
+        &mut socket,
+        notices,
+        errors,
+        has_ended,
+    );
     flags.stop.store(true, Ordering::SeqCst);
     let heard = listener.join(rt);
+    if is_counted {
+        own.tell_counts(heard.lost, errors);
+    }
     end?;
-    settle(&mut desk, heard)
+    settle(&mut desk, heard)?;
+    own.verdict()
 }
 
 fn listening(socket: &UdpSocket) -> io::Result<UdpSocket> {
@@ -188,7 +230,7 @@ fn listening(socket: &UdpSocket) -> io::Result<UdpSocket> {
 }
 
 // A desk of one line, and its poster.
-fn one_line(alloc: Global) -> Result<(Desk<Event>, Poster<Event>), NoMemory>
+fn one_line<T: Drop>(alloc: Global) -> Result<(Desk<T>, Poster<T>), NoMemory>
     ensures { IfOk result (λ made. IsPosterOf made.0 made.1) }
 {
     let (desk, mut posters) = open(alloc, 1, LINE_CAPACITY)?;
@@ -201,7 +243,7 @@ fn settle(desk: &mut Desk<Event>, heard: Heard) -> Result<(), UaFault>
     requires { IfSome heard.end (λ end. IsEndOf desk.old end) }
     ensures { OnOk result (IfSome heard.end (λ end. taken desk.new 0 ≡ all_posted end)) }
 {
-    let Heard { end, fault } = heard;
+    let Heard { end, fault, .. } = heard;
     if let Some(fault) = fault {
         return Err(fault);
     }

@@ -2,9 +2,12 @@
 
 ghost use Rattle.sip_desk.specs.Lines.{KeepsLines};
 
+use crate::counts::Counts;
+use crate::division::Division;
 use crate::fault::{UaFault, refused_round};
 use crate::notices::write_notices;
 use crate::outlet::Outlet;
+use crate::record::Record;
 use crate::sending::send_all;
 use crate::user::User;
 use sip_desk::Desk;
@@ -18,16 +21,10 @@ use std::sync::atomic::{AtomicBool, Ordering};
 use std::thread::{self, Threads};
 use std::time::{Clock, Duration, Instant};
 
-/// Into how many parts transactions and calls are cut.
-const SHARDS: usize = 4;
-
-/// On how many threads a round is dealt with.
-const WORKERS: usize = 2;
-
 /// How many events the line of the listener has room for.
 pub(crate) const LINE_CAPACITY: usize = 1024;
 
-/// How long a turn sleeps at its end, in ms.
+/// How long a turn sleeps at its end, in ms, or waits at most for an event.
 const PAUSE: u64 = 10;
 
 /// The gate of the agent: it holds no piece of work up.
@@ -39,10 +36,13 @@ impl Gate for Open {
 
 /// An agent between two turns.
 #[derive(Drop)]
-pub(crate) struct Turns<U> {
+pub(crate) struct Turns<U, F> {
     alloc: Global,
     agent: Agent<Spread>,
     user: U,
+    division: Division,
+    record: Record<F>,
+    counts: Counts,
     start: Instant,
     // The moment of the last round, in ms since the start, and the number of the next.
     moment: u64,
@@ -51,24 +51,32 @@ pub(crate) struct Turns<U> {
     waiting: Vec<Event>,
 }
 
-impl<U: User> Turns<U> {
-    /// Before the first turn.
-    pub(crate) fn new<R: Clock>(
+impl<U: User, F: Write + Drop> Turns<U, F> {
+    /// Before the first turn. The head of the record is written.
+    pub(crate) fn new<R: Clock, E: Write>(
         rt: &R,
         alloc: Global,
         config: Config,
+        division: Division,
+        record: Option<F>,
         mut user: U,
-    ) -> Result<Turns<U>, UaFault> {
-        let agent = Agent::new(alloc, config, SHARDS, Spread)?;
+        errors: &mut E,
+    ) -> Result<Turns<U, F>, UaFault> {
+        let agent = Agent::new(alloc, config, division.shards, Spread)?;
         let mut waiting = Vec::new(alloc);
         user.begin(alloc, &mut waiting)?;
         let Ok(start) = Instant::now(rt) else {
             return Err(UaFault::Socket);
         };
+        let mut record = Record::new(record);
+        record.begin(alloc, &config, errors)?;
         Ok(Turns {
             alloc,
             agent,
             user,
+            division,
+            record,
+            counts: Counts::new(alloc, config.local),
             start,
             moment: 0,
             number: config.first,
@@ -76,14 +84,15 @@ impl<U: User> Turns<U> {
         })
     }
 
-    /// Takes so many turns, or fewer where the listener has ended.
-    pub(crate) fn take<R: Threads + Clock + Sync, O: Outlet, W: Write>(
+    /// Takes so many turns, or fewer where the user wants no more or the listener has ended.
+    pub(crate) fn take<R: Threads + Clock + Sync, O: Outlet, W: Write, E: Write>(
         &mut self,
         rt: &R,
-        turns: u32,
+        turns: u64,
         desk: &mut Desk<Event>,
         outlet: &mut O,
         notices: &mut W,
+        errors: &mut E,
         listener_ended: &AtomicBool,
     ) -> Result<(), UaFault>
         ensures { KeepsLines desk.old desk.new }
@@ -92,15 +101,94 @@ impl<U: User> Turns<U> {
             if listener_ended.load(Ordering::SeqCst) {
                 break;
             }
-            self.user
-                .turn(self.alloc, self.moment, turns_left, &mut self.waiting)?;
-            self.collect(desk)?;
-            let outputs = self.run_round(rt)?;
-            let mut failed = send_all(self.alloc, outlet, &outputs)?;
-            self.waiting.append(&mut failed)?;
-            self.tell_user(&outputs)?;
-            write_notices(self.alloc, notices, outputs)?;
+            self.gather(rt, turns_left, desk, errors)?;
+            if self.user.is_over(self.moment_now(rt)?, self.has_work()) {
+                break;
+            }
+            if self.has_work() || !self.user.is_eager() {
+                self.turn(rt, outlet, notices, errors)?;
+            }
+            self.pause(rt, turns_left, desk, errors)?;
+        }
+        Ok(())
+    }
+
+    /// Whether the user has had what it was to have at least.
+    ///
+    /// # Errors
+    ///
+    /// `NotAnswered`, where it hasn't.
+    pub(crate) fn verdict(&self) -> Result<(), UaFault> {
+        if self.user.is_content() {
+            Ok(())
+        } else {
+            Err(UaFault::NotAnswered)
+        }
+    }
+
+    /// Tells what was counted, after the listener has lost so many datagrams.
+    pub(crate) fn tell_counts<E: Write>(&mut self, lost: u64, errors: &mut E) {
+        self.counts.lost = lost;
+        let counts = &self.counts;
+        let _ = writeln!(errors, "ua: {counts}");
+    }
+
+    // What the user asks for by itself, and what was posted.
+    fn gather<R: Clock, E: Write>(
+        &mut self,
+        rt: &R,
+        turns_left: u64,
+        desk: &mut Desk<Event>,
+        errors: &mut E,
+    ) -> Result<(), UaFault>
+        ensures { KeepsLines desk.old desk.new }
+    {
+        let now = self.moment_now(rt)?;
+        self.user
+            .turn(self.alloc, now, turns_left, &mut self.waiting, errors)?;
+        self.collect(desk)
+    }
+
+    // Whether something waits or is held, so that a round may change something.
+    fn has_work(&self) -> bool {
+        !self.waiting.is_empty() || self.agent.live() != (0, 0)
+    }
+
+    // A round, whose outputs are sent and told.
+    fn turn<R: Threads + Clock + Sync, O: Outlet, W: Write, E: Write>(
+        &mut self,
+        rt: &R,
+        outlet: &mut O,
+        notices: &mut W,
+        errors: &mut E,
+    ) -> Result<(), UaFault> {
+        let outputs = self.run_round(rt, errors)?;
+        let mut failed = send_all(self.alloc, outlet, &outputs)?;
+        self.waiting.append(&mut failed)?;
+        self.tell_user(&outputs)?;
+        write_notices(self.alloc, notices, &outputs, self.user.is_eager())
+    }
+
+    // Sleeps; an eager user's turn is over as soon as something waits.
+    fn pause<R: Clock, E: Write>(
+        &mut self,
+        rt: &R,
+        turns_left: u64,
+        desk: &mut Desk<Event>,
+        errors: &mut E,
+    ) -> Result<(), UaFault>
+        ensures { KeepsLines desk.old desk.new }
+    {
+        if !self.user.is_eager() {
             thread::sleep(rt, Duration::from_millis(PAUSE));
+            return Ok(());
+        }
+        for _ in 0..PAUSE {
+            if !self.waiting.is_empty() {
+                break;
+            }
+            thread::sleep(rt, Duration::from_millis(1));
+            self.gather(rt, turns_left, desk, errors)?;
         }
         Ok(())
     }
@@ -115,15 +203,22 @@ impl<U: User> Turns<U> {
         Ok(())
     }
 
-    // Runs a round of what waits; what is above its limit waits on.
-    fn run_round<R: Threads + Clock + Sync>(&mut self, rt: &R) -> Result<Vec<Output>, UaFault> {
+    // Runs a round of what waits, and records it; what is above its limit waits on.
+    fn run_round<R: Threads + Clock + Sync, E: Write>(
+        &mut self,
+        rt: &R,
+        errors: &mut E,
+    ) -> Result<Vec<Output>, UaFault> {
         let moment = self.moment_now(rt)?;
         let events = self.events_of_round()?;
         let round = Round { moment, events };
-        match self.agent.run_round(rt, &round, WORKERS, &Open) {
+        let workers = self.division.workers;
+        match self.agent.run_round(rt, &round, workers, &Open) {
             Ok(outputs) => {
                 self.moment = moment;
                 self.number = self.number.saturating_add(1);
+                self.record.add(self.alloc, &round, errors)?;
+                self.counts.add(&round, &outputs, self.agent.live())?;
                 Ok(outputs)
             }
             Err(fault) => Err(refused_round(self.number, fault)),

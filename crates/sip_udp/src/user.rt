@@ -3,6 +3,7 @@
 use sip_round::Event;
 use sip_served::Notice;
 use std::alloc::{AllocError, Global};
+use std::io::Write;
 
 /// Asks things of the agent's calls, and is told of them. Moments are in ms since the start.
 pub(crate) trait User: Drop {
@@ -27,15 +28,27 @@ pub(crate) trait User: Drop {
     ) -> Result<(), AllocError>;
 
     /// Adds what the user asks for by itself at the moment `now`, where so many turns are left.
+    /// What it has against its own orders goes to `errors`.
     ///
     /// # Errors
     ///
     /// Want of memory.
-    fn turn(
+    fn turn<E: Write>(
         &mut self,
         alloc: Global,
         now: u64,
-        turns_left: u32,
+        turns_left: u64,
         events: &mut Vec<Event>,
+        errors: &mut E,
     ) -> Result<(), AllocError>;
+
+    /// Whether it wants no more turns, where the agent holds something or nothing.
+    fn is_over(&self, now: u64, holds: bool) -> bool;
+
+    /// Whether a turn begins as soon as there is an event, is left out where there is nothing to
+    /// do, and has the drops told too.
+    fn is_eager(&self) -> bool;
+
+    /// Whether it has had what it was to have at least, at the end.
+    fn is_content(&self) -> bool;
 }

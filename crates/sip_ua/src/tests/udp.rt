@@ -9,8 +9,8 @@ use sip_round::{Event, Output};
 use sip_text::{Series, Text};
 use sip_transactions::DropReason;
 use sip_udp::{
-    Asked, Flags, Inlet, Outlet, Received, UaFault, call, call_until, hear, listen, listen_ringing,
-    send_all,
+    Asked, CallPlan, Endpoint, Flags, Inlet, ListenPlan, Outlet, Received, UaFault, call,
+    call_from, hear, listen, listen_at, send_all,
 };
 use std::alloc::{AllocError, Global};
 use std::net::{Ipv4Addr, Net, SocketAddrV4, UdpSocket};
@@ -170,7 +170,7 @@ fn a_listener_gives_up_after_a_hundred_failures_in_a_row(rt: HostRuntime) -> Res
 }
 
 // A socket on loopback, and its address.
-fn bound<R: Net>(rt: &R) -> io::Result<(UdpSocket, Addr)> {
+pub(super) fn bound<R: Net>(rt: &R) -> io::Result<(UdpSocket, Addr)> {
     let socket = UdpSocket::bind(rt, (Ipv4Addr::LOCALHOST, 0))?;
     socket.set_read_timeout(Some(Duration::from_millis(2_000)))?;
     let port = socket.local_addr()?.port();
@@ -200,17 +200,11 @@ fn rung<R: Threads + Clock + Sync>(
     turns: u32,
 ) -> Option<Vec<u8>> {
     let mut notices = Vec::new(alloc);
-    listen_ringing(
-        rt,
-        alloc,
-        socket,
-        local,
-        [7; 32],
-        Some(60_000),
-        turns,
-        &mut notices,
-    )
-    .ok()?;
+    let mut errors = Vec::new(alloc);
+    let endpoint = Endpoint::new(socket, local, [7; 32], None::<Vec<u8>>);
+    let mut plan = ListenPlan::usual(alloc);
+    plan.ring = Some(60_000);
+    listen_at(rt, alloc, endpoint, plan, turns, &mut notices, &mut errors).ok()?;
     Some(notices)
 }
 
@@ -228,13 +222,14 @@ fn called<R: Threads + Clock + Sync>(
     let call_id = CallId::new(Text::copy_of(alloc, b"c1").ok()?)?;
     let mut notices = Vec::new(alloc);
     let seed = [8; 32];
-    let told = &mut notices;
     if leaves {
-        call_until(
-            rt, alloc, socket, local, to, uri, call_id, seed, true, turns, told,
-        )
-        .ok()?;
+        let endpoint = Endpoint::new(socket, local, seed, None::<Vec<u8>>);
+        let mut plan = CallPlan::usual(alloc, to, uri, call_id);
+        plan.leaves = true;
+        let mut errors = Vec::new(alloc);
+        call_from(rt, alloc, endpoint, plan, turns, &mut notices, &mut errors).ok()?;
     } else {
+        let told = &mut notices;
         call(
             rt, alloc, socket, local, to, uri, call_id, seed, turns, told,
         )
@@ -244,7 +239,7 @@ fn called<R: Threads + Clock + Sync>(
 }
 
 // Whether these stand in the text in this order.
-fn stand_in_order(text: &[u8], parts: &[&str]) -> Result<bool, Fail> {
+pub(super) fn stand_in_order(text: &[u8], parts: &[&str]) -> Result<bool, Fail> {
     let mut left = str::from_utf8(text).ok().ok_or("a text")?;
     for part in parts {
         let Some((_, after)) = left.split_once(*part) else {

@@ -1,0 +1,198 @@
+-- What is written of a configuration and rounds is their event file; and a line that says a command
+-- is read as it.
+use Rattle.std.proofs.Common.{◌≡◌, ℕ, List, [], ◌∷◌, ◌++◌, Option, Some, None, map, refl, sym, ap, ◌∙◌, append_assoc, append-nil, inl, inr, codes}
+use Rattle.std.specs.Prelude.{IfNone, IfSome}
+use Rattle.std.specs.List.{flat_map, AllByRecursion, AllZip}
+use Rattle.std.proofs.lemmas.Grind.{flat_map-append}
+use Rattle.std.specs.Str.{str_to_ascii_lowercase}
+use Rattle.sip_message.specs.declared.key.Key.{Key}
+use Rattle.sip_message.specs.declared.key.Key.TheVariants.{Client, Server}
+use Rattle.sip_served.specs.declared.command.UserCommand.{UserCommand}
+use Rattle.sip_round.specs.declared.config.Config.{Config}
+use Rattle.sip_round.specs.declared.round.Event.{Event}
+use Rattle.sip_round.specs.declared.round.Event.TheVariants.{Datagram, Failed, Command}
+use Rattle.sip_round.specs.declared.round.Round.{Round}
+use Rattle.sip_files.specs.declared.version.Version.TheVariants.{Two}
+use Rattle.sip_files.specs.declared.event_line.EventLine.{EventLine}
+use Rattle.sip_files.specs.declared.event_line.EventLine.TheVariants as line
+use Rattle.sip_files.specs.Events.{SpellsClient, SpellsServer, SpellsEvent, SpellsLine}
+use Rattle.sip_files.specs.EventFile.{Head, SpellsEvents, file_lines, head_lines, round_lines, with_ends, version_line, file_text}
+use Rattle.sip_files.specs.ReadLine.{line_at}
+use Rattle.sip_files.specs.Written.{IsConfig, IsEvent, IsKey, IsRound, SpellsCommand, command_in, command_of, ended_text, events_text, failed_text, head_text, line_text, round_text}
+use Rattle.sip_files.proofs.LineLaws.{line_took, line_again}
+
+-- ---- the lines are spelled
+
+failed_spelled : (key : Key) → IsKey key → SpellsEvent Two (failed_text key) (Failed key)
+failed_spelled (Client branch method) fits =
+    inl (record {
+      branch = branch;
+      method = method;
+      bytes = fits.1;
+      token = fits.2;
+      named = ap (λ b. Client b method) (sym fits.0);
+      spelled = refl;
+    })
+failed_spelled (Server branch sent_by method) fits =
+    inr (record {
+      branch = branch;
+      host = sent_by.host;
+      port = sent_by.port;
+      method = method;
+      bytes = fits.1;
+      host_bytes = fits.4;
+      bound = fits.5;
+      token = fits.2;
+      named =
+          ap (λ b. Server b sent_by method) (sym fits.0)
+          ∙ ap (λ h. Server (str_to_ascii_lowercase branch)
+          (record { host = h; port = sent_by.port }) method) (sym fits.3);
+      spelled = refl;
+    })
+
+event_spelled : (event : Event) → IsEvent event
+    → SpellsLine Two (line_text (line.Event event)) (line.Event event)
+event_spelled (Datagram from bytes) fits = (fits, refl)
+event_spelled (Failed key) fits = failed_spelled key fits
+event_spelled (Command command) fits = (fits, refl)
+
+-- ---- the lines of a file
+
+each_zip : (xs ys : List EventLine)
+    → AllZip (SpellsLine Two) (map line_text xs) xs
+    → AllZip (SpellsLine Two) (map line_text ys) ys
+    → AllZip (SpellsLine Two) (map line_text (xs ++ ys)) (xs ++ ys)
+each_zip [] ys none more = more
+each_zip (x ∷ xs) ys some more = (some.0, each_zip xs ys some.1 more)
+
+events_zip : (events : List Event) → AllByRecursion IsEvent events
+    → AllZip (SpellsLine Two) (map line_text (map line.Event events)) (map line.Event events)
+events_zip [] fits = tt
+events_zip (event ∷ events) fits = (event_spelled event fits.0, events_zip events fits.1)
+
+rounds_zip : (rounds : List Round) → AllByRecursion IsRound rounds
+    → AllZip (SpellsLine Two) (map line_text (flat_map round_lines rounds))
+    (flat_map round_lines rounds)
+rounds_zip [] fits = tt
+rounds_zip (round ∷ rounds) fits =
+    each_zip (round_lines round) (flat_map round_lines rounds)
+    (((fits.0).moment, refl), events_zip round.events (fits.0).events) (rounds_zip rounds fits.1)
+
+-- ---- their text
+
+abbrev text_of : List EventLine → List ℕ
+text_of lines = with_ends (map line_text lines)
+
+text_of-append : (xs ys : List EventLine) → text_of (xs ++ ys) ≡ text_of xs ++ text_of ys
+text_of-append [] ys = refl
+text_of-append (x ∷ xs) ys =
+    ap (λ t. (line_text x ++ 10 ∷ []) ++ t) (text_of-append xs ys)
+    ∙ sym (append_assoc (line_text x ++ 10 ∷ []) (text_of xs) (text_of ys))
+
+text_of-events : (events : List Event) → text_of (map line.Event events)
+    ≡ flat_map (λ event. ended_text (line.Event event)) events
+unfolding ended_text
+text_of-events [] = refl
+text_of-events (event ∷ events) =
+    ap (λ t. (line_text (line.Event event) ++ 10 ∷ []) ++ t) (text_of-events events)
+
+text_of-round : (round : Round) → text_of (round_lines round) ≡ round_text round
+unfolding round_text ended_text
+text_of-round round =
+    ap (λ t. (line_text (line.Round round.moment) ++ 10 ∷ []) ++ t) (text_of-events round.events)
+
+text_of-rounds : (rounds : List Round)
+    → text_of (flat_map round_lines rounds) ≡ flat_map round_text rounds
+text_of-rounds [] = refl
+text_of-rounds (round ∷ rounds) =
+    text_of-append (round_lines round) (flat_map round_lines rounds)
+    ∙ ap (λ t. t ++ text_of (flat_map round_lines rounds)) (text_of-round round)
+    ∙ ap (λ t. round_text round ++ t) (text_of-rounds rounds)
+
+-- ---- the file
+
+abbrev whole_head : Config → Head
+whole_head config = record {
+  local = config.local;
+  seed = Some config.seed;
+  first = Some config.first;
+}
+
+head_is : (config : Config)
+    → head_text config ≡ (version_line Two ++ 10 ∷ []) ++ text_of (head_lines (whole_head config))
+unfolding head_text ended_text
+head_is config =
+    let a = line_text (line.Local config.local) ++ 10 ∷ [] in
+    let b = line_text (line.Seed config.seed) ++ 10 ∷ [] in
+    let c = line_text (line.First config.first) ++ 10 ∷ [] in
+    let v = codes "sip-events 2\n" in
+    append_assoc (v ++ a) b c ∙ append_assoc v a (b ++ c)
+    ∙ ap (λ t. v ++ (a ++ (b ++ t))) (sym (append-nil c))
+
+pub written_is_spelled : (config : Config) (rounds : List Round) → IsConfig config
+    → AllByRecursion IsRound rounds → SpellsEvents config rounds (events_text config rounds)
+unfolding events_text
+written_is_spelled config rounds fits each =
+    let head = whole_head config in
+    let lines = file_lines head rounds in (
+      Two,
+      record {
+        head = head;
+        lines = map line_text lines;
+        configured = refl;
+        says = each_zip (head_lines head) (flat_map round_lines rounds)
+            ((fits.local, refl), ((fits.seed, refl), ((fits.first, refl), tt)))
+            (rounds_zip rounds each);
+        spelled =
+            ap (λ t. t ++ flat_map round_text rounds) (head_is config)
+            ∙ append_assoc (version_line Two ++ 10 ∷ []) (text_of (head_lines head))
+            (flat_map round_text rounds)
+            ∙ ap (λ t. (version_line Two ++ 10 ∷ []) ++ (text_of (head_lines head) ++ t))
+            (sym (text_of-rounds rounds))
+            ∙ ap (λ t. (version_line Two ++ 10 ∷ []) ++ t)
+            (sym (text_of-append (head_lines head) (flat_map round_lines rounds)));
+      },
+    )
+
+-- ---- a command by itself
+
+in_event : (text : List ℕ) (event : Event) → SpellsLine Two text (line.Event event)
+    → IfSome (command_of event) (SpellsCommand text)
+in_event text (Datagram from bytes) s = tt
+in_event text (Failed key) s = tt
+in_event text (Command command) s = s
+
+in_line : (text : List ℕ) (item : EventLine) → SpellsLine Two text item
+    → IfSome (command_in item) (SpellsCommand text)
+in_line text (line.Local address) s = tt
+in_line text (line.Seed seed) s = tt
+in_line text (line.First number) s = tt
+in_line text (line.Round moment) s = tt
+in_line text (line.Event event) s = in_event text event s
+
+pub says_command : (text : List ℕ) (item : EventLine) → Some item ≡ line_at Two text
+    → IfSome (command_in item) (SpellsCommand text)
+says_command text item e = in_line text item (line_took Two text item (sym e))
+
+none_said : (text : List ℕ) (item : EventLine) (found : Option UserCommand)
+    → Some item ≡ line_at Two text → command_in item ≡ found
+    → IfNone found ((given : UserCommand) → ¬ SpellsCommand text given)
+none_said text item (Some command) e f = tt
+none_said text item None e f =
+    λ given s.
+    let other : Some item ≡ Some (line.Event (Command given)) =
+    e ∙ line_again Two text (line.Event (Command given)) s in
+    let same : item ≡ line.Event (Command given) = cc in
+    let no : Some given ≡ None = sym (ap command_in same) ∙ f in
+    absurd cc
+
+pub says_no_command : (text : List ℕ) (item : EventLine) → Some item ≡ line_at Two text
+    → IfNone (command_in item) ((given : UserCommand) → ¬ SpellsCommand text given)
+says_no_command text item e = none_said text item (command_in item) e refl
+
+pub says_nothing : (text : List ℕ) → None ≡ line_at Two text
+    → (given : UserCommand) → ¬ SpellsCommand text given
+says_nothing text e given s =
+    let no : None ≡ Some (line.Event (Command given)) =
+    e ∙ line_again Two text (line.Event (Command given)) s in
+    absurd cc

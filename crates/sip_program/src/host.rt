@@ -1,0 +1,24 @@
+//! What the program runs on.
+
+use std::io::{BufRead, Input};
+use std::net::Net;
+use std::random::RandomSource;
+use std::rt::Files;
+use std::time::Clock;
+
+/// A clock, sockets, random bytes, files, and a pipe of commands.
+pub trait Host: Clock + Net + RandomSource + Files + Sync {
+    type Commands: BufRead + Send + Drop + 'static;
+
+    /// The pipe from which `ua agent` reads its commands.
+    fn commands(&self) -> Self::Commands;
+}
+
+/// The pipe is standard input.
+impl Host for HostRuntime {
+    type Commands = <HostRuntime as Input>::Reader;
+
+    fn commands(&self) -> Self::Commands {
+        self.reader()
+    }
+}

@@ -1,0 +1,370 @@
+//! Runs over UDP that are recorded: the replay of the record sends and tells what the run did.
+
+use super::run_on;
+use super::udp::{bound, stand_in_order};
+use sip_message::{Addr, CallId, Uri};
+use sip_program::Host;
+use sip_text::Text;
+use sip_udp::{CallPlan, Endpoint, ListenPlan, agent, call_from, listen_at};
+use std::alloc::{AllocError, Global};
+use std::io::{self, BufRead, BufReader, PipeReader, PipeWriter, Read, Write};
+use std::net::{Ipv4Addr, SocketAddrV4, UdpSocket};
+use std::test::Fail;
+use std::thread::{self, Threads};
+use std::time::Clock;
+
+/// What a run told, and its record.
+#[derive(Drop)]
+struct Run {
+    notices: Vec<u8>,
+    record: Vec<u8>,
+}
+
+// The lines of a text that begin so, without these beginnings.
+fn lines_after(alloc: Global, text: &[u8], beginning: &str) -> Result<Vec<u8>, Fail> {
+    let mut found = Vec::new(alloc);
+    for line in str::from_utf8(text).ok().ok_or("a text")?.lines() {
+        if let Some(rest) = line.strip_prefix(beginning) {
+            found.extend_from_slice(rest.as_bytes())?;
+            found.push(b'\n')?;
+        }
+    }
+    Ok(found)
+}
+
+// What `ua replay` answers to a record.
+fn replayed<T: Threads + Host>(rt: &T, alloc: Global, record: &[u8]) -> Result<Vec<u8>, Fail> {
+    let mut input = record;
+    let ended = run_on(rt, alloc, ["replay"].as_slice(), &mut input);
+    if ended.status == 0 {
+        Ok(ended.output)
+    } else {
+        Err(Fail::from("a replay"))
+    }
+}
+
+// A listener that rings for a while, and its record.
+fn listened<R: Threads + Clock + Sync>(
+    rt: &R,
+    alloc: Global,
+    socket: UdpSocket,
+    local: Addr,
+) -> Option<Run> {
+    let mut run = Run {
+        notices: Vec::new(alloc),
+        record: Vec::new(alloc),
+    };
+    let mut plan = ListenPlan::usual(alloc);
+    plan.ring = Some(200);
+    let endpoint = Endpoint::new(socket, local, [7; 32], Some(&mut run.record));
+    let mut errors = Vec::new(alloc);
+    listen_at(
+        rt,
+        alloc,
+        endpoint,
+        plan,
+        300,
+        &mut run.notices,
+        &mut errors,
+    )
+    .ok()?;
+    Some(run)
+}
+
+// A caller that holds its call for a while, and its record.
+fn called<R: Threads + Clock + Sync>(
+    rt: &R,
+    alloc: Global,
+    socket: UdpSocket,
+    local: Addr,
+    to: Addr,
+) -> Option<Run> {
+    let mut run = Run {
+        notices: Vec::new(alloc),
+        record: Vec::new(alloc),
+    };
+    let uri = Uri::new(Text::copy_of(alloc, b"sip:b@127.0.0.1").ok()?)?;
+    let call_id = CallId::new(Text::copy_of(alloc, b"c1").ok()?)?;
+    let mut plan = CallPlan::usual(alloc, to, uri, call_id);
+    plan.hold = Some(300);
+    plan.must_answer = true;
+    let endpoint = Endpoint::new(socket, local, [8; 32], Some(&mut run.record));
+    let mut errors = Vec::new(alloc);
+    call_from(
+        rt,
+        alloc,
+        endpoint,
+        plan,
+        200,
+        &mut run.notices,
+        &mut errors,
+    )
+    .ok()?;
+    Some(run)
+}
+
+// Each told what its replay tells, and what the one sent to the other came there.
+#[test]
+fn a_recorded_call_is_replayed_as_it_was(rt: HostRuntime) -> Result<(), Fail> {
+    let alloc = rt.alloc();
+    let (theirs, to) = bound(&rt)?;
+    let (own, from) = bound(&rt)?;
+    let (heard, told) = thread::join(
+        &rt,
+        || listened(&rt, alloc, theirs, to),
+        || called(&rt, alloc, own, from, to),
+    );
+    let heard = heard.ok_or("a listener that ends")?;
+    let told = told.ok_or("a caller that ends")?;
+    let served = replayed(&rt, alloc, &heard.record)?;
+    let asked = replayed(&rt, alloc, &told.record)?;
+    for (run, output) in [(&heard, &served), (&told, &asked)] {
+        let notices = lines_after(alloc, &run.notices, "notice ")?;
+        assert!(rt; !notices.is_empty());
+        assert!(rt; lines_after(alloc, output, "notice ")?.as_slice() == notices.as_slice());
+    }
+    let ways = [(from, to, &asked, &heard), (to, from, &served, &told)];
+    for (source, target, output, run) in ways {
+        let sends = format!(in alloc; "send {target} ")?;
+        let arrivals = format!(in alloc; "datagram {source} ")?;
+        let sent = lines_after(alloc, output, sends.as_str())?;
+        let arrived = lines_after(alloc, &run.record, arrivals.as_str())?;
+        assert!(rt; arrived.len() > 1000);
+        assert!(rt; sent.starts_with(arrived.as_slice()));
+    }
+    let words = [" 180 ", " response 0.1 200 ", " ended ", " 200 "];
+    assert!(rt; stand_in_order(&told.notices, &words)?);
+    Ok(())
+}
+
+/// The other side of an agent on a pipe: it writes the commands, reads the notices, and takes part
+/// in the calls as it likes.
+#[derive(Drop)]
+struct Script {
+    commands: PipeWriter,
+    notices: BufReader<PipeReader>,
+    socket: UdpSocket,
+    /// All notices that were read.
+    told: Vec<u8>,
+    /// All datagrams that came, a line each, as an event file spells them.
+    came: Vec<u8>,
+}
+
+/// The tag with which an agent of the seed 0 begins its first call.
+const TAG: &str = "0000000000000000000000000000000117a385155";
+
+impl Script {
+    fn command(&mut self, line: &str) -> io::Result<()> {
+        self.commands.write_all(line.as_bytes())?;
+        self.commands.write_all(b"\n")
+    }
+
+    // Reads notices up to one that has these words, and gives it.
+    fn notice(&mut self, alloc: Global, words: &str) -> Result<String, Fail> {
+        for _ in 0..100 {
+            let mut line = Vec::new(alloc);
+            if self.notices.read_until(b'\n', &mut line)? == 0 {
+                break;
+            }
+            self.told.extend_from_slice(&line)?;
+            let line = String::from_utf8(line).ok().ok_or("a text")?;
+            if line.as_str().contains(words) {
+                return Ok(line);
+            }
+        }
+        Err(Fail::from("a notice"))
+    }
+
+    // The next datagram that begins so; those before it are repeats.
+    fn datagram(&mut self, alloc: Global, beginning: &str) -> Result<Vec<u8>, Fail> {
+        let mut buffer = vec![in alloc; 0u8; 4096]?;
+        for _ in 0..20 {
+            let (length, _) = self.socket.recv_from(&mut buffer)?;
+            let bytes = Vec::from_slice(alloc, buffer.get(..length).unwrap_or(b""))?;
+            self.came.extend_from_slice(&spelled(alloc, &bytes)?)?;
+            if bytes.starts_with(beginning.as_bytes()) {
+                return Ok(bytes);
+            }
+        }
+        Err(Fail::from("a datagram"))
+    }
+
+    // Answers a request with this status line, and this tag in To where it has none.
+    fn answer(
+        &mut self,
+        alloc: Global,
+        to: Addr,
+        request: &[u8],
+        status: &str,
+        tag: &str,
+    ) -> Result<(), Fail> {
+        let mut text = String::from_str(alloc, "SIP/2.0 ")?;
+        text.push_str(status)?;
+        text.push_str("\r\n")?;
+        let request = str::from_utf8(request).ok().ok_or("a text")?;
+        for line in request.lines() {
+            let is_to = line.starts_with("To: ");
+            let is_copied = ["Via: ", "From: ", "Call-ID: ", "CSeq: "]
+                .iter()
+                .any(|name| line.starts_with(*name));
+            if is_to || is_copied {
+                text.push_str(line)?;
+                if is_to && !line.contains(";tag=") {
+                    text.push_str(";tag=")?;
+                    text.push_str(tag)?;
+                }
+                text.push_str("\r\n")?;
+            }
+        }
+        text.push_str("\r\n")?;
+        let address = SocketAddrV4::new(Ipv4Addr::from_octets(to.ip), to.port);
+        self.socket.send_to(text.as_bytes(), address)?;
+        Ok(())
+    }
+}
+
+// A datagram as an event file spells it, and a line's end.
+fn spelled(alloc: Global, bytes: &[u8]) -> Result<Vec<u8>, AllocError> {
+    let mut line = Vec::new(alloc);
+    for byte in bytes {
+        match *byte {
+            b'\r' => line.extend_from_slice(b"\\r")?,
+            b'\n' => line.extend_from_slice(b"\\n")?,
+            byte => line.push(byte)?,
+        }
+    }
+    line.push(b'\n')?;
+    Ok(line)
+}
+
+impl Script {
+    // Ends the commands and reads the notices to their end; gives both texts.
+    fn finish(self) -> Result<Heard, Fail> {
+        let Script {
+            commands,
+            mut notices,
+            socket: _,
+            mut told,
+            came,
+        } = self;
+        drop(commands);
+        notices.read_to_end(&mut told)?;
+        Ok(Heard { told, came })
+    }
+}
+
+/// What the other side of an agent heard.
+#[derive(Drop)]
+struct Heard {
+    told: Vec<u8>,
+    came: Vec<u8>,
+}
+
+// A call that is answered by two and ended with both, and one that is cancelled while it rings.
+fn forked_and_cancelled(
+    alloc: Global,
+    mut script: Script,
+    from: Addr,
+    to: Addr,
+) -> Result<Heard, Fail> {
+    let uris = format!(in alloc; "sip:b@{to} sip:a@127.0.0.1 sip:b@{to}")?;
+    let invite = format!(in alloc; "invite c1 {to} {uris} none -")?;
+    script.command(invite.as_str())?;
+    let request = script.datagram(alloc, "INVITE ")?;
+    script.answer(alloc, from, &request, "180 Ringing", "x")?;
+    for tag in ["x", "y"] {
+        script.answer(alloc, from, &request, "200 OK", tag)?;
+        script.datagram(alloc, "ACK ")?;
+    }
+    script.command("this is no command")?;
+    for tag in ["x", "y"] {
+        let bye = format!(in alloc; "request c1 {TAG} {tag} BYE -")?;
+        script.command(bye.as_str())?;
+        let request = script.datagram(alloc, "BYE ")?;
+        script.answer(alloc, from, &request, "200 OK", tag)?;
+    }
+    let invite = format!(in alloc; "invite c2 {to} {uris} none -")?;
+    script.command(invite.as_str())?;
+    let request = script.datagram(alloc, "INVITE ")?;
+    script.answer(alloc, from, &request, "180 Ringing", "z")?;
+    let ringing = script.notice(alloc, "notice c2 response ")?;
+    let id = ringing.as_str().split(' ').nth(3).ok_or("an id")?;
+    let cancel = format!(in alloc; "cancel c2 {id}")?;
+    script.command(cancel.as_str())?;
+    let cancelling = script.datagram(alloc, "CANCEL ")?;
+    script.answer(alloc, from, &cancelling, "200 OK", "z")?;
+    script.answer(alloc, from, &request, "487 Request Terminated", "z")?;
+    script.datagram(alloc, "ACK ")?;
+    script.notice(alloc, "notice c2 ended ")?;
+    script.finish()
+}
+
+/// The record of an agent, and what it said of its commands.
+#[derive(Drop)]
+struct PipedRun {
+    record: Vec<u8>,
+    errors: Vec<u8>,
+}
+
+// An agent on a pipe, whose first tag is known.
+fn piped<R: Threads + Clock + Sync>(
+    rt: &R,
+    alloc: Global,
+    socket: UdpSocket,
+    local: Addr,
+    commands: PipeReader,
+    mut notices: PipeWriter,
+) -> Option<PipedRun> {
+    let mut run = PipedRun {
+        record: Vec::new(alloc),
+        errors: Vec::new(alloc),
+    };
+    let endpoint = Endpoint::new(socket, local, [0; 32], Some(&mut run.record));
+    let input = BufReader::new(alloc, commands).ok()?;
+    agent(
+        rt,
+        alloc,
+        endpoint,
+        input,
+        100,
+        &mut notices,
+        &mut run.errors,
+    )
+    .ok()?;
+    Some(run)
+}
+
+#[test]
+fn an_agent_on_a_pipe_is_replayed_as_it_was(rt: HostRuntime) -> Result<(), Fail> {
+    let alloc = rt.alloc();
+    let (socket, local) = bound(&rt)?;
+    let (theirs, to) = bound(&rt)?;
+    let (commands, writer) = io::pipe(&rt)?;
+    let (reader, notices) = io::pipe(&rt)?;
+    let script = Script {
+        commands: writer,
+        notices: BufReader::new(alloc, reader)?,
+        socket: theirs,
+        told: Vec::new(alloc),
+        came: Vec::new(alloc),
+    };
+    let (run, heard) = thread::join(
+        &rt,
+        || piped(&rt, alloc, socket, local, commands, notices),
+        || forked_and_cancelled(alloc, script, local, to),
+    );
+    let heard = heard?;
+    let run = run.ok_or("an agent that ends")?;
+    let output = replayed(&rt, alloc, &run.record)?;
+    for beginning in ["notice ", "drop "] {
+        let told = lines_after(alloc, &heard.told, beginning)?;
+        assert!(rt; lines_after(alloc, &output, beginning)?.as_slice() == told.as_slice());
+    }
+    let sends = format!(in alloc; "send {to} ")?;
+    let sent = lines_after(alloc, &output, sends.as_str())?;
+    assert!(rt; sent.starts_with(heard.came.as_slice()));
+    let words = [" ended ", " y\n", " response ", " 487 ", "notice c2 ended "];
+    assert!(rt; stand_in_order(&heard.told, &words)?);
+    assert!(rt; run.errors.as_slice() == b"ua: line 2 is no command\n".as_slice());
+    Ok(())
+}

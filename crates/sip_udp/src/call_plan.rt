@@ -1,0 +1,76 @@
+//! What `call` is to do.
+
+use sip_message::{Addr, CallId, Uri};
+use sip_served::{Invite, ProvisionalSupport};
+use sip_text::Text;
+use std::alloc::{AllocError, Global};
+
+/// Which call is placed, and how.
+pub struct CallPlan {
+    /// Where the INVITE is sent.
+    pub to: Addr,
+    /// Who is called.
+    pub uri: Uri,
+    pub call_id: CallId,
+    /// The body of the INVITE.
+    pub body: Text,
+    /// How many ms the first dialog that a 2xx confirms stays up; without it the BYE goes out at
+    /// once.
+    pub hold: Option<u32>,
+    /// One second before the last turn a call that isn't answered is cancelled, and one that is up
+    /// ended; and the turns are over once nothing is held.
+    pub leaves: bool,
+    /// That no 2xx came is a fault.
+    pub must_answer: bool,
+}
+
+impl CallPlan {
+    /// A call of this URI at this address without a body, which ends as soon as it is answered.
+    pub fn usual(alloc: Global, to: Addr, uri: Uri, call_id: CallId) -> CallPlan {
+        CallPlan {
+            to,
+            uri,
+            call_id,
+            body: Text::from_vec(Vec::new(alloc)),
+            hold: None,
+            leaves: false,
+            must_answer: false,
+        }
+    }
+
+    /// The INVITE, from this URI.
+    pub(crate) fn invite(self, from: Uri) -> Result<Invite, AllocError> {
+        let CallPlan {
+            to: address,
+            uri,
+            call_id,
+            body,
+            hold: _,
+            leaves: _,
+            must_answer: _,
+        } = self;
+        Ok(Invite {
+            call_id,
+            address,
+            request_uri: uri.clone()?,
+            from,
+            to: uri,
+            support: ProvisionalSupport::None,
+            body,
+        })
+    }
+}
+
+impl Drop for CallPlan {
+    fn drop(self) {
+        let CallPlan {
+            to: _,
+            uri: _,
+            call_id: _,
+            body: _,
+            hold: _,
+            leaves: _,
+            must_answer: _,
+        } = self;
+    }
+}

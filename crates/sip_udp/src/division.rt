@@ -1,0 +1,23 @@
+//! How the work of an agent is divided.
+
+ghost use Rattle.std.specs.Prelude.{◌<◌, ◌≤◌};
+
+/// Into how many parts transactions and calls are cut, and on how many threads a round is dealt
+/// with.
+#[derive(Clone, Copy)]
+pub struct Division {
+    pub shards: usize,
+    pub workers: usize,
+    ghost some_shard: { 0 < shards },
+    ghost most_shards: { shards ≤ 256 },
+    ghost some_worker: { 0 < workers },
+    ghost most_workers: { workers ≤ 64 },
+}
+
+impl Division {
+    /// 4 shards and 2 workers.
+    pub const USUAL: Division = Division {
+        shards: 4,
+        workers: 2,
+    };
+}

@@ -1,0 +1,95 @@
+//! The user of `agent`: it asks for what comes over the pipe.
+
+use crate::listener::Flags;
+use crate::pipe::PipeLine;
+use crate::turns::LINE_CAPACITY;
+use crate::user::User;
+use sip_desk::Desk;
+use sip_round::Event;
+use sip_served::Notice;
+use std::alloc::{AllocError, Global};
+use std::io::Write;
+use std::sync::Arc;
+use std::sync::atomic::Ordering;
+
+/// Asks for what comes over the pipe. After the end of the pipe it is over once nothing is held, or
+/// so many ms later.
+#[derive(Drop)]
+pub(crate) struct Piped {
+    pipe: Desk<PipeLine>,
+    flags: Arc<Flags>,
+    linger: u32,
+    // The moment at which all that came over the pipe was taken.
+    ended_at: Option<u64>,
+}
+
+impl Piped {
+    pub(crate) fn new(pipe: Desk<PipeLine>, flags: Arc<Flags>, linger: u32) -> Piped {
+        Piped {
+            pipe,
+            flags,
+            linger,
+            ended_at: None,
+        }
+    }
+}
+
+impl User for Piped {
+    fn begin(&mut self, _alloc: Global, _events: &mut Vec<Event>) -> Result<(), AllocError> {
+        Ok(())
+    }
+
+    fn told(
+        &mut self,
+        _alloc: Global,
+        _now: u64,
+        _notice: &Notice,
+        _events: &mut Vec<Event>,
+    ) -> Result<(), AllocError> {
+        Ok(())
+    }
+
+    fn turn<E: Write>(
+        &mut self,
+        _alloc: Global,
+        now: u64,
+        _turns_left: u64,
+        events: &mut Vec<Event>,
+        errors: &mut E,
+    ) -> Result<(), AllocError> {
+        if self.ended_at.is_some() {
+            return Ok(());
+        }
+        let has_ended = self.flags.ended.load(Ordering::SeqCst);
+        let Ok(lines) = self.pipe.collect(LINE_CAPACITY) else {
+            return Err(AllocError);
+        };
+        if has_ended && lines.is_empty() {
+            self.ended_at = Some(now);
+        }
+        for line in lines {
+            match line {
+                PipeLine::Command(command) => events.push(Event::Command(command))?,
+                PipeLine::NoCommand(number) => {
+                    let _ = writeln!(errors, "ua: line {number} is no command");
+                }
+            }
+        }
+        Ok(())
+    }
+
+    fn is_over(&self, now: u64, holds: bool) -> bool {
+        match self.ended_at {
+            None => false,
+            Some(ended_at) => !holds || now >= ended_at.saturating_add(u64::from(self.linger)),
+        }
+    }
+
+    fn is_eager(&self) -> bool {
+        true
+    }
+
+    fn is_content(&self) -> bool {
+        true
+    }
+}

@@ -1,0 +1,80 @@
+//! Records a run: the event file of its rounds.
+
+ghost use Rattle.std.specs.Prelude.{List, ℕ, OnOk, Option, IfSome};
+ghost use Rattle.sip_udp.specs.Recording.{Records};
+ghost use Rattle.sip_files.specs.Written.{head_text, round_text};
+
+use crate::notices::put;
+use sip_files::{write_head, write_round};
+use sip_round::{Config, Round};
+use std::alloc::{AllocError, Global};
+use std::io::Write;
+
+/// Where a run is recorded, as long as that goes well.
+#[derive(Drop)]
+pub(crate) struct Record<F> {
+    file: Option<F>,
+}
+
+impl<F: Write + Drop> Record<F> {
+    pub(crate) fn new(file: Option<F>) -> Record<F> {
+        Record { file }
+    }
+
+    /// Records the head.
+    ///
+    /// # Errors
+    ///
+    /// Want of memory.
+    pub(crate) fn begin<E: Write>(
+        &mut self,
+        alloc: Global,
+        config: &Config,
+        errors: &mut E,
+    ) -> Result<(), AllocError>
+        ensures { OnOk result (Records F.contents self.old.file self.new.file
+            (head_text config.now)) }
+    {
+        if self.file.is_some() {
+            let text = write_head(alloc, config)?;
+            self.write(&text, errors);
+        }
+        Ok(())
+    }
+
+    /// Records a round.
+    ///
+    /// # Errors
+    ///
+    /// Want of memory.
+    pub(crate) fn add<E: Write>(
+        &mut self,
+        alloc: Global,
+        round: &Round,
+        errors: &mut E,
+    ) -> Result<(), AllocError>
+        ensures { OnOk result (Records F.contents self.old.file self.new.file
+            (round_text round.now)) }
+    {
+        if self.file.is_some() {
+            let text = write_round(alloc, round)?;
+            self.write(&text, errors);
+        }
+        Ok(())
+    }
+
+    // Writes this, or gives the recording up with a word on it.
+    fn write<E: Write>(&mut self, text: &[u8], errors: &mut E)
+        ensures { Records F.contents self.old.file self.new.file text.now }
+    {
+        let Some(mut file) = self.file.take() else {
+            return;
+        };
+        match put(&mut file, text) {
+            Ok(()) => self.file = Some(file),
+            Err(_) => {
+                let _ = writeln!(errors, "ua: record failed");
+            }
+        }
+    }
+}
