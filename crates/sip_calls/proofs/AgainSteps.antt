@@ -7,15 +7,15 @@ use Rattle.sip_reliable.specs.Inbound.{in_order}
 use Rattle.sip_transactions.specs.declared.output.Kind.{Kind}
 use Rattle.sip_transactions.specs.declared.output.Kind.TheVariants as kind
 use Rattle.sip_transactions.specs.declared.output.Up.{Up as AnUp}
-use Rattle.sip_served.specs.declared.command.UserCommand.{UserCommand}
-use Rattle.sip_served.specs.declared.command.UserCommand.TheVariants.{Invite, Plain as PlainCommand, Request, Respond, Ack, Prack, Cancel}
-use Rattle.sip_served.specs.declared.held_dialog.DialogLife.{DialogLife}
-use Rattle.sip_served.specs.declared.item.CallOut.{CallOut}
-use Rattle.sip_served.specs.declared.item.Item.TheVariants.{Up, User}
-use Rattle.sip_served.specs.declared.notice.Notice.{Notice}
-use Rattle.sip_served.specs.declared.notice.Notice.TheVariants as notice
-use Rattle.sip_served.specs.State.{is_id}
-use Rattle.sip_served.proofs.Entries.{none_apart}
+use Rattle.sip_common.specs.declared.command.UserCommand.{UserCommand}
+use Rattle.sip_common.specs.declared.command.UserCommand.TheVariants.{Invite, Plain as PlainCommand, Request, Respond, Ack, Prack, Cancel}
+use Rattle.sip_common.specs.declared.held_dialog.DialogLife.{DialogLife}
+use Rattle.sip_common.specs.declared.item.CallOut.{CallOut}
+use Rattle.sip_common.specs.declared.item.Item.TheVariants.{Up, User}
+use Rattle.sip_common.specs.declared.notice.Notice.{Notice}
+use Rattle.sip_common.specs.declared.notice.Notice.TheVariants as notice
+use Rattle.sip_common.specs.Ids.{is_id}
+use Rattle.sip_common.proofs.Entries.{none_apart}
 use Rattle.sip_clients.specs.Client.{Clients, Side, client_at}
 use Rattle.sip_clients.specs.Provisionals.{InTheDialog, told_of}
 use Rattle.sip_clients.proofs.AgainInvite.{AgainResult, AreApart, Keeps, ear_of, keeps_ack, keeps_cancel, keeps_invite, keeps_lost, keeps_plain, keeps_prack, keeps_request, keeps_same, keeps_tick, silent_result}
@@ -23,8 +23,7 @@ use Rattle.sip_clients.proofs.AgainSides.{response_again}
 use Rattle.sip_clients.proofs.Hearing.{heard_in_order}
 use Rattle.sip_calls.specs.declared.call.Call.{Call}
 use Rattle.sip_calls.specs.declared.calls.Calls.{Calls}
-use Rattle.sip_calls.specs.declared.calls.CallInput.{CallInput}
-use Rattle.sip_calls.specs.declared.calls.CallInput.TheVariants.{Tick, Item as AnItem}
+use Rattle.sip_calls.specs.Call.{CallItem}
 use Rattle.sip_calls.specs.Call.{call_step, command_taken, event_of, first_command_taken, kept, lost_taken, new_call, up_taken}
 use Rattle.sip_calls.specs.Provisionals.{EventsDiffer, came, done, event_in, event_of_kind, number_in, number_of, number_up, shown, side_held}
 use Rattle.sip_calls.specs.Sides.{CallTaken, side_of, ticked}
@@ -148,36 +147,36 @@ module _ (life : DialogLife) (invite : Id) where
       subst (λ (side : Side). Result event number before side taken.1)
       (sym (kept_side taken.0)) step
 
-  by_input : (calls : Calls) (state : Option Call) (input : CallInput) (now : ℕ)
+  by_input : (calls : Calls) (state : Option Call) (input : Option CallItem) (now : ℕ)
       → AreApart (side_held state).clients → Once (event_in input) (side_held state).clients
       → KeptStep (event_in input)
       (number_in (InTheDialog invite) life input (side_held state)) (side_held state).clients
       (call_step calls state input now)
-  by_input calls None Tick now apart once =
+  by_input calls None None now apart once =
       silent None [] (side_held None) [] (keeps_same life invite None [] apart)
-  by_input calls (Some call) Tick now apart once =
+  by_input calls (Some call) None now apart once =
       kept_step None None call.clients (ticked call now) (tick_step call now apart)
-  by_input calls None (AnItem id (Up up)) now apart once =
+  by_input calls None (Some (id, Up up)) now apart once =
       let call = new_call calls.local in
       kept_step (event_of_kind id up.kind)
       (number_up (InTheDialog invite) life up.id up.kind (side_of call)) call.clients
       (up_taken call (event_of calls id now) up up.kind)
       (up_step call calls id now up up.kind apart once)
-  by_input calls None (AnItem id (User command)) now apart once =
+  by_input calls None (Some (id, User command)) now apart once =
       let call = new_call calls.local in
       kept_step (Some id) None call.clients
       (first_command_taken call (event_of calls id now) command)
       (first_command_step call calls id now command apart)
-  by_input calls (Some call) (AnItem id (Up up)) now apart once =
+  by_input calls (Some call) (Some (id, Up up)) now apart once =
       kept_step (event_of_kind id up.kind)
       (number_up (InTheDialog invite) life up.id up.kind (side_of call)) call.clients
       (up_taken call (event_of calls id now) up up.kind)
       (up_step call calls id now up up.kind apart once)
-  by_input calls (Some call) (AnItem id (User command)) now apart once =
+  by_input calls (Some call) (Some (id, User command)) now apart once =
       kept_step (Some id) None call.clients (command_taken call (event_of calls id now) command)
       (command_step call calls id now command apart)
 
-  pub again_in_order : (calls : Calls) (inputs : List (Timed CallInput)) → EventsDiffer inputs
+  pub again_in_order : (calls : Calls) (inputs : List (Timed CallItem)) → EventsDiffer inputs
       → shown calls (InTheDialog invite) life inputs
       ≡ in_order (came calls (InTheDialog invite) life inputs)
   again_in_order calls inputs differ =

@@ -6,15 +6,16 @@ use Rattle.sip_message.specs.declared.id.Id.{Id}
 use Rattle.sip_transactions.specs.declared.output.Kind.{Kind}
 use Rattle.sip_transactions.specs.declared.output.Kind.TheVariants as kind
 use Rattle.sip_transactions.specs.declared.output.Up.{Up as AnUp}
-use Rattle.sip_served.specs.declared.command.UserCommand.{UserCommand}
-use Rattle.sip_served.specs.declared.command.UserCommand.TheVariants.{Invite, Plain as PlainCommand, Request, Respond, Ack, Prack, Cancel}
-use Rattle.sip_served.specs.declared.item.CallOut.{CallOut}
-use Rattle.sip_served.specs.declared.item.CallOut.TheVariants.{Notice}
-use Rattle.sip_served.specs.declared.item.Item.TheVariants.{Up, User}
-use Rattle.sip_served.specs.declared.notice.Notice.{Notice as ANotice}
-use Rattle.sip_served.specs.declared.notice.Notice.TheVariants as notice
+use Rattle.sip_common.specs.declared.command.UserCommand.{UserCommand}
+use Rattle.sip_common.specs.declared.command.UserCommand.TheVariants.{Invite, Plain as PlainCommand, Request, Respond, Ack, Prack, Cancel}
+use Rattle.sip_common.specs.declared.item.CallOut.{CallOut}
+use Rattle.sip_common.specs.declared.item.CallOut.TheVariants.{Notice}
+use Rattle.sip_common.specs.declared.item.Item.TheVariants.{Up, User}
+use Rattle.sip_common.specs.declared.notice.Notice.{Notice as ANotice}
+use Rattle.sip_common.specs.declared.notice.Notice.TheVariants as notice
 use Rattle.sip_served.specs.Tick as served
-use Rattle.sip_served.proofs.NoStarts.{kind_starts, none_of_both, respond_starts, starts, tick_starts}
+use Rattle.sip_common.proofs.Starts.{none_of_both, starts}
+use Rattle.sip_served.proofs.NoStarts.{kind_starts, respond_starts, tick_starts}
 use Rattle.sip_clients.specs.Client.{Side, client_at}
 use Rattle.sip_clients.specs.Clients.{lost}
 use Rattle.sip_clients.specs.Tick.{clients_left, over_notices}
@@ -24,8 +25,7 @@ pub use Rattle.sip_clients.proofs.Tally.{count_option, weight}
 use Rattle.sip_clients.proofs.FewStarts.{ack_fits, cancel_fits, invite_fits, lost_fits, plain_fits, prack_fits, quiet_then, request_fits, response_fits, stays_quiet, tick_fits, tick_none}
 use Rattle.sip_calls.specs.declared.call.Call.{Call}
 use Rattle.sip_calls.specs.declared.calls.Calls.{Calls}
-use Rattle.sip_calls.specs.declared.calls.CallInput.{CallInput}
-use Rattle.sip_calls.specs.declared.calls.CallInput.TheVariants.{Tick, Item as AnItem}
+use Rattle.sip_calls.specs.Call.{CallItem}
 use Rattle.sip_calls.specs.Call.{call_step, command_taken, event_of, first_command_taken, kept, lost_taken, new_call, tag_of_answers, up_taken}
 use Rattle.sip_calls.specs.Provisionals.{event_in, event_of_kind, side_held}
 use Rattle.sip_calls.specs.Sides.{CallTaken, side_of, ticked}
@@ -124,27 +124,27 @@ kept_starts event call taken fits =
     subst (λ (side : Side). Fits event call.clients taken.1 side.clients)
     (sym (kept_side taken.0)) fits
 
-pub call_starts : (calls : Calls) (state : Option Call) (input : CallInput) (now : ℕ)
+pub call_starts : (calls : Calls) (state : Option Call) (input : Option CallItem) (now : ℕ)
     → StartsBy (event_in input) state (call_step calls state input now)
-call_starts calls None Tick now = stays_quiet None [] [] refl
-call_starts calls (Some call) Tick now =
+call_starts calls None None now = stays_quiet None [] [] refl
+call_starts calls (Some call) None now =
     kept_starts None call (ticked call now) (ticked_starts call now)
-call_starts calls None (AnItem id (Up up)) now =
+call_starts calls None (Some (id, Up up)) now =
     let call = new_call calls.local in
     kept_starts (event_of_kind id up.kind) call (up_taken call (event_of calls id now) up up.kind)
     (up_starts call calls id now up up.kind)
-call_starts calls None (AnItem id (User command)) now =
+call_starts calls None (Some (id, User command)) now =
     let call = new_call calls.local in
     kept_starts (Some id) call (first_command_taken call (event_of calls id now) command)
     (first_command_starts call calls id now command)
-call_starts calls (Some call) (AnItem id (Up up)) now =
+call_starts calls (Some call) (Some (id, Up up)) now =
     kept_starts (event_of_kind id up.kind) call (up_taken call (event_of calls id now) up up.kind)
     (up_starts call calls id now up up.kind)
-call_starts calls (Some call) (AnItem id (User command)) now =
+call_starts calls (Some call) (Some (id, User command)) now =
     kept_starts (Some id) call (command_taken call (event_of calls id now) command)
     (command_starts call calls id now command)
 
 pub tick_silent : (calls : Calls) (state : Option Call) (now : ℕ)
-    → starts (call_step calls state Tick now).1 ≡ []
+    → starts (call_step calls state None now).1 ≡ []
 tick_silent calls None now = refl
 tick_silent calls (Some call) now = tick_silent_of call now

@@ -7,18 +7,18 @@ use Rattle.sip_reliable.specs.Inbound.{in_order}
 use Rattle.sip_transactions.specs.declared.output.Kind.{Kind}
 use Rattle.sip_transactions.specs.declared.output.Kind.TheVariants as kind
 use Rattle.sip_transactions.specs.declared.output.Up.{Up as AnUp}
-use Rattle.sip_served.specs.declared.command.UserCommand.{UserCommand}
-use Rattle.sip_served.specs.declared.command.UserCommand.TheVariants.{Invite, Plain as PlainCommand, Request, Respond, Ack, Prack, Cancel}
-use Rattle.sip_served.specs.declared.held_dialog.DialogLife.{DialogLife}
-use Rattle.sip_served.specs.declared.item.CallOut.{CallOut}
-use Rattle.sip_served.specs.declared.item.Item.TheVariants.{Up, User}
-use Rattle.sip_served.specs.declared.notice.Notice.{Notice}
-use Rattle.sip_served.specs.declared.notice.Notice.TheVariants as notice
-use Rattle.sip_served.specs.Dialogs.{is_named}
-use Rattle.sip_served.specs.State.{Dialogs}
+use Rattle.sip_common.specs.declared.command.UserCommand.{UserCommand}
+use Rattle.sip_common.specs.declared.command.UserCommand.TheVariants.{Invite, Plain as PlainCommand, Request, Respond, Ack, Prack, Cancel}
+use Rattle.sip_common.specs.declared.held_dialog.DialogLife.{DialogLife}
+use Rattle.sip_common.specs.declared.item.CallOut.{CallOut}
+use Rattle.sip_common.specs.declared.item.Item.TheVariants.{Up, User}
+use Rattle.sip_common.specs.declared.notice.Notice.{Notice}
+use Rattle.sip_common.specs.declared.notice.Notice.TheVariants as notice
+use Rattle.sip_common.specs.Dialogs.{is_named}
+use Rattle.sip_common.specs.Dialogs.{Dialogs}
 use Rattle.sip_served.proofs.DialogSteps.{kind_leads, respond_leads}
-use Rattle.sip_served.proofs.Entries.{none_apart}
-use Rattle.sip_served.proofs.Heard.{AreApart, Leads, leads_filtered, leads_same}
+use Rattle.sip_common.proofs.Entries.{none_apart}
+use Rattle.sip_common.proofs.Heard.{AreApart, Leads, leads_filtered, leads_same}
 use Rattle.sip_clients.specs.Client.{Side, client_at}
 use Rattle.sip_clients.specs.Provisionals.{OfTheCall, told_of}
 use Rattle.sip_clients.specs.Tick.{ends_at}
@@ -26,8 +26,7 @@ use Rattle.sip_clients.proofs.FirstSides.{ResultOf, ack_leads, ear, lost_leads, 
 use Rattle.sip_clients.proofs.Hearing.{heard_in_order}
 use Rattle.sip_calls.specs.declared.call.Call.{Call}
 use Rattle.sip_calls.specs.declared.calls.Calls.{Calls}
-use Rattle.sip_calls.specs.declared.calls.CallInput.{CallInput}
-use Rattle.sip_calls.specs.declared.calls.CallInput.TheVariants.{Tick, Item as AnItem}
+use Rattle.sip_calls.specs.Call.{CallItem}
 use Rattle.sip_calls.specs.Call.{call_step, command_taken, event_of, first_command_taken, kept, lost_taken, new_call, tag_of_answers, up_taken}
 use Rattle.sip_calls.specs.Provisionals.{EventsDiffer, came, done, event_in, event_of_kind, number_in, number_of, number_up, shown, side_held}
 use Rattle.sip_calls.specs.Sides.{CallTaken, side_of, ticked}
@@ -134,34 +133,34 @@ module _ (life : DialogLife) where
       subst (λ (side : Side). ResultOf life event before side.dialogs number taken.1)
       (sym (kept_side taken.0)) step
 
-  by_input : (calls : Calls) (state : Option Call) (input : CallInput) (now : ℕ)
+  by_input : (calls : Calls) (state : Option Call) (input : Option CallItem) (now : ℕ)
       → AreApart (side_held state).dialogs
       → KeptStep (event_in input) (number_in OfTheCall life input (side_held state))
       (side_held state).dialogs (call_step calls state input now)
-  by_input calls None Tick now apart =
+  by_input calls None None now apart =
       silent life None [] [] [] (leads_same (λ x. None ≡ Some x) [] apart)
-  by_input calls (Some call) Tick now apart =
+  by_input calls (Some call) None now apart =
       kept_step None None (dialogs_of call) (ticked call now) (tick_step call now apart)
-  by_input calls None (AnItem id (Up up)) now apart =
+  by_input calls None (Some (id, Up up)) now apart =
       let call = new_call calls.local in
       kept_step (event_of_kind id up.kind) (number_up OfTheCall life up.id up.kind (side_of call))
       (dialogs_of call) (up_taken call (event_of calls id now) up up.kind)
       (up_step call calls id now up up.kind apart)
-  by_input calls None (AnItem id (User command)) now apart =
+  by_input calls None (Some (id, User command)) now apart =
       let call = new_call calls.local in
       kept_step (Some id) None (dialogs_of call)
       (first_command_taken call (event_of calls id now) command)
       (first_command_step call calls id now command apart)
-  by_input calls (Some call) (AnItem id (Up up)) now apart =
+  by_input calls (Some call) (Some (id, Up up)) now apart =
       kept_step (event_of_kind id up.kind) (number_up OfTheCall life up.id up.kind (side_of call))
       (dialogs_of call) (up_taken call (event_of calls id now) up up.kind)
       (up_step call calls id now up up.kind apart)
-  by_input calls (Some call) (AnItem id (User command)) now apart =
+  by_input calls (Some call) (Some (id, User command)) now apart =
       kept_step (Some id) None (dialogs_of call)
       (command_taken call (event_of calls id now) command)
       (command_step call calls id now command apart)
 
-  pub first_in_order : (calls : Calls) (inputs : List (Timed CallInput)) → EventsDiffer inputs
+  pub first_in_order : (calls : Calls) (inputs : List (Timed CallItem)) → EventsDiffer inputs
       → shown calls OfTheCall life inputs ≡ in_order (came calls OfTheCall life inputs)
   first_in_order calls inputs differ =
       heard_in_order (λ state input. (done calls OfTheCall life state input).0)

@@ -3,7 +3,7 @@ use Rattle.std.proofs.Common.{◌≡◌, Bool, true, false, not, ◌||◌, ◌==
 use Rattle.std.specs.Prelude.{None, Some, if◌then◌else◌}
 use Rattle.std.proofs.lemmas.Grind.{common_steps}
 use Rattle.sip_model.proofs.Ordered.{by_bool}
-use Rattle.sip_served.specs.State.{Dialogs}
+use Rattle.sip_common.specs.Dialogs.{Dialogs}
 use Rattle.sip_clients.specs.Client.{Clients}
 use Rattle.sip_calls.specs.declared.call.Call.{Call}
 use Rattle.sip_calls.specs.Call.{kept_call}

@@ -9,18 +9,18 @@ use Rattle.sip_message.specs.declared.id.Id.{Id}
 use Rattle.sip_transactions.specs.declared.output.Kind.{Kind}
 use Rattle.sip_transactions.specs.declared.output.Kind.TheVariants as kind
 use Rattle.sip_transactions.specs.declared.output.Up.{Up as AnUp}
-use Rattle.sip_served.specs.declared.command.UserCommand.{UserCommand}
-use Rattle.sip_served.specs.declared.command.UserCommand.TheVariants.{Invite, Plain, Request, Respond, Ack, Prack, Cancel}
-use Rattle.sip_served.specs.declared.item.CallOut.TheVariants.{Notice}
-use Rattle.sip_served.specs.declared.item.Item.TheVariants.{Up, User}
-use Rattle.sip_served.specs.declared.notice.Notice.{Notice as ANotice}
-use Rattle.sip_served.specs.declared.notice.Notice.TheVariants as notice
-use Rattle.sip_served.specs.Command.{call_of_command}
-use Rattle.sip_served.specs.OwnCall.{IsKindOf}
+use Rattle.sip_common.specs.declared.command.UserCommand.{UserCommand}
+use Rattle.sip_common.specs.declared.command.UserCommand.TheVariants.{Invite, Plain, Request, Respond, Ack, Prack, Cancel}
+use Rattle.sip_common.specs.declared.item.CallOut.TheVariants.{Notice}
+use Rattle.sip_common.specs.declared.item.Item.TheVariants.{Up, User}
+use Rattle.sip_common.specs.declared.notice.Notice.{Notice as ANotice}
+use Rattle.sip_common.specs.declared.notice.Notice.TheVariants as notice
+use Rattle.sip_common.specs.Command.{call_of_command}
+use Rattle.sip_common.specs.OwnCall.{IsKindOf}
 use Rattle.sip_served.specs.State.{Taken as ServedTaken}
 use Rattle.sip_served.specs.Step.{kind_taken}
 use Rattle.sip_served.specs.Tick as served
-use Rattle.sip_served.proofs.Each.{both}
+use Rattle.sip_common.proofs.Each.{both}
 use Rattle.sip_served.proofs.OwnCall as server
 use Rattle.sip_clients.specs.Cancel.{cancel_taken}
 use Rattle.sip_clients.specs.Client.{Side, Taken as ClientTaken}
@@ -31,8 +31,7 @@ use Rattle.sip_clients.specs.declared.event.Event.{Event}
 use Rattle.sip_clients.proofs.OwnCall.{ack_own, cancel_own, dialog_request_own, invite_own, lost_own, plain_own, prack_own, response_own, tick_own}
 use Rattle.sip_calls.specs.declared.call.Call.{Call}
 use Rattle.sip_calls.specs.declared.calls.Calls.{Calls}
-use Rattle.sip_calls.specs.declared.calls.CallInput.{CallInput}
-use Rattle.sip_calls.specs.declared.calls.CallInput.TheVariants.{Tick, Item as AnItem}
+use Rattle.sip_calls.specs.Call.{CallItem}
 use Rattle.sip_calls.specs.Call.{Taken, call_machine, call_step, command_taken, event_of, first_command_taken, kept, lost_taken, new_call, tag_of_answers, up_taken}
 use Rattle.sip_calls.specs.OwnCall.{AreSidesOf, EachNoticeIsOwn, IsCallOf, IsInputOf, IsItemOf, IsNoticeOf}
 use Rattle.sip_calls.specs.Sides.{CallTaken, by_clients, by_server, followed, holds_any, side_of, ticked}
@@ -174,43 +173,43 @@ module _ (call_id : List ℕ) where
   new_own : (local : Addr) → AreSidesOf call_id (new_call local)
   new_own local = record { state = server.empty_is call_id local; clients = tt }
 
-  pub step_own : (calls : Calls) (state : Option Call) (input : CallInput) (now : ℕ)
+  pub step_own : (calls : Calls) (state : Option Call) (input : Option CallItem) (now : ℕ)
       → IsCallOf call_id state → IsInputOf call_id input
       → IsCallOf call_id (call_step calls state input now).0
       × AreNoticesOf call_id (call_step calls state input now).1
-  step_own calls None Tick now own its = (tt, tt)
-  step_own calls (Some call) Tick now own its =
+  step_own calls None None now own its = (tt, tt)
+  step_own calls (Some call) None now own its =
       kept_own (ticked call now) (ticked_own call now own)
-  step_own calls None (AnItem id (Up up)) now own its =
+  step_own calls None (Some (id, Up up)) now own its =
       let call = new_call calls.local in
       let event = event_of calls id now in
       kept_own (up_taken call event up up.kind)
       (up_own call event up up.kind its.0 its.1 (new_own calls.local))
-  step_own calls None (AnItem id (User command)) now own its =
+  step_own calls None (Some (id, User command)) now own its =
       let call = new_call calls.local in
       let event = event_of calls id now in
       kept_own (first_command_taken call event command)
       (first_command_own call event command its (new_own calls.local))
-  step_own calls (Some call) (AnItem id (Up up)) now own its =
+  step_own calls (Some call) (Some (id, Up up)) now own its =
       let event = event_of calls id now in
       kept_own (up_taken call event up up.kind) (up_own call event up up.kind its.0 its.1 own)
-  step_own calls (Some call) (AnItem id (User command)) now own its =
+  step_own calls (Some call) (Some (id, User command)) now own its =
       let event = event_of calls id now in
       kept_own (command_taken call event command) (command_own call event command its own)
 
   -- ---- the machine of a call
 
   -- each of these inputs is of that Call-ID
-  abbrev pub AreInputsOf : List (Timed CallInput) → Type 0
+  abbrev pub AreInputsOf : List (Timed CallItem) → Type 0
   AreInputsOf inputs = AllByRecursion (λ timed. IsInputOf call_id timed.input) inputs
 
-  pub next_own : (calls : Calls) (key : List ℕ) (state : Option Call) (timed : Timed CallInput)
+  pub next_own : (calls : Calls) (key : List ℕ) (state : Option Call) (timed : Timed CallItem)
       → IsCallOf call_id state → IsInputOf call_id timed.input
       → IsCallOf call_id (next (call_machine calls) key state timed)
   next_own calls key state timed own its =
       (step_own calls state timed.input timed.moment own its).0
 
-  pub adds_own : (calls : Calls) (key : List ℕ) (state : Option Call) (timed : Timed CallInput)
+  pub adds_own : (calls : Calls) (key : List ℕ) (state : Option Call) (timed : Timed CallItem)
       → IsCallOf call_id state → IsInputOf call_id timed.input
       → AreNoticesOf call_id (adds (call_machine calls) key state timed)
   adds_own calls key state timed own its =
@@ -218,7 +217,7 @@ module _ (call_id : List ℕ) where
 
   -- what is held after a list of inputs, and each notice that they give
   pub state_from_own : (calls : Calls) (key : List ℕ) (state : Option Call)
-      (inputs : List (Timed CallInput)) → IsCallOf call_id state → AreInputsOf inputs
+      (inputs : List (Timed CallItem)) → IsCallOf call_id state → AreInputsOf inputs
       → IsCallOf call_id (state_from (call_machine calls) key state inputs)
   state_from_own calls key state [] own its = own
   state_from_own calls key state (timed ∷ inputs) own its =
@@ -226,7 +225,7 @@ module _ (call_id : List ℕ) where
       (next_own calls key state timed own its.0) its.1
 
   pub outputs_from_own : (calls : Calls) (key : List ℕ) (state : Option Call)
-      (inputs : List (Timed CallInput)) → IsCallOf call_id state → AreInputsOf inputs
+      (inputs : List (Timed CallItem)) → IsCallOf call_id state → AreInputsOf inputs
       → AreNoticesOf call_id (outputs_from (call_machine calls) key state inputs)
   outputs_from_own calls key state [] own its = tt
   outputs_from_own calls key state (timed ∷ inputs) own its =
@@ -237,7 +236,7 @@ module _ (call_id : List ℕ) where
       (outputs_from_own calls key later inputs (next_own calls key state timed own its.0) its.1)
 
   -- over all inputs of a call, of which nothing was held before
-  pub call_own : (calls : Calls) (inputs : List (Timed CallInput)) → AreInputsOf inputs
+  pub call_own : (calls : Calls) (inputs : List (Timed CallItem)) → AreInputsOf inputs
       → IsCallOf call_id (state_after (call_machine calls) call_id inputs)
       × AreNoticesOf call_id (outputs_from (call_machine calls) call_id None inputs)
   call_own calls inputs its = (

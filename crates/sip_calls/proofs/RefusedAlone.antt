@@ -6,17 +6,18 @@ use Rattle.std.specs.List.{list_any}
 use Rattle.std.proofs.lemmas.Bool.{false≢true}
 use Rattle.sip_message.specs.declared.id.Id.{Id}
 use Rattle.sip_message.specs.declared.message.Message.{Message}
-use Rattle.sip_served.specs.Command.{call_of_command}
-use Rattle.sip_served.specs.Dialogs.{is_early_of}
+use Rattle.sip_common.specs.Command.{call_of_command}
+use Rattle.sip_common.specs.Dialogs.{is_early_of}
 use Rattle.sip_served.specs.Respond.{by_refusal, by_request, confirms_dialog, dialogs_answered, makes_dialog, refusal_for, rejects, respond_taken}
-use Rattle.sip_served.specs.State.{Dialogs, State, has_id}
-use Rattle.sip_served.specs.declared.command.Plain.{Plain as APlain}
-use Rattle.sip_served.specs.declared.command.Respond.{Respond as ARespond}
-use Rattle.sip_served.specs.declared.command.UserCommand.{UserCommand}
-use Rattle.sip_served.specs.declared.command.UserCommand.TheVariants.{Invite, Plain, Request, Respond, Ack, Prack, Cancel}
+use Rattle.sip_common.specs.Dialogs.{Dialogs}
+use Rattle.sip_served.specs.State.{State, has_id}
+use Rattle.sip_common.specs.declared.command.Plain.{Plain as APlain}
+use Rattle.sip_common.specs.declared.command.Respond.{Respond as ARespond}
+use Rattle.sip_common.specs.declared.command.UserCommand.{UserCommand}
+use Rattle.sip_common.specs.declared.command.UserCommand.TheVariants.{Invite, Plain, Request, Respond, Ack, Prack, Cancel}
 use Rattle.sip_served.specs.declared.held_request.HeldRequest.{HeldRequest}
-use Rattle.sip_served.specs.declared.refusal.Refusal.{Refusal}
-use Rattle.sip_served.specs.declared.refusal.Refusal.TheVariants.{BadMethod, CallInUse, NoSuchCall, NoSuchRequest}
+use Rattle.sip_common.specs.declared.refusal.Refusal.{Refusal}
+use Rattle.sip_common.specs.declared.refusal.Refusal.TheVariants.{BadMethod, CallInUse, NoSuchCall, NoSuchRequest}
 use Rattle.sip_clients.specs.Client.{Taken as ClientTaken}
 use Rattle.sip_clients.specs.Cancel.{cancel_taken}
 use Rattle.sip_clients.specs.Clients.{ack_taken, prack_taken, request_taken}

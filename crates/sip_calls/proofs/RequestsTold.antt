@@ -6,23 +6,24 @@ use Rattle.sip_message.specs.declared.id.Id.{Id}
 use Rattle.sip_transactions.specs.declared.output.Kind.{Kind}
 use Rattle.sip_transactions.specs.declared.output.Kind.TheVariants as kind
 use Rattle.sip_transactions.specs.declared.output.Up.{Up as AnUp}
-use Rattle.sip_served.specs.declared.command.UserCommand.{UserCommand}
-use Rattle.sip_served.specs.declared.command.UserCommand.TheVariants.{Invite, Plain, Request, Respond, Ack, Prack, Cancel}
-use Rattle.sip_served.specs.declared.item.CallOut.{CallOut}
-use Rattle.sip_served.specs.declared.item.Item.{Item}
-use Rattle.sip_served.specs.declared.item.Item.TheVariants.{Up, User}
+use Rattle.sip_common.specs.declared.command.UserCommand.{UserCommand}
+use Rattle.sip_common.specs.declared.command.UserCommand.TheVariants.{Invite, Plain, Request, Respond, Ack, Prack, Cancel}
+use Rattle.sip_common.specs.declared.item.CallOut.{CallOut}
+use Rattle.sip_common.specs.declared.item.Item.{Item}
+use Rattle.sip_common.specs.declared.item.Item.TheVariants.{Up, User}
 use Rattle.sip_served.specs.Run.{Takes, Ticks}
-use Rattle.sip_served.specs.Shown.{is_request, request_in}
-use Rattle.sip_served.specs.State.{is_id}
+use Rattle.sip_common.specs.Notices.{request_in}
+use Rattle.sip_served.specs.Shown.{is_request}
+use Rattle.sip_common.specs.Ids.{is_id}
 use Rattle.sip_served.specs.Tick as served
 use Rattle.sip_served.proofs.Shows.{told_often}
 use Rattle.sip_clients.specs.Tick as clients
 use Rattle.sip_clients.specs.declared.event.Event.{Event}
-use Rattle.sip_clients.proofs.NoRequests.{ack_command_asks, asked_in, cancel_asks, invite_asks, lost_asks, plain_asks, prack_command_asks, request_asks, response_asks, tick_asks}
+use Rattle.sip_common.proofs.Shown.{shown as asked_in}
+use Rattle.sip_clients.proofs.NoRequests.{ack_command_asks, cancel_asks, invite_asks, lost_asks, plain_asks, prack_command_asks, request_asks, response_asks, tick_asks}
 use Rattle.sip_calls.specs.declared.call.Call.{Call}
 use Rattle.sip_calls.specs.declared.calls.Calls.{Calls}
-use Rattle.sip_calls.specs.declared.calls.CallInput.{CallInput}
-use Rattle.sip_calls.specs.declared.calls.CallInput.TheVariants.{Tick, Item as AnItem}
+use Rattle.sip_calls.specs.Call.{CallItem}
 use Rattle.sip_calls.specs.Call.{call_step, command_taken, event_of, first_command_taken, new_call, tag_of_answers, up_taken}
 use Rattle.sip_calls.specs.Requests.{EachToldOnce, brings, tells_of}
 use Rattle.sip_calls.specs.Sides.{by_server, side_of, ticked}
@@ -120,17 +121,17 @@ module _ (id : Id) where
 
   -- ---- all of it
 
-  step_few : (calls : Calls) (state : Option Call) (input : CallInput) (now : ℕ)
+  step_few : (calls : Calls) (state : Option Call) (input : Option CallItem) (now : ℕ)
       → Few (call_step calls state input now).1 (brings id input)
-  step_few calls None Tick now = few_of_none [] false refl
-  step_few calls (Some call) Tick now = ticked_few call now
-  step_few calls None (AnItem event (Up up)) now =
+  step_few calls None None now = few_of_none [] false refl
+  step_few calls (Some call) None now = ticked_few call now
+  step_few calls None (Some (event, Up up)) now =
       up_few (new_call calls.local) (event_of calls event now) up up.kind
-  step_few calls (Some call) (AnItem event (Up up)) now =
+  step_few calls (Some call) (Some (event, Up up)) now =
       up_few call (event_of calls event now) up up.kind
-  step_few calls None (AnItem event (User command)) now =
+  step_few calls None (Some (event, User command)) now =
       first_command_few (new_call calls.local) (event_of calls event now) command
-  step_few calls (Some call) (AnItem event (User command)) now =
+  step_few calls (Some call) (Some (event, User command)) now =
       command_few call (event_of calls event now) command
 
 pub each_told_once : EachToldOnce

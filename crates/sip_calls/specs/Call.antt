@@ -4,26 +4,26 @@ use Rattle.std.specs.Prelude.{ℕ, Bool, true, false, List, [], ◌∷◌, Optio
 use Rattle.sip_message.specs.declared.addr.Addr.{Addr}
 use Rattle.sip_message.specs.declared.id.Id.{Id}
 use Rattle.sip_message.specs.declared.message.Message.{Message}
-use Rattle.sip_model.specs.Machine.{Machine, Timed, ticks_of}
+use Rattle.sip_model.specs.Machine.{Machine, Timed}
 use Rattle.sip_transactions.specs.declared.output.Kind.{Kind}
 use Rattle.sip_transactions.specs.declared.output.Kind.TheVariants as kind
 use Rattle.sip_transactions.specs.declared.output.Up.{Up as AnUp}
 use Rattle.sip_served.specs.ServerSide.{empty_at}
 use Rattle.sip_served.specs.Acknowledgment.{ack_taken as acknowledged}
-use Rattle.sip_served.specs.Arrival.{arrival_of}
-use Rattle.sip_served.specs.Requests.{local_tag_of}
+use Rattle.sip_served.specs.Arrival.{new_request}
+use Rattle.sip_common.specs.Requests.{local_tag_of}
 use Rattle.sip_served.specs.Respond.{respond_taken}
 use Rattle.sip_served.specs.Step.{arrival_taken}
-use Rattle.sip_served.specs.declared.command.UserCommand.{UserCommand}
-use Rattle.sip_served.specs.declared.command.UserCommand.TheVariants.{Invite, Plain, Request, Respond, Ack, Prack, Cancel}
-use Rattle.sip_served.specs.declared.item.Item.{Item}
-use Rattle.sip_served.specs.declared.item.Item.TheVariants.{Up, User}
-use Rattle.sip_served.specs.declared.item.CallOut.{CallOut}
-use Rattle.sip_served.specs.declared.item.CallOut.TheVariants.{Notice}
-use Rattle.sip_served.specs.declared.notice.Notice.{Notice as ANotice}
-use Rattle.sip_served.specs.declared.notice.Notice.TheVariants.{Refused, Timeout, Failed}
-use Rattle.sip_served.specs.declared.refusal.Refusal.{Refusal}
-use Rattle.sip_served.specs.declared.refusal.Refusal.TheVariants.{CallInUse, NoSuchCall}
+use Rattle.sip_common.specs.declared.command.UserCommand.{UserCommand}
+use Rattle.sip_common.specs.declared.command.UserCommand.TheVariants.{Invite, Plain, Request, Respond, Ack, Prack, Cancel}
+use Rattle.sip_common.specs.declared.item.Item.{Item}
+use Rattle.sip_common.specs.declared.item.Item.TheVariants.{Up, User}
+use Rattle.sip_common.specs.declared.item.CallOut.{CallOut}
+use Rattle.sip_common.specs.declared.item.CallOut.TheVariants.{Notice}
+use Rattle.sip_common.specs.declared.notice.Notice.{Notice as ANotice}
+use Rattle.sip_common.specs.declared.notice.Notice.TheVariants.{Refused, Timeout, Failed}
+use Rattle.sip_common.specs.declared.refusal.Refusal.{Refusal}
+use Rattle.sip_common.specs.declared.refusal.Refusal.TheVariants.{CallInUse, NoSuchCall}
 use Rattle.sip_clients.specs.Cancel.{cancel_taken}
 use Rattle.sip_clients.specs.Client.{Clients}
 use Rattle.sip_clients.specs.Clients.{ack_taken, invite_taken, lost, plain_taken, prack_taken, request_taken, response_taken}
@@ -31,8 +31,6 @@ use Rattle.sip_clients.specs.Name.{name_of}
 use Rattle.sip_clients.specs.declared.event.Event.{Event}
 use Rattle.sip_calls.specs.declared.call.Call.{Call}
 use Rattle.sip_calls.specs.declared.calls.Calls.{Calls}
-use Rattle.sip_calls.specs.declared.calls.CallInput.{CallInput}
-use Rattle.sip_calls.specs.declared.calls.CallInput.TheVariants.{Tick, Item as AnItem}
 pub use Rattle.sip_calls.specs.Sides.{CallTaken, by_clients, by_server, followed, holds_any, next_due, side_of, ticked}
 
 -- a call after what happens to it, `None` if it isn't held, and what it gives
@@ -70,8 +68,8 @@ lost_taken call id notice timed_out =
 
 abbrev pub up_taken : Call → Event → AnUp → Kind → CallTaken
 up_taken call event up (kind.Request request reply_to) =
-    by_server call (arrival_taken (call.served).state
-    (arrival_of up (tag_of_answers event request) request reply_to) event.moment)
+    by_server call (arrival_taken (call.served).state up.call_id
+    (new_request up.key up.id request reply_to (tag_of_answers event request)) event.moment)
 up_taken call event up (kind.Ack ack) =
     by_server call (acknowledged (call.served).state up.call_id ack)
 up_taken call event up (kind.Response response) =
@@ -123,24 +121,24 @@ abbrev pub item_taken : Call → Event → Item → CallTaken
 item_taken call event (Up up) = up_taken call event up up.kind
 item_taken call event (User command) = command_taken call event command
 
--- what happens to a call
-abbrev pub call_step : Calls → Option Call → CallInput → ℕ → Taken
-call_step calls None Tick now = (None, [])
-call_step calls None (AnItem id item) now =
+-- an item, and the id of its event
+abbrev pub CallItem : Type 0
+CallItem = Id × Item
+
+-- what an item makes of a call, or, without one, that time goes on
+abbrev pub call_step : Calls → Option Call → Option CallItem → ℕ → Taken
+call_step calls None None now = (None, [])
+call_step calls None (Some (id, item)) now =
     kept (first_item_taken (new_call calls.local) (event_of calls id now) item)
-call_step calls (Some call) Tick now = kept (ticked call now)
-call_step calls (Some call) (AnItem id item) now =
+call_step calls (Some call) None now = kept (ticked call now)
+call_step calls (Some call) (Some (id, item)) now =
     kept (item_taken call (event_of calls id now) item)
 
 -- one machine for every Call-ID
-abbrev pub call_machine : Calls → Machine (List ℕ) Call (Timed CallInput) CallOut
+abbrev pub call_machine : Calls → Machine (List ℕ) Call (Timed CallItem) CallOut
 call_machine calls =
     record { step = λ key state timed. call_step calls state timed.input timed.moment }
 
 -- the moment at which something is due of a call; one under which nothing is held is over at once
 abbrev pub call_due : Call → Option ℕ
 call_due call = if holds_any call then next_due call else Some 0
-
--- the input of a tick
-abbrev pub tick_input : ℕ → Timed CallInput
-tick_input = ticks_of Tick

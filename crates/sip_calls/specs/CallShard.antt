@@ -6,11 +6,10 @@ use Rattle.std.specs.declared.cmp.Ordering.{Ordering}
 use Rattle.sip_model.specs.Machine.{Timed, given_at}
 use Rattle.sip_message.specs.declared.id.Id.{Id}
 use Rattle.sip_model.specs.Table.{Held}
-use Rattle.sip_served.specs.declared.item.Item.{Item}
-use Rattle.sip_calls.specs.declared.calls.CallInput.{CallInput}
+use Rattle.sip_common.specs.declared.item.Item.{Item}
+use Rattle.sip_calls.specs.Call.{CallItem}
 use Rattle.sip_calls.specs.declared.call.Call.{Call}
 use Rattle.sip_calls.specs.declared.calls.Calls.{Calls}
-use Rattle.sip_calls.specs.declared.calls.CallInput.TheVariants.{Item as AnItem}
 
 -- what all calls share, and the calls that are held by Call-ID; a broken shard holds `None`
 pub record HeldCalls : Type 0 where
@@ -22,5 +21,5 @@ abbrev pub call_cmp : List ℕ → List ℕ → Ordering
 call_cmp = slice_cmp nat_cmp
 
 -- an item, as an input of one call
-abbrev pub item_input : Id → Item → ℕ → Timed CallInput
-item_input id item now = given_at now (AnItem id item)
+abbrev pub item_input : Id → Item → ℕ → Timed CallItem
+item_input id item now = given_at now (id, item)

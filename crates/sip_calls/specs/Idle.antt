@@ -3,17 +3,17 @@ use Rattle.std.proofs.Common.{◌≡◌, ℕ, Bool, true, false, ◌||◌, List,
 use Rattle.std.specs.Prelude.{None, Some, if◌then◌else◌}
 use Rattle.std.proofs.lemmas.Grind.{common_steps}
 use Rattle.std.proofs.lemmas.Bool.{true≢false}
-use Rattle.sip_model.specs.Machine.{IsIdle}
+use Rattle.sip_model.specs.Machine.{IsIdle, tick_at}
 use Rattle.sip_model.proofs.Ordered.{by_bool}
 use Rattle.sip_timers.specs.Queue.{is_due}
 use Rattle.sip_served.specs.Tick as served
 use Rattle.sip_served.proofs.Calm.{quiet_before}
-use Rattle.sip_served.proofs.Dues.{earlier_due}
+use Rattle.sip_common.proofs.Dues.{earlier_due}
 use Rattle.sip_clients.specs.Tick as clients
 use Rattle.sip_clients.proofs.Calm.{clients_quiet_before}
 use Rattle.sip_calls.specs.declared.call.Call.{Call}
 use Rattle.sip_calls.specs.declared.calls.Calls.{Calls}
-use Rattle.sip_calls.specs.Call.{call_due, call_machine, kept_call, tick_input}
+use Rattle.sip_calls.specs.Call.{call_due, call_machine, kept_call}
 use Rattle.sip_calls.specs.Sides.{CallTaken, by_clients, by_server, holds_any, next_due, side_of, ticked}
 
 due_at_once : (now : ℕ) → is_due now (Some 0) ≡ true
@@ -43,7 +43,7 @@ calm_tick now call calm =
 -- a call that holds something, of which nothing is due
 held_is_calm : (calls : Calls) (now : ℕ) (key : List ℕ) (call : Call) → holds_any call ≡ true
     → is_due now (call_due call) ≡ false
-    → (call_machine calls).step key (Some call) (tick_input now) ≡ (Some call, [])
+    → (call_machine calls).step key (Some call) (tick_at now) ≡ (Some call, [])
 held_is_calm calls now key call some calm =
     let later : is_due now (next_due call) ≡ false =
     ap (λ b. is_due now (if b then next_due call else Some 0)) (sym some) ∙ calm in
@@ -51,7 +51,7 @@ held_is_calm calls now key call some calm =
     ∙ (λ i. (if some i then Some call else None, []))
 
 pub ticks_are_idle : (calls : Calls) (now : ℕ)
-    → IsIdle (call_machine calls) call_due now (tick_input now)
+    → IsIdle (call_machine calls) call_due now (tick_at now)
 ticks_are_idle calls now key None calm = refl
 ticks_are_idle calls now key (Some call) calm =
     by_bool (holds_any call) (λ some. held_is_calm calls now key call some calm)

@@ -2,12 +2,12 @@
 -- (RFC 3261, section 8.1.1.4).
 use Rattle.std.specs.Prelude.{ℕ, List, Option, None, Some}
 use Rattle.std.specs.List.{AllByRecursion}
-pub use Rattle.sip_served.specs.OwnCall.{IsItemOf, IsNoticeOf, IsStateOf, call_of_notice}
+pub use Rattle.sip_common.specs.OwnCall.{IsItemOf, IsNoticeOf, call_of_notice}
+pub use Rattle.sip_served.specs.OwnCall.{IsStateOf}
 pub use Rattle.sip_clients.specs.OwnCall.{AreClientsOf}
 use Rattle.sip_calls.specs.declared.call.Call.{Call}
 use Rattle.sip_calls.specs.declared.calls.Calls.{Calls}
-use Rattle.sip_calls.specs.declared.calls.CallInput.{CallInput}
-use Rattle.sip_calls.specs.declared.calls.CallInput.TheVariants.{Tick, Item as AnItem}
+use Rattle.sip_calls.specs.Call.{CallItem}
 use Rattle.sip_calls.specs.Call.{call_step}
 
 -- both sides of a call are of that Call-ID
@@ -21,14 +21,14 @@ IsCallOf call_id None = Unit {0}
 IsCallOf call_id (Some call) = AreSidesOf call_id call
 
 -- an item of that Call-ID, or a tick
-abbrev pub IsInputOf : List ℕ → CallInput → Type 0
-IsInputOf call_id Tick = Unit {0}
-IsInputOf call_id (AnItem id item) = IsItemOf call_id item
+abbrev pub IsInputOf : List ℕ → Option CallItem → Type 0
+IsInputOf call_id None = Unit {0}
+IsInputOf call_id (Some (id, item)) = IsItemOf call_id item
 
 -- Where what is held of a call and what happens to it are of a Call-ID, so are what is held then
 -- and each notice.
 abbrev pub EachNoticeIsOwn : Type 0
-EachNoticeIsOwn = (calls : Calls) (call_id : List ℕ) (state : Option Call) (input : CallInput)
+EachNoticeIsOwn = (calls : Calls) (call_id : List ℕ) (state : Option Call) (input : Option CallItem)
     (now : ℕ) → IsCallOf call_id state → IsInputOf call_id input
     → IsCallOf call_id (call_step calls state input now).0
     × AllByRecursion (IsNoticeOf call_id) (call_step calls state input now).1

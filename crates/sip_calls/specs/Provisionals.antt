@@ -8,18 +8,16 @@ use Rattle.sip_message.specs.declared.id.Id.{Id}
 pub use Rattle.sip_reliable.specs.Inbound.{IsConsecutive, in_order}
 use Rattle.sip_transactions.specs.declared.output.Kind.{Kind}
 use Rattle.sip_transactions.specs.declared.output.Kind.TheVariants as kind
-use Rattle.sip_served.specs.declared.held_dialog.DialogLife.{DialogLife}
-use Rattle.sip_served.specs.declared.item.CallOut.{CallOut}
-use Rattle.sip_served.specs.declared.item.Item.TheVariants.{Up, User}
-use Rattle.sip_served.specs.Dialogs.{lives}
-use Rattle.sip_served.specs.State.{is_id}
+use Rattle.sip_common.specs.declared.held_dialog.DialogLife.{DialogLife}
+use Rattle.sip_common.specs.declared.item.CallOut.{CallOut}
+use Rattle.sip_common.specs.declared.item.Item.TheVariants.{Up, User}
+use Rattle.sip_common.specs.Dialogs.{lives}
+use Rattle.sip_common.specs.Ids.{is_id}
 use Rattle.sip_clients.specs.Client.{Side, client_at}
 pub use Rattle.sip_clients.specs.Provisionals.{AnInvite, in_life, number_for, told_of}
 use Rattle.sip_calls.specs.declared.call.Call.{Call}
 use Rattle.sip_calls.specs.declared.calls.Calls.{Calls}
-use Rattle.sip_calls.specs.declared.calls.CallInput.{CallInput}
-use Rattle.sip_calls.specs.declared.calls.CallInput.TheVariants.{Tick, Item as AnItem}
-use Rattle.sip_calls.specs.Call.{call_step}
+use Rattle.sip_calls.specs.Call.{CallItem, call_step}
 use Rattle.sip_calls.specs.Sides.{side_of}
 
 -- the RSeq of the reliable provisional response that comes up to that INVITE in that life of a
@@ -29,8 +27,8 @@ number_up invite life id (kind.Response response) side =
     option_and_then (number_for invite life id response) (client_at id side.clients)
 number_up invite life id _ side = None
 
-abbrev pub number_in : AnInvite → DialogLife → CallInput → Side → Option ℕ
-number_in invite life (AnItem event (Up up)) side = number_up invite life up.id up.kind side
+abbrev pub number_in : AnInvite → DialogLife → Option CallItem → Side → Option ℕ
+number_in invite life (Some (event, Up up)) side = number_up invite life up.id up.kind side
 number_in invite life _ side = None
 
 -- ---- a list of inputs
@@ -42,30 +40,30 @@ side_held (Some call) = side_of call
 
 module _ (calls : Calls) (invite : AnInvite) (life : DialogLife) where
   -- the call after an input, and what it gives
-  abbrev pub done : Option Call → Timed CallInput → Option Call × List CallOut
+  abbrev pub done : Option Call → Timed CallItem → Option Call × List CallOut
   done call timed = call_step calls call timed.input timed.moment
 
-  abbrev pub number_of : Option Call → Timed CallInput → Option ℕ
+  abbrev pub number_of : Option Call → Timed CallItem → Option ℕ
   number_of call timed = in_life (lives (side_held (done call timed).0).dialogs life)
       (number_in invite life timed.input (side_held call))
 
   -- the RSeqs that came, in order
-  abbrev pub came_from : Option Call → List (Timed CallInput) → List ℕ
+  abbrev pub came_from : Option Call → List (Timed CallItem) → List ℕ
   came_from call [] = []
   came_from call (input ∷ inputs) =
       option_to_list (number_of call input) ++ came_from (done call input).0 inputs
 
   -- those of the responses that the user is told of, in order
-  abbrev pub shown_from : Option Call → List (Timed CallInput) → List ℕ
+  abbrev pub shown_from : Option Call → List (Timed CallItem) → List ℕ
   shown_from call [] = []
   shown_from call (input ∷ inputs) =
       told_of (number_of call input) (done call input).1 ++ shown_from (done call input).0 inputs
 
   -- over all inputs of a call, of which nothing was held before
-  abbrev pub came : List (Timed CallInput) → List ℕ
+  abbrev pub came : List (Timed CallItem) → List ℕ
   came inputs = came_from None inputs
 
-  abbrev pub shown : List (Timed CallInput) → List ℕ
+  abbrev pub shown : List (Timed CallItem) → List ℕ
   shown inputs = shown_from None inputs
 
 -- ---- events
@@ -79,20 +77,20 @@ event_of_kind id kind.Timeout = None
 event_of_kind id kind.Failed = None
 
 -- the event of a message or of a command
-abbrev pub event_in : CallInput → Option Id
-event_in Tick = None
-event_in (AnItem id (Up up)) = event_of_kind id up.kind
-event_in (AnItem id (User command)) = Some id
+abbrev pub event_in : Option CallItem → Option Id
+event_in None = None
+event_in (Some (id, Up up)) = event_of_kind id up.kind
+event_in (Some (id, User command)) = Some id
 
 -- messages and commands come of different events
-abbrev pub EventsDiffer : List (Timed CallInput) → Type 0
+abbrev pub EventsDiffer : List (Timed CallItem) → Type 0
 EventsDiffer inputs = IsDistinct is_id (filter_map (λ timed. event_in timed.input) inputs)
 
 -- ---- the laws
 
 -- A law of the numbers that came, and of those shown, to an INVITE in a life of a dialog.
 abbrev pub OfEachLife : (List ℕ → List ℕ → Type 0) → Type 0
-OfEachLife Law = (calls : Calls) (inputs : List (Timed CallInput)) → EventsDiffer inputs
+OfEachLife Law = (calls : Calls) (inputs : List (Timed CallItem)) → EventsDiffer inputs
     → (invite : AnInvite) (life : DialogLife)
     → Law (came calls invite life inputs) (shown calls invite life inputs)
 

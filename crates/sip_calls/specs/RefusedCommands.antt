@@ -1,14 +1,13 @@
 -- The user's commands that are refused, over a whole call.
-use Rattle.std.specs.Prelude.{ℕ, Option}
+use Rattle.std.specs.Prelude.{ℕ, Option, Some}
 use Rattle.std.specs.Option.{option_and_then}
 use Rattle.sip_message.specs.declared.id.Id.{Id}
-use Rattle.sip_served.specs.Command.{call_of_command}
-use Rattle.sip_served.specs.declared.command.UserCommand.{UserCommand}
-use Rattle.sip_served.specs.declared.item.Item.TheVariants.{User}
+use Rattle.sip_common.specs.Command.{call_of_command}
+use Rattle.sip_common.specs.declared.command.UserCommand.{UserCommand}
+use Rattle.sip_common.specs.declared.item.Item.TheVariants.{User}
 use Rattle.sip_clients.specs.RefusedCommands.{IsRefusedAlone}
 use Rattle.sip_calls.specs.declared.call.Call.{Call}
 use Rattle.sip_calls.specs.declared.calls.Calls.{Calls}
-use Rattle.sip_calls.specs.declared.calls.CallInput.TheVariants.{Item as AnItem}
 use Rattle.sip_calls.specs.Call.{call_step, kept_call}
 
 -- Whatever is held, a command that is refused gives that alone, under its own Call-ID and with the
@@ -16,4 +15,4 @@ use Rattle.sip_calls.specs.Call.{call_step, kept_call}
 abbrev pub RefusedAlone : Type 0
 RefusedAlone = (calls : Calls) (call : Option Call) (id : Id) (command : UserCommand) (now : ℕ)
     → IsRefusedAlone (option_and_then kept_call call) (call_of_command command) id.place
-    (call_step calls call (AnItem id (User command)) now)
+    (call_step calls call (Some (id, User command)) now)

@@ -1,19 +1,18 @@
 -- The requests that come up for a call, and those that the user is told of.
-use Rattle.std.specs.Prelude.{ℕ, ◌≤◌, Bool, false, List, Option, cond, count_by, filter_map}
+use Rattle.std.specs.Prelude.{ℕ, ◌≤◌, Bool, false, List, Option, Some, cond, count_by, filter_map}
 use Rattle.sip_message.specs.declared.id.Id.{Id}
-use Rattle.sip_served.specs.declared.item.CallOut.{CallOut}
-use Rattle.sip_served.specs.declared.item.Item.TheVariants.{Up}
-use Rattle.sip_served.specs.Shown.{is_request, request_in}
-use Rattle.sip_served.specs.State.{is_id}
+use Rattle.sip_common.specs.declared.item.CallOut.{CallOut}
+use Rattle.sip_common.specs.declared.item.Item.TheVariants.{Up}
+use Rattle.sip_common.specs.Notices.{request_in}
+use Rattle.sip_served.specs.Shown.{is_request}
+use Rattle.sip_common.specs.Ids.{is_id}
 use Rattle.sip_calls.specs.declared.call.Call.{Call}
 use Rattle.sip_calls.specs.declared.calls.Calls.{Calls}
-use Rattle.sip_calls.specs.declared.calls.CallInput.{CallInput}
-use Rattle.sip_calls.specs.declared.calls.CallInput.TheVariants.{Item as AnItem}
-use Rattle.sip_calls.specs.Call.{call_step}
+use Rattle.sip_calls.specs.Call.{CallItem, call_step}
 
 -- the request of an id comes up by an input
-abbrev pub brings : Id → CallInput → Bool
-brings id (AnItem event (Up up)) = is_request up.kind (is_id id up.id)
+abbrev pub brings : Id → Option CallItem → Bool
+brings id (Some (event, Up up)) = is_request up.kind (is_id id up.id)
 brings id _ = false
 
 -- how often outputs tell of the request of an id
@@ -22,5 +21,5 @@ tells_of id outs = count_by (is_id id) (filter_map request_in outs)
 
 -- whatever is held, the user is told of a request by the input that brings it, and once
 abbrev pub EachToldOnce : Type 0
-EachToldOnce = (calls : Calls) (state : Option Call) (input : CallInput) (now : ℕ) (id : Id)
+EachToldOnce = (calls : Calls) (state : Option Call) (input : Option CallItem) (now : ℕ) (id : Id)
     → tells_of id (call_step calls state input now).1 ≤ cond (brings id input) 1 0

@@ -4,7 +4,7 @@ use Rattle.sip_timers.specs.Earlier.{earlier}
 use Rattle.sip_served.specs.State.{Taken as ServedTaken}
 use Rattle.sip_served.specs.Step.{holds}
 use Rattle.sip_served.specs.Tick as served
-use Rattle.sip_served.specs.declared.item.CallOut.{CallOut}
+use Rattle.sip_common.specs.declared.item.CallOut.{CallOut}
 use Rattle.sip_clients.specs.Client.{Side, Taken as ClientTaken}
 use Rattle.sip_clients.specs.Tick as clients
 use Rattle.sip_calls.specs.declared.call.Call.{Call}

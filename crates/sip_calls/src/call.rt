@@ -12,7 +12,7 @@ ghost use Rattle.sip_calls.specs.Sides as spec;
 
 use sip_clients::{Clients, Event};
 use sip_message::{CallId, Id, Message};
-use sip_served::{Arrival, CallOut, Cancel, DialogBody, DialogRequest, Respond, Served};
+use sip_served::{CallOut, Cancel, DialogBody, DialogRequest, HeldRequest, Respond, Served};
 use sip_timers::earlier;
 use std::alloc::{AllocError, Global};
 
@@ -41,12 +41,18 @@ impl Call {
     // ---- the server side
 
     /// A request comes up, at the moment `now` in ms.
-    pub(crate) fn arrive(&mut self, arrival: Arrival, now: u64) -> Result<Vec<CallOut>, AllocError>
+    pub(crate) fn arrive(
+        &mut self,
+        call_id: CallId,
+        arrival: HeldRequest,
+        now: u64,
+    ) -> Result<Vec<CallOut>, AllocError>
         requires { now ≤ 2 ^ 62 }
         ensures { IfOk result (λ outs. (self.new, outs.items)
-            ≡ spec.by_server self.old (arrival_taken (self.old.served).state arrival now)) }
+            ≡ spec.by_server self.old
+            (arrival_taken (self.old.served).state call_id arrival now)) }
     {
-        match self.served.arrive(arrival, now) {
+        match self.served.arrive(call_id, arrival, now) {
             Ok(outs) => Ok(outs),
             Err(_) => Err(AllocError),
         }

@@ -1,18 +1,17 @@
 //! The machine of one call: what each of its inputs makes of it, and what it gives.
 
-ghost use Rattle.std.specs.Prelude.{◌≡◌, ◌≤◌, ◌^◌, IfOk};
+ghost use Rattle.std.specs.Prelude.{◌≡◌, ◌≤◌, ◌^◌, IfOk, None, Some};
 ghost use Rattle.sip_calls.specs.Call as spec;
-ghost use Rattle.sip_calls.specs.declared.calls.CallInput.TheVariants.{Tick};
 ghost use Rattle.sip_calls.specs.Call.{call_due, call_machine, call_step};
 ghost use Rattle.sip_calls.specs.Idle.{ticks_are_idle};
 ghost use Rattle.std.proofs.lemmas.Map.Lookups.{exact_bytes};
 
 use crate::call::Call;
 use sip_clients::{Clients, Event, made_name};
+use sip_common::request::own_tag;
 use sip_message::{Addr, CallId, Id, Message, Token};
 use sip_model::StateMachine;
-use sip_served::request::own_tag;
-use sip_served::{Arrival, CallOut, Item, Notice, Refusal, Served, UserCommand};
+use sip_served::{CallOut, HeldRequest, Item, Notice, Refusal, Served, UserCommand};
 use sip_transactions::{Kind, Up};
 use std::alloc::{AllocError, Global};
 
@@ -28,27 +27,17 @@ pub struct Calls {
     pub seed: [u8; 32],
 }
 
-/// What happens to a call.
-#[derive(Drop)]
-pub enum CallInput {
-    /// Time has gone on.
-    Tick,
-    /// An item of the event of this id.
-    Item(Id, Item),
-}
-
 impl StateMachine for Calls {
     type Key = CallId;
 
     type State = Call;
 
-    type Input = CallInput;
+    /// An item, and the id of its event.
+    type Input = (Id, Item);
 
     type Output = CallOut;
 
     ghost machine = { call_machine };
-
-    ghost tick = { Tick };
 
     ghost due = { call_due };
 
@@ -57,10 +46,6 @@ impl StateMachine for Calls {
     ghost copies = { λ _ _ same. same };
 
     ghost idle = { ticks_are_idle };
-
-    fn tick_input(&self) -> CallInput {
-        CallInput::Tick
-    }
 
     fn due_of(&self, state: &Call) -> Option<u64> {
         if state.holds() {
@@ -76,27 +61,45 @@ impl StateMachine for Calls {
         key: &CallId,
         state: Option<Call>,
         moment: u64,
-        input: CallInput,
+        input: (Id, Item),
     ) -> Result<(Option<Call>, Vec<CallOut>), AllocError>
         requires { moment ≤ 2 ^ 62 }
         ensures next { IfOk result (λ after. after.0
-            ≡ (call_step self.now state input moment).0) }
+            ≡ (call_step self.now state (Some input) moment).0) }
         ensures adds { IfOk result (λ after. after.1.items
-            ≡ (call_step self.now state input moment).1) }
+            ≡ (call_step self.now state (Some input) moment).1) }
     {
-        match (state, input) {
-            (None, CallInput::Tick) => Ok((None, Vec::new(alloc))),
-            (Some(call), CallInput::Tick) => tick(call, moment),
-            (None, CallInput::Item(id, item)) => {
+        let (id, item) = input;
+        let event = self.event(id, moment);
+        match state {
+            None => {
                 let mut call = self.new_call(alloc);
-                let outs = take_first(alloc, &mut call, self.event(id, moment), item)?;
+                let outs = take_first(alloc, &mut call, event, item)?;
                 Ok((kept(call), outs))
             }
-            (Some(mut call), CallInput::Item(id, item)) => {
-                let outs = take_next(alloc, &mut call, self.event(id, moment), item)?;
+            Some(mut call) => {
+                let outs = take_next(alloc, &mut call, event, item)?;
                 Ok((kept(call), outs))
             }
         }
+    }
+
+    fn tick(
+        &self,
+        _alloc: Global,
+        _key: &CallId,
+        state: Call,
+        moment: u64,
+    ) -> Result<(Option<Call>, Vec<CallOut>), AllocError>
+        requires { moment ≤ 2 ^ 62 }
+        ensures next { IfOk result (λ after. after.0
+            ≡ (call_step self.now (Some state) None moment).0) }
+        ensures adds { IfOk result (λ after. after.1.items
+            ≡ (call_step self.now (Some state) None moment).1) }
+    {
+        let mut call = state;
+        let outs = call.tick(moment)?;
+        Ok((kept(call), outs))
     }
 }
 
@@ -155,16 +158,6 @@ fn take_next(
     }
 }
 
-// A call takes a tick.
-fn tick(mut call: Call, now: u64) -> Result<(Option<Call>, Vec<CallOut>), AllocError>
-    requires { now ≤ 2 ^ 62 }
-    ensures next { IfOk result (λ after. after.0 ≡ (spec.kept (spec.ticked call now)).0) }
-    ensures adds { IfOk result (λ after. after.1.items ≡ (spec.kept (spec.ticked call now)).1) }
-{
-    let outs = call.tick(now)?;
-    Ok((kept(call), outs))
-}
-
 // A call under which nothing is held is over.
 fn kept(call: Call) -> Option<Call>
     ensures { result ≡ spec.kept_call call }
@@ -187,15 +180,8 @@ fn take_up(alloc: Global, call: &mut Call, event: Event, up: Up) -> Result<Vec<C
     match kind {
         Kind::Request(request, reply_to) => {
             let tag = tag_of_answers(alloc, event, request.get())?;
-            let arrival = Arrival {
-                key,
-                id,
-                call_id,
-                request,
-                reply_to,
-                tag,
-            };
-            call.arrive(arrival, event.moment)
+            let arrival = HeldRequest::new(alloc, key, id, request, reply_to, tag);
+            call.arrive(call_id, arrival, event.moment)
         }
         Kind::Ack(ack) => call.acknowledge(call_id, ack.get()),
         Kind::Response(response) => call.response(event, id, call_id, response.into_inner()),

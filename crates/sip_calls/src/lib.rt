@@ -7,7 +7,7 @@ mod laws;
 mod shard;
 
 pub use call::Call;
-pub use calls::{CallInput, Calls};
+pub use calls::Calls;
 pub use laws::{
     each_notice_is_of_its_call, each_request_is_told_once, provisionals_shown_in_order,
     refused_commands_change_nothing,

@@ -3,11 +3,12 @@
 ghost use Rattle.std.specs.Prelude.{◌≡◌, ◌≤◌, ◌^◌, ℕ, List, [], Some, None, Err, OnErr, IfOk, length, count_by, is_some};
 ghost use Rattle.sip_model.specs.Table.{entries_of, state_at, Covers, StepsAll, StepsKey};
 ghost use Rattle.sip_model.specs.History.{AddsInput, AddsInputs};
-ghost use Rattle.sip_served.specs.Command.{call_of_item};
-ghost use Rattle.sip_calls.specs.Call.{call_machine, tick_input};
+ghost use Rattle.sip_model.specs.Machine.{tick_at};
+ghost use Rattle.sip_common.specs.Command.{call_of_item};
+ghost use Rattle.sip_calls.specs.Call.{call_machine};
 
 use crate::call::Call;
-use crate::calls::{CallInput, Calls};
+use crate::calls::Calls;
 use sip_message::{Addr, CallId, Id};
 use sip_model::{ShardFault, Table};
 use sip_served::{CallOut, Item};
@@ -69,10 +70,10 @@ impl CallShard {
         ensures err { OnErr result (self.new.held ≡ None) }
         ensures step { IfOk result (λ outs.
             StepsAll call_cmp (call_machine self.old.calls) self.old.held self.new.held
-            (tick_input now) outs.items) }
+            (tick_at now) outs.items) }
         ensures histories { IfOk result
             (λ outs. AddsInputs call_cmp (call_machine self.old.calls) self.old.held self.new.held
-            (tick_input now) outs.items) }
+            (tick_at now) outs.items) }
     {
         self.table.tick(&self.calls, now)
     }
@@ -93,7 +94,6 @@ impl CallShard {
             (call_of_item item) (item_input id item now) outs.items) }
     {
         let call_id = self.table.check(item.call_id().clone())?;
-        self.table
-            .handle(&self.calls, call_id, now, CallInput::Item(id, item))
+        self.table.handle(&self.calls, call_id, now, (id, item))
     }
 }

@@ -10,16 +10,16 @@ use Rattle.sip_model.proofs.Ordered.{by_bool}
 use Rattle.sip_reliable.specs.declared.offer.Offer.{Offer}
 use Rattle.sip_reliable.specs.declared.offer.Offer.TheVariants.{Taken, Repeat, Gap}
 use Rattle.sip_reliable.specs.Inbound.{latest_after, offered, taken}
-use Rattle.sip_served.specs.declared.debt.Debt.TheVariants.{Prack}
-use Rattle.sip_served.specs.declared.held_dialog.DialogLife.{DialogLife}
-use Rattle.sip_served.specs.declared.held_dialog.DialogName.{DialogName}
-use Rattle.sip_served.specs.declared.held_dialog.HeldDialog.{HeldDialog}
-use Rattle.sip_served.specs.declared.item.CallOut.{CallOut}
-use Rattle.sip_served.specs.Dialogs.{dialog_at, is_named, lives}
-use Rattle.sip_served.specs.Requests.{is_final, is_inside, is_success}
-use Rattle.sip_served.specs.State.{Dialogs, is_id}
-use Rattle.sip_served.proofs.Entries as entries
-use Rattle.sip_served.proofs.Heard.{id_laws, name_laws}
+use Rattle.sip_common.specs.declared.debt.Debt.TheVariants.{Prack}
+use Rattle.sip_common.specs.declared.held_dialog.DialogLife.{DialogLife}
+use Rattle.sip_common.specs.declared.held_dialog.DialogName.{DialogName}
+use Rattle.sip_common.specs.declared.held_dialog.HeldDialog.{HeldDialog}
+use Rattle.sip_common.specs.declared.item.CallOut.{CallOut}
+use Rattle.sip_common.specs.Dialogs.{dialog_at, is_named, lives, Dialogs}
+use Rattle.sip_common.specs.Requests.{is_final, is_inside, is_success}
+use Rattle.sip_common.specs.Ids.{is_id}
+use Rattle.sip_common.proofs.Entries as entries
+use Rattle.sip_common.proofs.Heard.{id_laws, name_laws}
 use Rattle.sip_clients.specs.declared.client.Asks.{Asks}
 use Rattle.sip_clients.specs.declared.client.Asks.TheVariants.{First, Again, Inside, Plain}
 use Rattle.sip_clients.specs.declared.client.Client.{Client}

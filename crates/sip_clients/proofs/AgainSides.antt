@@ -5,11 +5,11 @@ use Rattle.std.specs.Map.{set_value}
 use Rattle.std.specs.Option.{option_and_then, option_map}
 use Rattle.sip_message.specs.declared.id.Id.{Id}
 use Rattle.sip_message.specs.declared.message.Message.{Message}
-use Rattle.sip_served.specs.declared.held_dialog.DialogLife.{DialogLife}
-use Rattle.sip_served.specs.declared.item.CallOut.{CallOut}
-use Rattle.sip_served.specs.Dialogs.{is_named, lives}
-use Rattle.sip_served.specs.Requests.{is_final}
-use Rattle.sip_served.specs.State.{is_id}
+use Rattle.sip_common.specs.declared.held_dialog.DialogLife.{DialogLife}
+use Rattle.sip_common.specs.declared.item.CallOut.{CallOut}
+use Rattle.sip_common.specs.Dialogs.{is_named, lives}
+use Rattle.sip_common.specs.Requests.{is_final}
+use Rattle.sip_common.specs.Ids.{is_id}
 use Rattle.sip_clients.specs.declared.client.Asks.{Asks}
 use Rattle.sip_clients.specs.declared.client.Asks.TheVariants.{First, Again, Inside, Plain}
 use Rattle.sip_clients.specs.declared.client.Client.{Client}

@@ -5,11 +5,10 @@ use Rattle.std.specs.List.{flat_map, list_any}
 use Rattle.std.specs.Map.{values_of}
 use Rattle.sip_timers.specs.Queue.{is_due}
 use Rattle.sip_timers.specs.Earlier.{earlier}
-use Rattle.sip_served.proofs.Dues.{earlier_due, or_assoc}
-use Rattle.sip_served.specs.declared.held_dialog.HeldDialog.{HeldDialog}
-use Rattle.sip_served.specs.Dialogs.{early_ended, is_early_of}
-use Rattle.sip_served.specs.declared.item.CallOut.{CallOut}
-use Rattle.sip_served.specs.State.{Dialogs}
+use Rattle.sip_common.proofs.Dues.{earlier_due, or_assoc, or_false}
+use Rattle.sip_common.specs.declared.held_dialog.HeldDialog.{HeldDialog}
+use Rattle.sip_common.specs.Dialogs.{early_ended, is_early_of, Dialogs}
+use Rattle.sip_common.specs.declared.item.CallOut.{CallOut}
 use Rattle.sip_clients.specs.declared.client.Client.{Client}
 use Rattle.sip_clients.specs.Client.{Clients, Side, quiet}
 use Rattle.sip_clients.specs.Tick.{clients_left, dialogs_left, ends_at, is_over, next_due, notices_of, tick_taken}
@@ -17,10 +16,6 @@ use Rattle.sip_clients.specs.Tick.{clients_left, dialogs_left, ends_at, is_over,
 neither : (x y : Bool) → (x || y) ≡ false → (x ≡ false) × (y ≡ false)
 neither true y e = absurd cc
 neither false y e = (refl, e)
-
-or_false : (x : Bool) → (x || false) ≡ x
-or_false true = refl
-or_false false = refl
 
 over_is_due : (now : ℕ) (o : Option ℕ) (client : Client) → client.removal ≡ o
     → is_due now o ≡ is_over now client

@@ -8,13 +8,12 @@ use Rattle.sip_dialog.specs.declared.fault.DialogFault.{DialogFault}
 use Rattle.sip_dialog.specs.Fault.{request_fault}
 use Rattle.sip_dialog.specs.Opening.{contact_uri}
 use Rattle.sip_message.specs.declared.id.Id.{Id}
-use Rattle.sip_served.specs.declared.debt.Debt.{Debt}
-use Rattle.sip_served.specs.declared.debt.Debt.TheVariants.{Ack, Prack}
-use Rattle.sip_served.specs.declared.held_dialog.DialogName.{DialogName}
-use Rattle.sip_served.specs.declared.held_dialog.HeldDialog.{HeldDialog}
-use Rattle.sip_served.specs.declared.item.CallOut.{CallOut}
-use Rattle.sip_served.specs.Dialogs.{dialog_at, ended_at, is_early_of, is_named, lives}
-use Rattle.sip_served.specs.State.{Dialogs}
+use Rattle.sip_common.specs.declared.debt.Debt.{Debt}
+use Rattle.sip_common.specs.declared.debt.Debt.TheVariants.{Ack, Prack}
+use Rattle.sip_common.specs.declared.held_dialog.DialogName.{DialogName}
+use Rattle.sip_common.specs.declared.held_dialog.HeldDialog.{HeldDialog}
+use Rattle.sip_common.specs.declared.item.CallOut.{CallOut}
+use Rattle.sip_common.specs.Dialogs.{dialog_at, ended_at, is_early_of, is_named, lives, Dialogs}
 use Rattle.sip_clients.specs.declared.client.Asks.{Asks}
 use Rattle.sip_clients.specs.declared.client.Asks.TheVariants.{First, Again, Inside, Plain}
 use Rattle.sip_clients.specs.declared.client.Client.{Client}
@@ -24,15 +23,15 @@ use Rattle.sip_clients.specs.declared.reply.ReplyCase.{ReplyCase}
 use Rattle.sip_clients.specs.declared.reply.ReplyCase.TheVariants as reply
 use Rattle.sip_clients.specs.declared.service.Service.{Service}
 use Rattle.sip_clients.specs.declared.service.Service.TheVariants.{Sent, Waits, Refused}
-use Rattle.sip_served.specs.declared.refusal.Refusal.TheVariants.{BadMethod}
+use Rattle.sip_common.specs.declared.refusal.Refusal.TheVariants.{BadMethod}
 use Rattle.sip_clients.specs.Commands.{bye_ended, is_bad_in, requesting}
 use Rattle.sip_clients.specs.Debts.{dropped_if_sent, kept_unless_sent, owing, paying}
 use Rattle.sip_clients.specs.Dialogs.{accepted, accepted_in, ended_with, hearing, opened, own_ended}
 use Rattle.sip_clients.specs.Replied.{ack_owed, by_case, heard_first, offer_to, prack_owed, with_dialog}
 use Rattle.sip_clients.specs.Service.{Served, numbered, requested, served}
-use Rattle.sip_served.proofs.DialogSteps.{confirmed_keeps, retargeted_keeps}
-use Rattle.sip_served.proofs.Entries as entries
-use Rattle.sip_served.proofs.Heard.{AreApart, Goes, Keeps, Leads, Stays, goes_then, keeps_then, leads_filtered, leads_removed, leads_same, leads_then, name_laws, stays_same}
+use Rattle.sip_common.proofs.Keeps.{confirmed_keeps, retargeted_keeps}
+use Rattle.sip_common.proofs.Entries as entries
+use Rattle.sip_common.proofs.Heard.{AreApart, Goes, Keeps, Leads, Stays, goes_then, keeps_then, leads_filtered, leads_removed, leads_same, leads_then, name_laws, stays_same}
 
 -- ---- what is sent in a dialog, owed and paid
 

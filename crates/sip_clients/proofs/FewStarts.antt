@@ -14,22 +14,22 @@ use Rattle.sip_message.specs.declared.id.Id.{Id}
 use Rattle.sip_message.specs.declared.key.Key.{Key}
 use Rattle.sip_message.specs.declared.key.Key.TheVariants as key
 use Rattle.sip_message.specs.declared.message.Message.{Message}
-use Rattle.sip_served.specs.declared.command.Cancel.{Cancel}
-use Rattle.sip_served.specs.declared.command.DialogBody.{DialogBody}
-use Rattle.sip_served.specs.declared.command.DialogRequest.{DialogRequest}
-use Rattle.sip_served.specs.declared.command.Invite.{Invite}
-use Rattle.sip_served.specs.declared.command.Plain.{Plain as PlainCommand}
-use Rattle.sip_served.specs.declared.debt.Debt.{Debt}
-use Rattle.sip_served.specs.declared.debt.Debt.TheVariants.{Ack, Prack}
-use Rattle.sip_served.specs.declared.held_dialog.DialogName.{DialogName}
-use Rattle.sip_served.specs.declared.held_dialog.HeldDialog.{HeldDialog}
-use Rattle.sip_served.specs.declared.item.CallOut.{CallOut}
-use Rattle.sip_served.specs.declared.refusal.Refusal.{Refusal}
-use Rattle.sip_served.specs.declared.refusal.Refusal.TheVariants.{BadMethod, NoSuchRequest}
-use Rattle.sip_served.specs.Dialogs.{dialog_at, early_ended, ended_at, lives}
-use Rattle.sip_served.specs.Requests.{is_final}
-use Rattle.sip_served.specs.State.{Dialogs, is_id}
-use Rattle.sip_served.proofs.NoStarts.{early_starts, ended_starts, none_of_all, none_of_both, start_in, starts}
+use Rattle.sip_common.specs.declared.command.Cancel.{Cancel}
+use Rattle.sip_common.specs.declared.command.DialogBody.{DialogBody}
+use Rattle.sip_common.specs.declared.command.DialogRequest.{DialogRequest}
+use Rattle.sip_common.specs.declared.command.Invite.{Invite}
+use Rattle.sip_common.specs.declared.command.Plain.{Plain as PlainCommand}
+use Rattle.sip_common.specs.declared.debt.Debt.{Debt}
+use Rattle.sip_common.specs.declared.debt.Debt.TheVariants.{Ack, Prack}
+use Rattle.sip_common.specs.declared.held_dialog.DialogName.{DialogName}
+use Rattle.sip_common.specs.declared.held_dialog.HeldDialog.{HeldDialog}
+use Rattle.sip_common.specs.declared.item.CallOut.{CallOut}
+use Rattle.sip_common.specs.declared.refusal.Refusal.{Refusal}
+use Rattle.sip_common.specs.declared.refusal.Refusal.TheVariants.{BadMethod, NoSuchRequest}
+use Rattle.sip_common.specs.Dialogs.{dialog_at, early_ended, ended_at, lives, Dialogs}
+use Rattle.sip_common.specs.Requests.{is_final}
+use Rattle.sip_common.specs.Ids.{is_id}
+use Rattle.sip_common.proofs.Starts.{early_starts, ended_starts, none_of_all, none_of_both, start_in, starts}
 use Rattle.sip_clients.specs.declared.answers.SentAck.{SentAck}
 use Rattle.sip_clients.specs.declared.cancel.CancelCase.{CancelCase}
 use Rattle.sip_clients.specs.declared.cancel.CancelCase.TheVariants as asked

@@ -9,14 +9,14 @@ use Rattle.sip_model.proofs.Ordered.{by_bool}
 use Rattle.sip_reliable.specs.declared.offer.Offer.{Offer}
 use Rattle.sip_reliable.specs.declared.offer.Offer.TheVariants.{Taken}
 use Rattle.sip_reliable.specs.Inbound.{latest_after, offered, taken}
-use Rattle.sip_served.specs.declared.held_dialog.DialogLife.{DialogLife}
-use Rattle.sip_served.specs.declared.held_dialog.HeldDialog.{HeldDialog}
-use Rattle.sip_served.specs.declared.item.CallOut.{CallOut}
-use Rattle.sip_served.specs.State.{is_id}
+use Rattle.sip_common.specs.declared.held_dialog.DialogLife.{DialogLife}
+use Rattle.sip_common.specs.declared.held_dialog.HeldDialog.{HeldDialog}
+use Rattle.sip_common.specs.declared.item.CallOut.{CallOut}
+use Rattle.sip_common.specs.Ids.{is_id}
 use Rattle.sip_clients.specs.Dialogs.{hearing}
 use Rattle.sip_clients.specs.Provisionals.{in_life, is_response, told_of}
 use Rattle.sip_clients.proofs.ClientDialogs.{HeardAt}
-use Rattle.sip_served.proofs.Heard.{Goes, Stays}
+use Rattle.sip_common.proofs.Heard.{Goes, Stays}
 use Rattle.sip_clients.proofs.Hearing.{Hears, Listens, Silent}
 
 -- ---- the ear of a life

@@ -7,12 +7,11 @@ use Rattle.sip_message.specs.declared.id.Id.{Id}
 use Rattle.sip_reliable.specs.declared.offer.Offer.{Offer}
 use Rattle.sip_reliable.specs.declared.offer.Offer.TheVariants.{Taken, Repeat, Gap}
 use Rattle.sip_reliable.specs.Inbound.{offered}
-use Rattle.sip_served.specs.declared.held_dialog.DialogLife.{DialogLife}
-use Rattle.sip_served.specs.declared.held_dialog.HeldDialog.{HeldDialog}
-use Rattle.sip_served.specs.declared.item.CallOut.{CallOut}
-use Rattle.sip_served.specs.Dialogs.{dialog_at, is_named, lives}
-use Rattle.sip_served.specs.Requests.{is_final, is_inside, is_success}
-use Rattle.sip_served.specs.State.{Dialogs}
+use Rattle.sip_common.specs.declared.held_dialog.DialogLife.{DialogLife}
+use Rattle.sip_common.specs.declared.held_dialog.HeldDialog.{HeldDialog}
+use Rattle.sip_common.specs.declared.item.CallOut.{CallOut}
+use Rattle.sip_common.specs.Dialogs.{dialog_at, is_named, lives, Dialogs}
+use Rattle.sip_common.specs.Requests.{is_final, is_inside, is_success}
 use Rattle.sip_clients.specs.declared.client.Asks.TheVariants.{First}
 use Rattle.sip_clients.specs.declared.client.Client.{Client}
 use Rattle.sip_clients.specs.declared.reply.Reply.{Reply as Answer}
@@ -29,9 +28,9 @@ use Rattle.sip_clients.specs.Reply.{is_last, offer_case, reliable_case, reply_ca
 use Rattle.sip_clients.specs.Dialogs.{opened}
 use Rattle.sip_clients.specs.Provisionals.{in_life, is_response, provisional_number, told_of}
 use Rattle.sip_clients.proofs.ClientDialogs.{Answered, HeardAt, case_heard, ended_leads, heard_number, unnamed_unheard}
-use Rattle.sip_served.proofs.Entries as entries
+use Rattle.sip_common.proofs.Entries as entries
 use Rattle.sip_clients.proofs.FirstInvite.{ear_in, no_number, passed_so, silent_from, taken_so}
-use Rattle.sip_served.proofs.Heard.{AreApart, Goes, name_laws}
+use Rattle.sip_common.proofs.Heard.{AreApart, Goes, name_laws}
 use Rattle.sip_clients.proofs.Hearing.{Listens}
 
 abbrev pub first : Client → Client

@@ -5,15 +5,15 @@ use Rattle.std.specs.Map.{set_value}
 use Rattle.std.specs.Option.{option_and_then, option_map}
 use Rattle.sip_message.specs.declared.id.Id.{Id}
 use Rattle.sip_message.specs.declared.message.Message.{Message}
-use Rattle.sip_served.specs.declared.command.DialogBody.{DialogBody}
-use Rattle.sip_served.specs.declared.command.DialogRequest.{DialogRequest}
-use Rattle.sip_served.specs.declared.debt.Debt.{Debt}
-use Rattle.sip_served.specs.declared.held_dialog.DialogLife.{DialogLife}
-use Rattle.sip_served.specs.declared.item.CallOut.{CallOut}
-use Rattle.sip_served.specs.declared.refusal.Refusal.{Refusal}
-use Rattle.sip_served.specs.Dialogs.{dialog_at, is_named, lives}
-use Rattle.sip_served.specs.Requests.{is_final}
-use Rattle.sip_served.specs.State.{Dialogs, is_id}
+use Rattle.sip_common.specs.declared.command.DialogBody.{DialogBody}
+use Rattle.sip_common.specs.declared.command.DialogRequest.{DialogRequest}
+use Rattle.sip_common.specs.declared.debt.Debt.{Debt}
+use Rattle.sip_common.specs.declared.held_dialog.DialogLife.{DialogLife}
+use Rattle.sip_common.specs.declared.item.CallOut.{CallOut}
+use Rattle.sip_common.specs.declared.refusal.Refusal.{Refusal}
+use Rattle.sip_common.specs.Dialogs.{dialog_at, is_named, lives, Dialogs}
+use Rattle.sip_common.specs.Requests.{is_final}
+use Rattle.sip_common.specs.Ids.{is_id}
 use Rattle.sip_clients.specs.declared.client.Asks.{Asks}
 use Rattle.sip_clients.specs.declared.client.Asks.TheVariants.{First, Again, Inside, Plain}
 use Rattle.sip_clients.specs.declared.client.Client.{Client}
@@ -32,7 +32,7 @@ use Rattle.sip_clients.specs.Provisionals.{OfTheCall, in_life, is_for, number_fo
 use Rattle.sip_clients.proofs.ClientDialogs.{bye_leads, ended_leads, heard_number, paying_keeps, requesting_keeps}
 use Rattle.sip_clients.proofs.FirstInvite.{ear_in, no_number, none_in_life, silent_from, told_more}
 use Rattle.sip_clients.proofs.FirstReply.{first, first_replied, other_replied}
-use Rattle.sip_served.proofs.Heard.{AreApart, Leads, leads_changed, leads_same, leads_then}
+use Rattle.sip_common.proofs.Heard.{AreApart, Leads, leads_changed, leads_same, leads_then}
 use Rattle.sip_clients.proofs.Hearing.{Listens}
 
 -- nothing is heard of a request by which no reliable provisional response is heard

@@ -3,7 +3,6 @@ pub mod AgainReply
 pub mod AgainSides
 pub mod Calm
 pub mod ClientDialogs
-pub mod EachValue
 pub mod FewStarts
 pub mod FirstInvite
 pub mod FirstReply

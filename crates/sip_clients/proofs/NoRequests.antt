@@ -1,29 +1,28 @@
 -- The client side of a call tells the user of no request that comes up.
-use Rattle.std.proofs.Common.{◌≡◌, ℕ, Bool, true, false, cond, List, [], ◌∷◌, ◌++◌, map, refl, ◌∙◌}
-use Rattle.std.specs.Prelude.{Option, None, Some, Result, Ok, Err, codes, filter, filter_map}
+use Rattle.std.proofs.Common.{◌≡◌, ℕ, Bool, true, false, cond, List, [], ◌∷◌, ◌++◌, refl}
+use Rattle.std.specs.Prelude.{Option, None, Some, Result, Ok, Err, codes}
 use Rattle.std.specs.List.{flat_map}
 use Rattle.std.specs.Map.{set_value, values_of}
 use Rattle.std.specs.Option.{option_map, option_map_or}
 use Rattle.std.specs.Str.{bytes_eq}
-use Rattle.std.proofs.lemmas.List.Elements.{filter_map-append}
 use Rattle.sip_message.specs.declared.id.Id.{Id}
 use Rattle.sip_message.specs.declared.message.Message.{Message}
-use Rattle.sip_served.specs.declared.command.Cancel.{Cancel}
-use Rattle.sip_served.specs.declared.command.DialogBody.{DialogBody}
-use Rattle.sip_served.specs.declared.command.DialogRequest.{DialogRequest}
-use Rattle.sip_served.specs.declared.command.Invite.{Invite}
-use Rattle.sip_served.specs.declared.command.Plain.{Plain as PlainCommand}
-use Rattle.sip_served.specs.declared.debt.Debt.{Debt}
-use Rattle.sip_served.specs.declared.held_dialog.DialogName.{DialogName}
-use Rattle.sip_served.specs.declared.held_dialog.HeldDialog.{HeldDialog}
-use Rattle.sip_served.specs.declared.item.CallOut.{CallOut}
-use Rattle.sip_served.specs.declared.refusal.Refusal.{Refusal}
-use Rattle.sip_served.specs.declared.refusal.Refusal.TheVariants.{BadMethod}
-use Rattle.sip_served.specs.Dialogs.{dialog_at, early_ended, ended_at, ended_notice, is_early_of, lives}
-use Rattle.sip_served.specs.Requests.{is_final}
-use Rattle.sip_served.specs.Shown.{request_in}
-use Rattle.sip_served.specs.State.{Dialogs, is_id}
+use Rattle.sip_common.specs.declared.command.Cancel.{Cancel}
+use Rattle.sip_common.specs.declared.command.DialogBody.{DialogBody}
+use Rattle.sip_common.specs.declared.command.DialogRequest.{DialogRequest}
+use Rattle.sip_common.specs.declared.command.Invite.{Invite}
+use Rattle.sip_common.specs.declared.command.Plain.{Plain as PlainCommand}
+use Rattle.sip_common.specs.declared.debt.Debt.{Debt}
+use Rattle.sip_common.specs.declared.held_dialog.DialogName.{DialogName}
+use Rattle.sip_common.specs.declared.held_dialog.HeldDialog.{HeldDialog}
+use Rattle.sip_common.specs.declared.item.CallOut.{CallOut}
+use Rattle.sip_common.specs.declared.refusal.Refusal.{Refusal}
+use Rattle.sip_common.specs.declared.refusal.Refusal.TheVariants.{BadMethod}
+use Rattle.sip_common.specs.Dialogs.{dialog_at, early_ended, lives, Dialogs}
+use Rattle.sip_common.specs.Requests.{is_final}
+use Rattle.sip_common.specs.Ids.{is_id}
 use Rattle.sip_clients.specs.declared.answers.SentAck.{SentAck}
+use Rattle.sip_common.proofs.Shown.{early_shown, end_or_not, none_of_both, shown}
 use Rattle.sip_clients.specs.declared.cancel.CancelCase.{CancelCase}
 use Rattle.sip_clients.specs.declared.cancel.CancelCase.TheVariants as ask
 use Rattle.sip_clients.specs.declared.client.Asks.{Asks}
@@ -47,39 +46,14 @@ use Rattle.sip_clients.specs.Commands.{bye_ended, debt_for, is_bad_outside, name
 use Rattle.sip_clients.specs.Dialogs.{accepted, ended_with, opened, own_ended, paid_at}
 use Rattle.sip_clients.specs.Outputs.{ack_said, direct, refused_notice, request_said, start_command}
 use Rattle.sip_clients.specs.Outside.{plain_of}
-use Rattle.sip_clients.specs.Replied.{InDialog, Replied, ack_owed, after_dialog, by_case, ends_dialog, finished, prack_owed, replied_in, reply_taken}
+use Rattle.sip_clients.specs.Replied.{Replied, ack_owed, after_dialog, by_case, ends_dialog, finished, prack_owed, replied_in, reply_taken}
 use Rattle.sip_clients.specs.Reply.{is_last, reply_case}
-use Rattle.sip_clients.specs.Tick.{is_over, notices_of, over_notices, tick_taken}
-
--- the requests that outputs tell the user of
-abbrev pub asked_in : List CallOut → List Id
-asked_in outs = filter_map request_in outs
-
-pub none_of_both : (xs ys : List CallOut) → asked_in xs ≡ [] → asked_in ys ≡ []
-    → asked_in (xs ++ ys) ≡ []
-none_of_both xs ys first second = filter_map-append request_in xs ys ∙ (λ i. first i ++ second i)
+use Rattle.sip_clients.specs.Tick.{is_over, notices_of, tick_taken}
 
 -- ---- what ends
 
-ends_ask : (dialogs : List HeldDialog) → asked_in (map ended_notice dialogs) ≡ []
-ends_ask [] = refl
-ends_ask (held ∷ dialogs) = ends_ask dialogs
-
-end_asks : (found : Option HeldDialog)
-    → asked_in (option_map_or (λ held. ended_notice held ∷ []) found []) ≡ []
-end_asks None = refl
-end_asks (Some held) = refl
-
-end_or_not : (b : Bool) (name : DialogName) (dialogs : Dialogs)
-    → asked_in (cond {A = Dialogs × List CallOut} b (ended_at name dialogs) (dialogs, [])).1 ≡ []
-end_or_not true name dialogs = end_asks (dialog_at name dialogs)
-end_or_not false name dialogs = refl
-
-early_asks : (invite : Id) (dialogs : Dialogs) → asked_in (early_ended invite dialogs).1 ≡ []
-early_asks invite dialogs = ends_ask (filter (is_early_of invite) (values_of dialogs))
-
 own_end_asks : (asks : Asks) (ends : Bool) (dialogs : Dialogs)
-    → asked_in (own_ended asks ends dialogs).1 ≡ []
+    → shown (own_ended asks ends dialogs).1 ≡ []
 own_end_asks First ends dialogs = refl
 own_end_asks (Again life) true dialogs = end_or_not (lives dialogs life) life.name dialogs
 own_end_asks (Again life) false dialogs = refl
@@ -88,14 +62,14 @@ own_end_asks (Inside life) false dialogs = refl
 own_end_asks Plain ends dialogs = refl
 
 ended_asks : (client : Client) (ends : Bool) (dialogs : Dialogs)
-    → asked_in (ended_with client ends dialogs).1 ≡ []
+    → shown (ended_with client ends dialogs).1 ≡ []
 ended_asks client ends dialogs =
     let early = early_ended client.id dialogs in
-    none_of_both early.1 (own_ended client.asks ends early.0).1 (early_asks client.id dialogs)
+    none_of_both early.1 (own_ended client.asks ends early.0).1 (early_shown client.id dialogs)
     (own_end_asks client.asks ends early.0)
 
 bye_asks : (name : DialogName) (method : List ℕ) (service : Service) (dialogs : Dialogs)
-    → asked_in (bye_ended name method service dialogs).1 ≡ []
+    → shown (bye_ended name method service dialogs).1 ≡ []
 bye_asks name method (Sent sending) dialogs =
     end_or_not (bytes_eq method (codes "BYE")) name dialogs
 bye_asks name method Waits dialogs = refl
@@ -104,31 +78,31 @@ bye_asks name method (Refused refusal) dialogs = refl
 -- ---- what is sent
 
 said_asks : (event : Event) (call_id : List ℕ) (name : DialogName) (service : Service)
-    → asked_in (request_said event call_id name service).0 ≡ []
+    → shown (request_said event call_id name service).0 ≡ []
 said_asks event call_id name (Sent sending) = refl
 said_asks event call_id name Waits = refl
 said_asks event call_id name (Refused refusal) = refl
 
 ack_asks : (event : Event) (call_id : List ℕ) (service : Service)
-    → asked_in (ack_said event call_id service).0 ≡ []
+    → shown (ack_said event call_id service).0 ≡ []
 ack_asks event call_id (Sent sending) = refl
 ack_asks event call_id Waits = refl
 ack_asks event call_id (Refused refusal) = refl
 
 start_asks : (event : Event) (client : Client) (clients : Clients)
-    → asked_in (started event client clients).1 ≡ []
+    → shown (started event client clients).1 ≡ []
 unfolding start_command
 start_asks event client clients = refl
 
 settled_asks : (event : Event) (id : Id) (rest : Rest) (clients : Clients)
-    → asked_in (settled event id rest clients).1 ≡ []
+    → shown (settled event id rest clients).1 ≡ []
 settled_asks event id Stays clients = refl
 settled_asks event id Over clients = refl
 settled_asks event id (Starts client) clients = start_asks event client clients
 
 beside_asks : (freed : Option Id) (invite : Client) (done : Clients × List CallOut)
-    → asked_in done.1 ≡ []
-    → asked_in (sent_beside (option_map (λ id. cancellation id invite) freed) done).1 ≡ []
+    → shown done.1 ≡ []
+    → shown (sent_beside (option_map (λ id. cancellation id invite) freed) done).1 ≡ []
 unfolding cancel_command
 beside_asks None invite done none = none
 beside_asks (Some id) invite done none =
@@ -136,12 +110,12 @@ beside_asks (Some id) invite done none =
 
 -- ---- a response
 
-again_asks : (ack : Option SentAck) → asked_in (option_map_or (λ ack. direct ack ∷ []) ack []) ≡ []
+again_asks : (ack : Option SentAck) → shown (option_map_or (λ ack. direct ack ∷ []) ack []) ≡ []
 again_asks None = refl
 again_asks (Some ack) = refl
 
 case_asks : (case : ReplyCase) (client : Client) (found : Option HeldDialog) (answer : Answer)
-    → asked_in (by_case case client found answer).2 ≡ []
+    → shown (by_case case client found answer).2 ≡ []
 case_asks reply.Repeated client found answer = again_asks (ack_of answer.name client.answers)
 case_asks reply.Accepted client found answer =
     ack_asks answer.event answer.call_id
@@ -155,7 +129,7 @@ case_asks reply.Early client found answer = refl
 case_asks reply.Told client found answer = refl
 
 reply_asks : (client : Client) (dialogs : Dialogs) (answer : Answer) (last : Bool)
-    → asked_in (cond {A = Replied} last (finished client dialogs answer)
+    → shown (cond {A = Replied} last (finished client dialogs answer)
     (after_dialog answer.name dialogs
     (replied_in client (dialog_at answer.name dialogs) answer))).2 ≡ []
 reply_asks client dialogs answer true = ended_asks client (ends_dialog answer.status) dialogs
@@ -164,7 +138,7 @@ reply_asks client dialogs answer false =
     case_asks (reply_case client found answer) client found answer
 
 replied_asks : (answer : Answer) (client : Client) (side : Side)
-    → asked_in (reply_settled answer client side).1 ≡ []
+    → shown (reply_settled answer client side).1 ≡ []
 replied_asks answer client side =
     let final = is_final answer.status in
     let done = reply_taken (noted final client) side.dialogs answer in
@@ -179,7 +153,7 @@ replied_asks answer client side =
 
 found_asks : (event : Event) (id : Id) (call_id : List ℕ) (response : Message)
     (status : Option ℕ) (found : Option Client) (side : Side)
-    → asked_in (found_taken event id call_id response status found side).1 ≡ []
+    → shown (found_taken event id call_id response status found side).1 ≡ []
 found_asks event id call_id response None found side = refl
 found_asks event id call_id response (Some status) None side = refl
 found_asks event id call_id response (Some status) (Some client) side =
@@ -187,7 +161,7 @@ found_asks event id call_id response (Some status) (Some client) side =
     response) client side
 
 pub response_asks : (event : Event) (id : Id) (call_id : List ℕ) (response : Message)
-    (side : Side) → asked_in (response_taken event id call_id response side).1 ≡ []
+    (side : Side) → shown (response_taken event id call_id response side).1 ≡ []
 response_asks event id call_id response side =
     found_asks event id call_id response (status_of response.start) (client_at id side.clients)
     side
@@ -195,38 +169,38 @@ response_asks event id call_id response side =
 -- ---- a request that is lost, and a tick
 
 lost_one_asks : (id : Id) (timed_out : Bool) (found : Option Client) (side : Side)
-    → asked_in (lost_of id timed_out found side).1 ≡ []
+    → shown (lost_of id timed_out found side).1 ≡ []
 lost_one_asks id timed_out None side = refl
 lost_one_asks id timed_out (Some client) side = ended_asks client timed_out side.dialogs
 
 pub lost_asks : (id : Id) (timed_out : Bool) (side : Side)
-    → asked_in (lost id timed_out side).1 ≡ []
+    → shown (lost id timed_out side).1 ≡ []
 lost_asks id timed_out side = lost_one_asks id timed_out (client_at id side.clients) side
 
 over_asks : (now : ℕ) (dialogs : Dialogs) (client : Client) (b : Bool)
-    → asked_in (cond b (early_ended client.id dialogs).1 []) ≡ []
-over_asks now dialogs client true = early_asks client.id dialogs
+    → shown (cond b (early_ended client.id dialogs).1 []) ≡ []
+over_asks now dialogs client true = early_shown client.id dialogs
 over_asks now dialogs client false = refl
 
 all_over_ask : (now : ℕ) (dialogs : Dialogs) (clients : List Client)
-    → asked_in (flat_map (notices_of now dialogs) clients) ≡ []
+    → shown (flat_map (notices_of now dialogs) clients) ≡ []
 all_over_ask now dialogs [] = refl
 all_over_ask now dialogs (client ∷ clients) =
     none_of_both (notices_of now dialogs client) (flat_map (notices_of now dialogs) clients)
     (over_asks now dialogs client (is_over now client)) (all_over_ask now dialogs clients)
 
-pub tick_asks : (side : Side) (now : ℕ) → asked_in (tick_taken side now).1 ≡ []
+pub tick_asks : (side : Side) (now : ℕ) → shown (tick_taken side now).1 ≡ []
 tick_asks side now = all_over_ask now side.dialogs (values_of side.clients)
 
 -- ---- commands
 
 pub invite_asks : (event : Event) (invite : Invite) (clients : Clients)
-    → asked_in (invite_taken event invite clients).1 ≡ []
+    → shown (invite_taken event invite clients).1 ≡ []
 unfolding start_command
 invite_asks event invite clients = refl
 
 plain_by : (b : Bool) (event : Event) (plain : PlainCommand) (clients : Clients)
-    → asked_in (cond {A = Clients × List CallOut} b
+    → shown (cond {A = Clients × List CallOut} b
     (clients, refused_notice event plain.call_id BadMethod ∷ [])
     (started event (client_for event.id Plain (plain_of event plain) plain.address) clients)).1
     ≡ []
@@ -235,11 +209,11 @@ plain_by false event plain clients =
     start_asks event (client_for event.id Plain (plain_of event plain) plain.address) clients
 
 pub plain_asks : (event : Event) (plain : PlainCommand) (clients : Clients)
-    → asked_in (plain_taken event plain clients).1 ≡ []
+    → shown (plain_taken event plain clients).1 ≡ []
 plain_asks event plain clients = plain_by (is_bad_outside plain.method) event plain clients
 
 pub request_asks : (event : Event) (command : DialogRequest) (side : Side)
-    → asked_in (request_taken event command side).1 ≡ []
+    → shown (request_taken event command side).1 ≡ []
 request_asks event command side =
     let name = name_in command.local_tag command.remote_tag in
     let done = requested_by name event command side.dialogs in
@@ -252,12 +226,12 @@ request_asks event command side =
     (bye_asks name command.method done.1 done.0)
 
 ack_paid_asks : (event : Event) (command : DialogBody) (name : DialogName) (debt : Debt)
-    (side : Side) → asked_in (ack_paid event command name debt side).1 ≡ []
+    (side : Side) → shown (ack_paid event command name debt side).1 ≡ []
 ack_paid_asks event command name debt side =
     ack_asks event command.call_id (paid_at name event debt command.body side.dialogs).1
 
 prack_paid_asks : (event : Event) (command : DialogBody) (name : DialogName) (debt : Debt)
-    (side : Side) → asked_in (prack_paid event command name debt side).1 ≡ []
+    (side : Side) → shown (prack_paid event command name debt side).1 ≡ []
 prack_paid_asks event command name debt side =
     let paid = paid_at name event debt command.body side.dialogs in
     let said = request_said event command.call_id name paid.1 in
@@ -266,27 +240,27 @@ prack_paid_asks event command name debt side =
     (settled_asks event event.id said.1 side.clients)
 
 paid_asks : (event : Event) (command : DialogBody) (pay : Debt → Side → Taken)
-    → ((debt : Debt) (side : Side) → asked_in (pay debt side).1 ≡ []) → (o : Result Debt Refusal)
-    → (side : Side) → asked_in (paid_or_refused event command pay o side).1 ≡ []
+    → ((debt : Debt) (side : Side) → shown (pay debt side).1 ≡ []) → (o : Result Debt Refusal)
+    → (side : Side) → shown (paid_or_refused event command pay o side).1 ≡ []
 paid_asks event command pay pays (Err refusal) side = refl
 paid_asks event command pay pays (Ok debt) side = pays debt side
 
 pub ack_command_asks : (event : Event) (command : DialogBody) (side : Side)
-    → asked_in (ack_taken event command side).1 ≡ []
+    → shown (ack_taken event command side).1 ≡ []
 ack_command_asks event command side =
     let name = name_in command.local_tag command.remote_tag in
     paid_asks event command (ack_paid event command name) (ack_paid_asks event command name)
     (debt_for kind.Ack name side.dialogs) side
 
 pub prack_command_asks : (event : Event) (command : DialogBody) (side : Side)
-    → asked_in (prack_taken event command side).1 ≡ []
+    → shown (prack_taken event command side).1 ≡ []
 prack_command_asks event command side =
     let name = name_in command.local_tag command.remote_tag in
     paid_asks event command (prack_paid event command name) (prack_paid_asks event command name)
     (debt_for kind.Prack name side.dialogs) side
 
 cancel_by : (as_case : CancelCase) (event : Event) (command : Cancel) (invite : Client)
-    (clients : Clients) → asked_in (cancelled_as as_case event command invite clients).1 ≡ []
+    (clients : Clients) → shown (cancelled_as as_case event command invite clients).1 ≡ []
 cancel_by (ask.Refused refusal) event command invite clients = refl
 cancel_by ask.Repeated event command invite clients = refl
 cancel_by ask.Waits event command invite clients = refl
@@ -295,12 +269,12 @@ cancel_by ask.Starts event command invite clients =
     (client_changed command.id (asked cancel.Sent) clients, []) refl
 
 cancel_found : (found : Option Client) (event : Event) (command : Cancel) (clients : Clients)
-    → asked_in (cancelled_of found event command clients).1 ≡ []
+    → shown (cancelled_of found event command clients).1 ≡ []
 cancel_found None event command clients = refl
 cancel_found (Some invite) event command clients =
     cancel_by (cancel_case invite) event command invite clients
 
 pub cancel_asks : (event : Event) (command : Cancel) (side : Side)
-    → asked_in (cancel_taken event command side).1 ≡ []
+    → shown (cancel_taken event command side).1 ≡ []
 cancel_asks event command side =
     cancel_found (client_at command.id side.clients) event command side.clients

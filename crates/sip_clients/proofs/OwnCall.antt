@@ -5,23 +5,23 @@ use Rattle.std.specs.Map.{set_value, values_of}
 use Rattle.std.specs.Option.{option_map, option_map_or}
 use Rattle.sip_message.specs.declared.id.Id.{Id}
 use Rattle.sip_message.specs.declared.message.Message.{Message}
-use Rattle.sip_served.specs.declared.command.Cancel.{Cancel}
-use Rattle.sip_served.specs.declared.command.DialogBody.{DialogBody}
-use Rattle.sip_served.specs.declared.command.DialogRequest.{DialogRequest}
-use Rattle.sip_served.specs.declared.command.Invite.{Invite}
-use Rattle.sip_served.specs.declared.command.Plain.{Plain as PlainCommand}
-use Rattle.sip_served.specs.declared.command.ProvisionalSupport.{ProvisionalSupport}
-use Rattle.sip_served.specs.declared.command.ProvisionalSupport.TheVariants as support
-use Rattle.sip_served.specs.declared.debt.Debt.{Debt}
-use Rattle.sip_served.specs.declared.debt.Debt.TheVariants.{Ack, Prack}
-use Rattle.sip_served.specs.declared.held_dialog.DialogName.{DialogName}
-use Rattle.sip_served.specs.declared.held_dialog.HeldDialog.{HeldDialog}
-use Rattle.sip_served.specs.declared.item.CallOut.{CallOut}
-use Rattle.sip_served.specs.declared.refusal.Refusal.{Refusal}
-use Rattle.sip_served.specs.declared.refusal.Refusal.TheVariants.{BadMethod}
-use Rattle.sip_served.specs.Dialogs.{dialog_at, early_ended, is_named}
-use Rattle.sip_served.specs.Requests.{is_final}
-use Rattle.sip_served.specs.State.{Dialogs, is_id}
+use Rattle.sip_common.specs.declared.command.Cancel.{Cancel}
+use Rattle.sip_common.specs.declared.command.DialogBody.{DialogBody}
+use Rattle.sip_common.specs.declared.command.DialogRequest.{DialogRequest}
+use Rattle.sip_common.specs.declared.command.Invite.{Invite}
+use Rattle.sip_common.specs.declared.command.Plain.{Plain as PlainCommand}
+use Rattle.sip_common.specs.declared.command.ProvisionalSupport.{ProvisionalSupport}
+use Rattle.sip_common.specs.declared.command.ProvisionalSupport.TheVariants as support
+use Rattle.sip_common.specs.declared.debt.Debt.{Debt}
+use Rattle.sip_common.specs.declared.debt.Debt.TheVariants.{Ack, Prack}
+use Rattle.sip_common.specs.declared.held_dialog.DialogName.{DialogName}
+use Rattle.sip_common.specs.declared.held_dialog.HeldDialog.{HeldDialog}
+use Rattle.sip_common.specs.declared.item.CallOut.{CallOut}
+use Rattle.sip_common.specs.declared.refusal.Refusal.{Refusal}
+use Rattle.sip_common.specs.declared.refusal.Refusal.TheVariants.{BadMethod}
+use Rattle.sip_common.specs.Dialogs.{dialog_at, early_ended, is_named, Dialogs}
+use Rattle.sip_common.specs.Requests.{is_final}
+use Rattle.sip_common.specs.Ids.{is_id}
 use Rattle.sip_clients.specs.declared.answers.SentAck.{SentAck}
 use Rattle.sip_clients.specs.declared.cancel.CancelCase.{CancelCase}
 use Rattle.sip_clients.specs.declared.cancel.CancelCase.TheVariants as ask
@@ -51,8 +51,9 @@ use Rattle.sip_clients.specs.OwnCall.{AreClientsOf, AreDialogsOf, AreNoticesOf, 
 use Rattle.sip_clients.specs.Replied.{InDialog, Replied, ack_owed, after_dialog, by_case, ends_dialog, finished, heard_again, heard_first, offer_to, prack_owed, replied_in, reply_taken, with_dialog}
 use Rattle.sip_clients.specs.Reply.{is_last, reply_case}
 use Rattle.sip_clients.specs.Tick.{ends_at, is_over, notices_of, tick_taken}
-use Rattle.sip_clients.proofs.EachValue.{all_of_both, all_of_each, each_but_one, each_changed, each_inserted, each_left, each_set, found_one}
-use Rattle.sip_clients.proofs.OwnDialogs.{IsServedOf, IsServiceOf, accepted_own, body_kept, bye_own, dialog_own, early_own, ended_with_own, heard_own, opened_own, owed_own, paid_own, requested_by_own}
+use Rattle.sip_common.proofs.Each.{all_of_each, both, each_but_one, each_changed, each_inserted, each_left, each_set, found_one}
+use Rattle.sip_common.proofs.OwnDialogs.{dialog_own, early_own}
+use Rattle.sip_clients.proofs.OwnDialogs.{IsServedOf, IsServiceOf, accepted_own, body_kept, bye_own, ended_with_own, heard_own, opened_own, owed_own, paid_own, requested_by_own}
 
 supporting_kept : (asked_for : ProvisionalSupport) (message : Message)
     → (supporting asked_for message).call_id ≡ message.call_id
@@ -127,7 +128,7 @@ module _ (call_id : List ℕ) where
   beside_own None invite its done own = own
   beside_own (Some id) invite its done own = (
     each_inserted (IsRequestOf call_id) is_id id (cancel_client id invite) its done.0 own.0,
-    all_of_both (IsNoticeOf call_id) done.1 (cancel_command id invite ∷ []) own.1 (tt, tt),
+    both (IsNoticeOf call_id) done.1 (cancel_command id invite ∷ []) own.1 (tt, tt),
   )
 
   -- ---- a response
@@ -251,7 +252,7 @@ module _ (call_id : List ℕ) where
       own.clients) in
       let last = beside_own (freed_by final client.cancel) client its
       (after.0, done.2 ++ after.1)
-      (settles.0, all_of_both (IsNoticeOf call_id) done.2 after.1 so.told settles.1) in
+      (settles.0, both (IsNoticeOf call_id) done.2 after.1 so.told settles.1) in
       (record { dialogs = so.dialogs; clients = last.0 }, last.1)
 
   found_own : (event : Event) (id : Id) (response : Message) (status : Option ℕ)
@@ -373,8 +374,8 @@ dialog_request_own event command side own =
     let settles = settled_own call_id event event.id said.1 side.clients says.1 own.clients in
     let bye = bye_ended name command.method done.1 done.0 in (
       record { dialogs = ends.0; clients = settles.0 },
-      all_of_both (IsNoticeOf call_id) (said.0 ++ after.1) bye.1
-          (all_of_both (IsNoticeOf call_id) said.0 after.1 says.0 settles.1) ends.1,
+      both (IsNoticeOf call_id) (said.0 ++ after.1) bye.1
+          (both (IsNoticeOf call_id) said.0 after.1 says.0 settles.1) ends.1,
     )
 
 noted_own : (call_id : List ℕ) (debt : Debt) (name : DialogName) (ack : Option SentAck)
@@ -409,7 +410,7 @@ prack_paid_own event command name debt side own =
     let after = settled event event.id said.1 side.clients in
     let settles = settled_own call_id event event.id said.1 side.clients says.1 own.clients in (
       record { dialogs = so.0; clients = settles.0 },
-      all_of_both (IsNoticeOf call_id) said.0 after.1 says.0 settles.1,
+      both (IsNoticeOf call_id) said.0 after.1 says.0 settles.1,
     )
 
 paid_or_refused_own : (event : Event) (command : DialogBody) (pay : Debt → Side → ClientTaken)

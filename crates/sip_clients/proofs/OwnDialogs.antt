@@ -1,30 +1,25 @@
 -- A held dialog stays of its own Call-ID, and so do the requests that are sent in it and its end.
 use Rattle.std.proofs.Common.{◌≡◌, ℕ, ◌+◌, Bool, true, false, cond, List, [], ◌∷◌, refl, ◌∙◌}
-use Rattle.std.specs.Prelude.{Option, None, Some, IfSome, codes, is_some, not}
-use Rattle.std.specs.Map.{values_of}
+use Rattle.std.specs.Prelude.{Option, None, Some, IfSome, codes}
 use Rattle.std.specs.Option.{option_map_or}
 use Rattle.std.specs.Str.{bytes_eq}
 use Rattle.sip_message.specs.Message.{with_body_of}
-use Rattle.sip_message.specs.declared.id.Id.{Id}
 use Rattle.sip_message.specs.declared.message.Message.{Message}
 use Rattle.sip_message.specs.declared.rack.RAck.{RAck}
-use Rattle.sip_dialog.specs.declared.dialog.Dialog.{Dialog}
-use Rattle.sip_dialog.specs.declared.dialog.Side.{Side as Position}
-use Rattle.sip_dialog.specs.declared.dialog.Side.TheVariants.{Caller, Callee}
 use Rattle.sip_dialog.specs.declared.fault.DialogFault.{DialogFault}
-use Rattle.sip_dialog.specs.Fault.{ack_fault, ended_fault, request_fault}
+use Rattle.sip_dialog.specs.Fault.{ack_fault, request_fault}
 use Rattle.sip_dialog.specs.Opening.{contact_uri}
 use Rattle.sip_dialog.specs.Request.{bare_request_in}
-use Rattle.sip_dialog.specs.Step.{confirmed_at, confirmed_by, with_target}
-use Rattle.sip_served.specs.declared.command.DialogRequest.{DialogRequest}
-use Rattle.sip_served.specs.declared.debt.Debt.{Debt}
-use Rattle.sip_served.specs.declared.debt.Debt.TheVariants.{Ack, Prack}
-use Rattle.sip_served.specs.declared.held_dialog.DialogName.{DialogName}
-use Rattle.sip_served.specs.declared.held_dialog.HeldDialog.{HeldDialog}
-use Rattle.sip_served.specs.declared.item.CallOut.{CallOut}
-use Rattle.sip_served.specs.declared.refusal.Refusal.TheVariants.{BadMethod, NoSuchDialog}
-use Rattle.sip_served.specs.Dialogs.{confirmed, dialog_at, early_ended, ended_at, ended_notice, is_early_of, is_named, lives, retargeted}
-use Rattle.sip_served.specs.State.{Dialogs}
+use Rattle.sip_common.specs.declared.command.DialogRequest.{DialogRequest}
+use Rattle.sip_common.specs.declared.debt.Debt.{Debt}
+use Rattle.sip_common.specs.declared.debt.Debt.TheVariants.{Ack, Prack}
+use Rattle.sip_common.specs.declared.held_dialog.DialogName.{DialogName}
+use Rattle.sip_common.specs.declared.held_dialog.HeldDialog.{HeldDialog}
+use Rattle.sip_common.specs.declared.item.CallOut.{CallOut}
+use Rattle.sip_common.specs.declared.refusal.Refusal.TheVariants.{BadMethod, NoSuchDialog}
+use Rattle.sip_common.specs.Dialogs.{dialog_at, early_ended, ended_at, is_named, lives, Dialogs}
+use Rattle.sip_common.proofs.Each.{both, each_changed}
+use Rattle.sip_common.proofs.OwnDialogs.{AreEndedOf, confirmed_keeps, dialog_own, early_own, ended_own, retargeted_keeps}
 use Rattle.sip_clients.specs.declared.client.Asks.{Asks}
 use Rattle.sip_clients.specs.declared.client.Asks.TheVariants.{First, Again, Inside, Plain}
 use Rattle.sip_clients.specs.declared.client.Client.{Client}
@@ -37,21 +32,15 @@ use Rattle.sip_clients.specs.Commands.{bye_ended, is_bad_in, request_in, request
 use Rattle.sip_clients.specs.Debts.{dropped_if_sent, kept_unless_sent, owed, owing, paying}
 use Rattle.sip_clients.specs.Dialogs.{accepted, accepted_in, ended_with, opened, own_ended, paid_at}
 use Rattle.sip_clients.specs.Event.{branch_of}
-use Rattle.sip_clients.specs.OwnCall.{AreDialogsOf, AreNoticesOf, IsDialogOf, IsNoticeOf, IsRequestOf}
+use Rattle.sip_clients.specs.OwnCall.{AreDialogsOf, IsDialogOf, IsNoticeOf, IsRequestOf}
 use Rattle.sip_clients.specs.Replied.{heard_first}
 use Rattle.sip_clients.specs.Service.{Served, acked, numbered, requested, served, service_by}
-use Rattle.sip_clients.proofs.EachValue.{all_left, all_mapped, all_of_both, each_but_one, each_changed, each_left, each_of_values, found_one}
 
 pub body_kept : (message : Message) (body : List ℕ)
     → (with_body_of message body).call_id ≡ message.call_id
 unfolding with_body_of
 body_kept message [] = refl
 body_kept message (b ∷ bs) = refl
-
-confirmed_kept : (side : Position) (dialog : Dialog) (response : Message)
-    → (confirmed_at side dialog response).call_id ≡ dialog.call_id
-confirmed_kept Caller dialog response = refl
-confirmed_kept Callee dialog response = refl
 
 module _ (call_id : List ℕ) where
   -- ---- what a step makes
@@ -65,10 +54,6 @@ module _ (call_id : List ℕ) where
   -- a dialog, and the request that is to be sent in it
   abbrev pub IsServedOf : Served → Type 0
   IsServedOf done = IsDialogOf call_id done.0 × IsServiceOf done.1
-
-  -- the dialogs, and what is told
-  abbrev pub AreEndedOf : Dialogs × List CallOut → Type 0
-  AreEndedOf done = AreDialogsOf call_id done.0 × AreNoticesOf call_id done.1
 
   -- ---- what is sent in a dialog
 
@@ -157,10 +142,6 @@ module _ (call_id : List ℕ) where
   found_service serve otherwise serves other None own = other
   found_service serve otherwise serves other (Some held) own = serves held own
 
-  pub dialog_own : (name : DialogName) (dialogs : Dialogs) → AreDialogsOf call_id dialogs
-      → IfSome (dialog_at name dialogs) (IsDialogOf call_id)
-  dialog_own name dialogs own = found_one (IsDialogOf call_id) (is_named name) dialogs own
-
   pub paid_own : (name : DialogName) (event : Event) (debt : Debt) (body : List ℕ)
       (dialogs : Dialogs) → AreDialogsOf call_id dialogs
       → AreDialogsOf call_id (paid_at name event debt body dialogs).0
@@ -170,7 +151,7 @@ module _ (call_id : List ℕ) where
         (paying_own event debt body) dialogs own,
     found_service (λ held. (served event debt (Some body) held).1) Waits
         (λ held its. (served_own event debt (Some body) held its).1) tt
-        (dialog_at name dialogs) (dialog_own name dialogs own),
+        (dialog_at name dialogs) (dialog_own call_id name dialogs own),
   )
 
   pub requested_by_own : (name : DialogName) (event : Event) (command : DialogRequest)
@@ -185,41 +166,20 @@ module _ (call_id : List ℕ) where
     found_service (λ held. (request_in event command.method command.body held).1)
         (Refused NoSuchDialog)
         (λ held its. (request_own event command.method command.body held its).1) tt
-        (dialog_at name dialogs) (dialog_own name dialogs own),
+        (dialog_at name dialogs) (dialog_own call_id name dialogs own),
   )
 
   -- ---- what ends
 
-  notice_own : (found : Option HeldDialog) → IfSome found (IsDialogOf call_id)
-      → AreNoticesOf call_id (option_map_or (λ held. ended_notice held ∷ []) found [])
-  notice_own None own = tt
-  notice_own (Some held) own = (own, tt)
-
-  ended_own : (name : DialogName) (dialogs : Dialogs) → AreDialogsOf call_id dialogs
-      → AreEndedOf (ended_at name dialogs)
-  ended_own name dialogs own = (
-    each_but_one (IsDialogOf call_id) (is_named name) dialogs own,
-    notice_own (dialog_at name dialogs) (dialog_own name dialogs own),
-  )
-
   ended_or_not : (b : Bool) (name : DialogName) (dialogs : Dialogs)
       → AreDialogsOf call_id dialogs
-      → AreEndedOf (cond {A = Dialogs × List CallOut} b (ended_at name dialogs) (dialogs, []))
-  ended_or_not true name dialogs own = ended_own name dialogs own
+      → AreEndedOf call_id
+      (cond {A = Dialogs × List CallOut} b (ended_at name dialogs) (dialogs, []))
+  ended_or_not true name dialogs own = ended_own call_id name dialogs own
   ended_or_not false name dialogs own = (own, tt)
 
-  pub early_own : (invite : Id) (dialogs : Dialogs) → AreDialogsOf call_id dialogs
-      → AreEndedOf (early_ended invite dialogs)
-  early_own invite dialogs own =
-      let held = values_of dialogs in (
-        each_left (IsDialogOf call_id) (λ entry. not (is_early_of invite entry.1)) dialogs own,
-        all_mapped (IsNoticeOf call_id) ended_notice _
-            (all_left (IsDialogOf call_id) (is_early_of invite) held
-            (each_of_values (IsDialogOf call_id) dialogs own)),
-      )
-
   own_ended_own : (asks : Asks) (ends : Bool) (dialogs : Dialogs)
-      → AreDialogsOf call_id dialogs → AreEndedOf (own_ended asks ends dialogs)
+      → AreDialogsOf call_id dialogs → AreEndedOf call_id (own_ended asks ends dialogs)
   own_ended_own First ends dialogs own = (own, tt)
   own_ended_own (Again life) true dialogs own =
       ended_or_not (lives dialogs life) life.name dialogs own
@@ -230,18 +190,18 @@ module _ (call_id : List ℕ) where
   own_ended_own Plain ends dialogs own = (own, tt)
 
   pub ended_with_own : (client : Client) (ends : Bool) (dialogs : Dialogs)
-      → AreDialogsOf call_id dialogs → AreEndedOf (ended_with client ends dialogs)
+      → AreDialogsOf call_id dialogs → AreEndedOf call_id (ended_with client ends dialogs)
   ended_with_own client ends dialogs own =
       let early = early_ended client.id dialogs in
-      let first = early_own client.id dialogs own in
+      let first = early_own call_id client.id dialogs own in
       let last = own_ended_own client.asks ends early.0 first.0 in (
         last.0,
-        all_of_both (IsNoticeOf call_id) early.1 (own_ended client.asks ends early.0).1
+        both (IsNoticeOf call_id) early.1 (own_ended client.asks ends early.0).1
             first.1 last.1,
       )
 
   pub bye_own : (name : DialogName) (method : List ℕ) (service : Service) (dialogs : Dialogs)
-      → AreDialogsOf call_id dialogs → AreEndedOf (bye_ended name method service dialogs)
+      → AreDialogsOf call_id dialogs → AreEndedOf call_id (bye_ended name method service dialogs)
   bye_own name method (Sent sending) dialogs own =
       ended_or_not (bytes_eq method (codes "BYE")) name dialogs own
   bye_own name method Waits dialogs own = (own, tt)
@@ -249,30 +209,11 @@ module _ (call_id : List ℕ) where
 
   -- ---- what a response makes
 
-  target_own : (uri : Option (List ℕ)) (held : HeldDialog) → IsDialogOf call_id held
-      → IsDialogOf call_id (retargeted uri held)
-  target_own None held own = own
-  target_own (Some uri) held own =
-      elim (is_some (ended_fault held.dialog)) as (λ b. IsDialogOf call_id (cond b held
-      (record held { dialog = with_target held.dialog uri }))) [
-        | true ↦ own
-        | false ↦ own
-      ]
-
-  confirmed_own : (response : Message) (held : HeldDialog) → IsDialogOf call_id held
-      → IsDialogOf call_id (confirmed response held)
-  confirmed_own response held own =
-      elim (is_some (ended_fault held.dialog)) as (λ b. IsDialogOf call_id (cond b held
-      (record held { dialog = confirmed_by held.dialog response }))) [
-        | true ↦ own
-        | false ↦ confirmed_kept held.dialog.side held.dialog response ∙ own
-      ]
-
   accepted_in_own : (asks : Asks) (response : Message) (held : HeldDialog)
       → IsDialogOf call_id held → IsDialogOf call_id (accepted_in asks response held)
-  accepted_in_own First response held own = confirmed_own response held own
+  accepted_in_own First response held own = confirmed_keeps response held ∙ own
   accepted_in_own (Again life) response held own =
-      target_own (contact_uri response) held own
+      retargeted_keeps (contact_uri response) held ∙ own
   accepted_in_own (Inside life) response held own = own
   accepted_in_own Plain response held own = own
 

@@ -9,18 +9,17 @@ use Rattle.std.proofs.lemmas.Bool.{false≢true}
 use Rattle.std.proofs.lemmas.Map.Steps.{set_value_same}
 use Rattle.sip_message.specs.declared.rack.RAck.{RAck}
 use Rattle.sip_dialog.specs.declared.fault.DialogFault.{DialogFault}
-use Rattle.sip_served.specs.Dialogs.{dialog_at, dialog_changed, ended_notice, is_named}
-use Rattle.sip_served.specs.State.{Dialogs}
-use Rattle.sip_served.specs.declared.command.Cancel.{Cancel}
-use Rattle.sip_served.specs.declared.command.DialogBody.{DialogBody}
-use Rattle.sip_served.specs.declared.command.DialogRequest.{DialogRequest}
-use Rattle.sip_served.specs.declared.debt.Debt.{Debt}
-use Rattle.sip_served.specs.declared.debt.Debt.TheVariants as debt
-use Rattle.sip_served.specs.declared.held_dialog.DialogName.{DialogName}
-use Rattle.sip_served.specs.declared.held_dialog.HeldDialog.{HeldDialog}
-use Rattle.sip_served.specs.declared.item.CallOut.{CallOut}
-use Rattle.sip_served.specs.declared.refusal.Refusal.{Refusal}
-use Rattle.sip_served.specs.declared.refusal.Refusal.TheVariants.{BadMethod, NoSuchDialog, NoSuchRequest}
+use Rattle.sip_common.specs.Dialogs.{dialog_at, dialog_changed, ended_notice, is_named, Dialogs}
+use Rattle.sip_common.specs.declared.command.Cancel.{Cancel}
+use Rattle.sip_common.specs.declared.command.DialogBody.{DialogBody}
+use Rattle.sip_common.specs.declared.command.DialogRequest.{DialogRequest}
+use Rattle.sip_common.specs.declared.debt.Debt.{Debt}
+use Rattle.sip_common.specs.declared.debt.Debt.TheVariants as debt
+use Rattle.sip_common.specs.declared.held_dialog.DialogName.{DialogName}
+use Rattle.sip_common.specs.declared.held_dialog.HeldDialog.{HeldDialog}
+use Rattle.sip_common.specs.declared.item.CallOut.{CallOut}
+use Rattle.sip_common.specs.declared.refusal.Refusal.{Refusal}
+use Rattle.sip_common.specs.declared.refusal.Refusal.TheVariants.{BadMethod, NoSuchDialog, NoSuchRequest}
 use Rattle.sip_clients.specs.Cancel.{cancel_case, cancel_command, cancel_taken, cancelled_as, cancelled_of}
 use Rattle.sip_clients.specs.Client.{Clients, Side, client_at, Taken as ClientTaken}
 use Rattle.sip_clients.specs.Clients.{ack_noted, ack_paid, ack_taken, paid_or_refused, prack_paid, prack_taken, request_settled, request_taken, settled}

@@ -3,8 +3,8 @@
 use Rattle.std.specs.Prelude.{Bool, List, Option}
 use Rattle.std.specs.Map.{lookup}
 use Rattle.std.specs.Option.{is_some, option_and_then}
-use Rattle.sip_served.specs.declared.held_dialog.DialogName.{DialogName}
-use Rattle.sip_served.specs.Dialogs.{is_named}
+use Rattle.sip_common.specs.declared.held_dialog.DialogName.{DialogName}
+use Rattle.sip_common.specs.Dialogs.{is_named}
 use Rattle.sip_clients.specs.declared.answers.SentAck.{SentAck}
 
 -- each with its ACK once that was sent

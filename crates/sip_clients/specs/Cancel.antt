@@ -4,10 +4,10 @@ use Rattle.std.specs.Option.{is_some, option_map}
 use Rattle.sip_message.specs.HopByHop.{cancel_of}
 use Rattle.sip_message.specs.TopVia.{top_branch}
 use Rattle.sip_message.specs.declared.id.Id.{Id}
-use Rattle.sip_served.specs.declared.command.Cancel.{Cancel}
-use Rattle.sip_served.specs.declared.item.CallOut.{CallOut}
-use Rattle.sip_served.specs.declared.refusal.Refusal.{Refusal}
-use Rattle.sip_served.specs.declared.refusal.Refusal.TheVariants.{AlreadyFinal, NoSuchRequest}
+use Rattle.sip_common.specs.declared.command.Cancel.{Cancel}
+use Rattle.sip_common.specs.declared.item.CallOut.{CallOut}
+use Rattle.sip_common.specs.declared.refusal.Refusal.{Refusal}
+use Rattle.sip_common.specs.declared.refusal.Refusal.TheVariants.{AlreadyFinal, NoSuchRequest}
 use Rattle.sip_clients.specs.declared.cancel.CancelCase.{CancelCase}
 use Rattle.sip_clients.specs.declared.cancel.CancelCase.TheVariants as case
 use Rattle.sip_clients.specs.declared.cancel.Cancellation.{Cancellation}

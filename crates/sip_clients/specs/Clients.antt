@@ -8,19 +8,19 @@ use Rattle.sip_message.specs.declared.message.Message.{Message}
 use Rattle.sip_message.specs.declared.start_line.StartLine.{StartLine}
 use Rattle.sip_message.specs.declared.start_line.StartLine.TheVariants as start
 use Rattle.sip_message.specs.Party.{tag_of}
-use Rattle.sip_served.specs.declared.command.DialogBody.{DialogBody}
-use Rattle.sip_served.specs.declared.command.DialogRequest.{DialogRequest}
-use Rattle.sip_served.specs.declared.command.Invite.{Invite}
-use Rattle.sip_served.specs.declared.command.Plain.{Plain as PlainCommand}
-use Rattle.sip_served.specs.declared.debt.Debt.{Debt}
-use Rattle.sip_served.specs.declared.debt.Debt.TheVariants.{Ack, Prack}
-use Rattle.sip_served.specs.declared.held_dialog.DialogName.{DialogName}
-use Rattle.sip_served.specs.declared.item.CallOut.{CallOut}
-use Rattle.sip_served.specs.declared.refusal.Refusal.{Refusal}
-use Rattle.sip_served.specs.declared.refusal.Refusal.TheVariants.{BadMethod}
-use Rattle.sip_served.specs.Dialogs.{is_named}
-use Rattle.sip_served.specs.Requests.{is_final, name_of_tags}
-use Rattle.sip_served.specs.State.{is_id}
+use Rattle.sip_common.specs.declared.command.DialogBody.{DialogBody}
+use Rattle.sip_common.specs.declared.command.DialogRequest.{DialogRequest}
+use Rattle.sip_common.specs.declared.command.Invite.{Invite}
+use Rattle.sip_common.specs.declared.command.Plain.{Plain as PlainCommand}
+use Rattle.sip_common.specs.declared.debt.Debt.{Debt}
+use Rattle.sip_common.specs.declared.debt.Debt.TheVariants.{Ack, Prack}
+use Rattle.sip_common.specs.declared.held_dialog.DialogName.{DialogName}
+use Rattle.sip_common.specs.declared.item.CallOut.{CallOut}
+use Rattle.sip_common.specs.declared.refusal.Refusal.{Refusal}
+use Rattle.sip_common.specs.declared.refusal.Refusal.TheVariants.{BadMethod}
+use Rattle.sip_common.specs.Dialogs.{is_named}
+use Rattle.sip_common.specs.Requests.{is_final, name_of_tags}
+use Rattle.sip_common.specs.Ids.{is_id}
 use Rattle.sip_clients.specs.declared.answers.SentAck.{SentAck}
 use Rattle.sip_clients.specs.declared.cancel.Cancellation.{Cancellation}
 use Rattle.sip_clients.specs.declared.client.Asks.{Asks}

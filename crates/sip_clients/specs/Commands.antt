@@ -6,17 +6,16 @@ use Rattle.std.specs.Str.{bytes_eq}
 use Rattle.sip_dialog.specs.declared.dialog.Side.{Side}
 use Rattle.sip_dialog.specs.declared.dialog.Side.TheVariants.{Caller, Callee}
 use Rattle.sip_dialog.specs.Dialog.{is_early}
-use Rattle.sip_served.specs.declared.command.DialogBody.{DialogBody}
-use Rattle.sip_served.specs.declared.command.DialogRequest.{DialogRequest}
-use Rattle.sip_served.specs.declared.debt.Debt.{Debt}
-use Rattle.sip_served.specs.declared.held_dialog.DialogName.{DialogName}
-use Rattle.sip_served.specs.declared.held_dialog.HeldDialog.{HeldDialog}
-use Rattle.sip_served.specs.declared.item.CallOut.{CallOut}
-use Rattle.sip_served.specs.declared.refusal.Refusal.{Refusal}
-use Rattle.sip_served.specs.declared.refusal.Refusal.TheVariants.{NoSuchDialog, BadMethod, NothingToAck, NothingToPrack}
-use Rattle.sip_served.specs.Dialogs.{dialog_at, dialog_changed, ended_at, tag_text}
-use Rattle.sip_served.specs.Requests.{name_of_tags}
-use Rattle.sip_served.specs.State.{Dialogs}
+use Rattle.sip_common.specs.declared.command.DialogBody.{DialogBody}
+use Rattle.sip_common.specs.declared.command.DialogRequest.{DialogRequest}
+use Rattle.sip_common.specs.declared.debt.Debt.{Debt}
+use Rattle.sip_common.specs.declared.held_dialog.DialogName.{DialogName}
+use Rattle.sip_common.specs.declared.held_dialog.HeldDialog.{HeldDialog}
+use Rattle.sip_common.specs.declared.item.CallOut.{CallOut}
+use Rattle.sip_common.specs.declared.refusal.Refusal.{Refusal}
+use Rattle.sip_common.specs.declared.refusal.Refusal.TheVariants.{NoSuchDialog, BadMethod, NothingToAck, NothingToPrack}
+use Rattle.sip_common.specs.Dialogs.{dialog_at, dialog_changed, ended_at, tag_text, Dialogs}
+use Rattle.sip_common.specs.Requests.{name_of_tags}
 use Rattle.sip_clients.specs.declared.answers.SentAck.{SentAck}
 use Rattle.sip_clients.specs.declared.debts.DebtKind.{DebtKind}
 use Rattle.sip_clients.specs.declared.debts.DebtKind.TheVariants as kind

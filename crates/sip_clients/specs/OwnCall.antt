@@ -4,21 +4,12 @@
 use Rattle.std.specs.Prelude.{◌≡◌, ℕ, List}
 use Rattle.std.specs.List.{AllByRecursion}
 use Rattle.sip_message.specs.declared.id.Id.{Id}
-use Rattle.sip_served.specs.declared.held_dialog.HeldDialog.{HeldDialog}
-use Rattle.sip_served.specs.declared.item.CallOut.{CallOut}
-pub use Rattle.sip_served.specs.OwnCall.{AreDialogsOf, IsNoticeOf, call_of_notice}
+use Rattle.sip_common.specs.declared.item.CallOut.{CallOut}
+pub use Rattle.sip_common.specs.OwnCall.{AreDialogsOf, AreNoticesOf, IsDialogOf, IsNoticeOf, call_of_notice}
 use Rattle.sip_clients.specs.declared.client.Client.{Client}
 use Rattle.sip_clients.specs.Client.{Clients, Side, Taken}
 
--- ---- what is told
-
-abbrev pub AreNoticesOf : List ℕ → List CallOut → Type 0
-AreNoticesOf call_id outs = AllByRecursion (IsNoticeOf call_id) outs
-
 -- ---- what is held
-
-abbrev pub IsDialogOf : List ℕ → HeldDialog → Type 0
-IsDialogOf call_id held = held.dialog.call_id ≡ call_id
 
 abbrev pub IsRequestOf : List ℕ → Client → Type 0
 IsRequestOf call_id client = client.request.call_id ≡ call_id

@@ -3,13 +3,13 @@
 use Rattle.std.specs.Prelude.{ℕ, Bool, true, false, ◌&&◌, not, ◌==◌, List, [], Option, None, Some, filter, map, if◌then◌else◌}
 use Rattle.sip_message.specs.declared.id.Id.{Id}
 use Rattle.sip_message.specs.declared.message.Message.{Message}
-use Rattle.sip_served.specs.declared.held_dialog.DialogLife.{DialogLife}
-use Rattle.sip_served.specs.declared.item.CallOut.{CallOut}
-use Rattle.sip_served.specs.declared.item.CallOut.TheVariants.{Notice}
-use Rattle.sip_served.specs.declared.notice.Notice.TheVariants as notice
-use Rattle.sip_served.specs.Dialogs.{is_named}
-use Rattle.sip_served.specs.Requests.{is_final, is_inside}
-use Rattle.sip_served.specs.State.{is_id}
+use Rattle.sip_common.specs.declared.held_dialog.DialogLife.{DialogLife}
+use Rattle.sip_common.specs.declared.item.CallOut.{CallOut}
+use Rattle.sip_common.specs.declared.item.CallOut.TheVariants.{Notice}
+use Rattle.sip_common.specs.declared.notice.Notice.TheVariants as notice
+use Rattle.sip_common.specs.Dialogs.{is_named}
+use Rattle.sip_common.specs.Requests.{is_final, is_inside}
+use Rattle.sip_common.specs.Ids.{is_id}
 use Rattle.sip_clients.specs.declared.client.Asks.{Asks}
 use Rattle.sip_clients.specs.declared.client.Asks.TheVariants.{First, Again}
 use Rattle.sip_clients.specs.declared.client.Client.{Client}

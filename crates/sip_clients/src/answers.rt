@@ -3,12 +3,12 @@
 ghost use Rattle.std.specs.Prelude.{◌≡◌, [], IfOk, OnOk};
 ghost use Rattle.std.specs.Option.{option_copied};
 ghost use Rattle.indexmap.specs.IndexMap.{insert_entry};
-ghost use Rattle.sip_served.specs.Dialogs.{is_named};
+ghost use Rattle.sip_common.specs.Dialogs.{is_named};
 ghost use Rattle.sip_clients.specs.Answers as spec;
 
 use indexmap::IndexMap;
+use sip_common::DialogName;
 use sip_message::Addr;
-use sip_served::DialogName;
 use sip_text::Text;
 use std::alloc::{AllocError, Global};
 use std::marker::Model;
@@ -34,7 +34,7 @@ pub struct Answers {
 
 impl Model for Answers {
     ghost use Rattle.std.specs.Prelude.{List, Option};
-    ghost use Rattle.sip_served.specs.declared.held_dialog.DialogName.{DialogName};
+    ghost use Rattle.sip_common.specs.declared.held_dialog.DialogName.{DialogName};
     ghost use Rattle.sip_clients.specs.declared.answers.SentAck.{SentAck};
 
     ghost Value = { List (DialogName × Option SentAck) };

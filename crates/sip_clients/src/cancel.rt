@@ -9,8 +9,8 @@ use crate::event::Event;
 use crate::held::{ClientMap, hold};
 use crate::outputs::{refused, start_under};
 use crate::reply::is_inviting;
+use sip_common::{CallOut, Cancel, Refusal};
 use sip_message::{Id, cancel_for};
-use sip_served::{CallOut, Cancel, Refusal};
 use std::alloc::{AllocError, Global};
 
 /// The CANCEL of an INVITE.

@@ -4,9 +4,9 @@ ghost use Rattle.std.specs.Prelude.{◌≡◌};
 ghost use Rattle.sip_clients.specs.Client as spec;
 
 use crate::answers::Answers;
+use sip_common::DialogLife;
 use sip_message::{Addr, Id, Message};
 use sip_reliable::Inbound;
-use sip_served::DialogLife;
 use std::alloc::Global;
 
 /// What a client request is for.

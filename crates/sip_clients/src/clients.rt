@@ -15,10 +15,10 @@ use crate::outputs::{Rest, refused};
 use crate::outside::{invite_of, plain_of};
 use crate::tick::{drop_clients, drop_dialogs, next_due, over_notices};
 use indexmap::IndexMap;
-use sip_message::{CallId, Id, Message};
-use sip_served::{
+use sip_common::{
     CallOut, Cancel, Debt, DialogBody, DialogName, DialogRequest, Dialogs, Invite, Plain, Refusal,
 };
+use sip_message::{CallId, Id, Message};
 use std::alloc::{AllocError, Global};
 use std::marker::Model;
 use std::mem;

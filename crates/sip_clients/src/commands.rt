@@ -1,7 +1,7 @@
 //! The user's commands that send a request in a dialog.
 
 ghost use Rattle.std.specs.Prelude.{◌≡◌, IfOk, OnOk};
-ghost use Rattle.sip_served.specs.Dialogs.{tag_text};
+ghost use Rattle.sip_common.specs.Dialogs.{tag_text};
 ghost use Rattle.sip_clients.specs.Commands as spec;
 
 use crate::answers::SentAck;
@@ -10,12 +10,12 @@ use crate::dialogs::pay_at;
 use crate::event::Event;
 use crate::outputs::{Rest, ack_said, request_said};
 use crate::service::{Service, request};
-use sip_dialog::{DialogState, Side};
-use sip_message::Token;
-use sip_served::dialogs::end;
-use sip_served::{
+use sip_common::dialogs::end;
+use sip_common::{
     CallOut, Debt, DialogBody, DialogName, DialogRequest, Dialogs, HeldDialog, Refusal,
 };
+use sip_dialog::{DialogState, Side};
+use sip_message::Token;
 use sip_text::Text;
 use std::alloc::{AllocError, Global};
 

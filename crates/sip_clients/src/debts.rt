@@ -7,7 +7,7 @@ ghost use Rattle.sip_clients.specs.Service.{served};
 
 use crate::event::Event;
 use crate::service::{Service, serve};
-use sip_served::{Debt, HeldDialog};
+use sip_common::{Debt, HeldDialog};
 use sip_text::{Series, Text};
 use std::alloc::{AllocError, Global};
 use std::mem;

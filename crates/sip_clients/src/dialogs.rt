@@ -2,7 +2,7 @@
 
 ghost use Rattle.std.specs.Prelude.{◌≡◌, IfOk, OnOk};
 ghost use Rattle.indexmap.specs.IndexMap.{insert_entry};
-ghost use Rattle.sip_served.specs.Dialogs.{is_named};
+ghost use Rattle.sip_common.specs.Dialogs.{is_named};
 ghost use Rattle.sip_clients.specs.Dialogs as spec;
 
 use crate::client::{Asks, Client};
@@ -10,11 +10,11 @@ use crate::debts::pay;
 use crate::event::Event;
 use crate::reply::Reply;
 use crate::service::Service;
+use sip_common::dialogs::{confirm_dialog, end, end_early, lives};
+use sip_common::{CallOut, Debt, DialogLife, DialogName, Dialogs, HeldDialog};
 use sip_dialog::Dialog;
 use sip_message::Message;
 use sip_reliable::Inbound;
-use sip_served::dialogs::{confirm_dialog, end, end_early, lives};
-use sip_served::{CallOut, Debt, DialogLife, DialogName, Dialogs, HeldDialog};
 use sip_text::{Series, Text};
 use std::alloc::{AllocError, Global};
 

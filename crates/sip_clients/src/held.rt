@@ -1,7 +1,7 @@
 //! The held client requests, found by the events that sent them.
 
 ghost use Rattle.std.specs.Prelude.{◌≡◌, ◌≤◌, ◌^◌, IfOk, OnOk};
-ghost use Rattle.sip_served.specs.Requests.{is_final};
+ghost use Rattle.sip_common.specs.Requests.{is_final};
 ghost use Rattle.sip_clients.specs.Cancel.{cancel_freed, noted};
 ghost use Rattle.sip_clients.specs.Replied.{reply_taken};
 ghost use Rattle.sip_clients.specs.Client.{client_at, client_changed, with_client, without};
@@ -12,13 +12,14 @@ use crate::cancel::{Cancellation, note_reply, send_beside};
 use crate::client::Client;
 use crate::dialogs::end_with;
 use crate::event::Event;
-use crate::outputs::{Rest, one, start_command};
+use crate::outputs::{Rest, start_command};
 use crate::replied::take_reply;
 use crate::reply::{Reply, reply_name, status_of};
 use indexmap::IndexMap;
+use sip_common::outputs::one;
+use sip_common::request::is_final;
+use sip_common::{CallOut, Debt, DialogName, Dialogs};
 use sip_message::{CallId, Id, Message};
-use sip_served::request::is_final;
-use sip_served::{CallOut, Debt, DialogName, Dialogs};
 use std::alloc::{AllocError, Global};
 
 /// The held client requests, in the order in which they were sent.

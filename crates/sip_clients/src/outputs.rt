@@ -8,9 +8,10 @@ use crate::client::{Asks, Client, client_for};
 use crate::event::Event;
 use crate::reply::Reply;
 use crate::service::{Sending, Service};
+use sip_common::outputs::one;
+use sip_common::request::is_invite;
+use sip_common::{CallOut, DialogLife, DialogName, Notice, Refusal};
 use sip_message::{CallId, Id, Key, Message, write};
-use sip_served::request::is_invite;
-use sip_served::{CallOut, DialogLife, DialogName, Notice, Refusal};
 use sip_text::{Boxed, Text};
 use sip_transactions::Command;
 use std::alloc::{AllocError, Global};
@@ -23,15 +24,6 @@ pub(crate) enum Rest {
     Over,
     /// This request is sent.
     Starts(Client),
-}
-
-/// One output.
-pub(crate) fn one(alloc: Global, out: CallOut) -> Result<Vec<CallOut>, AllocError>
-    ensures { IfOk result (λ outs. outs.items ≡ out ∷ []) }
-{
-    let mut outs = Vec::new(alloc);
-    outs.push(out)?;
-    Ok(outs)
 }
 
 /// How the user is told of a response.

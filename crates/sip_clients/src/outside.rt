@@ -5,11 +5,11 @@ ghost use Rattle.sip_text.specs.Token.{is_token};
 ghost use Rattle.sip_clients.specs.Outside as spec;
 
 use crate::event::Event;
+use sip_common::{Invite, Plain, ProvisionalSupport};
 use sip_dialog::{own_contact, own_via};
 use sip_message::{
     Addr, CSeq, CallId, MAX_FORWARDS, Message, Party, RequestUri, StartLine, Token, Uri,
 };
-use sip_served::{Invite, Plain, ProvisionalSupport};
 use sip_text::{Series, Text};
 use std::alloc::{AllocError, Global};
 

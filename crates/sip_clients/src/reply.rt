@@ -8,10 +8,10 @@ ghost use Rattle.sip_clients.specs.Reply as spec;
 
 use crate::client::{Asks, Client};
 use crate::event::Event;
+use sip_common::request::{is_final, is_inside, is_success, requires_100rel};
+use sip_common::{DialogName, HeldDialog};
 use sip_message::{CallId, Id, Message, StartLine, StatusCode};
 use sip_reliable::{Inbound, Offer};
-use sip_served::request::{is_final, is_inside, is_success, requires_100rel};
-use sip_served::{DialogName, HeldDialog};
 use std::alloc::{AllocError, Global};
 
 /// The status of the response by which a request is under way.

@@ -4,14 +4,14 @@ ghost use Rattle.std.specs.Prelude.{◌≡◌, ◌∷◌, ◌++◌, [], IfOk, On
 ghost use Rattle.sip_dialog.specs.declared.fault.DialogFault.{DialogFault};
 ghost use Rattle.sip_dialog.specs.Fault.{or_no_memory};
 ghost use Rattle.sip_clients.specs.declared.service.Sending.{Sending};
-ghost use Rattle.sip_served.specs.declared.held_dialog.HeldDialog.{HeldDialog};
+ghost use Rattle.sip_common.specs.declared.held_dialog.HeldDialog.{HeldDialog};
 ghost use Rattle.sip_clients.specs.Service as spec;
 
 use crate::event::Event;
 use crate::outside::token_of;
+use sip_common::{Debt, HeldDialog, Refusal};
 use sip_dialog::DialogFault;
 use sip_message::{Addr, Id, Message, RAck, Token};
-use sip_served::{Debt, HeldDialog, Refusal};
 use sip_text::Text;
 use std::alloc::{AllocError, Global};
 

@@ -5,8 +5,8 @@ ghost use Rattle.sip_clients.specs.Tick as spec;
 
 use crate::client::Client;
 use crate::held::ClientMap;
-use sip_served::dialogs::{early_notices, is_early_of};
-use sip_served::{CallOut, Dialogs, HeldDialog};
+use sip_common::dialogs::{early_notices, is_early_of};
+use sip_common::{CallOut, Dialogs, HeldDialog};
 use sip_timers::earlier;
 use std::alloc::{AllocError, Global};
 

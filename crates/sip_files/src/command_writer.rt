@@ -1,7 +1,7 @@
 //! Writes the lines of the user's commands.
 
 ghost use Rattle.std.specs.Prelude.{◌≡◌, ◌++◌, OnOk};
-ghost use Rattle.sip_served.specs.declared.command.UserCommand.TheVariants as command;
+ghost use Rattle.sip_common.specs.declared.command.UserCommand.TheVariants as command;
 ghost use Rattle.sip_files.specs.Events as written;
 ghost use Rattle.sip_files.specs.Field as field;
 

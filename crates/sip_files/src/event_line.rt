@@ -1,7 +1,7 @@
 //! One line of an event file.
 
 ghost use Rattle.std.specs.Prelude.{◌≡◌, IfNone, IfOk, IfSome};
-ghost use Rattle.sip_served.specs.declared.command.UserCommand as command;
+ghost use Rattle.sip_common.specs.declared.command.UserCommand as command;
 ghost use Rattle.sip_files.specs.ReadLine as reading;
 ghost use Rattle.sip_files.specs.Written as written;
 ghost use Rattle.sip_files.specs.Written.{SpellsCommand};

@@ -3,7 +3,7 @@
 ghost use Rattle.std.specs.Prelude.{◌≡◌, ◌++◌, IfOk, OnOk, codes};
 ghost use Rattle.std.specs.List.{flat_map};
 ghost use Rattle.sip_message.specs.Fault.{fault_text};
-ghost use Rattle.sip_served.specs.declared.notice.Notice.TheVariants as notice;
+ghost use Rattle.sip_common.specs.declared.notice.Notice.TheVariants as notice;
 ghost use Rattle.sip_files.specs.Field as field;
 ghost use Rattle.sip_files.specs.Outputs as written;
 

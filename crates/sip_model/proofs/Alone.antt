@@ -12,7 +12,7 @@ use Rattle.std.proofs.lemmas.Map.Lookups.{CmpEqualImpliesEq}
 use Rattle.sip_model.specs.declared.item.Item.{Item}
 use Rattle.sip_model.specs.Machine.{Machine, IsIdle, next, adds, state_from, state_after, outputs_from}
 use Rattle.sip_model.specs.Table.{Covers}
-use Rattle.sip_model.specs.Told.{speaks, told_ticks}
+use Rattle.sip_model.specs.Groups.{speaks, told_ticks}
 use Rattle.sip_model.specs.Phase.{Phase, inputs_of, own_inputs, history, keys_of_phases, stepped, told_items, ticked, told_tick, states_after, told_next}
 use Rattle.sip_model.specs.Laws.{InOrder, said_by, said_from}
 use Rattle.sip_model.proofs.Ordered.{by_bool, exact_at, is_at_back, is_at_itself, ordered_nil, same_filtered}

@@ -9,8 +9,8 @@ use Rattle.std.proofs.lemmas.Map.Lookups.{CmpEqualImpliesEq}
 use Rattle.sip_model.specs.declared.item.Item.{Item}
 use Rattle.sip_model.specs.Machine.{Machine, IsIdle, next, adds, state_from, state_after}
 use Rattle.sip_model.specs.Table.{Covers}
-use Rattle.sip_model.specs.Told.{speaks, told_ticks}
-use Rattle.sip_model.specs.Phase.{Phase, Told, inputs_of, own_inputs, history, keys_of_phases, stepped, told_items, ticked, told_tick, states_after, told_next}
+use Rattle.sip_model.specs.Groups.{speaks, told_ticks}
+use Rattle.sip_model.specs.Phase.{Phase, PhaseOutputs, inputs_of, own_inputs, history, keys_of_phases, stepped, told_items, ticked, told_tick, states_after, told_next}
 use Rattle.sip_model.specs.Laws.{owned_phase, owned_told}
 use Rattle.sip_model.proofs.Ordered.{by_bool, exact_at, same_filtered}
 use Rattle.sip_model.proofs.Tick.{has_state}
@@ -236,7 +236,7 @@ module _ {K S I O : Type 0} {cmp : K → K → Ordering} (total : IsTotalOrder c
   tick_apart states (Some moment) part whole covers_part covers_whole =
       ticks_apart states moment part whole covers_part covers_whole
 
-  same_told : {K O : Type 0} (a b : Told K O) → a.ticks ≡ b.ticks → a.items ≡ b.items → a ≡ b
+  same_told : {K O : Type 0} (a b : PhaseOutputs K O) → a.ticks ≡ b.ticks → a.items ≡ b.items → a ≡ b
   same_told a b ticks items = λ i. record { ticks = ticks i; items = items i }
 
   pub works_apart : (phases : List (Phase K I)) (phase : Phase K I)

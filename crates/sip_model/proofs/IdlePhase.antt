@@ -7,7 +7,7 @@ use Rattle.sip_timers.specs.Queue.{is_due}
 use Rattle.sip_model.specs.Machine.{Machine, Timed, IsIdle, adds, due_of}
 use Rattle.sip_model.specs.Table.{state_in, IsCalm}
 use Rattle.sip_model.specs.Phase.{DealsPhase, phase_at}
-use Rattle.sip_model.specs.Told.{speaks, told_ticks}
+use Rattle.sip_model.specs.Groups.{speaks, told_ticks}
 
 module _ {K S I O : Type 0} (machine : Machine K S I O) (due : S → Option ℕ) (now : ℕ) (input : I)
     (idle : IsIdle machine due now input) (states : K → Option S)

@@ -4,16 +4,14 @@ use Rattle.std.specs.Prelude.{Option, cond}
 use Rattle.std.specs.declared.cmp.Ordering.{Ordering}
 use Rattle.std.specs.BTreeMap.{is_at}
 use Rattle.sip_model.specs.declared.item.Item.{Item}
-use Rattle.sip_timers.specs.Queue.{moment}
-use Rattle.sip_model.specs.Machine.{Machine, next, adds, due_of}
+use Rattle.sip_model.specs.Machine.{Machine, next, adds}
 use Rattle.sip_model.specs.Table.{AreDues}
 use Rattle.sip_model.specs.Phase.{by_place, stepped, states_then, told_items}
-use Rattle.sip_model.proofs.Ordered.{by_bool}
 
 -- items over `all` of which `rest` are left: the states now, and what was told
 pub record ItemsLeft {K S I O : Type 0} (cmp : K → K → Ordering) (machine : Machine K S I O)
     (due : S → Option ℕ) (old : K → Option S) (all rest : List (Item K I)) (states : K → Option S)
-    (dues : List (K × ℕ)) (told : List (ℕ × List O)) : Type 0 where
+    (dues : List (ℕ × K)) (told : List (ℕ × List O)) : Type 0 where
   pub stepped_so_far : (q : K) → states_then cmp machine states rest q
       ≡ states_then cmp machine old all q
   pub armed : AreDues cmp due states dues
@@ -22,20 +20,18 @@ pub record ItemsLeft {K S I O : Type 0} (cmp : K → K → Ordering) (machine : 
 
 module _ {K S I O : Type 0} {cmp : K → K → Ordering} (machine : Machine K S I O)
     (due : S → Option ℕ) where
-  pub items_left_at_first : (old : K → Option S) (all : List (Item K I)) (dues : List (K × ℕ))
+  pub items_left_at_first : (old : K → Option S) (all : List (Item K I)) (dues : List (ℕ × K))
       → AreDues cmp due old dues → ItemsLeft cmp machine due old all all old dues []
   items_left_at_first old all dues armed =
       record { stepped_so_far = λ q. refl; armed = armed; said = refl }
 
   pub items_left_more : (old : K → Option S) (all rest : List (Item K I)) (item : Item K I)
-      (states newer : K → Option S) (dues later : List (K × ℕ)) (told : List (ℕ × List O))
+      (states newer : K → Option S) (dues later : List (ℕ × K)) (told : List (ℕ × List O))
       (outputs : List O)
       → ItemsLeft cmp machine due old all (item ∷ rest) states dues told
       → ((q : K) → newer q ≡ cond (is_at (cmp item.key) q)
       (next machine item.key (states item.key) item.input) (states q))
-      → ((q : K) → moment cmp later q
-      ≡ cond (is_at (cmp item.key) q)
-      (due_of due (next machine item.key (states item.key) item.input)) (moment cmp dues q))
+      → AreDues cmp due newer later
       → outputs ≡ adds machine item.key (states item.key) item.input
       → ItemsLeft cmp machine due old all rest newer later
       (told ++ (item.place, outputs) ∷ [])
@@ -44,19 +40,7 @@ module _ {K S I O : Type 0} {cmp : K → K → Ordering} (machine : Machine K S 
       record {
         stepped_so_far =
             λ q. ap (λ s. states_then cmp machine s rest q) same ∙ left.stepped_so_far q;
-        armed = λ q. by_bool (is_at (cmp item.key) q)
-            (λ hit. arms q ∙ ap (λ b. cond b
-            (due_of due (next machine item.key (states item.key) item.input))
-            (moment cmp dues q)) hit
-            ∙ ap (due_of due) (sym (steps q
-            ∙ ap (λ b. cond b (next machine item.key (states item.key) item.input) (states q))
-            hit)))
-            (λ miss. arms q ∙ ap (λ b. cond b
-            (due_of due (next machine item.key (states item.key) item.input))
-            (moment cmp dues q)) miss ∙ left.armed q
-            ∙ ap (due_of due) (sym (steps q
-            ∙ ap (λ b. cond b (next machine item.key (states item.key) item.input) (states q))
-            miss)));
+        armed = arms;
         said =
             append_assoc told ((item.place, outputs) ∷ [])
             (map by_place (told_items cmp machine newer rest))

@@ -6,6 +6,7 @@ pub mod IdlePhase
 pub mod ItemsLeft
 pub mod Merged
 pub mod Named
+pub mod OneKey
 pub mod Ordered
 pub mod Parts
 pub mod Phases

@@ -11,7 +11,7 @@ use Rattle.std.specs.declared.vec.Vec.{Vec}
 use Rattle.std.proofs.lemmas.List.{get_or-map, length-map}
 use Rattle.std.proofs.lemmas.List.Sorted.{IsPermutation-sym, IsPermutation-map}
 use Rattle.sip_timers.proofs.Sorts.{same_sorted}
-use Rattle.sip_model.specs.Told.{groups}
+use Rattle.sip_model.specs.Groups.{groups}
 
 -- a closure without a state, each of whose calls compares by the test
 pub compares : {F X : Type 0} (g : Mut F (Bor X × (Bor X × Unit {0})) Ordering) (lt : X → X → Bool)

@@ -12,9 +12,9 @@ use Rattle.std.proofs.lemmas.List.Sorted.{IsPermutation-map}
 use Rattle.std.proofs.lemmas.Map.Lookups.{CmpEqualImpliesEq}
 use Rattle.sip_model.specs.Machine.{Machine, IsIdle}
 use Rattle.sip_model.specs.Table.{Held}
-use Rattle.sip_model.specs.Phase.{Phase, Told, HoldsAfter, by_place, told_next}
+use Rattle.sip_model.specs.Phase.{Phase, PhaseOutputs, HoldsAfter, by_place, told_next}
 use Rattle.sip_model.specs.Laws.{owned_phase}
-use Rattle.sip_model.specs.Shards.{is_owned, AllDealt, Dealt, HoldFrom, TellAll}
+use Rattle.sip_model.specs.Shards.{is_owned, EachDeals, ShardPhase, HoldFrom, TellAll}
 use Rattle.sip_model.proofs.Apart.{works_apart}
 use Rattle.sip_model.proofs.Alone.{in_order}
 use Rattle.sip_model.proofs.Parts.{parts, parts_are_all}
@@ -23,10 +23,10 @@ module _ {K S I O : Type 0} {cmp : K → K → Ordering} (total : IsTotalOrder c
     (exact : CmpEqualImpliesEq cmp) (machine : Machine K S I O) (due : S → Option ℕ) (tick : ℕ → I)
     (idle : (moment : ℕ) → IsIdle machine due moment (tick moment)) (owner : K → ℕ)
     (phase : Phase K I) where
-  abbrev befores : List (Dealt K S O) → List (Held K S)
+  abbrev befores : List (ShardPhase K S O) → List (Held K S)
   befores all = map (λ dealt. dealt.before) all
 
-  abbrev afters : List (Dealt K S O) → List (Held K S)
+  abbrev afters : List (ShardPhase K S O) → List (Held K S)
   afters all = map (λ dealt. dealt.after) all
 
   one_more : (number : ℕ) (phases : List (Phase K I))
@@ -36,8 +36,8 @@ module _ {K S I O : Type 0} {cmp : K → K → Ordering} (total : IsTotalOrder c
   one_more number phases =
       sym (map-append (owned_phase (is_owned owner number)) phases (phase ∷ []))
 
-  hold_more : (number : ℕ) (all : List (Dealt K S O)) (phases : List (Phase K I))
-      → AllDealt cmp machine tick owner phase number all
+  hold_more : (number : ℕ) (all : List (ShardPhase K S O)) (phases : List (Phase K I))
+      → EachDeals cmp machine tick owner phase number all
       → HoldFrom cmp machine tick owner number (befores all) phases
       → HoldFrom cmp machine tick owner number (afters all) (phases ++ phase ∷ [])
   hold_more number [] phases dealt hold = tt
@@ -47,37 +47,37 @@ module _ {K S I O : Type 0} {cmp : K → K → Ordering} (total : IsTotalOrder c
     hold_more (suc number) ds phases dealt.1 hold.1,
   )
 
-  ticks_by_shard : (number : ℕ) (all : List (Dealt K S O)) (phases : List (Phase K I))
-      → AllDealt cmp machine tick owner phase number all
+  ticks_by_shard : (number : ℕ) (all : List (ShardPhase K S O)) (phases : List (Phase K I))
+      → EachDeals cmp machine tick owner phase number all
       → HoldFrom cmp machine tick owner number (befores all) phases
       → flat_map (λ dealt. dealt.ticks) all
       ≡ parts (λ (said : K × List O). owner said.0) number (length all)
       (told_next cmp machine tick phases phase).ticks
   ticks_by_shard number [] phases dealt hold = refl
   ticks_by_shard number (d ∷ ds) phases dealt hold =
-      let whole : Told K O = told_next cmp machine tick phases phase in
+      let whole : PhaseOutputs K O = told_next cmp machine tick phases phase in
       let own : List (K × List O) = filter (λ said. nat_eq (owner said.0) number) whole.ticks in
-      ap (λ said. said ++ flat_map (λ (dealt : Dealt K S O). dealt.ticks) ds)
+      ap (λ said. said ++ flat_map (λ (dealt : ShardPhase K S O). dealt.ticks) ds)
       (dealt.0.ticks_told (map (owned_phase (is_owned owner number)) phases) hold.0
       ∙ ap (λ told. told.ticks) (works_apart total exact machine due tick idle
       (is_owned owner number) phases phase))
       ∙ ap (λ more. own ++ more) (ticks_by_shard (suc number) ds phases dealt.1 hold.1)
 
-  items_by_shard : (number : ℕ) (all : List (Dealt K S O)) (phases : List (Phase K I))
-      → AllDealt cmp machine tick owner phase number all
+  items_by_shard : (number : ℕ) (all : List (ShardPhase K S O)) (phases : List (Phase K I))
+      → EachDeals cmp machine tick owner phase number all
       → HoldFrom cmp machine tick owner number (befores all) phases
       → flat_map (λ dealt. dealt.items) all
       ≡ map by_place (parts (λ (said : (ℕ × K) × List O). owner (said.0).1) number (length all)
       (told_next cmp machine tick phases phase).items)
   items_by_shard number [] phases dealt hold = refl
   items_by_shard number (d ∷ ds) phases dealt hold =
-      let whole : Told K O = told_next cmp machine tick phases phase in
+      let whole : PhaseOutputs K O = told_next cmp machine tick phases phase in
       let own : List ((ℕ × K) × List O) =
       filter (λ said. nat_eq (owner (said.0).1) number) whole.items in
       let others : List ((ℕ × K) × List O) =
       parts (λ (said : (ℕ × K) × List O). owner (said.0).1) (suc number)
       (length ds) whole.items in
-      ap (λ said. said ++ flat_map (λ (dealt : Dealt K S O). dealt.items) ds)
+      ap (λ said. said ++ flat_map (λ (dealt : ShardPhase K S O). dealt.items) ds)
       (dealt.0.items_told (map (owned_phase (is_owned owner number)) phases) hold.0
       ∙ ap (λ told. map by_place told.items)
       (works_apart total exact machine due tick idle (is_owned owner number) phases phase))
@@ -89,14 +89,14 @@ module _ {K S I O : Type 0} {cmp : K → K → Ordering} (total : IsTotalOrder c
   places [] = refl
   places (said ∷ told) = ap (λ more. (said.0).0 ∷ more) (places told)
 
-  pub tell_all : (all : List (Dealt K S O)) (phases : List (Phase K I))
+  pub tell_all : (all : List (ShardPhase K S O)) (phases : List (Phase K I))
       → ((key : K) → owner key < length all)
       → IsStrictlySortedBy nat_cmp (map (λ item. item.place) phase.items)
-      → AllDealt cmp machine tick owner phase zero all
+      → EachDeals cmp machine tick owner phase zero all
       → HoldFrom cmp machine tick owner zero (befores all) phases
       → TellAll cmp machine tick owner phases phase all
   tell_all all phases within rising dealt hold =
-      let whole : Told K O = told_next cmp machine tick phases phase in
+      let whole : PhaseOutputs K O = told_next cmp machine tick phases phase in
       let order = in_order total exact machine due tick idle phases phase in
       record {
         holds = hold_more zero all phases dealt hold;

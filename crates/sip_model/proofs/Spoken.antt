@@ -10,7 +10,7 @@ use Rattle.std.proofs.lemmas.Grind.{flat_map-append}
 use Rattle.std.proofs.lemmas.Map.Lookups.{CmpEqualImpliesEq}
 use Rattle.sip_model.specs.declared.item.Item.{Item}
 use Rattle.sip_model.specs.Machine.{Machine, adds, next}
-use Rattle.sip_model.specs.Told.{speaks}
+use Rattle.sip_model.specs.Groups.{speaks}
 use Rattle.sip_model.specs.Phase.{Phase, keys_of_phases, states_after, states_then, stepped, ticked, told_items, told_next, told_tick}
 use Rattle.sip_model.specs.Laws.{said_by}
 use Rattle.sip_model.proofs.Ordered.{by_bool, exact_at}

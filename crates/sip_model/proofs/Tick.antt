@@ -11,23 +11,24 @@ use Rattle.std.proofs.lemmas.Map.Keys.{sorted_head, sorted_tail}
 use Rattle.std.proofs.lemmas.Map.Lookups.{CmpEqualImpliesEq}
 use Rattle.std.proofs.lemmas.Bool.{false≢true}
 use Rattle.std.proofs.lemmas.Grind.{common_steps}
-use Rattle.sip_timers.specs.Queue.{moment, is_due, if_later}
+use Rattle.sip_timers.specs.Queue.{is_due, if_later}
+use Rattle.sip_timers.specs.Index.{IsIndexOf, with_moment}
+use Rattle.sip_timers.proofs.Schedules.{index_of_same}
 use Rattle.sip_model.specs.Machine.{Machine, IsIdle, next, adds, due_of}
-use Rattle.sip_model.specs.Table.{AreDues, Covers}
-use Rattle.sip_model.specs.Told.{speaks, groups, told_ticks, with_said}
+use Rattle.sip_model.specs.Table.{Covers}
+use Rattle.sip_model.specs.Groups.{speaks, groups, told_ticks, with_said}
 use Rattle.sip_model.proofs.Ordered.{by_bool, is_at_back, is_at_itself, none_below, exact_at, flat_map-filter, same_filtered}
 
 -- a tick over `all` that has `rest` left: the states and the due moments now, and what was told
 pub record TickLeft {K S I O : Type 0} (cmp : K → K → Ordering) (machine : Machine K S I O)
     (due : S → Option ℕ) (input : I) (old : K → Option S) (all rest : List K)
-    (states : K → Option S) (dues : List (K × ℕ)) (told : List (K × List O)) : Type 0 where
+    (states : K → Option S) (dues : List (ℕ × K)) (told : List (K × List O)) : Type 0 where
   pub ordered : IsStrictlySortedBy cmp rest
   pub waiting : (q : K) → list_any (is_at (cmp q)) rest ≡ true → states q ≡ old q
-  pub taken : (q : K) → list_any (is_at (cmp q)) rest ≡ true → moment cmp dues q ≡ None
   pub done : (q : K) → list_any (is_at (cmp q)) rest ≡ false
       → states q ≡ next machine q (old q) input
-  pub armed : (q : K) → list_any (is_at (cmp q)) rest ≡ false
-      → moment cmp dues q ≡ due_of due (states q)
+  pub armed : IsIndexOf cmp
+      (λ q. cond (list_any (is_at (cmp q)) rest) None (due_of due (states q))) dues
   pub said : told ++ told_ticks machine old input rest ≡ told_ticks machine old input all
 
 -- what says something to a tick has a state
@@ -50,18 +51,23 @@ module _ {K S I O : Type 0} {cmp : K → K → Ordering} (total : IsTotalOrder c
     (exact : CmpEqualImpliesEq cmp) (machine : Machine K S I O) (due : S → Option ℕ)
     (input : I) where
   pub tick_left_at_first : (now : ℕ) → IsIdle machine due now input
-      → (old : K → Option S) (dues : List (K × ℕ)) (keys : List K) (left : List (K × ℕ))
-      → AreDues cmp due old dues → IsStrictlySortedBy cmp keys
-      → ((q : K) → list_any (is_at (cmp q)) keys ≡ is_due now (moment cmp dues q))
-      → ((q : K) → moment cmp left q ≡ if_later now (moment cmp dues q))
+      → (old : K → Option S) (keys : List K) (left : List (ℕ × K))
+      → IsStrictlySortedBy cmp keys
+      → ((q : K) → list_any (is_at (cmp q)) keys ≡ is_due now (due_of due (old q)))
+      → IsIndexOf cmp (λ q. if_later now (due_of due (old q))) left
       → TickLeft cmp machine due input old keys keys old left []
-  tick_left_at_first now idle old dues keys left are ordered given later = record {
+  tick_left_at_first now idle old keys left ordered given later = record {
     ordered = ordered;
     waiting = λ q here. refl;
-    taken = λ q here. later q ∙ none_later now (moment cmp dues q) (sym (given q) ∙ here);
-    done = λ q gone. sym (ap (λ r. r.0)
-        (idle q (old q) (ap (is_due now) (sym (are q)) ∙ sym (given q) ∙ gone)));
-    armed = λ q gone. later q ∙ later_kept now (moment cmp dues q) (sym (given q) ∙ gone) ∙ are q;
+    done = λ q gone. sym (ap (λ r. r.0) (idle q (old q) (sym (given q) ∙ gone)));
+    armed = index_of_same cmp (λ q. if_later now (due_of due (old q)))
+        (λ q. cond (list_any (is_at (cmp q)) keys) None (due_of due (old q))) left
+        (λ q. by_bool (is_due now (due_of due (old q)))
+        (λ is. none_later now (due_of due (old q)) is
+        ∙ sym (ap (λ b. cond b None (due_of due (old q))) (given q ∙ is)))
+        (λ not. later_kept now (due_of due (old q)) not
+        ∙ sym (ap (λ b. cond b None (due_of due (old q))) (given q ∙ not))))
+        later;
     said = refl;
   }
 
@@ -92,68 +98,71 @@ module _ {K S I O : Type 0} {cmp : K → K → Ordering} (total : IsTotalOrder c
       ap (λ x. x || list_any (is_at (cmp q)) rest) (is_at_back total k q false miss) ∙ is
 
   pub tick_left_more : (old : K → Option S) (all rest : List K) (k : K)
-      (states newer : K → Option S) (dues later : List (K × ℕ)) (told : List (K × List O))
-      (outputs : List O) (given : I)
-      → TickLeft cmp machine due input old all (k ∷ rest) states dues told → given ≡ input
-      → ((q : K) → newer q ≡ cond (is_at (cmp k) q) (next machine k (states k) given) (states q))
-      → ((q : K) → moment cmp later q
-      ≡ cond (is_at (cmp k) q) (due_of due (next machine k (states k) given))
-      (moment cmp dues q))
-      → outputs ≡ adds machine k (states k) given
+      (states newer : K → Option S) (dues later : List (ℕ × K)) (told : List (K × List O))
+      (outputs : List O)
+      → TickLeft cmp machine due input old all (k ∷ rest) states dues told
+      → ((q : K) → newer q ≡ cond (is_at (cmp k) q) (next machine k (states k) input) (states q))
+      → ((moments : K → Option ℕ) → IsIndexOf cmp moments dues → moments k ≡ None
+      → IsIndexOf cmp (with_moment cmp moments k (due_of due (next machine k (states k) input)))
+      later)
+      → outputs ≡ adds machine k (states k) input
       → TickLeft cmp machine due input old all rest newer later (with_said told k outputs)
-  tick_left_more old all rest k states newer dues later told outputs given left same_input steps
-      arms says =
+  tick_left_more old all rest k states newer dues later told outputs left steps arms says =
       let here : states k ≡ old k =
       left.waiting k (ap (λ b. b || list_any (is_at (cmp k)) rest) (is_at_itself total k)) in
-      let after : next machine k (states k) given ≡ next machine k (old k) input =
-      ap (λ s. next machine k s given) here ∙ ap (next machine k (old k)) same_input in
+      let after : next machine k (states k) input ≡ next machine k (old k) input =
+      ap (λ s. next machine k s input) here in
       let gone : list_any (is_at (cmp k)) rest ≡ false =
       none_below total k rest (sorted_head cmp k rest left.ordered) in
+      let before : K → Option ℕ =
+      λ q. cond (list_any (is_at (cmp q)) (k ∷ rest)) None (due_of due (states q)) in
       record {
         ordered = sorted_tail cmp k rest left.ordered;
         waiting = λ q among. by_bool (is_at (cmp k) q)
             (λ hit. absurd (false≢true (sym gone
             ∙ ap (λ x. list_any (is_at (cmp x)) rest) (exact_at total exact k q hit) ∙ among)))
-            (λ miss. steps q ∙ ap (λ b. cond b (next machine k (states k) given) (states q)) miss
+            (λ miss. steps q ∙ ap (λ b. cond b (next machine k (states k) input) (states q)) miss
             ∙ left.waiting q (among_tail q k rest true miss among));
-        taken = λ q among. by_bool (is_at (cmp k) q)
-            (λ hit. absurd (false≢true (sym gone
-            ∙ ap (λ x. list_any (is_at (cmp x)) rest) (exact_at total exact k q hit) ∙ among)))
-            (λ miss. arms q ∙ ap (λ b. cond b (due_of due (next machine k (states k) given))
-            (moment cmp dues q)) miss ∙ left.taken q (among_tail q k rest true miss among));
         done = λ q absent. by_bool (is_at (cmp k) q)
-            (λ hit. steps q ∙ ap (λ b. cond b (next machine k (states k) given) (states q)) hit
+            (λ hit. steps q ∙ ap (λ b. cond b (next machine k (states k) input) (states q)) hit
             ∙ after ∙ ap (λ x. next machine x (old x) input) (exact_at total exact k q hit))
-            (λ miss. steps q ∙ ap (λ b. cond b (next machine k (states k) given) (states q)) miss
+            (λ miss. steps q ∙ ap (λ b. cond b (next machine k (states k) input) (states q)) miss
             ∙ left.done q (among_tail q k rest false miss absent));
-        armed = λ q absent. by_bool (is_at (cmp k) q)
-            (λ hit. arms q ∙ ap (λ b. cond b (due_of due (next machine k (states k) given))
-            (moment cmp dues q)) hit
+        armed = index_of_same cmp
+            (with_moment cmp before k (due_of due (next machine k (states k) input)))
+            (λ q. cond (list_any (is_at (cmp q)) rest) None (due_of due (newer q))) later
+            (λ q. by_bool (is_at (cmp k) q)
+            (λ hit. ap (λ b. cond b (due_of due (next machine k (states k) input)) (before q)) hit
             ∙ ap (due_of due) (sym (steps q
-            ∙ ap (λ b. cond b (next machine k (states k) given) (states q)) hit)))
-            (λ miss. arms q ∙ ap (λ b. cond b (due_of due (next machine k (states k) given))
-            (moment cmp dues q)) miss ∙ left.armed q (among_tail q k rest false miss absent)
-            ∙ ap (due_of due) (sym (steps q
-            ∙ ap (λ b. cond b (next machine k (states k) given) (states q)) miss)));
+            ∙ ap (λ b. cond b (next machine k (states k) input) (states q)) hit))
+            ∙ sym (ap (λ b. cond b None (due_of due (newer q)))
+            (sym (ap (λ x. list_any (is_at (cmp x)) rest) (exact_at total exact k q hit)) ∙ gone)))
+            (λ miss. ap (λ b. cond b (due_of due (next machine k (states k) input)) (before q)) miss
+            ∙ ap (λ b. cond (b || list_any (is_at (cmp q)) rest) None (due_of due (states q)))
+            (is_at_back total k q false miss)
+            ∙ ap (λ s. cond (list_any (is_at (cmp q)) rest) None (due_of due s)) (sym (steps q
+            ∙ ap (λ b. cond b (next machine k (states k) input) (states q)) miss))))
+            (arms before left.armed (ap (λ b. cond (b || list_any (is_at (cmp k)) rest) None
+            (due_of due (states k))) (is_at_itself total k)));
         said = told_first old told k rest outputs
-            (says ∙ ap (λ s. adds machine k s given) here ∙ ap (adds machine k (old k)) same_input)
+            (says ∙ ap (λ s. adds machine k s input) here)
             ∙ left.said;
       }
 
   -- the keys that are due tell what any keys tell among which are all that are held
   pub told_by_due : (now : ℕ) → IsIdle machine due now input
-      → (old : K → Option S) (dues : List (K × ℕ)) (keys : List K) → AreDues cmp due old dues
-      → IsStrictlySortedBy cmp keys
-      → ((q : K) → list_any (is_at (cmp q)) keys ≡ is_due now (moment cmp dues q)) → (held : List K)
+      → (old : K → Option S) (keys : List K) → IsStrictlySortedBy cmp keys
+      → ((q : K) → list_any (is_at (cmp q)) keys ≡ is_due now (due_of due (old q)))
+      → (held : List K)
       → Covers cmp held old
       → told_ticks machine old input keys ≡ told_ticks machine old input held
-  told_by_due now idle old dues keys are ordered given held covers =
+  told_by_due now idle old keys ordered given held covers =
       ap (map (λ q. (q, adds machine q (old q) input)))
       (same_filtered total exact (λ q. speaks (adds machine q (old q) input)) keys held ordered
       covers.ordered
       (λ q said.
       by_bool (is_due now (due_of due (old q)))
-      (λ is. given q ∙ ap (is_due now) (are q) ∙ is
+      (λ is. given q ∙ is
       ∙ sym (covers.each q (has_state machine due now input idle q (old q) said)))
       (λ not. absurd (false≢true (sym (ap (λ r. speaks r.1) (idle q (old q) not)) ∙ said)))))
 

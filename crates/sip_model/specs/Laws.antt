@@ -5,7 +5,7 @@ use Rattle.std.specs.BTreeMap.{is_at}
 use Rattle.std.specs.List.{flat_map}
 use Rattle.std.specs.List.Sorted.{IsStrictlySortedBy}
 use Rattle.sip_model.specs.Machine.{Machine, outputs_from}
-use Rattle.sip_model.specs.Phase.{Phase, Told, history, states_after, told_next}
+use Rattle.sip_model.specs.Phase.{Phase, PhaseOutputs, history, states_after, told_next}
 
 -- ---- shards
 
@@ -16,7 +16,7 @@ owned_phase owns phase =
     record { moment = phase.moment; items = filter (λ item. owns item.key) phase.items }
 
 -- the part of what is said that those keys say
-abbrev pub owned_told : {K O : Type 0} → (K → Bool) → Told K O → Told K O
+abbrev pub owned_told : {K O : Type 0} → (K → Bool) → PhaseOutputs K O → PhaseOutputs K O
 owned_told owns told = record {
   ticks = filter (λ said. owns said.0) told.ticks;
   items = filter (λ said. owns (said.0).1) told.items;
@@ -50,7 +50,7 @@ module _ {K S I O : Type 0} (cmp : K → K → Ordering) (machine : Machine K S 
   -- ---- one key alone
 
   -- what a key says in a phase, in order
-  abbrev pub said_by : K → Told K O → List O
+  abbrev pub said_by : K → PhaseOutputs K O → List O
   said_by key told = flat_map (λ said. said.1) (filter (λ said. is_at (cmp key) said.0) told.ticks)
       ++ flat_map (λ said. said.1) (filter (λ said. is_at (cmp key) (said.0).1) told.items)
 

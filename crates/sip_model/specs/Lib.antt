@@ -4,4 +4,4 @@ pub mod Machine
 pub mod Phase
 pub mod Shards
 pub mod Table
-pub mod Told
+pub mod Groups

@@ -2,17 +2,17 @@
 use Rattle.std.specs.Prelude.{◌≡◌, ℕ, false, List, [], ◌∷◌, ◌++◌, Option, None, Some, IsSome}
 use Rattle.sip_timers.specs.Queue.{is_due}
 
--- an input, and its moment in ms
+-- what comes at a moment in ms; nothing, where time alone goes on
 pub record Timed (I : Type 0) : Type 0 where
   pub moment : ℕ
-  pub input : I
+  pub input : Option I
 
 abbrev pub given_at : {I : Type 0} → ℕ → I → Timed I
-given_at now input = record { moment = now; input = input }
+given_at now input = record { moment = now; input = Some input }
 
--- the input of a tick at each moment
-abbrev pub ticks_of : {I : Type 0} → I → ℕ → Timed I
-ticks_of tick now = given_at now tick
+-- a tick: time goes on to a moment
+abbrev pub tick_at : {I : Type 0} → ℕ → Timed I
+tick_at now = record { moment = now; input = None }
 
 -- one step of each key's machine, from a state or from none: the state after it, and the outputs
 -- that it adds

@@ -8,7 +8,7 @@ use Rattle.std.specs.FinSet.{FinSet}
 use Rattle.sip_model.specs.declared.item.Item.{Item}
 use Rattle.sip_model.specs.Machine.{Machine, Timed, given_at, next, adds, state_after}
 use Rattle.sip_model.specs.Table.{Held, Covers, state_at}
-use Rattle.sip_model.specs.Told.{told_ticks}
+use Rattle.sip_model.specs.Groups.{told_ticks}
 
 -- a tick of every key at a moment in ms, where there is one, and then items, in their order
 pub record Phase (K I : Type 0) : Type 0 where
@@ -30,7 +30,7 @@ phase_at now ticks items =
 
 -- what is said in a phase: by each key to the tick, in key order; and by each item, beside its
 -- place and its key
-pub record Told (K O : Type 0) : Type 0 where
+pub record PhaseOutputs (K O : Type 0) : Type 0 where
   pub ticks : List (K × List O)
   pub items : List ((ℕ × K) × List O)
 
@@ -98,7 +98,7 @@ module _ {K S I O : Type 0} (cmp : K → K → Ordering) (machine : Machine K S 
   states_after phases key = state_after machine key (history cmp tick phases key)
 
   -- what is said in a phase that comes after others
-  abbrev pub told_next : List (Phase K I) → Phase K I → Told K O
+  abbrev pub told_next : List (Phase K I) → Phase K I → PhaseOutputs K O
   told_next phases phase = record {
     ticks = told_tick (states_after phases) phase.moment (keys_of_phases cmp phases);
     items = told_items cmp machine (ticked (states_after phases) phase.moment) phase.items;

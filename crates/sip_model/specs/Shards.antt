@@ -6,7 +6,7 @@ use Rattle.std.specs.List.{flat_map}
 use Rattle.std.specs.List.Sorted.{IsStrictlySortedBy}
 use Rattle.sip_model.specs.Machine.{Machine}
 use Rattle.sip_model.specs.Table.{Held}
-use Rattle.sip_model.specs.Told.{Sorts}
+use Rattle.sip_model.specs.Groups.{Sorts}
 use Rattle.sip_model.specs.Phase.{Phase, AddsPhase, HoldsAfter, by_place, told_next}
 use Rattle.sip_model.specs.Laws.{owned_phase}
 
@@ -15,7 +15,7 @@ abbrev pub is_owned : {K : Type 0} → (K → ℕ) → ℕ → K → Bool
 is_owned owner number key = nat_eq (owner key) number
 
 -- the table of one shard before and after a phase, and what it told
-pub record Dealt (K S O : Type 0) : Type 0 where
+pub record ShardPhase (K S O : Type 0) : Type 0 where
   pub before : Held K S
   pub after : Held K S
   pub ticks : List (K × List O)
@@ -31,19 +31,19 @@ module _ {K S I O : Type 0} (cmp : K → K → Ordering) (machine : Machine K S 
       × HoldFrom (suc number) tables phases
 
   -- shards whose numbers go up from this one, each given its part of a phase
-  abbrev pub AllDealt : Phase K I → ℕ → List (Dealt K S O) → Type 0
-  AllDealt phase number [] = Unit {0}
-  AllDealt phase number (dealt ∷ rest) =
+  abbrev pub EachDeals : Phase K I → ℕ → List (ShardPhase K S O) → Type 0
+  EachDeals phase number [] = Unit {0}
+  EachDeals phase number (dealt ∷ rest) =
       AddsPhase cmp machine tick dealt.before dealt.after
       (owned_phase (is_owned owner number) phase) dealt.ticks dealt.items
-      × AllDealt phase (suc number) rest
+      × EachDeals phase (suc number) rest
 
 module _ {K S I O : Type 0} (cmp : K → K → Ordering) (machine : Machine K S I O)
     (tick : ℕ → I) where
   -- after a phase of all shards they hold what it left, and what they told, joined and brought into
   -- the order of keys and of places, is what all tell
   pub record TellAll (owner : K → ℕ) (phases : List (Phase K I)) (phase : Phase K I)
-      (all : List (Dealt K S O)) : Type 0 where
+      (all : List (ShardPhase K S O)) : Type 0 where
     pub holds : HoldFrom cmp machine tick owner zero (map (λ dealt. dealt.after) all)
         (phases ++ phase ∷ [])
     pub ticks : (ticks : List (K × List O)) → Sorts cmp (flat_map (λ dealt. dealt.ticks) all) ticks
@@ -55,8 +55,8 @@ module _ {K S I O : Type 0} (cmp : K → K → Ordering) (machine : Machine K S 
   -- whatever shard owns each key, where there is a shard for each, and places rise
   abbrev pub ShardsTellAll : Type 0
   ShardsTellAll = (owner : K → ℕ) (phases : List (Phase K I)) (phase : Phase K I)
-      (all : List (Dealt K S O)) → ((key : K) → owner key < length all)
+      (all : List (ShardPhase K S O)) → ((key : K) → owner key < length all)
       → IsStrictlySortedBy nat_cmp (map (λ item. item.place) phase.items)
-      → AllDealt cmp machine tick owner phase zero all
+      → EachDeals cmp machine tick owner phase zero all
       → HoldFrom cmp machine tick owner zero (map (λ dealt. dealt.before) all) phases
       → TellAll owner phases phase all

@@ -5,7 +5,8 @@ use Rattle.std.specs.BTreeMap.{is_at}
 use Rattle.std.specs.Map.{lookup}
 use Rattle.std.specs.List.{flat_map, list_any}
 use Rattle.std.specs.List.Sorted.{IsStrictlySortedBy}
-use Rattle.sip_timers.specs.Queue.{is_due, moment}
+use Rattle.sip_timers.specs.Queue.{is_due}
+use Rattle.sip_timers.specs.Index.{IsIndexOf}
 use Rattle.sip_model.specs.Machine.{Machine, next, adds, due_of}
 
 -- the value of a table of keys `K` and states `S`
@@ -30,9 +31,9 @@ module _ {K S : Type 0} (cmp : K → K → Ordering) where
   abbrev pub state_at : Held K S → K → Option S
   state_at table key = state_in (entries_of table) key
 
-  -- a queue has for each key the moment at which something is due of its state, and no other
-  abbrev pub AreDues : (S → Option ℕ) → (K → Option S) → List (K × ℕ) → Type 0
-  AreDues due states dues = (q : K) → moment cmp dues q ≡ due_of due (states q)
+  -- a schedule has each key at the moment at which something is due of its state, and no other
+  abbrev pub AreDues : (S → Option ℕ) → (K → Option S) → List (ℕ × K) → Type 0
+  AreDues due states dues = IsIndexOf cmp (λ q. due_of due (states q)) dues
 
   -- a list of keys in order that has each key with a state
   pub record Covers (keys : List K) (states : K → Option S) : Type 0 where

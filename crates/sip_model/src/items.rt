@@ -4,12 +4,12 @@ ghost use Rattle.std.specs.Prelude.{◌≡◌, ◌≤◌, ◌^◌, List, IfOk, O
 ghost use Rattle.std.specs.BTreeMap.{get};
 ghost use Rattle.sip_model.specs.Phase.{by_place, timed_items, states_then, told_items};
 ghost use Rattle.sip_model.specs.Table.{AreDues};
-ghost use Rattle.sip_model.specs.Told.{groups};
+ghost use Rattle.sip_model.specs.Groups.{groups};
 
 use crate::item::Item;
 use crate::machine::StateMachine;
 use crate::one_key::step_key;
-use sip_timers::Queue;
+use sip_timers::Schedule;
 use std::alloc::{AllocError, Global};
 use std::collections::BTreeMap;
 
@@ -18,7 +18,7 @@ pub(crate) fn deal_items<M: StateMachine>(
     alloc: Global,
     machine: &M,
     states: &mut BTreeMap<M::Key, M::State>,
-    dues: &mut Queue<M::Key>,
+    dues: &mut Schedule<M::Key>,
     now: u64,
     items: Vec<Item<M::Key, M::Input>>,
 ) -> Result<Vec<(usize, Vec<M::Output>)>, AllocError>
@@ -34,7 +34,7 @@ pub(crate) fn deal_items<M: StateMachine>(
 {
     let mut told = Vec::with_capacity(alloc, items.len())?;
     for Item { place, key, input } in items {
-        let outputs = step_key(alloc, machine, states, dues, &key, true, now, input)?;
+        let outputs = step_key(alloc, machine, states, dues, key, now, input)?;
         told.push((place, outputs))?;
     }
     Ok(told)

@@ -1,7 +1,7 @@
 //! Laws of machines: what holds over any phases.
 
 ghost use Rattle.sip_model.specs.Laws.{EachKeyAlone, ShardsHoldApart, ShardsWorkApart, ToldInOrder};
-ghost use Rattle.sip_model.specs.Machine.{ticks_of};
+ghost use Rattle.sip_model.specs.Machine.{tick_at};
 ghost use Rattle.sip_model.specs.Shards.{ShardsTellAll};
 
 use crate::machine::StateMachine;
@@ -11,9 +11,9 @@ use crate::machine::StateMachine;
 /// shards say, joined and brought into order, is what all say. What is said to a tick is in the
 /// order of the keys, and what items add in their own.
 pub fn laws_of_phases<M: StateMachine>(_machine: &M)
-    ensures each_key_alone { EachKeyAlone M.Key.cmp (M.machine _machine.now) (ticks_of M.tick) }
-    ensures shards_work_apart { ShardsWorkApart M.Key.cmp (M.machine _machine.now) (ticks_of M.tick) }
-    ensures shards_hold_apart { ShardsHoldApart M.Key.cmp (M.machine _machine.now) (ticks_of M.tick) }
-    ensures shards_tell_all { ShardsTellAll M.Key.cmp (M.machine _machine.now) (ticks_of M.tick) }
-    ensures told_in_order { ToldInOrder M.Key.cmp (M.machine _machine.now) (ticks_of M.tick) }
+    ensures each_key_alone { EachKeyAlone M.Key.cmp (M.machine _machine.now) tick_at }
+    ensures shards_work_apart { ShardsWorkApart M.Key.cmp (M.machine _machine.now) tick_at }
+    ensures shards_hold_apart { ShardsHoldApart M.Key.cmp (M.machine _machine.now) tick_at }
+    ensures shards_tell_all { ShardsTellAll M.Key.cmp (M.machine _machine.now) tick_at }
+    ensures told_in_order { ToldInOrder M.Key.cmp (M.machine _machine.now) tick_at }
 {}

@@ -9,7 +9,7 @@ mod laws;
 mod machine;
 mod merge;
 mod one_key;
-mod replies;
+mod phase_outputs;
 mod table;
 mod ticks;
 
@@ -18,5 +18,5 @@ pub use item::Item;
 pub use laws::laws_of_phases;
 pub use machine::StateMachine;
 pub use merge::by_label;
-pub use replies::Replies;
+pub use phase_outputs::PhaseOutputs;
 pub use table::Table;

@@ -1,9 +1,9 @@
 //! The machine of one key, as code.
 
-ghost use Rattle.std.specs.Prelude.{◌≡◌, ◌≤◌, ◌^◌, ℕ, List, Option, IfOk, IsOk};
+ghost use Rattle.std.specs.Prelude.{◌≡◌, ◌≤◌, ◌^◌, ℕ, List, Option, IfOk, IsOk, Some};
 ghost use Rattle.std.proofs.lemmas.Map.Lookups.{CmpEqualImpliesEq};
 ghost use Rattle.sip_timers.specs.Queue.{IsClonedAlike};
-ghost use Rattle.sip_model.specs.Machine.{Machine, Timed, IsIdle, given_at, next, adds};
+ghost use Rattle.sip_model.specs.Machine.{Machine, Timed, IsIdle, given_at, next, adds, tick_at};
 
 use std::alloc::{AllocError, Global};
 
@@ -17,17 +17,11 @@ pub trait StateMachine {
 
     type Output: Drop;
 
-    /// The machine that `step` computes.
+    /// The machine that `step` and `tick` compute.
     ghost machine: { Self → Machine Self.Key Self.State (Timed Self.Input) Self.Output };
-
-    /// The input of a tick.
-    ghost tick: { Self.Input };
 
     /// The moment in ms at which something is due of a state, if ever.
     ghost due: { Self.State → Option ℕ };
-
-    fn tick_input(&self) -> Self::Input
-        ensures { result ≡ tick };
 
     fn due_of(&self, state: &Self::State) -> Option<u64>
         ensures { result ≡ due state.now };
@@ -47,6 +41,20 @@ pub trait StateMachine {
         ensures adds { IfOk result (λ after. after.1.items
             ≡ adds (machine self.now) key.now state (given_at moment input)) };
 
+    /// What a moment in ms makes of a key's state, and what it adds, where time alone goes on.
+    fn tick(
+        &self,
+        alloc: Global,
+        key: &Self::Key,
+        state: Self::State,
+        moment: u64,
+    ) -> Result<(Option<Self::State>, Vec<Self::Output>), AllocError>
+        requires { moment ≤ 2 ^ 62 }
+        ensures next { IfOk result (λ after. after.0
+            ≡ next (machine self.now) key.now (Some state) (tick_at moment)) }
+        ensures adds { IfOk result (λ after. after.1.items
+            ≡ adds (machine self.now) key.now (Some state) (tick_at moment)) };
+
     /// Keys that compare equal are one key.
     ghost exact: { CmpEqualImpliesEq Self.Key.cmp };
 
@@ -55,5 +63,5 @@ pub trait StateMachine {
 
     /// Where nothing is due, a tick does nothing.
     ghost idle: { (self : Self) (moment : ℕ)
-        → IsIdle (machine self) due moment (given_at moment tick) };
+        → IsIdle (machine self) due moment (tick_at moment) };
 }

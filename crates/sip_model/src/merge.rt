@@ -3,7 +3,7 @@
 ghost use Rattle.std.specs.Prelude.{◌≡◌};
 ghost use Rattle.std.specs.List.Sorted.{IsPermutation, IsSortedBy};
 ghost use Rattle.std.specs.Ordering.{is_lt};
-ghost use Rattle.sip_model.specs.Told.{Sorts, groups};
+ghost use Rattle.sip_model.specs.Groups.{Sorts, groups};
 
 use std::cmp::Ordering;
 

@@ -1,51 +1,77 @@
 //! One input of one key, among the states that are held and their due moments.
 
-ghost use Rattle.std.specs.Prelude.{◌≡◌, ◌≤◌, ◌^◌, Option, None, Some, true, IfOk, IfSome, OnOk, cond};
+ghost use Rattle.std.specs.Prelude.{◌≡◌, ◌≤◌, ◌^◌, ℕ, Option, None, Some, true, IfOk, IfSome, OnOk, cond};
 ghost use Rattle.std.specs.declared.cmp.Ordering.TheVariants.{Equal};
 ghost use Rattle.std.specs.Option.{option_copied};
 ghost use Rattle.std.specs.BTreeMap.{get, is_at};
-ghost use Rattle.sip_timers.specs.Queue.{moment};
-ghost use Rattle.sip_model.specs.Machine.{given_at, next, adds, due_of};
+ghost use Rattle.sip_timers.specs.Index.{IsIndexOf, with_moment};
+ghost use Rattle.sip_model.specs.Machine.{given_at, next, adds, due_of, tick_at};
+ghost use Rattle.sip_model.specs.Table.{AreDues};
 
 use crate::machine::StateMachine;
-use sip_timers::Queue;
+use sip_timers::Schedule;
 use std::alloc::{AllocError, Global};
 use std::collections::BTreeMap;
 
-/// Gives one key an input at a moment in ms, and answers what its machine says. Whether the key is
-/// armed for what is due of its state, where anything is, or isn't armed, is known.
+/// Gives one key an input at a moment in ms, and answers what its machine says.
 pub(crate) fn step_key<M: StateMachine>(
     alloc: Global,
     machine: &M,
     states: &mut BTreeMap<M::Key, M::State>,
-    dues: &mut Queue<M::Key>,
-    key: &M::Key,
-    is_armed: bool,
+    dues: &mut Schedule<M::Key>,
+    key: M::Key,
     now: u64,
     input: M::Input,
 ) -> Result<Vec<M::Output>, AllocError>
     requires moment { now ≤ 2 ^ 62 }
-    requires armed { moment M.Key.cmp dues.old key.now
-        ≡ cond is_armed (due_of M.due (get M.Key.cmp states.old key.now)) None }
+    requires armed { AreDues M.Key.cmp M.due (get M.Key.cmp states.old) dues.old }
+    ensures states { OnOk result ((q : M.Key) → get M.Key.cmp states.new q
+        ≡ cond (is_at (M.Key.cmp key) q)
+        (next (M.machine machine.now) key (get M.Key.cmp states.old key) (given_at now input))
+        (get M.Key.cmp states.old q)) }
+    ensures armed { OnOk result (AreDues M.Key.cmp M.due (get M.Key.cmp states.new) dues.new) }
+    ensures added { IfOk result (λ outputs. outputs.items
+        ≡ adds (M.machine machine.now) key (get M.Key.cmp states.old key) (given_at now input)) }
+{
+    let (held, state) = taken(states, &key);
+    let former = due_moment(machine, state.as_ref());
+    let (after, outputs) = machine.step(alloc, &key, state, now, input)?;
+    put_back(machine, states, dues, key, held, former, after)?;
+    Ok(outputs)
+}
+
+/// Gives one key, which isn't armed, a tick at a moment in ms, and answers what its machine says.
+pub(crate) fn tick_key<M: StateMachine>(
+    alloc: Global,
+    machine: &M,
+    states: &mut BTreeMap<M::Key, M::State>,
+    dues: &mut Schedule<M::Key>,
+    key: &M::Key,
+    now: u64,
+) -> Result<Vec<M::Output>, AllocError>
+    requires { now ≤ 2 ^ 62 }
     ensures states { OnOk result ((q : M.Key) → get M.Key.cmp states.new q
         ≡ cond (is_at (M.Key.cmp key.now) q)
-        (next (M.machine machine.now) key.now (get M.Key.cmp states.old key.now)
-        (given_at now input))
+        (next (M.machine machine.now) key.now (get M.Key.cmp states.old key.now) (tick_at now))
         (get M.Key.cmp states.old q)) }
-    ensures dues { OnOk result ((q : M.Key) → moment M.Key.cmp dues.new q
-        ≡ cond (is_at (M.Key.cmp key.now) q)
+    ensures dues { OnOk result ((moments : M.Key → Option ℕ)
+        → IsIndexOf M.Key.cmp moments dues.old → moments key.now ≡ None
+        → IsIndexOf M.Key.cmp (with_moment M.Key.cmp moments key.now
         (due_of M.due (next (M.machine machine.now) key.now
-        (get M.Key.cmp states.old key.now) (given_at now input)))
-        (moment M.Key.cmp dues.old q)) }
+        (get M.Key.cmp states.old key.now) (tick_at now)))) dues.new) }
     ensures added { IfOk result (λ outputs. outputs.items
-        ≡ adds (M.machine machine.now) key.now (get M.Key.cmp states.old key.now)
-        (given_at now input)) }
+        ≡ adds (M.machine machine.now) key.now (get M.Key.cmp states.old key.now) (tick_at now)) }
 {
-    let (held, state) = taken(states, key);
-    let former = former_moment(machine, state.as_ref(), is_armed);
-    let (after, outputs) = machine.step(alloc, key, state, now, input)?;
-    rearm::<M>(dues, key, former, due_moment(machine, after.as_ref()))?;
-    put_back::<M>(states, key, held, after)?;
+    let Some((held, state)) = states.remove_entry(key) else {
+        return Ok(Vec::new(alloc));
+    };
+    let (after, outputs) = machine.tick(alloc, key, state, now)?;
+    if let Some(after) = after {
+        if let Some(due) = machine.due_of(&after) {
+            dues.arm(copy_of::<M>(key)?, due)?;
+        }
+        states.insert(held, after)?;
+    }
     Ok(outputs)
 }
 
@@ -53,19 +79,19 @@ pub(crate) fn step_key<M: StateMachine>(
 pub(crate) fn hold_key<M: StateMachine>(
     machine: &M,
     states: &mut BTreeMap<M::Key, M::State>,
-    dues: &mut Queue<M::Key>,
+    dues: &mut Schedule<M::Key>,
     key: M::Key,
     state: M::State,
 ) -> Result<(), AllocError>
+    requires { AreDues M.Key.cmp M.due (get M.Key.cmp states.old) dues.old }
     ensures states { OnOk result ((q : M.Key)
         → get M.Key.cmp states.new q ≡ cond (is_at (M.Key.cmp key) q) (Some state)
         (get M.Key.cmp states.old q)) }
-    ensures dues { OnOk result ((q : M.Key)
-        → moment M.Key.cmp dues.new q ≡ cond (is_at (M.Key.cmp key) q) (M.due state)
-        (moment M.Key.cmp dues.old q)) }
+    ensures armed { OnOk result (AreDues M.Key.cmp M.due (get M.Key.cmp states.new) dues.new) }
 {
-    rearm::<M>(dues, &key, dues.moment(&key), machine.due_of(&state))?;
-    states.insert(key, state)?;
+    let (held, before) = taken(states, &key);
+    let former = due_moment(machine, before.as_ref());
+    put_back(machine, states, dues, key, held, former, Some(state))?;
     Ok(())
 }
 
@@ -82,36 +108,71 @@ fn taken<K: Ord, S>(states: &mut BTreeMap<K, S>, key: &K) -> (Option<K>, Option<
     }
 }
 
-// Holds the state of a key that was taken out, if there is one.
+// Holds the state that a key is left with, if there is one, and arms it for the moment at which
+// something is due of it, in place of the former. The key is copied where its state begins.
 fn put_back<M: StateMachine>(
+    machine: &M,
     states: &mut BTreeMap<M::Key, M::State>,
-    key: &M::Key,
+    dues: &mut Schedule<M::Key>,
+    key: M::Key,
     held: Option<M::Key>,
+    former: Option<u64>,
     state: Option<M::State>,
 ) -> Result<(), AllocError>
-    requires same { IfSome held (λ held. M.Key.cmp key.now held ≡ Equal) }
-    requires absent { (q : M.Key) → is_at (M.Key.cmp key.now) q ≡ true
+    requires same { IfSome held (λ held. M.Key.cmp key held ≡ Equal) }
+    requires absent { (q : M.Key) → is_at (M.Key.cmp key) q ≡ true
         → get M.Key.cmp states.old q ≡ None }
-    ensures { OnOk result ((q : M.Key)
-        → get M.Key.cmp states.new q ≡ cond (is_at (M.Key.cmp key.now) q) state
+    ensures states { OnOk result ((q : M.Key)
+        → get M.Key.cmp states.new q ≡ cond (is_at (M.Key.cmp key) q) state
         (get M.Key.cmp states.old q)) }
+    ensures dues { OnOk result ((moments : M.Key → Option ℕ)
+        → IsIndexOf M.Key.cmp moments dues.old → moments key ≡ former
+        → IsIndexOf M.Key.cmp (with_moment M.Key.cmp moments key (due_of M.due state)) dues.new) }
 {
     let Some(state) = state else {
-        return Ok(());
+        return set_due(dues, key, former, None);
     };
-    states.insert(own_key::<M>(key, held)?, state)?;
+    let due = machine.due_of(&state);
+    match held {
+        Some(held) => {
+            set_due(dues, key, former, due)?;
+            states.insert(held, state)?;
+        }
+        None => {
+            if former != due {
+                set_due(dues, copy_of::<M>(&key)?, former, due)?;
+            }
+            states.insert(key, state)?;
+        }
+    }
     Ok(())
 }
 
-// The key itself, by what was held of it or by a copy.
-fn own_key<M: StateMachine>(key: &M::Key, held: Option<M::Key>) -> Result<M::Key, AllocError>
-    requires { IfSome held (λ held. M.Key.cmp key.now held ≡ Equal) }
-    ensures { IfOk result (λ own. own ≡ key.now) }
+// Makes a key due at this moment, or at none, in place of the former.
+fn set_due<K: Ord + Drop>(
+    dues: &mut Schedule<K>,
+    key: K,
+    former: Option<u64>,
+    due: Option<u64>,
+) -> Result<(), AllocError>
+    ensures { OnOk result ((moments : K → Option ℕ)
+        → IsIndexOf K.cmp moments dues.old → moments key ≡ former
+        → IsIndexOf K.cmp (with_moment K.cmp moments key due) dues.new) }
 {
-    match held {
-        Some(held) => Ok(held),
-        None => key.clone(),
+    match (former, due) {
+        (None, None) => {}
+        (Some(former), None) => dues.disarm(key, former),
+        (None, Some(due)) => dues.arm(key, due)?,
+        (Some(former), Some(due)) if former == due => {}
+        (Some(former), Some(due)) => dues.rearm(key, former, due)?,
     }
+    Ok(())
+}
+
+fn copy_of<M: StateMachine>(key: &M::Key) -> Result<M::Key, AllocError>
+    ensures { IfOk result (λ copy. copy ≡ key.now) }
+{
+    key.clone()
 }
 
 // The moment at which something is due of what is held of a key.
@@ -121,48 +182,5 @@ fn due_moment<M: StateMachine>(machine: &M, state: Option<&M::State>) -> Option<
     match state {
         None => None,
         Some(state) => machine.due_of(state),
-    }
-}
-
-// The moment for which a key is armed, of which this is held.
-fn former_moment<M: StateMachine>(
-    machine: &M,
-    state: Option<&M::State>,
-    is_armed: bool,
-) -> Option<u64>
-    ensures { result ≡ cond is_armed (due_of M.due (option_copied state.entry)) None }
-{
-    if is_armed {
-        due_moment(machine, state)
-    } else {
-        None
-    }
-}
-
-// Arms a key for the moment at which something is due of it, if there is one, in place of that for
-// which it is armed.
-fn rearm<M: StateMachine>(
-    dues: &mut Queue<M::Key>,
-    key: &M::Key,
-    former: Option<u64>,
-    due: Option<u64>,
-) -> Result<(), AllocError>
-    requires { former ≡ moment M.Key.cmp dues.old key.now }
-    ensures { OnOk result ((q : M.Key)
-        → moment M.Key.cmp dues.new q ≡ cond (is_at (M.Key.cmp key.now) q) due
-        (moment M.Key.cmp dues.old q)) }
-{
-    if former == due {
-        return Ok(());
-    }
-    match due {
-        None => {
-            dues.disarm(key);
-            Ok(())
-        }
-        Some(due) => match dues.rearm(key.clone()?, former, due) {
-            Ok(()) => Ok(()),
-            Err(_) => Err(AllocError),
-        },
     }
 }

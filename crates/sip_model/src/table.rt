@@ -3,10 +3,10 @@
 ghost use Rattle.std.specs.Prelude.{◌≡◌, ◌≤◌, ◌^◌, ℕ, Bool, List, Option, Some, None, [], IfOk, IfSome, OnOk, OnErr, IsTrue, cond, length, true, false, count_by, is_some, IsErr, IsSome};
 ghost use Rattle.std.specs.Option.{option_copied, option_map};
 ghost use Rattle.std.specs.BTreeMap.{get, is_at, BTreeMap};
-ghost use Rattle.sip_model.specs.Machine.{due_of, given_at, next, adds, ticks_of};
+ghost use Rattle.sip_model.specs.Machine.{due_of, given_at, next, adds, tick_at};
 ghost use Rattle.sip_model.specs.Table.{AreDues, Held, IsCalm, state_at, state_in, entries_of, Covers, StepsKey, StepsAll};
 ghost use Rattle.sip_model.specs.Phase.{AddsPhase, DealsPhase, phase_at};
-ghost use Rattle.sip_model.specs.Told.{groups};
+ghost use Rattle.sip_model.specs.Groups.{groups};
 ghost use Rattle.sip_model.specs.History.{AddsInput, AddsInputs};
 ghost use Rattle.sip_timers.specs.Queue.{is_due};
 
@@ -15,9 +15,9 @@ use crate::item::Item;
 use crate::items::deal_items;
 use crate::machine::StateMachine;
 use crate::one_key::{hold_key, step_key};
-use crate::replies::Replies;
+use crate::phase_outputs::PhaseOutputs;
 use crate::ticks::{joined, tick_due, tick_if};
-use sip_timers::Queue;
+use sip_timers::Schedule;
 use std::alloc::{AllocError, Global};
 use std::collections::BTreeMap;
 use std::marker::Model;
@@ -48,7 +48,7 @@ impl<M: StateMachine> Drop for Table<M> {
 // The states that are held, and the moment in ms at which each is due, where there is one.
 struct Live<M: StateMachine> {
     states: BTreeMap<M::Key, M::State>,
-    dues: Queue<M::Key>,
+    dues: Schedule<M::Key>,
 }
 
 impl<M: StateMachine> Model for Live<M> {
@@ -83,7 +83,7 @@ impl<M: StateMachine> Live<M> {
         }
     }
 
-    fn apart(self) -> (BTreeMap<M::Key, M::State>, Queue<M::Key>)
+    fn into_parts(self) -> (BTreeMap<M::Key, M::State>, Schedule<M::Key>)
         ensures states { result.0.entries ≡ self }
         ensures dues { AreDues M.Key.cmp M.due (state_in M.Key.cmp self) result.1 }
     {
@@ -107,7 +107,7 @@ impl<M: StateMachine> Table<M> {
             alloc,
             live: Some(Live {
                 states: BTreeMap::new(alloc),
-                dues: Queue::new(alloc),
+                dues: Schedule::new(alloc),
             }),
         }
     }
@@ -135,11 +135,11 @@ impl<M: StateMachine> Table<M> {
     pub fn into_states(self) -> Option<BTreeMap<M::Key, M::State>>
         ensures { option_map (λ states. states.entries) result ≡ self }
     {
-        let (states, _) = self.apart()?.apart();
+        let (states, _) = self.into_parts()?.into_parts();
         Some(states)
     }
 
-    fn apart(self) -> Option<Live<M>>
+    fn into_parts(self) -> Option<Live<M>>
         ensures { result ≡ self }
     {
         let Table { alloc: _, live } = self;
@@ -156,7 +156,7 @@ impl<M: StateMachine> Table<M> {
             → state_at M.Key.cmp self.new q
             ≡ cond (is_at (M.Key.cmp key) q) (Some state) (state_at M.Key.cmp self.old q)) }
     {
-        let (mut states, mut dues) = self.live.take().ok_or(ShardFault::Broken)?.apart();
+        let (mut states, mut dues) = self.live.take().ok_or(ShardFault::Broken)?.into_parts();
         hold_key(machine, &mut states, &mut dues, key, state)?;
         self.live = Some(Live { states, dues });
         Ok(())
@@ -196,17 +196,8 @@ impl<M: StateMachine> Table<M> {
             (λ outputs. AddsInput M.Key.cmp
             (M.machine machine.now) self.old self.new key (given_at now input) outputs.items) }
     {
-        let (mut states, mut dues) = self.live.take().ok_or(ShardFault::Broken)?.apart();
-        let outputs = step_key(
-            self.alloc,
-            machine,
-            &mut states,
-            &mut dues,
-            &key,
-            true,
-            now,
-            input,
-        )?;
+        let (mut states, mut dues) = self.live.take().ok_or(ShardFault::Broken)?.into_parts();
+        let outputs = step_key(self.alloc, machine, &mut states, &mut dues, key, now, input)?;
         self.live = Some(Live { states, dues });
         Ok(outputs)
     }
@@ -220,12 +211,12 @@ impl<M: StateMachine> Table<M> {
         ensures err { OnErr result (self.new ≡ None) }
         ensures step { IfOk result (λ outputs.
             StepsAll M.Key.cmp (M.machine machine.now) self.old self.new
-            (given_at now M.tick) outputs.items) }
+            (tick_at now) outputs.items) }
         ensures histories { IfOk result
             (λ outputs. AddsInputs M.Key.cmp (M.machine machine.now) self.old self.new
-            (given_at now M.tick) outputs.items) }
+            (tick_at now) outputs.items) }
     {
-        let (mut states, mut dues) = self.live.take().ok_or(ShardFault::Broken)?.apart();
+        let (mut states, mut dues) = self.live.take().ok_or(ShardFault::Broken)?.into_parts();
         let told = tick_due(self.alloc, machine, &mut states, &mut dues, now)?;
         let outputs = joined(self.alloc, told)?;
         self.live = Some(Live { states, dues });
@@ -238,7 +229,7 @@ impl<M: StateMachine> Table<M> {
     pub fn next_due(&self, _machine: &M) -> Option<u64>
         ensures before { IsSome self.now → (now : ℕ) (ticks : Bool)
             → (ticks ≡ true → is_due now result ≡ false)
-            → AddsPhase M.Key.cmp (M.machine _machine.now) (ticks_of M.tick)
+            → AddsPhase M.Key.cmp (M.machine _machine.now) tick_at
             self.now self.now (phase_at now ticks []) [] [] }
         ensures due { IfSome result (λ due. (key : M.Key)
             × (due_of M.due (state_at M.Key.cmp self.now key) ≡ Some due)) }
@@ -253,7 +244,7 @@ impl<M: StateMachine> Table<M> {
     /// says nothing. Takes no memory.
     pub fn is_idle(&self, _machine: &M, now: u64, ticks: bool) -> bool
         ensures phases { IsTrue result
-            → AddsPhase M.Key.cmp (M.machine _machine.now) (ticks_of M.tick)
+            → AddsPhase M.Key.cmp (M.machine _machine.now) tick_at
             self.now self.now (phase_at now ticks []) [] [] }
     {
         match &self.live {
@@ -270,24 +261,24 @@ impl<M: StateMachine> Table<M> {
         now: u64,
         ticks: bool,
         items: Vec<Item<M::Key, M::Input>>,
-    ) -> Result<Replies<M::Key, M::Output>, ShardFault>
+    ) -> Result<PhaseOutputs<M::Key, M::Output>, ShardFault>
         requires { now ≤ 2 ^ 62 }
         ensures broken { self.old ≡ None → result ≡ Err ShardFault.Broken }
         ensures only_broken { result ≡ Err ShardFault.Broken → self.old ≡ None }
         ensures err { OnErr result (self.new ≡ None) }
         ensures step { IfOk result (λ replies.
-            DealsPhase M.Key.cmp (M.machine machine.now) (ticks_of M.tick) self.old self.new
+            DealsPhase M.Key.cmp (M.machine machine.now) tick_at self.old self.new
             (phase_at now ticks items.items) (groups replies.ticks.items)
             (groups replies.items.items)) }
         ensures phases { IfOk result (λ replies.
-            AddsPhase M.Key.cmp (M.machine machine.now) (ticks_of M.tick) self.old self.new
+            AddsPhase M.Key.cmp (M.machine machine.now) tick_at self.old self.new
             (phase_at now ticks items.items) (groups replies.ticks.items)
             (groups replies.items.items)) }
     {
-        let (mut states, mut dues) = self.live.take().ok_or(ShardFault::Broken)?.apart();
+        let (mut states, mut dues) = self.live.take().ok_or(ShardFault::Broken)?.into_parts();
         let ticks = tick_if(self.alloc, machine, &mut states, &mut dues, now, ticks)?;
         let items = deal_items(self.alloc, machine, &mut states, &mut dues, now, items)?;
         self.live = Some(Live { states, dues });
-        Ok(Replies { ticks, items })
+        Ok(PhaseOutputs { ticks, items })
     }
 }

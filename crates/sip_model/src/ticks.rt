@@ -3,14 +3,14 @@
 ghost use Rattle.std.specs.Prelude.{◌≡◌, ◌≤◌, ◌^◌, List, IfOk, OnOk, Some, None, if◌then◌else◌};
 ghost use Rattle.std.specs.List.{flat_map};
 ghost use Rattle.std.specs.BTreeMap.{get};
-ghost use Rattle.sip_model.specs.Machine.{given_at, next, ticks_of};
+ghost use Rattle.sip_model.specs.Machine.{next, tick_at};
 ghost use Rattle.sip_model.specs.Table.{AreDues, Covers, state_in};
 ghost use Rattle.sip_model.specs.Phase.{ticked, told_tick};
-ghost use Rattle.sip_model.specs.Told.{groups, told_ticks, with_said};
+ghost use Rattle.sip_model.specs.Groups.{groups, told_ticks, with_said};
 
 use crate::machine::StateMachine;
-use crate::one_key::step_key;
-use sip_timers::Queue;
+use crate::one_key::tick_key;
+use sip_timers::Schedule;
 use std::alloc::{AllocError, Global};
 use std::collections::BTreeMap;
 
@@ -20,35 +20,24 @@ pub(crate) fn tick_due<M: StateMachine>(
     alloc: Global,
     machine: &M,
     states: &mut BTreeMap<M::Key, M::State>,
-    dues: &mut Queue<M::Key>,
+    dues: &mut Schedule<M::Key>,
     now: u64,
 ) -> Result<Vec<(M::Key, Vec<M::Output>)>, AllocError>
     requires moment { now ≤ 2 ^ 62 }
     requires armed { AreDues M.Key.cmp M.due (get M.Key.cmp states.old) dues.old }
     ensures states { OnOk result ((q : M.Key)
         → get M.Key.cmp states.new q ≡ next (M.machine machine.now) q (get M.Key.cmp states.old q)
-        (given_at now M.tick)) }
+        (tick_at now)) }
     ensures armed { OnOk result (AreDues M.Key.cmp M.due (get M.Key.cmp states.new) dues.new) }
     ensures told { IfOk result (λ told. (keys : List M.Key)
         → Covers M.Key.cmp keys (get M.Key.cmp states.old)
         → groups told.items ≡ told_ticks (M.machine machine.now) (get M.Key.cmp states.old)
-        (given_at now M.tick) keys) }
+        (tick_at now) keys) }
 {
-    let Ok(due) = dues.take_due(now) else {
-        return Err(AllocError);
-    };
+    let due = dues.take_due(now)?;
     let mut told = Vec::new(alloc);
     for key in due {
-        let outputs = step_key(
-            alloc,
-            machine,
-            states,
-            dues,
-            &key,
-            false,
-            now,
-            machine.tick_input(),
-        )?;
+        let outputs = tick_key(alloc, machine, states, dues, &key, now)?;
         tell(&mut told, key, outputs)?;
     }
     Ok(told)
@@ -59,7 +48,7 @@ pub(crate) fn tick_if<M: StateMachine>(
     alloc: Global,
     machine: &M,
     states: &mut BTreeMap<M::Key, M::State>,
-    dues: &mut Queue<M::Key>,
+    dues: &mut Schedule<M::Key>,
     now: u64,
     ticks: bool,
 ) -> Result<Vec<(M::Key, Vec<M::Output>)>, AllocError>
@@ -67,12 +56,12 @@ pub(crate) fn tick_if<M: StateMachine>(
     requires armed { AreDues M.Key.cmp M.due (get M.Key.cmp states.old) dues.old }
     ensures states { OnOk result ((q : M.Key)
         → get M.Key.cmp states.new q ≡ ticked M.Key.cmp (M.machine machine.now)
-        (ticks_of M.tick) (get M.Key.cmp states.old) (if ticks then Some now else None) q) }
+        tick_at (get M.Key.cmp states.old) (if ticks then Some now else None) q) }
     ensures armed { OnOk result (AreDues M.Key.cmp M.due (get M.Key.cmp states.new) dues.new) }
     ensures told { IfOk result (λ told. (keys : List M.Key)
         → Covers M.Key.cmp keys (get M.Key.cmp states.old)
         → groups told.items ≡ told_tick M.Key.cmp (M.machine machine.now)
-        (ticks_of M.tick) (get M.Key.cmp states.old) (if ticks then Some now else None) keys) }
+        tick_at (get M.Key.cmp states.old) (if ticks then Some now else None) keys) }
 {
     if ticks {
         tick_due(alloc, machine, states, dues, now)

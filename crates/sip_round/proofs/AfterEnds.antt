@@ -14,7 +14,7 @@ use Rattle.sip_message.specs.declared.key.Key.{Key}
 use Rattle.sip_message.specs.declared.message.Message.{Message}
 use Rattle.sip_message.specs.Key.{key_cmp, keys_total}
 use Rattle.sip_model.specs.Laws.{EachKeyAlone, said_by, said_from}
-use Rattle.sip_model.specs.Machine.{Timed, outputs_from, state_after, state_from}
+use Rattle.sip_model.specs.Machine.{Timed, outputs_from, state_after, state_from, tick_at}
 use Rattle.sip_model.specs.Phase.{Phase, history, inputs_of, own_inputs, states_after, timed_items}
 use Rattle.sip_model.proofs.Ordered.{by_bool}
 use Rattle.sip_model.proofs.Phases.{state_from-append}
@@ -30,17 +30,15 @@ use Rattle.sip_transactions.specs.Input.{arrived_in, message_in, role_of}
 use Rattle.sip_transactions.specs.Keys.{exact_keys}
 use Rattle.sip_transactions.specs.Laws.{carries, same_id}
 use Rattle.sip_transactions.specs.Life.{acted_if, life_of, step_for, stepped, stepped_by}
-use Rattle.sip_transactions.specs.Machine.{tick_at, transaction_machine}
+use Rattle.sip_transactions.specs.Machine.{transaction_machine}
 use Rattle.sip_transactions.specs.Output.{handed_out, made_bytes, outputs_of, send_out, sent_bytes}
-use Rattle.sip_served.specs.Command.{call_of_item}
-use Rattle.sip_served.specs.declared.item.Item.{Item}
-use Rattle.sip_served.proofs.Each.{both}
-use Rattle.sip_calls.specs.declared.calls.CallInput.{CallInput}
-use Rattle.sip_calls.specs.declared.calls.CallInput.TheVariants.{Item as AnItem}
-use Rattle.sip_calls.specs.Call.{call_machine, tick_input}
+use Rattle.sip_common.specs.Command.{call_of_item}
+use Rattle.sip_common.specs.declared.item.Item.{Item}
+use Rattle.sip_common.proofs.Each.{both}
+use Rattle.sip_calls.specs.Call.{call_machine, CallItem}
 use Rattle.sip_calls.specs.CallShard.{call_cmp, item_input}
-use Rattle.sip_round.specs.declared.arrival.Arrival.{Arrival}
-use Rattle.sip_round.specs.declared.arrival.Arrival.TheVariants as arrival
+use Rattle.sip_round.specs.Arrivals.{Arrival}
+use Rattle.sip_round.specs.Arrivals as arrival
 use Rattle.sip_round.specs.declared.config.Config.{Config}
 use Rattle.sip_round.specs.declared.output.Output.{Output}
 use Rattle.sip_round.specs.declared.round.Round.{Round}
@@ -114,7 +112,7 @@ module _ (id : Id) where
       one_up (is_at (key_cmp q) key) (same_id id life.id) _ _ _ (own_sent q key life.to sent)
   own_told q key life handed.NoTransaction arrived sent = own_sent q key life.to sent
 
-  own_acted : (q key : Key) (now : ℕ) (input : Input) (o : Option Life) (step : Step)
+  own_acted : (q key : Key) (now : ℕ) (input : Option Input) (o : Option Life) (step : Step)
       → Own q key (acted_if key now input o step).1
   unfolding outputs_of
   own_acted q key now input None step = own_none (is_at (key_cmp q) key)
@@ -122,7 +120,7 @@ module _ (id : Id) where
       own_told q key life step.handed (arrived_in input)
       (sent_bytes life.last step.sent (made_bytes life.request step.sent (message_in input)))
 
-  own_by : (q key : Key) (held : Option Life) (now : ℕ) (input : Input) (o : Option Step)
+  own_by : (q key : Key) (held : Option Life) (now : ℕ) (input : Option Input) (o : Option Step)
       → Own q key (stepped_by key held now input o).1
   own_by q key held now input None = own_none (is_at (key_cmp q) key)
   own_by q key held now input (Some step) =
@@ -146,11 +144,11 @@ module _ (id : Id) where
     abbrev IsNotFrom : Out → Type 0
     IsNotFrom o = from q o ≡ false
 
-    abbrev ComesNot : CallInput → Type 0
+    abbrev ComesNot : Option CallItem → Type 0
     ComesNot input = comes_from q id input ≡ false
 
     abbrev ItemComesNot : Id × Item → Type 0
-    ItemComesNot i = ComesNot (AnItem i.0 i.1)
+    ItemComesNot i = ComesNot (Some i)
 
     none_picked : (outs : List Out) → flat_map (picked q) outs ≡ []
         → AllByRecursion IsNotFrom outs
@@ -250,7 +248,7 @@ module _ (id : Id) where
         let others = filter (λ item. is_at (call_cmp item.key) call_id)
         (timed_items now (call_items (suc at) items)) in
         elim (is_at (call_cmp (call_of_item i.1)) call_id) as
-        (λ b. AllByRecursion (λ (timed : Timed CallInput). ComesNot timed.input)
+        (λ b. AllByRecursion (λ (timed : Timed CallItem). ComesNot timed.input)
         (map (λ item. item.input) (cond b ((record {
           place = at;
           key = call_of_item i.1;
@@ -263,7 +261,7 @@ module _ (id : Id) where
     second_none : (call_id : List ℕ) (config : Config) (number : ℕ) (past : Past)
         (round : Round) → AllByRecursion ItemComesNot (items_of_round config number past round)
         → AllByRecursion (λ timed. ComesNot timed.input)
-        (own_inputs call_cmp tick_input (second config number past round) call_id)
+        (own_inputs call_cmp tick_at (second config number past round) call_id)
     unfolding second
     second_none call_id config number past round all =
         (refl, inputs_none call_id round.moment 0 (items_of_round config number past round) all)
@@ -276,7 +274,7 @@ module _ (id : Id) where
           flat_map under (said_from key_cmp transaction_machine tick_at q past.transactions more)
           ≡ []
           → AllByRecursion (λ timed. ComesNot timed.input)
-          (history call_cmp tick_input (calls_from config number past rounds) call_id)
+          (history call_cmp tick_at (calls_from config number past rounds) call_id)
 
       one_quiet : (number : ℕ) (past : Past) (round : Round) (rounds : List Round)
           (more : List (Phase Key (Timed Input)))
@@ -298,9 +296,9 @@ module _ (id : Id) where
           ∙ none) in
           let last = nothing_of_both (flat_map under (by between two)) (flat_map under rest)
           (sym (flat_map-append under (by between two) rest) ∙ parts.1) in
-          both (λ (timed : Timed CallInput). ComesNot timed.input)
-          (own_inputs call_cmp tick_input (second config number past round) call_id)
-          (history call_cmp tick_input (calls_from config (suc number)
+          both (λ (timed : Timed CallItem). ComesNot timed.input)
+          (own_inputs call_cmp tick_at (second config number past round) call_id)
+          (history call_cmp tick_at (calls_from config (suc number)
           (past_after config number past round) rounds) call_id)
           (second_none call_id config number past round
           (round_none config number past round parts.0))
@@ -376,7 +374,7 @@ module _ (over : NothingAfterEachEnd)
       (state_from transaction_machine key None ended.after) new)) ∙ none))
 
   module _ (config : Config)
-      (calls_alone : EachKeyAlone call_cmp (call_machine (calls_of config)) tick_input) where
+      (calls_alone : EachKeyAlone call_cmp (call_machine (calls_of config)) tick_at) where
     pub none_comes : (earlier later : List Round) (key : Key) (id : Id)
         → HasEnded key id config earlier → (call_id : List ℕ)
         → NoneComesFrom key id config earlier later (answers config (earlier ++ later)) call_id
@@ -389,11 +387,11 @@ module _ (over : NothingAfterEachEnd)
         let phases = calls_from config number past later in
         let machine = call_machine (calls_of config) in
         record {
-          inputs = history call_cmp tick_input phases call_id;
-          are = ap (λ (p : Past). history call_cmp tick_input p.calls call_id) rest
-              ∙ ap (λ all. history call_cmp tick_input all call_id)
+          inputs = history call_cmp tick_at phases call_id;
+          are = ap (λ (p : Past). history call_cmp tick_at p.calls call_id) rest
+              ∙ ap (λ all. history call_cmp tick_at all call_id)
               (calls_are config number past later)
-              ∙ flat_map-append (λ phase. own_inputs call_cmp tick_input phase call_id)
+              ∙ flat_map-append (λ phase. own_inputs call_cmp tick_at phase call_id)
               past.calls phases;
           none = all.holds (nothing_under key id config earlier later all.more
               (ap (λ (p : Past). p.transactions) rest ∙ all.transactions) ended);

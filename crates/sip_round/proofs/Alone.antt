@@ -8,7 +8,7 @@ use Rattle.sip_model.specs.Machine.{Machine, Timed}
 use Rattle.sip_model.specs.Phase.{Phase, AddsPhase, HoldsAfter, phase_at}
 use Rattle.sip_model.specs.Shards.{HoldFrom, is_owned}
 use Rattle.sip_model.specs.Table.{Held}
-use Rattle.sip_round.specs.Steps.Dealt.{DealsAll, DealsParts}
+use Rattle.sip_round.specs.Steps.AllShards.{DealsAll, DealsParts}
 use Rattle.sip_round.proofs.Cutting.{all_in_one}
 use Rattle.sip_round.proofs.Together.{first_of}
 

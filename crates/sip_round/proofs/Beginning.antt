@@ -4,12 +4,12 @@ use Rattle.std.specs.Prelude.{None, Some, IsSome}
 use Rattle.std.specs.declared.cmp.Ordering.{Ordering}
 use Rattle.std.proofs.lemmas.List.Elements.{All-head, All-tail}
 use Rattle.sip_message.specs.Key.{branch_in, key_cmp}
-use Rattle.sip_model.specs.Machine.{Machine}
+use Rattle.sip_model.specs.Machine.{Machine, tick_at}
 use Rattle.sip_model.specs.Table.{Held, state_at}
 use Rattle.sip_model.specs.Shards.{HoldFrom}
-use Rattle.sip_calls.specs.Call.{call_machine, tick_input}
+use Rattle.sip_calls.specs.Call.{call_machine}
 use Rattle.sip_calls.specs.CallShard.{call_cmp}
-use Rattle.sip_transactions.specs.Machine.{transaction_machine, tick_at}
+use Rattle.sip_transactions.specs.Machine.{transaction_machine}
 use Rattle.sip_round.specs.declared.config.Config.{Config}
 use Rattle.sip_round.specs.AgentState.{ShardTables}
 use Rattle.sip_round.specs.Answers.{StandsFor, calls_of, last_moment, past_of}
@@ -52,6 +52,6 @@ begins shard_of cut config made no_lives no_calls = record {
   transactions = hold_nothing key_cmp transaction_machine tick_at
       (owner_of (shard_of cut) branch_in (length made.transactions)) zero made.transactions
       no_lives;
-  calls = hold_nothing call_cmp (call_machine (calls_of config)) tick_input
+  calls = hold_nothing call_cmp (call_machine (calls_of config)) tick_at
       (owner_of (shard_of cut) (λ call_id. call_id) (length made.calls)) zero made.calls no_calls;
 }

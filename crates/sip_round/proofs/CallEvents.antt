@@ -10,28 +10,25 @@ use Rattle.sip_message.specs.declared.id.Id.{Id}
 use Rattle.sip_message.specs.declared.key.Key.{Key}
 use Rattle.sip_message.specs.Key.{key_cmp}
 use Rattle.sip_model.specs.declared.item.Item as model
-use Rattle.sip_model.specs.Machine.{adds, next, Timed}
+use Rattle.sip_model.specs.Machine.{adds, next, Timed, tick_at}
 use Rattle.sip_model.specs.Phase.{Phase, history, inputs_of, keys_of_phases, own_inputs, states_after, stepped, told_items, timed_items}
-use Rattle.sip_model.specs.Told.{speaks}
+use Rattle.sip_model.specs.Groups.{speaks}
 use Rattle.sip_model.proofs.Ordered.{by_bool}
 use Rattle.sip_transactions.specs.declared.input.Input.{Input}
 use Rattle.sip_transactions.specs.declared.life.Life.{Life}
 use Rattle.sip_transactions.specs.declared.output.Out.{Out}
-use Rattle.sip_transactions.specs.Machine.{tick_at, transaction_machine}
-use Rattle.sip_served.specs.Command.{call_of_item}
-use Rattle.sip_served.specs.declared.item.Item.{Item}
-use Rattle.sip_calls.specs.declared.calls.CallInput.{CallInput}
-use Rattle.sip_calls.specs.Call.{tick_input}
+use Rattle.sip_transactions.specs.Machine.{transaction_machine}
+use Rattle.sip_common.specs.Command.{call_of_item}
+use Rattle.sip_common.specs.declared.item.Item.{Item}
+use Rattle.sip_calls.specs.Call.{CallItem}
 use Rattle.sip_calls.specs.CallShard.{call_cmp, item_input}
-use Rattle.sip_calls.specs.declared.calls.CallInput.TheVariants.{Item as AnItem}
 use Rattle.sip_calls.specs.Provisionals.{EventsDiffer, event_in}
-use Rattle.sip_round.specs.declared.arrival.Arrival.{Arrival}
-use Rattle.sip_round.specs.declared.arrival.Arrival.TheVariants as arrival
+use Rattle.sip_round.specs.Arrivals as arrival
 use Rattle.sip_round.specs.declared.config.Config.{Config}
 use Rattle.sip_round.specs.declared.round.Event.{Event}
 use Rattle.sip_round.specs.declared.round.Round.{Round}
 use Rattle.sip_round.specs.Answers.{Past, arrivals, first, items_of_round, no_past, past_after, past_from, past_of, said_by_transactions, second}
-use Rattle.sip_round.specs.Arrivals.{arrival_of, arrivals_from}
+use Rattle.sip_round.specs.Arrivals.{Arrival, arrival_of, arrivals_from}
 use Rattle.sip_round.specs.Outputs.{joined, outs_of, raised_of, said_at, user_items}
 use Rattle.sip_round.specs.Phases.{call_items, transaction_item, transaction_items}
 use Rattle.sip_round.proofs.Climbing.{Climbs, climbs_from_less}
@@ -41,9 +38,9 @@ use Rattle.sip_round.proofs.FewUps.{Few, events_of, few_ups, no_ups, raised}
 -- ---- lists
 
 abbrev pub item_event : Id × Item → Option Id
-item_event item = event_in (AnItem item.0 item.1)
+item_event item = event_in (Some item)
 
-abbrev input_event : Timed CallInput → Option Id
+abbrev input_event : Timed CallItem → Option Id
 input_event timed = event_in timed.input
 
 raised_append : (id : Id) (xs ys : List Out) → raised id (xs ++ ys) ≡ raised id xs ++ raised id ys
@@ -237,12 +234,12 @@ own_placed key now at round place (item ∷ items) places =
 -- ---- over rounds
 
 module _ (config : Config) (key : List ℕ) where
-  abbrev events_in : List (Phase (List ℕ) (Timed CallInput)) → List Id
-  events_in phases = filter_map input_event (history call_cmp tick_input phases key)
+  abbrev events_in : List (Phase (List ℕ) (Timed CallItem)) → List Id
+  events_in phases = filter_map input_event (history call_cmp tick_at phases key)
 
   -- the phases of later rounds, whose events rise
   record Later (number : ℕ) (past : Past) (rounds : List Round) : Type 0 where
-    phases : List (Phase (List ℕ) (Timed CallInput))
+    phases : List (Phase (List ℕ) (Timed CallItem))
     calls : (past_from config number past rounds).calls ≡ past.calls ++ phases
     rise : Rise number 0 (events_in phases)
 
@@ -257,9 +254,9 @@ module _ (config : Config) (key : List ℕ) where
         phases = phase ∷ more.phases;
         calls = more.calls ∙ append_assoc past.calls (phase ∷ []) more.phases;
         rise = subst (Rise number 0) (sym
-            (filter_map-append input_event (own_inputs call_cmp tick_input phase key)
-            (history call_cmp tick_input more.phases key)))
-            (rise_after number 0 (filter_map input_event (own_inputs call_cmp tick_input phase key))
+            (filter_map-append input_event (own_inputs call_cmp tick_at phase key)
+            (history call_cmp tick_at more.phases key)))
+            (rise_after number 0 (filter_map input_event (own_inputs call_cmp tick_at phase key))
             (events_in more.phases)
             (own_placed key round.moment 0 number 0 (items_of_round config number past round)
             (places_from number 0 1 (events_of (items_of_round config number past round))
@@ -268,9 +265,9 @@ module _ (config : Config) (key : List ℕ) where
       }
 
   pub events_differ : (rounds : List Round)
-      → EventsDiffer (history call_cmp tick_input (past_of config rounds).calls key)
+      → EventsDiffer (history call_cmp tick_at (past_of config rounds).calls key)
   unfolding past_of
   events_differ rounds =
       let all = later rounds config.first no_past in
-      subst (λ phases. EventsDiffer (history call_cmp tick_input phases key)) (sym all.calls)
+      subst (λ phases. EventsDiffer (history call_cmp tick_at phases key)) (sym all.calls)
       (rise_apart config.first 0 (events_in all.phases) all.rise)

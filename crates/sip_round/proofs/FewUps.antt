@@ -6,9 +6,8 @@ use Rattle.std.specs.Option.{option_map, option_to_list}
 use Rattle.sip_message.specs.declared.addr.Addr.{Addr}
 use Rattle.sip_message.specs.declared.id.Id.{Id}
 use Rattle.sip_message.specs.declared.key.Key.{Key}
-use Rattle.sip_model.specs.Machine.{adds, Timed}
+use Rattle.sip_model.specs.Machine.{adds, Timed, tick_at}
 use Rattle.sip_transactions.specs.declared.input.Input.{Input}
-use Rattle.sip_transactions.specs.declared.input.Input.TheVariants.{Tick}
 use Rattle.sip_transactions.specs.declared.life.Life.{Life}
 use Rattle.sip_transactions.specs.declared.output.Kind.{Kind}
 use Rattle.sip_transactions.specs.declared.output.Kind.TheVariants as kind
@@ -19,16 +18,15 @@ use Rattle.sip_transactions.specs.declared.step.Handed.TheVariants as handed
 use Rattle.sip_transactions.specs.declared.step.Step.{Step}
 use Rattle.sip_transactions.specs.Input.{arrived_in, message_in, role_of}
 use Rattle.sip_transactions.specs.Life.{acted_if, life_of, step_for, stepped, stepped_by}
-use Rattle.sip_transactions.specs.Machine.{tick_at, transaction_machine}
+use Rattle.sip_transactions.specs.Machine.{transaction_machine}
 use Rattle.sip_transactions.specs.Output.{handed_out, made_bytes, outputs_of, send_out, sent_bytes}
-use Rattle.sip_served.specs.declared.item.Item.{Item}
-use Rattle.sip_calls.specs.declared.calls.CallInput.TheVariants.{Item as AnItem}
+use Rattle.sip_common.specs.declared.item.Item.{Item}
 use Rattle.sip_calls.specs.Provisionals.{event_in, event_of_kind}
 use Rattle.sip_round.specs.Outputs.{raised_of}
 
 -- the events of items, and of what comes up under this id
 abbrev pub events_of : List (Id × Item) → List Id
-events_of items = filter_map (λ item. event_in (AnItem item.0 item.1)) items
+events_of items = filter_map (λ item. event_in (Some item)) items
 
 abbrev pub raised : Id → List Out → List Id
 raised id outs = events_of (flat_map (raised_of id) outs)
@@ -71,7 +69,7 @@ none_told id key life handed.Failed (Some bytes) = refl
 none_told id key life handed.NoTransaction None = refl
 none_told id key life handed.NoTransaction (Some bytes) = refl
 
-few_acted : (id : Id) (key : Key) (now : ℕ) (input : Input) (o : Option Life) (step : Step)
+few_acted : (id : Id) (key : Key) (now : ℕ) (input : Option Input) (o : Option Life) (step : Step)
     → Few id (raised id (acted_if key now input o step).1)
 unfolding outputs_of
 few_acted id key now input None step = inl refl
@@ -79,7 +77,7 @@ few_acted id key now input (Some life) step =
     few_told id key life.to (handed_out key life step.handed (arrived_in input))
     (sent_bytes life.last step.sent (made_bytes life.request step.sent (message_in input)))
 
-few_by : (id : Id) (key : Key) (held : Option Life) (now : ℕ) (input : Input) (o : Option Step)
+few_by : (id : Id) (key : Key) (held : Option Life) (now : ℕ) (input : Option Input) (o : Option Step)
     → Few id (raised id (stepped_by key held now input o).1)
 few_by id key held now input None = inl refl
 few_by id key held now input (Some step) =
@@ -93,20 +91,20 @@ few_ups id key held timed =
     few_by id key held timed.moment timed.input (step_for key held timed.moment timed.input)
 
 none_acted : (id : Id) (key : Key) (now : ℕ) (o : Option Life) (step : Step)
-    → raised id (acted_if key now Tick o step).1 ≡ []
+    → raised id (acted_if key now None o step).1 ≡ []
 unfolding outputs_of
 none_acted id key now None step = refl
 none_acted id key now (Some life) step =
     none_told id key life step.handed
-    (sent_bytes life.last step.sent (made_bytes life.request step.sent (message_in Tick)))
+    (sent_bytes life.last step.sent (made_bytes life.request step.sent (message_in None)))
 
 none_by : (id : Id) (key : Key) (held : Option Life) (now : ℕ) (o : Option Step)
-    → raised id (stepped_by key held now Tick o).1 ≡ []
+    → raised id (stepped_by key held now None o).1 ≡ []
 none_by id key held now None = refl
-none_by id key held now (Some step) = none_acted id key now (life_of (role_of key) held Tick) step
+none_by id key held now (Some step) = none_acted id key now (life_of (role_of key) held None) step
 
 -- to a tick
 pub no_ups : (id : Id) (key : Key) (held : Option Life) (now : ℕ)
     → raised id (adds transaction_machine key held (tick_at now)) ≡ []
 unfolding stepped
-no_ups id key held now = none_by id key held now (step_for key held now Tick)
+no_ups id key held now = none_by id key held now (step_for key held now None)

@@ -6,12 +6,11 @@ use Rattle.std.proofs.lemmas.Grind.{flat_map-append}
 use Rattle.std.proofs.lemmas.List.Elements.{filter-append}
 use Rattle.std.proofs.lemmas.Map.Lookups.{exact_bytes}
 use Rattle.sip_model.specs.Laws.{said_by, said_from}
-use Rattle.sip_model.specs.Machine.{Timed}
+use Rattle.sip_model.specs.Machine.{Timed, tick_at}
 use Rattle.sip_model.specs.Phase.{Phase, states_after}
 use Rattle.sip_model.proofs.Spoken.{own_after, spoken}
-use Rattle.sip_served.specs.declared.item.CallOut.{CallOut}
-use Rattle.sip_calls.specs.declared.calls.CallInput.{CallInput}
-use Rattle.sip_calls.specs.Call.{call_machine, tick_input}
+use Rattle.sip_common.specs.declared.item.CallOut.{CallOut}
+use Rattle.sip_calls.specs.Call.{call_machine, CallItem}
 use Rattle.sip_calls.specs.CallShard.{call_cmp}
 use Rattle.sip_calls.specs.OwnCall.{IsCallOf}
 use Rattle.sip_round.specs.declared.config.Config.{Config}
@@ -40,14 +39,14 @@ notices_shown q (out ∷ outs) =
 -- ---- one round
 
 -- each call that phases leave is of its own Call-ID
-abbrev pub AreOwnCalls : Config → List (Phase (List ℕ) (Timed CallInput)) → Type 0
+abbrev pub AreOwnCalls : Config → List (Phase (List ℕ) (Timed CallItem)) → Type 0
 AreOwnCalls config phases = (key : List ℕ)
-    → IsCallOf key (states_after call_cmp (call_machine (calls_of config)) tick_input phases key)
+    → IsCallOf key (states_after call_cmp (call_machine (calls_of config)) tick_at phases key)
 
 module _ (q : List ℕ) (config : Config) (number : ℕ) (past : Past) (round : Round)
     (own : AreOwnCalls config past.calls) where
   abbrev of_round : List Output
-  of_round = flat_map notice_in (said_by call_cmp (call_machine (calls_of config)) tick_input q
+  of_round = flat_map notice_in (said_by call_cmp (call_machine (calls_of config)) tick_at q
       (said_by_calls (calls_of config) past.calls (second config number past round)))
 
   second_told : notices_of q (flat_map shown_of (given_second config number past round)) ≡ of_round
@@ -55,7 +54,7 @@ module _ (q : List ℕ) (config : Config) (number : ℕ) (past : Past) (round : 
   second_told =
       notices_shown q (given_second config number past round)
       ∙ spoken call_cmp (call_machine (calls_of config)) notice_in picked IsCallOf IsTimedOf
-      nat_list_cmp_total exact_bytes (own_kept (calls_of config)) tick_input (λ moment key. tt)
+      nat_list_cmp_total exact_bytes (own_kept (calls_of config)) tick_at (λ moment key. tt)
       (own_notices (calls_of config)) q past.calls (second config number past round) own
       (second_own config number past round)
 
@@ -68,14 +67,14 @@ module _ (q : List ℕ) (config : Config) (number : ℕ) (past : Past) (round : 
   unfolding past_after
   own_then key =
       own_after call_cmp (call_machine (calls_of config)) notice_in picked IsCallOf IsTimedOf
-      nat_list_cmp_total exact_bytes (own_kept (calls_of config)) tick_input (λ moment key. tt)
+      nat_list_cmp_total exact_bytes (own_kept (calls_of config)) tick_at (λ moment key. tt)
       past.calls (second config number past round) own (second_own config number past round) key
 
 -- ---- over rounds
 
 module _ (config : Config) where
   -- the calls' phases in rounds of which the first has this number, after a past
-  abbrev pub calls_from : ℕ → Past → List Round → List (Phase (List ℕ) (Timed CallInput))
+  abbrev pub calls_from : ℕ → Past → List Round → List (Phase (List ℕ) (Timed CallItem))
   calls_from number past [] = []
   calls_from number past (round ∷ rounds) = second config number past round
       ∷ calls_from (suc number) (past_after config number past round) rounds
@@ -101,7 +100,7 @@ module _ (config : Config) where
   pub given_from : (q : List ℕ) (number : ℕ) (past : Past) (rounds : List Round)
       → AreOwnCalls config past.calls
       → notices_of q (all_given (answers_from config number past rounds))
-      ≡ flat_map notice_in (said_from call_cmp (call_machine (calls_of config)) tick_input q
+      ≡ flat_map notice_in (said_from call_cmp (call_machine (calls_of config)) tick_at q
       past.calls (calls_from number past rounds))
   unfolding past_after
   given_from q number past [] own = refl
@@ -114,8 +113,8 @@ module _ (config : Config) where
       ∙ (λ i. answer_told q config number past round own i
       ++ given_from q (suc number) next rounds (own_then q config number past round own) i)
       ∙ sym (flat_map-append notice_in
-      (said_by call_cmp machine tick_input q (said_by_calls (calls_of config) past.calls phase))
-      (said_from call_cmp machine tick_input q (past.calls ++ phase ∷ [])
+      (said_by call_cmp machine tick_at q (said_by_calls (calls_of config) past.calls phase))
+      (said_from call_cmp machine tick_at q (past.calls ++ phase ∷ [])
       (calls_from (suc number) next rounds)))
 
 pub notices_given : AnswersGiveOwnNotices
@@ -123,5 +122,5 @@ unfolding answers past_of
 notices_given config rounds q =
     given_from config q config.first no_past rounds (λ key. tt)
     ∙ ap (λ phases. flat_map notice_in
-    (said_from call_cmp (call_machine (calls_of config)) tick_input q [] phases))
+    (said_from call_cmp (call_machine (calls_of config)) tick_at q [] phases))
     (sym (calls_are config config.first no_past rounds))

@@ -10,24 +10,23 @@ use Rattle.sip_message.specs.declared.key.Key.{Key}
 use Rattle.sip_message.specs.Key.{key_cmp, keys_total}
 use Rattle.sip_model.specs.declared.item.Item as model
 use Rattle.sip_model.specs.Laws.{said_by, said_from}
-use Rattle.sip_model.specs.Machine.{Timed, adds, given_at, next}
+use Rattle.sip_model.specs.Machine.{Timed, adds, given_at, next, tick_at}
 use Rattle.sip_model.specs.Phase.{Phase, states_after, stepped, timed_items, told_items}
 use Rattle.sip_model.proofs.Spoken.{FitItems, spoken}
 use Rattle.sip_transactions.specs.declared.input.Input.{Input}
 use Rattle.sip_transactions.specs.declared.life.Life.{Life}
 use Rattle.sip_transactions.specs.declared.output.Out.{Out}
 use Rattle.sip_transactions.specs.Keys.{exact_keys}
-use Rattle.sip_transactions.specs.Machine.{tick_at, transaction_machine}
-use Rattle.sip_served.specs.declared.item.CallOut.{CallOut}
-use Rattle.sip_served.specs.declared.item.CallOut.TheVariants as call_out
-use Rattle.sip_round.specs.declared.arrival.Arrival.{Arrival}
-use Rattle.sip_round.specs.declared.arrival.Arrival.TheVariants as arrival
+use Rattle.sip_transactions.specs.Machine.{transaction_machine}
+use Rattle.sip_common.specs.declared.item.CallOut.{CallOut}
+use Rattle.sip_common.specs.declared.item.CallOut.TheVariants as call_out
+use Rattle.sip_round.specs.Arrivals as arrival
 use Rattle.sip_round.specs.declared.config.Config.{Config}
 use Rattle.sip_round.specs.declared.output.Output.{Output}
 use Rattle.sip_round.specs.declared.round.Event.{Event}
 use Rattle.sip_round.specs.declared.round.Round.{Round}
 use Rattle.sip_round.specs.Answers.{Past, answer, answers, answers_from, arrivals, first, given_second, no_past, past_after, past_of, said_by_transactions, sent_first, third}
-use Rattle.sip_round.specs.Arrivals.{arrival_of, arrivals_from}
+use Rattle.sip_round.specs.Arrivals.{Arrival, arrival_of, arrivals_from}
 use Rattle.sip_round.specs.Given.{AnswersGiveOwnSends, all_given, send_in, sends_with}
 use Rattle.sip_round.specs.Outputs.{all_said, joined, outs_of, said_at, sent_of, shown_of}
 use Rattle.sip_round.specs.Phases.{transaction_item, transaction_items}

@@ -8,31 +8,32 @@ use Rattle.sip_model.specs.Laws.{ToldInOrder}
 use Rattle.sip_model.specs.Shards.{ShardsTellAll}
 use Rattle.sip_model.specs.Table.{Held}
 use Rattle.sip_transactions.specs.declared.life.Life.{Life}
-use Rattle.sip_transactions.specs.Machine.{transaction_machine, tick_at}
+use Rattle.sip_transactions.specs.Machine.{transaction_machine}
 use Rattle.sip_calls.specs.declared.call.Call.{Call}
 use Rattle.sip_calls.specs.declared.calls.Calls.{Calls}
-use Rattle.sip_calls.specs.Call.{call_machine, tick_input}
+use Rattle.sip_calls.specs.Call.{call_machine}
 use Rattle.sip_calls.specs.CallShard.{call_cmp}
 use Rattle.sip_round.specs.declared.round.Event.{Event}
 use Rattle.sip_round.specs.declared.round.Round.{Round}
 use Rattle.sip_round.specs.Arrivals.{arrivals_from}
 use Rattle.sip_round.specs.Parts.{owner_of}
-use Rattle.sip_round.specs.Steps.Dealt.{IsIdle}
+use Rattle.sip_round.specs.Steps.AllShards.{IsIdle}
 use Rattle.sip_round.specs.Steps.Led.{Deals, LedFirst}
 use Rattle.sip_round.proofs.IdleShards.{cut_nothing, idle_shards}
 use Rattle.sip_round.proofs.Leading.{deals, led_first, led_second, led_third}
+use Rattle.sip_model.specs.Machine.{tick_at}
 
 pub idle_round : (shared : Calls) (shard_of : List ℕ → ℕ → ℕ) (number : ℕ) (round : Round)
     (lives : List (Held Key Life)) (calls : List (Held (List ℕ) Call)) → round.events ≡ []
     → ToldInOrder key_cmp transaction_machine tick_at
     → ShardsTellAll key_cmp transaction_machine tick_at
-    → ShardsTellAll call_cmp (call_machine shared) tick_input
+    → ShardsTellAll call_cmp (call_machine shared) tick_at
     → ((key : Key) → owner_of shard_of branch_in (length lives) key < length lives)
     → ((call_id : List ℕ)
     → owner_of shard_of (λ call_id. call_id) (length calls) call_id < length calls)
     → AllByRecursion (IsIdle key_cmp transaction_machine tick_at round.moment true) lives
     → AllByRecursion (IsIdle key_cmp transaction_machine tick_at round.moment false) lives
-    → AllByRecursion (IsIdle call_cmp (call_machine shared) tick_input round.moment true) calls
+    → AllByRecursion (IsIdle call_cmp (call_machine shared) tick_at round.moment true) calls
     → Deals shared shard_of number round (record { transactions = lives; calls = calls })
     (record { transactions = lives; calls = calls }) []
 unfolding IsStrictlySortedBy
@@ -45,7 +46,7 @@ idle_round shared shard_of number round lives calls no_events in_order lives_law
     (idle_shards key_cmp transaction_machine tick_at of_lives round.moment true lives_law []
     lives lives_within tt first_idle (cut_nothing of_lives 0 lives)) [] [] [] refl refl refl in
     let second = led_second shared of_calls calls calls round.moment [] [] [] [] [] [] [] [] []
-    (idle_shards call_cmp (call_machine shared) tick_input of_calls round.moment true
+    (idle_shards call_cmp (call_machine shared) tick_at of_calls round.moment true
     calls_law [] calls calls_within tt second_idle (cut_nothing of_calls 0 calls)) refl refl
     refl refl refl in
     let third = led_third of_lives lives lives round.moment [] [] [] [] [] []

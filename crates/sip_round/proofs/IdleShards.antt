@@ -10,11 +10,11 @@ use Rattle.std.proofs.lemmas.List.Sorted.{length_permutation}
 use Rattle.sip_model.specs.declared.item.Item.{Item}
 use Rattle.sip_model.specs.Machine.{Machine, Timed}
 use Rattle.sip_model.specs.Table.{Held}
-use Rattle.sip_model.specs.Told.{Sorts}
+use Rattle.sip_model.specs.Groups.{Sorts}
 use Rattle.sip_model.specs.Phase.{AddsPhase, phase_at}
 use Rattle.sip_model.specs.Shards.{ShardsTellAll}
 use Rattle.sip_round.specs.Parts.{cut_by}
-use Rattle.sip_round.specs.Steps.Dealt.{DealsAll, IsIdle}
+use Rattle.sip_round.specs.Steps.AllShards.{DealsAll, IsIdle}
 use Rattle.sip_round.proofs.Numbered.{parts_timed, places_timed}
 use Rattle.sip_round.proofs.Together.{deals_all}
 

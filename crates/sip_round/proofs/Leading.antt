@@ -1,41 +1,40 @@
 -- The three phases, and a round of all three.
 use Rattle.std.proofs.Common.{◌≡◌, ℕ, zero, List, [], ◌∷◌, ◌++◌, length, map, refl, sym, ◌∙◌, ap, subst}
 use Rattle.std.specs.List.{flat_map}
-use Rattle.sip_model.specs.Machine.{Timed}
+use Rattle.sip_model.specs.Machine.{Timed, tick_at}
 use Rattle.sip_message.specs.declared.id.Id.{Id}
 use Rattle.sip_message.specs.declared.key.Key.{Key}
 use Rattle.sip_message.specs.Key.{key_cmp, branch_in}
 use Rattle.sip_model.specs.Laws.{ToldInOrder}
-use Rattle.sip_model.specs.Phase.{Phase, Told, by_place}
+use Rattle.sip_model.specs.Phase.{Phase, PhaseOutputs, by_place}
 use Rattle.sip_model.specs.Shards.{HoldFrom}
 use Rattle.sip_model.specs.Table.{Held}
 use Rattle.sip_transactions.specs.declared.input.Command.{Command}
 use Rattle.sip_transactions.specs.declared.input.Input.{Input}
 use Rattle.sip_transactions.specs.declared.life.Life.{Life}
 use Rattle.sip_transactions.specs.declared.output.Out.{Out}
-use Rattle.sip_transactions.specs.Machine.{transaction_machine, tick_at}
-use Rattle.sip_served.specs.declared.item.Item.{Item}
-use Rattle.sip_served.specs.declared.item.CallOut.{CallOut}
+use Rattle.sip_transactions.specs.Machine.{transaction_machine}
+use Rattle.sip_common.specs.declared.item.Item.{Item}
+use Rattle.sip_common.specs.declared.item.CallOut.{CallOut}
 use Rattle.sip_calls.specs.declared.call.Call.{Call}
 use Rattle.sip_calls.specs.declared.calls.Calls.{Calls}
-use Rattle.sip_calls.specs.Call.{call_machine, tick_input}
+use Rattle.sip_calls.specs.Call.{call_machine}
 use Rattle.sip_calls.specs.CallShard.{call_cmp}
-use Rattle.sip_round.specs.declared.arrival.Arrival.{Arrival}
 use Rattle.sip_round.specs.declared.config.Config.{Config}
 use Rattle.sip_round.specs.declared.output.Output.{Output}
 use Rattle.sip_round.specs.declared.round.Round.{Round}
 use Rattle.sip_round.specs.declared.waiting.Waiting.{Waiting}
 use Rattle.sip_round.specs.Answers.{Past, answer, arrivals, calls_of, first, given_second, items_of_round, past_after, said_by_transactions, said_by_calls, second, third}
-use Rattle.sip_round.specs.Arrivals.{arrivals_from}
+use Rattle.sip_round.specs.Arrivals.{Arrival, arrivals_from}
 use Rattle.sip_round.specs.Steps.Arrived.{ArePlaced}
-use Rattle.sip_round.specs.Steps.Dealt.{DealsAll}
+use Rattle.sip_round.specs.Steps.AllShards.{DealsAll}
 use Rattle.sip_round.specs.Steps.Led.{Deals, LedFirst, LedSecond, LedThird}
 use Rattle.sip_round.specs.Outputs.{all_said, command_of, joined, outs_of, raised_of, said_at, sent_of, shown_of, user_items}
 use Rattle.sip_round.specs.Parts.{owner_of}
 use Rattle.sip_round.specs.Phases.{first_phase, second_phase, third_phase, transaction_items}
-use Rattle.sip_round.specs.Steps.Waiting.{all_waiting, woven}
+use Rattle.sip_round.specs.Steps.Waiting.{all_waiting, by_event}
 use Rattle.sip_round.proofs.Numbered.{places_timed}
-use Rattle.sip_round.proofs.Weaving.{behind, each, flat_map-map, woven_by_place}
+use Rattle.sip_round.proofs.ByEvent.{behind, each, flat_map-map, woven_by_place}
 
 joined_by_place : {K O : Type 0} (told : List ((ℕ × K) × List O))
     → joined (map by_place told) ≡ joined told
@@ -43,7 +42,7 @@ joined_by_place [] = refl
 joined_by_place (t ∷ ts) = ap (λ more. t.1 ++ more) (joined_by_place ts)
 
 -- what was said, shard by shard in order, is all that is said
-whole : {K O : Type 0} (told : Told K O) (ticks : List (K × List O)) (said : List (ℕ × List O))
+whole : {K O : Type 0} (told : PhaseOutputs K O) (ticks : List (K × List O)) (said : List (ℕ × List O))
     → ticks ≡ told.ticks → said ≡ map by_place told.items
     → joined ticks ++ joined said ≡ all_said told
 whole told ticks said by_tick by_item =
@@ -61,7 +60,7 @@ module _ (owner : Key → ℕ) (old new : List (Held Key Life)) (number now : �
     (first_phase now arrived) ticks said) where
   woven_told : (past : List (Phase Key (Timed Input)))
       → HoldFrom key_cmp transaction_machine tick_at owner zero old past
-      → woven (all_waiting arrived) said
+      → by_event (all_waiting arrived) said
       ≡ map (λ a. (
         a.0,
         outs_of (said_at (said_by_transactions past (first_phase now arrived))) a.0
@@ -69,7 +68,7 @@ module _ (owner : Key → ℕ) (old new : List (Held Key Life)) (number now : �
         user_items a.0 a.1,
       )) arrived
   woven_told past hold =
-      ap (woven (all_waiting arrived)) (deals.items_told past hold)
+      ap (by_event (all_waiting arrived)) (deals.items_told past hold)
       ∙ woven_by_place 1 arrived placed
       (said_by_transactions past (first_phase now arrived)).items
       ((law past (first_phase now arrived)).by_place
@@ -78,35 +77,35 @@ module _ (owner : Key → ℕ) (old new : List (Held Key Life)) (number now : �
   pub led_first : (waiting : List (Id × Waiting)) (outputs : List Output) (items : List (Id × Item))
       → waiting ≡ all_waiting arrived
       → outputs ≡ flat_map sent_of (joined ticks)
-      ++ flat_map (λ w. flat_map sent_of w.1) (woven waiting said)
+      ++ flat_map (λ w. flat_map sent_of w.1) (by_event waiting said)
       → items ≡ flat_map (raised_of (record { round = number; place = 0 })) (joined ticks)
-      ++ flat_map (λ w. flat_map (raised_of w.0) w.1 ++ w.2) (woven waiting said)
+      ++ flat_map (λ w. flat_map (raised_of w.0) w.1 ++ w.2) (by_event waiting said)
       → LedFirst owner old new number now arrived outputs items
   led_first waiting outputs items waits sends raises = record {
     count = deals.count;
     stands = deals.stands;
     sent = λ past hold.
-        let told : Told Key Out = said_by_transactions past (first_phase now arrived) in
+        let told : PhaseOutputs Key Out = said_by_transactions past (first_phase now arrived) in
         sends
         ∙ ap (λ t. flat_map sent_of (joined t)
-        ++ flat_map (λ w. flat_map sent_of w.1) (woven waiting said))
+        ++ flat_map (λ w. flat_map sent_of w.1) (by_event waiting said))
         (deals.ticks_told past hold)
         ∙ ap (λ w. flat_map sent_of (joined told.ticks)
-        ++ flat_map (λ w. flat_map sent_of w.1) (woven w said)) waits
+        ++ flat_map (λ w. flat_map sent_of w.1) (by_event w said)) waits
         ∙ ap (λ w. flat_map sent_of (joined told.ticks) ++ flat_map (λ w. flat_map sent_of w.1) w)
         (woven_told past hold)
         ∙ ap (λ more. flat_map sent_of (joined told.ticks) ++ more)
         (flat_map-map (λ (w : Id × List Out × List (Id × Item)). flat_map sent_of w.1)
         (λ a. (a.0, outs_of (said_at told) a.0 a.1, user_items a.0 a.1)) arrived);
     raised = λ past hold.
-        let told : Told Key Out = said_by_transactions past (first_phase now arrived) in
+        let told : PhaseOutputs Key Out = said_by_transactions past (first_phase now arrived) in
         let tick_id : Id = record { round = number; place = 0 } in
         raises
         ∙ ap (λ t. flat_map (raised_of tick_id) (joined t)
-        ++ flat_map (λ w. flat_map (raised_of w.0) w.1 ++ w.2) (woven waiting said))
+        ++ flat_map (λ w. flat_map (raised_of w.0) w.1 ++ w.2) (by_event waiting said))
         (deals.ticks_told past hold)
         ∙ ap (λ w. flat_map (raised_of tick_id) (joined told.ticks)
-        ++ flat_map (λ w. flat_map (raised_of w.0) w.1 ++ w.2) (woven w said)) waits
+        ++ flat_map (λ w. flat_map (raised_of w.0) w.1 ++ w.2) (by_event w said)) waits
         ∙ ap (λ w. flat_map (raised_of tick_id) (joined told.ticks)
         ++ flat_map (λ w. flat_map (raised_of w.0) w.1 ++ w.2) w) (woven_told past hold)
         ∙ ap (λ more. flat_map (raised_of tick_id) (joined told.ticks) ++ more)
@@ -120,7 +119,7 @@ pub led_second : (shared : Calls) (owner : List ℕ → ℕ) (old new : List (He
     (now : ℕ) (items : List (Id × Item)) (ticks : List (List ℕ × List CallOut))
     (said : List (ℕ × List CallOut)) (before middle outputs : List Output)
     (none half commands : List (Id × Command))
-    → DealsAll call_cmp (call_machine shared) tick_input owner old new
+    → DealsAll call_cmp (call_machine shared) tick_at owner old new
     (second_phase now items) ticks said
     → middle ≡ before ++ each shown_of ticks → outputs ≡ middle ++ each shown_of said → none ≡ []
     → half ≡ none ++ each command_of ticks → commands ≡ half ++ each command_of said
@@ -173,7 +172,7 @@ module _ (shard_of : List ℕ → ℕ → ℕ) (number : ℕ) (round : Round)
       round.moment items sent shown commands)
       (past : Past) (lives : HoldFrom key_cmp transaction_machine tick_at
       (owner_of shard_of branch_in (length old_lives)) zero old_lives past.transactions)
-      (calls : HoldFrom call_cmp (call_machine (calls_of config)) tick_input
+      (calls : HoldFrom call_cmp (call_machine (calls_of config)) tick_at
       (owner_of shard_of (λ call_id. call_id) (length old_calls)) zero old_calls
       past.calls) where
     same_items : items ≡ items_of_round config number past round
@@ -213,16 +212,16 @@ module _ (shard_of : List ℕ → ℕ → ℕ) (number : ℕ) (round : Round)
         ++ third_phase round.moment cs ∷ [])) same_commands
         (after_third.stands (past.transactions ++ first config number past round ∷ []) mid_held))
 
-    new_called : HoldFrom call_cmp (call_machine (calls_of config)) tick_input
+    new_called : HoldFrom call_cmp (call_machine (calls_of config)) tick_at
         (owner_of shard_of (λ call_id. call_id) (length new_calls)) zero new_calls
         (past_after config number past round).calls
     unfolding second past_after
     new_called =
-        subst (λ n. HoldFrom call_cmp (call_machine (calls_of config)) tick_input
+        subst (λ n. HoldFrom call_cmp (call_machine (calls_of config)) tick_at
         (owner_of shard_of (λ call_id. call_id) n) zero new_calls
         (past.calls ++ second_phase round.moment (items_of_round config number past round)
         ∷ [])) (sym after_second.count)
-        (subst (λ is. HoldFrom call_cmp (call_machine (calls_of config)) tick_input
+        (subst (λ is. HoldFrom call_cmp (call_machine (calls_of config)) tick_at
         (owner_of shard_of (λ call_id. call_id) (length old_calls)) zero new_calls
         (past.calls ++ second_phase round.moment is ∷ [])) same_items
         (after_second.stands past.calls calls))
@@ -268,12 +267,12 @@ module _ (shard_of : List ℕ → ℕ → ℕ) (number : ℕ) (round : Round)
       (owner_of shard_of (λ call_id. call_id) (length old_calls)) old_calls new_calls
       round.moment items sent shown commands) same after_second in
       let held : (config : Config) (past : Past) → shared ≡ calls_of config
-      → HoldFrom call_cmp (call_machine shared) tick_input
+      → HoldFrom call_cmp (call_machine shared) tick_at
       (owner_of shard_of (λ call_id. call_id) (length old_calls)) zero old_calls past.calls
-      → HoldFrom call_cmp (call_machine (calls_of config)) tick_input
+      → HoldFrom call_cmp (call_machine (calls_of config)) tick_at
       (owner_of shard_of (λ call_id. call_id) (length old_calls)) zero old_calls past.calls =
       λ config past same. subst (λ s.
-      HoldFrom call_cmp (call_machine s) tick_input
+      HoldFrom call_cmp (call_machine s) tick_at
       (owner_of shard_of (λ call_id. call_id) (length old_calls)) zero old_calls past.calls)
       same in
       record {
@@ -282,7 +281,7 @@ module _ (shard_of : List ℕ → ℕ → ℕ) (number : ℕ) (round : Round)
             new_held config (one config same) (two config same) past lives
             (held config past same calls);
         calls = λ config past same lives calls.
-            subst (λ s. HoldFrom call_cmp (call_machine s) tick_input
+            subst (λ s. HoldFrom call_cmp (call_machine s) tick_at
             (owner_of shard_of (λ call_id. call_id) (length new_calls)) zero new_calls
             (past_after config number past round).calls) (sym same)
             (new_called config (one config same) (two config same) past lives

@@ -31,4 +31,4 @@ pub mod SoFar
 pub mod StartedOnce
 pub mod Together
 pub mod Transferred
-pub mod Weaving
+pub mod ByEvent

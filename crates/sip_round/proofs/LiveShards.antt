@@ -3,7 +3,7 @@ use Rattle.std.proofs.Common.{◌≡◌, ◌<◌, ℕ, List, All, Some, sym, ◌
 use Rattle.std.specs.Prelude.{count_by, sum_by, unwrap_or}
 use Rattle.std.proofs.lemmas.Map.Lookups.{exact_bytes}
 use Rattle.std.proofs.lemmas.Cmp.{nat_list_cmp_total}
-use Rattle.sip_calls.specs.Call.{call_due, call_machine, tick_input}
+use Rattle.sip_calls.specs.Call.{call_due, call_machine}
 use Rattle.sip_calls.specs.CallShard.{call_cmp}
 use Rattle.sip_calls.specs.Idle as calls
 use Rattle.sip_message.specs.Key.{branch_in, key_cmp, keys_total}
@@ -11,7 +11,7 @@ use Rattle.sip_message.specs.declared.key.Key.{Key}
 use Rattle.sip_model.specs.Table.{Covers, state_at}
 use Rattle.sip_transactions.specs.Idle as transactions
 use Rattle.sip_transactions.specs.Keys.{exact_keys}
-use Rattle.sip_transactions.specs.Machine.{life_due, tick_at, transaction_machine}
+use Rattle.sip_transactions.specs.Machine.{life_due, transaction_machine}
 use Rattle.sip_round.specs.declared.config.Config.{Config}
 use Rattle.sip_round.specs.declared.round.Round.{Round}
 use Rattle.sip_round.specs.AgentState.{AgentState, AreShards, ShardTables}
@@ -19,6 +19,7 @@ use Rattle.sip_round.specs.Answers.{HoldCalls, HoldTransactions, StandsFor, call
 use Rattle.sip_round.specs.Live.{live_of}
 use Rattle.sip_round.specs.Parts.{owner_of}
 use Rattle.sip_round.proofs.Living.{counted}
+use Rattle.sip_model.specs.Machine.{tick_at}
 
 pub live_shards : {C : Type 0} (shard_of : C → List ℕ → ℕ → ℕ)
     → ((name : List ℕ) (n : ℕ) (cut : C) → 0 < n → shard_of cut name n < n)
@@ -48,7 +49,7 @@ live_shards shard_of within agent shards config rounds live sound are stands liv
     live.0
     (λ key. within (branch_in key) (length shards.transactions) agent.cut are.0) mine lives in
     let second = counted nat_list_cmp_total exact_bytes
-    (call_machine (calls_of config)) call_due tick_input
+    (call_machine (calls_of config)) call_due tick_at
     (calls.ticks_are_idle (calls_of config))
     (owner_of (shard_of agent.cut) (λ call_id. call_id) (length shards.calls))
     (past_of config rounds).calls shards.calls live.1

@@ -20,10 +20,10 @@ use Rattle.sip_message.specs.Message.{is_request_message}
 use Rattle.sip_message.specs.MessageKey.{key_at, key_of_message}
 use Rattle.sip_message.specs.Source.{answer_address, stamped}
 use Rattle.sip_model.specs.declared.item.Item as model
-use Rattle.sip_model.specs.Machine.{adds, next, Timed}
+use Rattle.sip_model.specs.Machine.{adds, next, Timed, tick_at}
 use Rattle.sip_model.specs.Phase.{Phase, history, inputs_of, keys_of_phases, own_inputs, states_after, timed_items, told_items}
 use Rattle.sip_model.specs.Phase as phases
-use Rattle.sip_model.specs.Told.{speaks}
+use Rattle.sip_model.specs.Groups.{speaks}
 use Rattle.sip_model.proofs.Ordered.{by_bool}
 use Rattle.sip_reader.specs.ReadMessage.{message_at}
 use Rattle.sip_transactions.specs.declared.input.Command.{Command}
@@ -32,26 +32,24 @@ use Rattle.sip_transactions.specs.declared.input.Input.{Input}
 use Rattle.sip_transactions.specs.declared.input.Input.TheVariants.{Receive}
 use Rattle.sip_transactions.specs.declared.output.DropReason.TheVariants.{NotOurs}
 use Rattle.sip_transactions.specs.Laws.{IsServer, arrival_id, naming_id, same_id}
-use Rattle.sip_transactions.specs.Machine.{tick_at}
 use Rattle.sip_transactions.specs.Shard.{is_stray, order}
-use Rattle.sip_served.specs.Command.{call_of_item}
-use Rattle.sip_served.specs.declared.item.CallOut.{CallOut}
-use Rattle.sip_served.specs.declared.item.CallOut.TheVariants as call_out
-use Rattle.sip_served.specs.declared.item.Item.{Item}
-use Rattle.sip_served.proofs.NoStarts.{start_in, start_of, starts}
+use Rattle.sip_common.specs.Command.{call_of_item}
+use Rattle.sip_common.specs.declared.item.CallOut.{CallOut}
+use Rattle.sip_common.specs.declared.item.CallOut.TheVariants as call_out
+use Rattle.sip_common.specs.declared.item.Item.{Item}
+use Rattle.sip_common.proofs.Starts.{start_in, start_of, starts}
 use Rattle.sip_calls.specs.declared.call.Call.{Call}
 use Rattle.sip_calls.specs.declared.calls.Calls.{Calls}
-use Rattle.sip_calls.specs.Call.{call_machine, tick_input}
+use Rattle.sip_calls.specs.Call.{call_machine}
 use Rattle.sip_calls.specs.CallShard.{call_cmp, item_input}
 use Rattle.sip_calls.proofs.CallStarts.{AllClients, IsClient, call_starts, how_many, ids_of}
-use Rattle.sip_round.specs.declared.arrival.Arrival.{Arrival}
-use Rattle.sip_round.specs.declared.arrival.Arrival.TheVariants as arrival
+use Rattle.sip_round.specs.Arrivals as arrival
 use Rattle.sip_round.specs.declared.config.Config.{Config}
 use Rattle.sip_round.specs.declared.round.Event.{Event}
 use Rattle.sip_round.specs.declared.round.Event.TheVariants as event
 use Rattle.sip_round.specs.declared.round.Round.{Round}
 use Rattle.sip_round.specs.Answers.{Past, calls_of, first, given_second, items_of_round, no_past, past_after, past_from, past_of, said_by_calls, second, third}
-use Rattle.sip_round.specs.Arrivals.{arrival_of, arrivals_from, datagram_arrival, message_arrival}
+use Rattle.sip_round.specs.Arrivals.{Arrival, arrival_of, arrivals_from, datagram_arrival, message_arrival}
 use Rattle.sip_round.specs.Outputs.{command_of, joined}
 use Rattle.sip_round.specs.Phases.{call_items, command_items, transaction_item, transaction_items}
 use Rattle.sip_round.proofs.EventsRise.{Places, Rise, places_from, rise_after, rise_apart}
@@ -66,11 +64,11 @@ names key items = filter_map name_of (inputs_of key_cmp items key)
 -- ---- the first phase
 
 -- an input names nothing, or its own event, and then it is one of a server
-abbrev pub Named : Id → Key → Input → Type 0
+abbrev pub Named : Id → Key → Option Input → Type 0
 Named id k input = (naming_id input ≡ None) ⊎ (IsServer k × (naming_id input ≡ Some id))
 
 abbrev pub ArrivalNamed : Id → Arrival → Type 0
-ArrivalNamed id (arrival.Transaction k input) = Named id k input
+ArrivalNamed id (arrival.Transaction k input) = Named id k (Some input)
 ArrivalNamed id (arrival.Dropped why) = Unit {0}
 ArrivalNamed id (arrival.User command) = Unit {0}
 
@@ -81,7 +79,7 @@ start_named id (start.Request uri) branch host port method = inr (tt, refl)
 start_named id (start.Response status reason) branch host port method = inl refl
 
 message_named : (id : Id) (message : Message) (to : Addr)
-    → Named id (key_of_message message) (Receive id message to)
+    → Named id (key_of_message message) (Some (Receive id message to))
 unfolding key_of_message
 message_named id message to = start_named id message.start _ _ _ _
 
@@ -309,16 +307,16 @@ round_of_clients : (config : Config) (number : ℕ) (past : Past) (round : Round
 unfolding given_second second
 round_of_clients config number past round =
     let calls = calls_of config in
-    let before = states_after call_cmp (call_machine calls) tick_input past.calls in
+    let before = states_after call_cmp (call_machine calls) tick_at past.calls in
     let told = said_by_calls calls past.calls (second config number past round) in
     let keys = filter (λ key. speaks
-    (adds (call_machine calls) key (before key) (tick_input round.moment)))
+    (adds (call_machine calls) key (before key) (tick_at round.moment)))
     (keys_of_phases call_cmp past.calls) in
     subst AllClients (sym (filter_map-append start_in (joined told.ticks) (joined told.items)
     ∙ ap (λ s. s ++ starts (joined told.items))
     (ticks_start calls round.moment before keys)))
     (items_of_clients calls round.moment 0
-    (λ key. next (call_machine calls) key (before key) (tick_input round.moment))
+    (λ key. next (call_machine calls) key (before key) (tick_at round.moment))
     (items_of_round config number past round))
 
 -- ---- over rounds

@@ -12,7 +12,7 @@ use Rattle.std.proofs.lemmas.Map.Lookups.{CmpEqualImpliesEq, exact_bytes}
 use Rattle.sip_message.specs.Key.{branch_in, key_cmp, keys_total}
 use Rattle.sip_message.specs.declared.key.Key.{Key}
 use Rattle.sip_model.specs.Machine as machines
-use Rattle.sip_model.specs.Machine.{Machine, due_of}
+use Rattle.sip_model.specs.Machine.{Machine, due_of, tick_at}
 use Rattle.sip_model.specs.Laws.{ToldInOrder}
 use Rattle.sip_model.specs.Phase.{Phase, states_after}
 use Rattle.sip_model.specs.Shards.{HoldFrom, ShardsTellAll, is_owned}
@@ -23,8 +23,8 @@ use Rattle.sip_timers.specs.Earlier.{earlier}
 use Rattle.sip_timers.specs.Queue.{is_due}
 use Rattle.sip_transactions.specs.Idle as transactions
 use Rattle.sip_transactions.specs.Keys.{exact_keys}
-use Rattle.sip_transactions.specs.Machine.{life_due, tick_at, transaction_machine}
-use Rattle.sip_calls.specs.Call.{call_due, call_machine, tick_input}
+use Rattle.sip_transactions.specs.Machine.{life_due, transaction_machine}
+use Rattle.sip_calls.specs.Call.{call_due, call_machine}
 use Rattle.sip_calls.specs.CallShard.{call_cmp}
 use Rattle.sip_calls.specs.Idle as calls
 use Rattle.sip_round.specs.declared.config.Config.{Config}
@@ -34,7 +34,7 @@ use Rattle.sip_round.specs.AgentState.{AgentState, AreShards, ShardTables}
 use Rattle.sip_round.specs.Answers.{HoldCalls, HoldTransactions, Past, StandsFor, answers, calls_of, past_of}
 use Rattle.sip_round.specs.NextDue.{IsDueAfter, IsQuietAfter, without_events}
 use Rattle.sip_round.specs.Parts.{owner_of}
-use Rattle.sip_round.specs.Steps.Dealt.{IsIdle}
+use Rattle.sip_round.specs.Steps.AllShards.{IsIdle}
 use Rattle.sip_round.specs.Steps.Dues.{IsDueIn}
 use Rattle.sip_round.specs.Steps.Led.{Deals}
 use Rattle.sip_round.proofs.IdleRound.{idle_round}
@@ -246,18 +246,18 @@ module _ {C : Type 0} (shard_of : C → List ℕ → ℕ → ℕ)
 
   pub calls_sound : AllByRecursion (λ table. IsSome table) shards.calls
   calls_sound = sound_all nat_list_cmp_total exact_bytes (call_machine (calls_of config)) call_due
-      tick_input (calls.ticks_are_idle (calls_of config)) of_calls (past_of config rounds).calls
+      tick_at (calls.ticks_are_idle (calls_of config)) of_calls (past_of config rounds).calls
       zero shards.calls held_calls
 
   -- where nothing is due in the tables, a round without events is quiet
   pub quiet : ToldInOrder key_cmp transaction_machine tick_at
       → ShardsTellAll key_cmp transaction_machine tick_at
-      → ShardsTellAll call_cmp (call_machine agent.calls) tick_input → (moment : ℕ)
+      → ShardsTellAll call_cmp (call_machine agent.calls) tick_at → (moment : ℕ)
       → AllByRecursion (IsIdle key_cmp transaction_machine tick_at moment true)
       shards.transactions
       → AllByRecursion (IsIdle key_cmp transaction_machine tick_at moment false)
       shards.transactions
-      → AllByRecursion (IsIdle call_cmp (call_machine agent.calls) tick_input moment true)
+      → AllByRecursion (IsIdle call_cmp (call_machine agent.calls) tick_at moment true)
       shards.calls
       → IsQuietAfter config rounds moment
   quiet in_order lives_law calls_law moment first third second =
@@ -295,7 +295,7 @@ module _ {C : Type 0} (shard_of : C → List ℕ → ℕ → ℕ)
               (past_of config rounds).transactions shards.transactions lives_within lives_after
               held_lives;
           calls = left_alike nat_list_cmp_total exact_bytes (call_machine (calls_of config))
-              call_due tick_input (calls.ticks_are_idle (calls_of config)) of_calls
+              call_due tick_at (calls.ticks_are_idle (calls_of config)) of_calls
               (past_of config (rounds ++ round ∷ [])).calls (past_of config rounds).calls
               shards.calls calls_within calls_after held_calls;
         };
@@ -309,5 +309,5 @@ module _ {C : Type 0} (shard_of : C → List ℕ → ℕ → ℕ)
       shards.transactions at held_lives is)
   due_of_either at (inr is) =
       inr (due_after nat_list_cmp_total exact_bytes (call_machine (calls_of config)) call_due
-      tick_input (calls.ticks_are_idle (calls_of config)) of_calls (past_of config rounds).calls
+      tick_at (calls.ticks_are_idle (calls_of config)) of_calls (past_of config rounds).calls
       zero shards.calls at held_calls is)

@@ -9,7 +9,7 @@ use Rattle.sip_message.specs.declared.key.Key.{Key}
 use Rattle.sip_transactions.specs.declared.output.DropReason.{DropReason}
 use Rattle.sip_transactions.specs.declared.output.Out.{Out}
 use Rattle.sip_transactions.specs.declared.output.Out.TheVariants as out
-use Rattle.sip_round.specs.declared.arrival.Arrival.{Arrival}
+use Rattle.sip_round.specs.Arrivals.{Arrival}
 use Rattle.sip_round.specs.declared.config.Config.{Config}
 use Rattle.sip_round.specs.declared.output.Output.{Output}
 use Rattle.sip_round.specs.declared.output.Output.TheVariants as output

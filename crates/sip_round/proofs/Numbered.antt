@@ -8,7 +8,7 @@ use Rattle.sip_model.specs.declared.item.Item.{Item}
 use Rattle.sip_model.specs.Phase.{timed_item, timed_items}
 use Rattle.sip_model.specs.Shards.{is_owned}
 use Rattle.sip_model.proofs.Ordered.{by_bool}
-use Rattle.sip_served.specs.declared.item.Item as served
+use Rattle.sip_common.specs.declared.item.Item as served
 use Rattle.sip_transactions.specs.declared.input.Command.{Command}
 use Rattle.sip_round.specs.Parts.{cut_by}
 use Rattle.sip_round.specs.Phases.{call_items, command_items}

@@ -8,9 +8,9 @@ use Rattle.sip_message.specs.declared.id.Id.{Id}
 use Rattle.sip_message.specs.declared.key.Key.{Key}
 use Rattle.sip_message.specs.Key.{key_cmp}
 use Rattle.sip_model.specs.declared.item.Item as model
-use Rattle.sip_model.specs.Machine.{Timed, adds, next}
+use Rattle.sip_model.specs.Machine.{Timed, adds, next, tick_at}
 use Rattle.sip_model.specs.Phase.{keys_of_phases, states_after, stepped, timed_items, told_items}
-use Rattle.sip_model.specs.Told.{speaks}
+use Rattle.sip_model.specs.Groups.{speaks}
 use Rattle.sip_transactions.specs.declared.input.Input.{Input}
 use Rattle.sip_transactions.specs.declared.life.Life.{Life}
 use Rattle.sip_transactions.specs.declared.output.Kind.{Kind}
@@ -18,20 +18,19 @@ use Rattle.sip_transactions.specs.declared.output.Kind.TheVariants as kind
 use Rattle.sip_transactions.specs.declared.output.Out.{Out}
 use Rattle.sip_transactions.specs.declared.output.Out.TheVariants as out
 use Rattle.sip_transactions.specs.Laws.{naming_id}
-use Rattle.sip_transactions.specs.Machine.{tick_at, transaction_machine}
-use Rattle.sip_served.specs.Command.{call_of_item}
-use Rattle.sip_served.specs.declared.item.Item.{Item}
-use Rattle.sip_served.specs.declared.item.Item.TheVariants.{Up, User}
-use Rattle.sip_served.proofs.Each.{both}
-use Rattle.sip_calls.specs.declared.calls.CallInput.{CallInput}
+use Rattle.sip_transactions.specs.Machine.{transaction_machine}
+use Rattle.sip_common.specs.Command.{call_of_item}
+use Rattle.sip_common.specs.declared.item.Item.{Item}
+use Rattle.sip_common.specs.declared.item.Item.TheVariants.{Up, User}
+use Rattle.sip_common.proofs.Each.{both}
+use Rattle.sip_calls.specs.Call.{CallItem}
 use Rattle.sip_calls.specs.OwnCall.{IsInputOf, IsItemOf}
-use Rattle.sip_round.specs.declared.arrival.Arrival.{Arrival}
-use Rattle.sip_round.specs.declared.arrival.Arrival.TheVariants as arrival
+use Rattle.sip_round.specs.Arrivals as arrival
 use Rattle.sip_round.specs.declared.config.Config.{Config}
 use Rattle.sip_round.specs.declared.round.Event.{Event}
 use Rattle.sip_round.specs.declared.round.Round.{Round}
 use Rattle.sip_round.specs.Answers.{Past, arrivals, first, items_of_round, said_by_transactions, second}
-use Rattle.sip_round.specs.Arrivals.{arrival_of, arrivals_from}
+use Rattle.sip_round.specs.Arrivals.{Arrival, arrival_of, arrivals_from}
 use Rattle.sip_round.specs.Outputs.{joined, outs_of, raised_of, said_at, user_items}
 use Rattle.sip_round.specs.Phases.{call_items, transaction_item, transaction_items}
 use Rattle.sip_round.proofs.CallEvents.{TellsAt}
@@ -54,8 +53,8 @@ AreOwnItems items = AllByRecursion IsOwnItem items
 abbrev NamesAlone : Id → Option Id → Type 0
 NamesAlone id event = (own : Id) → event ≡ Some own → Some id ≡ Some own
 
-named_alone : (id : Id) (key : Key) (input : Input) → Named id key input
-    → NamesAlone id (naming_id input)
+named_alone : (id : Id) (key : Key) (input : Input) → Named id key (Some input)
+    → NamesAlone id (naming_id (Some input))
 named_alone id key input (inl none) own is = absurd cc
 named_alone id key input (inr one) own is = sym one.1 ∙ is
 
@@ -216,13 +215,13 @@ items_own config number past round =
 -- ---- the calls' phase
 
 inputs_own : (now at : ℕ) (items : List (Id × Item)) → AreOwnItems items
-    → AllByRecursion (λ (item : model.Item (List ℕ) (Timed CallInput)).
+    → AllByRecursion (λ (item : model.Item (List ℕ) (Timed CallItem)).
     IsInputOf item.key item.input.input) (timed_items now (call_items at items))
 inputs_own now at [] all = tt
 inputs_own now at (item ∷ items) all = ((all.0).0, inputs_own now (suc at) items all.1)
 
 pub second_own : (config : Config) (number : ℕ) (past : Past) (round : Round)
-    → AllByRecursion (λ (item : model.Item (List ℕ) (Timed CallInput)).
+    → AllByRecursion (λ (item : model.Item (List ℕ) (Timed CallItem)).
     IsInputOf item.key item.input.input) (second config number past round).items
 unfolding second
 second_own config number past round =

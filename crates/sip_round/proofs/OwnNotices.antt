@@ -4,11 +4,10 @@ use Rattle.std.specs.BTreeMap.{is_at}
 use Rattle.std.specs.List.{AllByRecursion, flat_map}
 use Rattle.sip_model.specs.Machine.{Timed, adds}
 use Rattle.sip_model.proofs.Spoken.{KeepsOwn, SpeaksForItself}
-use Rattle.sip_served.specs.declared.item.CallOut.{CallOut}
-use Rattle.sip_served.specs.declared.item.CallOut.TheVariants as call_out
+use Rattle.sip_common.specs.declared.item.CallOut.{CallOut}
+use Rattle.sip_common.specs.declared.item.CallOut.TheVariants as call_out
 use Rattle.sip_calls.specs.declared.calls.Calls.{Calls}
-use Rattle.sip_calls.specs.declared.calls.CallInput.{CallInput}
-use Rattle.sip_calls.specs.Call.{call_machine}
+use Rattle.sip_calls.specs.Call.{call_machine, CallItem}
 use Rattle.sip_calls.specs.CallShard.{call_cmp}
 use Rattle.sip_calls.specs.OwnCall.{IsCallOf, IsInputOf, IsNoticeOf}
 use Rattle.sip_calls.proofs.OwnCall.{each_notice_is_own}
@@ -21,7 +20,7 @@ abbrev pub picked : List ℕ → CallOut → List Output
 picked q out = notices_of q (shown_of out)
 
 -- an input of a call, at any moment
-abbrev pub IsTimedOf : List ℕ → Timed CallInput → Type 0
+abbrev pub IsTimedOf : List ℕ → Timed CallItem → Type 0
 IsTimedOf key timed = IsInputOf key timed.input
 
 both_or_none : (own : Bool) (xs ys : List Output)

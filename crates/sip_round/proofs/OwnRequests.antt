@@ -15,7 +15,7 @@ use Rattle.sip_message.specs.declared.start_line.StartLine.TheVariants as start
 use Rattle.sip_model.specs.Machine.{adds, Timed}
 use Rattle.sip_model.proofs.Ordered.{by_bool}
 use Rattle.sip_transactions.specs.declared.input.Input.{Input}
-use Rattle.sip_transactions.specs.declared.input.Input.TheVariants.{Tick, Receive, Start, Answer, Failed}
+use Rattle.sip_transactions.specs.declared.input.Input.TheVariants.{Receive, Start, Answer, Failed}
 use Rattle.sip_transactions.specs.declared.life.Life.{Life}
 use Rattle.sip_transactions.specs.declared.output.Kind.{Kind}
 use Rattle.sip_transactions.specs.declared.output.Kind.TheVariants as kind
@@ -31,8 +31,8 @@ use Rattle.sip_transactions.specs.Life.{acted_if, begun, keeps_request, life_by,
 use Rattle.sip_transactions.specs.Machine.{transaction_machine}
 use Rattle.sip_transactions.specs.Output.{handed_out, kind_of, made_bytes, outputs_of, send_out, sent_bytes}
 use Rattle.sip_transactions.proofs.OneRequest.{held_silent}
-use Rattle.sip_served.specs.OwnCall.{IsKindOf}
-use Rattle.sip_served.proofs.Each.{both}
+use Rattle.sip_common.specs.OwnCall.{IsKindOf}
+use Rattle.sip_common.proofs.Each.{both}
 
 -- a request is of this event
 abbrev pub IsKindBy : Option Id → Id → Kind → Type 0
@@ -130,33 +130,33 @@ handed_nothing event key life handed.Timeout = ((tt, tt), tt)
 handed_nothing event key life handed.Failed = ((tt, tt), tt)
 handed_nothing event key life handed.NoTransaction = (tt, tt)
 
-begun_own : (key : Key) (now : ℕ) (input : Input) (step : Step)
+begun_own : (key : Key) (now : ℕ) (input : Option Input) (step : Step)
     → AreOwnUps (naming_id input)
     (acted_if key now input (begun (role_of key) input) step).1
 unfolding begun outputs_of
-begun_own key now Tick step = tt
-begun_own key now (Answer id message) step = tt
-begun_own key now (Failed id) step = tt
-begun_own key now (Receive id message reply_to) step =
+begun_own key now None step = tt
+begun_own key now (Some (Answer id message)) step = tt
+begun_own key now (Some (Failed id)) step = tt
+begun_own key now (Some (Receive id message reply_to)) step =
     let life = life_by id message.call_id reply_to None in
     let event = arrival_id message.start id in
     both (IsOwnUp event)
     (option_to_list (handed_out key life step.handed (Some (message, reply_to))))
     (option_to_list (option_map (send_out key life.to) (sent_bytes life.last step.sent
-    (made_bytes life.request step.sent (message_in (Receive id message reply_to))))))
+    (made_bytes life.request step.sent (message_in (Some (Receive id message reply_to)))))))
     (handed_own key life step.handed message reply_to refl)
     (sends_own event key life.to (sent_bytes life.last step.sent
-    (made_bytes life.request step.sent (message_in (Receive id message reply_to)))))
-begun_own key now (Start id call_id message to) step =
+    (made_bytes life.request step.sent (message_in (Some (Receive id message reply_to))))))
+begun_own key now (Some (Start id call_id message to)) step =
     let life = life_by id call_id to
     (if keeps_request (role_of key) then Some message else None) in
     both (IsOwnUp (Some id))
     (option_to_list (handed_out key life step.handed None))
     (option_to_list (option_map (send_out key life.to) (sent_bytes life.last step.sent
-    (made_bytes life.request step.sent (message_in (Start id call_id message to))))))
+    (made_bytes life.request step.sent (message_in (Some (Start id call_id message to)))))))
     (handed_nothing (Some id) key life step.handed)
     (sends_own (Some id) key life.to (sent_bytes life.last step.sent
-    (made_bytes life.request step.sent (message_in (Start id call_id message to)))))
+    (made_bytes life.request step.sent (message_in (Some (Start id call_id message to))))))
 
 -- ---- one input
 

@@ -55,7 +55,7 @@ own_told q key life handed.Timeout arrived sent = own_sent q key life.to sent
 own_told q key life handed.Failed arrived sent = own_sent q key life.to sent
 own_told q key life handed.NoTransaction arrived sent = own_sent q key life.to sent
 
-own_acted : (q key : Key) (now : ℕ) (input : Input) (o : Option Life) (step : Step)
+own_acted : (q key : Key) (now : ℕ) (input : Option Input) (o : Option Life) (step : Step)
     → Own q key (acted_if key now input o step).1
 unfolding outputs_of
 own_acted q key now input None step = own_none (is_at (key_cmp q) key)
@@ -63,7 +63,7 @@ own_acted q key now input (Some life) step =
     own_told q key life step.handed (arrived_in input)
     (sent_bytes life.last step.sent (made_bytes life.request step.sent (message_in input)))
 
-own_by : (q key : Key) (held : Option Life) (now : ℕ) (input : Input) (o : Option Step)
+own_by : (q key : Key) (held : Option Life) (now : ℕ) (input : Option Input) (o : Option Step)
     → Own q key (stepped_by key held now input o).1
 own_by q key held now input None = own_none (is_at (key_cmp q) key)
 own_by q key held now input (Some step) =

@@ -4,7 +4,7 @@ use Rattle.std.specs.Prelude.{Result, Ok}
 use Rattle.std.specs.List.{AllByRecursion, flat_map}
 use Rattle.std.proofs.lemmas.Grind.{flat_map-append}
 use Rattle.std.proofs.lemmas.List.{map-append, nil_from_length}
-use Rattle.sip_round.specs.Steps.Dealt.{IsApart}
+use Rattle.sip_round.specs.Steps.AllShards.{IsApart}
 
 all_pushed : {P : Type 0} (Q : P → Type 0) (ps : List P) (p : P) → AllByRecursion Q ps → Q p
     → AllByRecursion Q (ps ++ p ∷ [])

@@ -6,25 +6,24 @@ use Rattle.std.specs.List.{AllByRecursion, flat_map}
 use Rattle.std.proofs.lemmas.List.{length-append}
 use Rattle.std.proofs.lemmas.List.Elements.{filter-append, filter_map-append}
 use Rattle.sip_message.specs.declared.id.Id.{Id}
-use Rattle.sip_model.specs.Machine.{adds, next, Timed}
+use Rattle.sip_model.specs.Machine.{adds, next, Timed, tick_at}
 use Rattle.sip_model.specs.Phase.{keys_of_phases, states_after, stepped, timed_items, told_items}
-use Rattle.sip_model.specs.Told.{speaks}
+use Rattle.sip_model.specs.Groups.{speaks}
 use Rattle.sip_transactions.specs.declared.output.Kind.{Kind}
 use Rattle.sip_transactions.specs.declared.output.Kind.TheVariants as kind
-use Rattle.sip_served.specs.declared.item.CallOut.{CallOut}
-use Rattle.sip_served.specs.declared.item.CallOut.TheVariants as call_out
-use Rattle.sip_served.specs.declared.item.Item.{Item}
-use Rattle.sip_served.specs.declared.item.Item.TheVariants.{Up, User}
-use Rattle.sip_served.specs.declared.notice.Notice.{Notice as ANotice}
-use Rattle.sip_served.specs.declared.notice.Notice.TheVariants as notice
-use Rattle.sip_served.specs.Command.{call_of_item}
-use Rattle.sip_served.specs.Shown.{is_request, request_in}
-use Rattle.sip_served.specs.State.{is_id}
+use Rattle.sip_common.specs.declared.item.CallOut.{CallOut}
+use Rattle.sip_common.specs.declared.item.CallOut.TheVariants as call_out
+use Rattle.sip_common.specs.declared.item.Item.{Item}
+use Rattle.sip_common.specs.declared.item.Item.TheVariants.{Up, User}
+use Rattle.sip_common.specs.declared.notice.Notice.{Notice as ANotice}
+use Rattle.sip_common.specs.declared.notice.Notice.TheVariants as notice
+use Rattle.sip_common.specs.Command.{call_of_item}
+use Rattle.sip_common.specs.Notices.{request_in}
+use Rattle.sip_served.specs.Shown.{is_request}
+use Rattle.sip_common.specs.Ids.{is_id}
 use Rattle.sip_calls.specs.declared.call.Call.{Call}
 use Rattle.sip_calls.specs.declared.calls.Calls.{Calls}
-use Rattle.sip_calls.specs.declared.calls.CallInput.{CallInput}
-use Rattle.sip_calls.specs.declared.calls.CallInput.TheVariants.{Tick, Item as AnItem}
-use Rattle.sip_calls.specs.Call.{call_machine, tick_input}
+use Rattle.sip_calls.specs.Call.{call_machine}
 use Rattle.sip_calls.specs.CallShard.{call_cmp, item_input}
 use Rattle.sip_calls.specs.Provisionals.{event_of_kind}
 use Rattle.sip_calls.specs.Requests.{brings, tells_of}
@@ -104,27 +103,27 @@ module _ (x : Id) where
 
   abbrev coming : List (Id × Item) → ℕ
   coming [] = 0
-  coming (i ∷ items) = cond (brings x (AnItem i.0 i.1)) 1 0 + coming items
+  coming (i ∷ items) = cond (brings x (Some i)) 1 0 + coming items
 
   no_tick_tells : (calls : Calls) (state : Option Call) (key : List ℕ) (now : ℕ)
-      → tells_of x (adds (call_machine calls) key state (tick_input now)) ≡ 0
+      → tells_of x (adds (call_machine calls) key state (tick_at now)) ≡ 0
   no_tick_tells calls state key now =
-      let few = each_told_once calls state Tick now x in omega (arith, few)
+      let few = each_told_once calls state None now x in omega (arith, few)
 
   ticks_tell : (calls : Calls) (now : ℕ) (states : List ℕ → Option Call) (keys : List (List ℕ))
       → tells_of x (joined (map (λ key. (
         key,
-        adds (call_machine calls) key (states key) (tick_input now),
+        adds (call_machine calls) key (states key) (tick_at now),
       )) keys)) ≡ 0
   ticks_tell calls now states [] = refl
   ticks_tell calls now states (key ∷ keys) =
       let rest = joined (map (λ key. (
         key,
-        adds (call_machine calls) key (states key) (tick_input now),
+        adds (call_machine calls) key (states key) (tick_at now),
       )) keys) in
       omega (
         arith,
-        tells_append (adds (call_machine calls) key (states key) (tick_input now)) rest,
+        tells_append (adds (call_machine calls) key (states key) (tick_at now)) rest,
         no_tick_tells calls (states key) key now,
         ticks_tell calls now states keys,
       )
@@ -146,7 +145,7 @@ module _ (x : Id) where
       omega (
         arith,
         tells_append (adds machine key (states key) input) rest,
-        each_told_once calls (states key) (AnItem i.0 i.1) now x,
+        each_told_once calls (states key) (Some i) now x,
         items_tell calls now (suc at) later items,
       )
 
@@ -157,12 +156,12 @@ module _ (x : Id) where
   round_tells config number past round =
       let calls = calls_of config in
       let machine = call_machine calls in
-      let before = states_after call_cmp machine tick_input past.calls in
+      let before = states_after call_cmp machine tick_at past.calls in
       let between : List ℕ → Option Call = λ q.
-      next machine q (before q) (tick_input round.moment) in
+      next machine q (before q) (tick_at round.moment) in
       let told = said_by_calls calls past.calls (second config number past round) in
       let keys = filter (λ key. speaks
-      (adds machine key (before key) (tick_input round.moment)))
+      (adds machine key (before key) (tick_at round.moment)))
       (keys_of_phases call_cmp past.calls) in
       omega (
         arith,
@@ -187,7 +186,7 @@ module _ (x : Id) where
   kind_weighs id own kind.Failed is = omega arith
 
   item_weighs : (id : Id) (i : Item) → IsItemBy id i
-      → cond (brings x (AnItem id i)) 1 0 ≤ weight (is_id x) (item_event (id, i))
+      → cond (brings x (Some (id, i))) 1 0 ≤ weight (is_id x) (item_event (id, i))
   item_weighs id (Up up) is = kind_weighs id up.id up.kind is
   item_weighs id (User command) is = omega arith
 

@@ -1,7 +1,7 @@
 -- In any rounds a transaction of a client is started once at most under an id: under that of the
 -- event by which it starts, or under that of the command whose CANCEL waited.
 use Rattle.std.proofs.Common.{◌≡◌, ℕ, suc, ◌+◌, ◌≤◌, true, false, cond, List, [], ◌∷◌, ◌++◌, map, refl, sym, ap, subst, ◌∙◌, zero-add, arith}
-use Rattle.std.specs.Prelude.{Option, filter}
+use Rattle.std.specs.Prelude.{Option, None, filter}
 use Rattle.std.specs.List.{AllByRecursion, IsDistinct}
 use Rattle.std.proofs.lemmas.Grind.{common_steps}
 use Rattle.std.proofs.lemmas.Cmp.{nat_list_cmp_total}
@@ -11,22 +11,20 @@ use Rattle.std.proofs.lemmas.List.Sums.{sum_by-append, sum_by-cons}
 use Rattle.std.proofs.lemmas.Map.Lookups.{exact_bytes}
 use Rattle.std.proofs.lemmas.Map.Keys.{IsDistinct-cons, IsDistinct-head, IsDistinct-tail}
 use Rattle.sip_message.specs.declared.id.Id.{Id}
-use Rattle.sip_model.specs.Machine.{Machine, adds, next, Timed}
+use Rattle.sip_model.specs.Machine.{Machine, adds, next, Timed, tick_at}
 use Rattle.sip_model.specs.Phase.{keys_of_phases, states_after, states_then, timed_items}
-use Rattle.sip_model.specs.Told.{speaks}
+use Rattle.sip_model.specs.Groups.{speaks}
 use Rattle.sip_model.proofs.Ordered.{by_bool}
 use Rattle.sip_model.proofs.Phases.{states_after_phase}
 use Rattle.sip_model.proofs.Token.{Budget, KeepsToken, Spent, budget_from, budget_kept, coming_with, spend_items}
-use Rattle.sip_served.specs.declared.item.CallOut.{CallOut}
-use Rattle.sip_served.specs.declared.item.Item.{Item}
-use Rattle.sip_served.specs.State.{is_id}
-use Rattle.sip_served.proofs.Entries.{none_apart}
-use Rattle.sip_served.proofs.NoStarts.{start_in, starts}
+use Rattle.sip_common.specs.declared.item.CallOut.{CallOut}
+use Rattle.sip_common.specs.declared.item.Item.{Item}
+use Rattle.sip_common.specs.Ids.{is_id}
+use Rattle.sip_common.proofs.Entries.{none_apart}
+use Rattle.sip_common.proofs.Starts.{start_in, starts}
 use Rattle.sip_calls.specs.declared.call.Call.{Call}
 use Rattle.sip_calls.specs.declared.calls.Calls.{Calls}
-use Rattle.sip_calls.specs.declared.calls.CallInput.{CallInput}
-use Rattle.sip_calls.specs.declared.calls.CallInput.TheVariants.{Tick}
-use Rattle.sip_calls.specs.Call.{call_machine, tick_input}
+use Rattle.sip_calls.specs.Call.{call_machine, CallItem}
 use Rattle.sip_calls.specs.CallShard.{call_cmp}
 use Rattle.sip_calls.specs.Provisionals.{event_in}
 use Rattle.sip_calls.proofs.CallStarts.{call_starts, count_option, how_many, id_exact, ids_of, tick_silent, waiting_in, weight}
@@ -113,25 +111,25 @@ no_more f x y same = omega (arith, ap f same)
 pub ticks_start : (calls : Calls) (now : ℕ) (states : List ℕ → Option Call) (keys : List (List ℕ))
     → starts (joined (map (λ key. (
       key,
-      adds (call_machine calls) key (states key) (tick_input now),
+      adds (call_machine calls) key (states key) (tick_at now),
     )) keys)) ≡ []
 ticks_start calls now states [] = refl
 ticks_start calls now states (key ∷ keys) =
-    filter_map-append start_in (adds (call_machine calls) key (states key) (tick_input now))
-    (joined (map (λ key. (key, adds (call_machine calls) key (states key) (tick_input now))) keys))
+    filter_map-append start_in (adds (call_machine calls) key (states key) (tick_at now))
+    (joined (map (λ key. (key, adds (call_machine calls) key (states key) (tick_at now))) keys))
     ∙ (λ i. tick_silent calls (states key) now i ++ ticks_start calls now states keys i)
 
 module _ (calls : Calls) (x : Id) where
   abbrev waits : Option Call → ℕ
   waits state = how_many x (waiting_in state)
 
-  abbrev comes : Timed CallInput → ℕ
+  abbrev comes : Timed CallItem → ℕ
   comes timed = weight (is_id x) (event_in timed.input)
 
   abbrev goes : List CallOut → ℕ
   goes outs = how_many x (ids_of (starts outs))
 
-  abbrev machine : Machine (List ℕ) Call (Timed CallInput) CallOut
+  abbrev machine : Machine (List ℕ) Call (Timed CallItem) CallOut
   machine = call_machine calls
 
   abbrev States : Type 0
@@ -159,18 +157,18 @@ module _ (calls : Calls) (x : Id) where
       ∙ sym (count_option (is_id x) (item_event i) (events_of items))
 
   tick_waits : (now : ℕ) (states : States) (q : List ℕ)
-      → waits (next machine q (states q) (tick_input now)) ≤ waits (states q)
+      → waits (next machine q (states q) (tick_at now)) ≤ waits (states q)
   tick_waits now states q =
-      omega (arith, (call_starts calls (states q) Tick now).few x)
+      omega (arith, (call_starts calls (states q) None now).few x)
 
 round_starts : (config : Config) (number : ℕ) (past : Past) (round : Round) (x : Id)
     (most later : ℕ)
     → Left (calls_of config) x most
-    (states_after call_cmp (call_machine (calls_of config)) tick_input past.calls)
+    (states_after call_cmp (call_machine (calls_of config)) tick_at past.calls)
     (how_many x (events_of (items_of_round config number past round)) + later)
     → Spent call_cmp (waits (calls_of config) x) most
     (how_many x (ids_of (starts (given_second config number past round))))
-    (states_after call_cmp (call_machine (calls_of config)) tick_input
+    (states_after call_cmp (call_machine (calls_of config)) tick_at
     (past_after config number past round).calls) later
 unfolding given_second second past_after
 round_starts config number past round x most later budget =
@@ -179,12 +177,12 @@ round_starts config number past round x most later budget =
     let items = items_of_round config number past round in
     let phase = second config number past round in
     let timed = timed_items round.moment (call_items 0 items) in
-    let before = states_after call_cmp machine tick_input past.calls in
-    let between : List ℕ → Option Call = λ q. next machine q (before q) (tick_input round.moment) in
-    let after = states_after call_cmp machine tick_input (past.calls ++ phase ∷ []) in
+    let before = states_after call_cmp machine tick_at past.calls in
+    let between : List ℕ → Option Call = λ q. next machine q (before q) (tick_at round.moment) in
+    let after = states_after call_cmp machine tick_at (past.calls ++ phase ∷ []) in
     let told = said_by_calls calls past.calls phase in
     let keys = filter (λ key. speaks
-    (adds machine key (before key) (tick_input round.moment)))
+    (adds machine key (before key) (tick_at round.moment)))
     (keys_of_phases call_cmp past.calls) in
     let left = budget_kept call_cmp (waits calls x) most before between
     (how_many x (events_of items) + later) (tick_waits calls x round.moment before) budget in
@@ -202,7 +200,7 @@ round_starts config number past round x most later budget =
       budget = budget_kept call_cmp (waits calls x) spent.left
           (states_then call_cmp machine between timed) after later
           (λ q. no_more (waits calls x) (states_then call_cmp machine between timed q) (after q)
-          (sym (states_after_phase nat_list_cmp_total exact_bytes machine tick_input past.calls
+          (sym (states_after_phase nat_list_cmp_total exact_bytes machine tick_at past.calls
           phase q)))
           spent.budget;
     }
@@ -236,7 +234,7 @@ started_from config number past (round ∷ rounds) =
 started_within : (config : Config) (rounds : List Round) (number : ℕ) (past : Past) (x : Id)
     (most : ℕ)
     → Left (calls_of config) x most
-    (states_after call_cmp (call_machine (calls_of config)) tick_input past.calls)
+    (states_after call_cmp (call_machine (calls_of config)) tick_at past.calls)
     (how_many x (events_from config number past rounds))
     → how_many x (started_from config number past rounds) ≤ most
 started_within config [] number past x most budget = omega arith
@@ -246,7 +244,7 @@ started_within config (round ∷ rounds) number past x most budget =
     let later = events_from config (suc number) next rounds in
     let spent = round_starts config number past round x most (how_many x later)
     (subst (Left (calls_of config) x most
-    (states_after call_cmp (call_machine (calls_of config)) tick_input past.calls))
+    (states_after call_cmp (call_machine (calls_of config)) tick_at past.calls))
     (how_many-append x (events_of items) later) budget) in
     let rest = started_within config rounds (suc number) next x spent.left spent.budget in
     omega (
@@ -264,7 +262,7 @@ started_once config rounds x =
     let events = events_from config config.first no_past rounds in
     started_within config rounds config.first no_past x 1
     (budget_from call_cmp (waits (calls_of config) x)
-    (states_after call_cmp (call_machine (calls_of config)) tick_input [])
+    (states_after call_cmp (call_machine (calls_of config)) tick_at [])
     (how_many x events)
     (once_of_distinct x events (rise_apart config.first 0 events
     (events_rise config config.first no_past rounds)))

@@ -8,11 +8,11 @@ use Rattle.std.specs.List.Sorted.{IsStrictlySortedBy}
 use Rattle.sip_model.specs.declared.item.Item.{Item}
 use Rattle.sip_model.specs.Machine.{Machine}
 use Rattle.sip_model.specs.Table.{Held}
-use Rattle.sip_model.specs.Told.{Sorts}
+use Rattle.sip_model.specs.Groups.{Sorts}
 use Rattle.sip_model.specs.Phase.{Phase, AddsPhase}
-use Rattle.sip_model.specs.Shards.{AllDealt, Dealt, HoldFrom, ShardsTellAll, TellAll}
+use Rattle.sip_model.specs.Shards.{EachDeals, ShardPhase, HoldFrom, ShardsTellAll, TellAll}
 use Rattle.sip_round.specs.Parts.{cut_by}
-use Rattle.sip_round.specs.Steps.Dealt.{DealsAll, IsApart}
+use Rattle.sip_round.specs.Steps.AllShards.{DealsAll, IsApart}
 use Rattle.sip_round.proofs.Cutting.{map_long}
 
 unfoldable pub first_of : {X : Type 0} → X → List X → X
@@ -31,7 +31,7 @@ module _ {K S I O : Type 0} (cmp : K → K → Ordering) (machine : Machine K S 
     (gave : (p : P) (d : D) → Same p → gives p (Ok d)
     → AddsPhase cmp machine tick (before p) (after d)
     (record { moment = phase.moment; items = part p }) (ticks d) (said d)) where
-  abbrev dealt_by : P × D → Dealt K S O
+  abbrev dealt_by : P × D → ShardPhase K S O
   dealt_by both = record {
     before = before both.0;
     after = after both.1;
@@ -39,12 +39,12 @@ module _ {K S I O : Type 0} (cmp : K → K → Ordering) (machine : Machine K S 
     items = said both.1;
   }
 
-  abbrev together : List P → List D → List (Dealt K S O)
+  abbrev together : List P → List D → List (ShardPhase K S O)
   together ps ds = map dealt_by (zip ps ds)
 
   all_dealt : (number : ℕ) (ps : List P) (ds : List D) → AllZip gives ps (map Ok ds)
       → AllByRecursion Same ps → map part ps ≡ cut_by owner number (length ps) phase.items
-      → AllDealt cmp machine tick owner phase number (together ps ds)
+      → EachDeals cmp machine tick owner phase number (together ps ds)
   unfolding first_of rest_of
   all_dealt number [] [] given same parts = tt
   all_dealt number [] (d ∷ ds) given same parts = absurd given

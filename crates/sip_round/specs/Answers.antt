@@ -2,28 +2,26 @@
 -- in stamp order.
 use Rattle.std.specs.Prelude.{suc, ◌≡◌, ◌⊎◌, ◌<◌, ℕ, ◌+◌, zero, Bool, true, List, [], ◌∷◌, ◌++◌, length, take, Option, Some, None}
 use Rattle.std.specs.List.{flat_map}
-use Rattle.sip_model.specs.Machine.{Timed}
+use Rattle.sip_model.specs.Machine.{Timed, tick_at}
 use Rattle.sip_message.specs.declared.id.Id.{Id}
 use Rattle.sip_message.specs.declared.key.Key.{Key}
 use Rattle.sip_message.specs.Key.{key_cmp, branch_in}
-use Rattle.sip_model.specs.Phase.{Phase, Told, told_next}
+use Rattle.sip_model.specs.Phase.{Phase, PhaseOutputs, told_next}
 use Rattle.sip_model.specs.Shards.{HoldFrom}
 use Rattle.sip_transactions.specs.declared.input.Input.{Input}
 use Rattle.sip_transactions.specs.declared.output.Out.{Out}
-use Rattle.sip_transactions.specs.Machine.{transaction_machine, tick_at}
-use Rattle.sip_served.specs.declared.item.Item.{Item}
-use Rattle.sip_served.specs.declared.item.CallOut.{CallOut}
+use Rattle.sip_transactions.specs.Machine.{transaction_machine}
+use Rattle.sip_common.specs.declared.item.Item.{Item}
+use Rattle.sip_common.specs.declared.item.CallOut.{CallOut}
 use Rattle.sip_calls.specs.declared.calls.Calls.{Calls}
-use Rattle.sip_calls.specs.declared.calls.CallInput.{CallInput}
-use Rattle.sip_calls.specs.Call.{call_machine, tick_input}
+use Rattle.sip_calls.specs.Call.{call_machine, CallItem}
 use Rattle.sip_calls.specs.CallShard.{call_cmp}
-use Rattle.sip_round.specs.declared.arrival.Arrival.{Arrival}
 use Rattle.sip_round.specs.declared.config.Config.{Config}
 use Rattle.sip_round.specs.declared.output.Output.{Output}
 use Rattle.sip_round.specs.declared.round.Round.{Round}
 use Rattle.sip_round.specs.declared.round_fault.RoundFault.{RoundFault}
 use Rattle.sip_round.specs.AgentState.{AgentState, ShardTables, round_fault}
-use Rattle.sip_round.specs.Arrivals.{arrivals_from}
+use Rattle.sip_round.specs.Arrivals.{Arrival, arrivals_from}
 use Rattle.sip_round.specs.Outputs.{sent_of, raised_of, shown_of, command_of, joined, all_said, said_at, outs_of, user_items}
 use Rattle.sip_round.specs.Parts.{owner_of}
 use Rattle.sip_round.specs.Phases.{first_phase, second_phase, third_phase}
@@ -35,27 +33,27 @@ calls_of config = record { local = config.local; seed = config.seed }
 -- all phases that the transactions and the calls were led through, oldest first
 pub record Past : Type 0 where
   pub transactions : List (Phase Key (Timed Input))
-  pub calls : List (Phase (List ℕ) (Timed CallInput))
+  pub calls : List (Phase (List ℕ) (Timed CallItem))
 
 -- ---- one phase, after others
 
 abbrev pub said_by_transactions : List (Phase Key (Timed Input)) → Phase Key (Timed Input)
-    → Told Key Out
+    → PhaseOutputs Key Out
 said_by_transactions = told_next key_cmp transaction_machine tick_at
 
-abbrev pub said_by_calls : Calls → List (Phase (List ℕ) (Timed CallInput))
-    → Phase (List ℕ) (Timed CallInput)
-    → Told (List ℕ) CallOut
-said_by_calls calls = told_next call_cmp (call_machine calls) tick_input
+abbrev pub said_by_calls : Calls → List (Phase (List ℕ) (Timed CallItem))
+    → Phase (List ℕ) (Timed CallItem)
+    → PhaseOutputs (List ℕ) CallOut
+said_by_calls calls = told_next call_cmp (call_machine calls) tick_at
 
 -- what the first phase sends and drops: at the ticks, and then by place
-abbrev pub sent_first : Told Key Out → List (Id × Arrival) → List Output
+abbrev pub sent_first : PhaseOutputs Key Out → List (Id × Arrival) → List Output
 sent_first told arrivals = flat_map sent_of (joined told.ticks)
     ++ flat_map (λ a. flat_map sent_of (outs_of (said_at told) a.0 a.1)) arrivals
 
 -- the items of the calls: what comes up at the ticks, with place 0, and then what comes up and the
 -- user's commands, by place
-abbrev pub items_first : ℕ → Told Key Out → List (Id × Arrival) → List (Id × Item)
+abbrev pub items_first : ℕ → PhaseOutputs Key Out → List (Id × Arrival) → List (Id × Item)
 items_first number told arrivals =
     flat_map (raised_of (record { round = number; place = 0 })) (joined told.ticks)
     ++ flat_map (λ a. flat_map (raised_of a.0) (outs_of (said_at told) a.0 a.1)
@@ -73,7 +71,7 @@ module _ (config : Config) (number : ℕ) (past : Past) (round : Round) where
   unfoldable pub items_of_round : List (Id × Item)
   items_of_round = items_first number (said_by_transactions past.transactions first) arrivals
 
-  unfoldable pub second : Phase (List ℕ) (Timed CallInput)
+  unfoldable pub second : Phase (List ℕ) (Timed CallItem)
   second = second_phase round.moment items_of_round
 
   unfoldable pub given_second : List CallOut
@@ -159,9 +157,9 @@ HoldTransactions shard_of shards past =
     (owner_of shard_of branch_in (length shards.transactions)) zero shards.transactions past
 
 abbrev pub HoldCalls : Calls → (List ℕ → ℕ → ℕ) → ShardTables
-    → List (Phase (List ℕ) (Timed CallInput)) → Type 0
+    → List (Phase (List ℕ) (Timed CallItem)) → Type 0
 HoldCalls calls shard_of shards past =
-    HoldFrom call_cmp (call_machine calls) tick_input
+    HoldFrom call_cmp (call_machine calls) tick_at
     (owner_of shard_of (λ call_id. call_id) (length shards.calls)) zero shards.calls past
 
 -- the agent isn't broken, is at the round and the moment after these rounds, and holds just what

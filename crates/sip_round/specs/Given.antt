@@ -1,5 +1,5 @@
 -- What a run gives, transaction by transaction and call by call.
-use Rattle.std.specs.Prelude.{◌≡◌, ◌≢◌, ℕ, ◌≤◌, ◌&&◌, Bool, false, List, [], ◌∷◌, ◌++◌, AllPairs, Some, None, drop, filter, length}
+use Rattle.std.specs.Prelude.{◌≡◌, ◌≢◌, ℕ, ◌≤◌, ◌&&◌, Bool, false, List, [], ◌∷◌, ◌++◌, AllPairs, Option, Some, None, drop, filter, length}
 use Rattle.std.specs.BTreeMap.{is_at}
 use Rattle.std.specs.List.{AllByRecursion, flat_map}
 use Rattle.sip_message.specs.declared.id.Id.{Id}
@@ -11,18 +11,16 @@ use Rattle.sip_transactions.specs.declared.output.Out.{Out}
 use Rattle.sip_transactions.specs.declared.output.Out.TheVariants as out
 use Rattle.sip_transactions.specs.Laws.{id_of, same_id}
 use Rattle.sip_transactions.specs.Machine.{transaction_machine}
-use Rattle.sip_served.specs.declared.held_dialog.DialogLife.{DialogLife}
-use Rattle.sip_served.specs.declared.item.CallOut.{CallOut}
-use Rattle.sip_served.specs.declared.item.CallOut.TheVariants as call_out
-use Rattle.sip_served.specs.declared.item.Item.TheVariants.{Up}
-use Rattle.sip_served.specs.declared.notice.Notice.TheVariants as notice
-use Rattle.sip_served.specs.State.{is_id}
-use Rattle.sip_calls.specs.Call.{call_machine}
+use Rattle.sip_common.specs.declared.held_dialog.DialogLife.{DialogLife}
+use Rattle.sip_common.specs.declared.item.CallOut.{CallOut}
+use Rattle.sip_common.specs.declared.item.CallOut.TheVariants as call_out
+use Rattle.sip_common.specs.declared.item.Item.TheVariants.{Up}
+use Rattle.sip_common.specs.declared.notice.Notice.TheVariants as notice
+use Rattle.sip_common.specs.Ids.{is_id}
+use Rattle.sip_calls.specs.Call.{call_machine, CallItem}
 use Rattle.sip_calls.specs.CallShard.{call_cmp}
 use Rattle.sip_calls.specs.OwnCall.{call_of_notice}
 use Rattle.sip_calls.specs.Provisionals.{AnInvite, IsConsecutive, came, in_order, shown}
-use Rattle.sip_calls.specs.declared.calls.CallInput.{CallInput}
-use Rattle.sip_calls.specs.declared.calls.CallInput.TheVariants.{Item as AnItem}
 use Rattle.sip_round.specs.declared.config.Config.{Config}
 use Rattle.sip_round.specs.declared.output.Output.{Output}
 use Rattle.sip_round.specs.declared.output.Output.TheVariants as output
@@ -146,15 +144,15 @@ pub record HasEnded (key : Key) (id : Id) (config : Config) (rounds : List Round
   pub named : id_of first.input ≡ Some id
 
 -- what a call is given comes from that transaction, under that id
-abbrev pub comes_from : Key → Id → CallInput → Bool
-comes_from key id (AnItem event (Up up)) = is_at (key_cmp key) up.key && same_id id up.id
+abbrev pub comes_from : Key → Id → Option CallItem → Bool
+comes_from key id (Some (event, Up up)) = is_at (key_cmp key) up.key && same_id id up.id
 comes_from key id _ = false
 
 -- what later rounds give of a call is what some inputs of it add, and none of them comes from that
 -- transaction under that id
 pub record NoneComesFrom (key : Key) (id : Id) (config : Config) (earlier later : List Round)
     (given : List (List Output)) (call_id : List ℕ) : Type 0 where
-  pub inputs : List (Timed CallInput)
+  pub inputs : List (Timed CallItem)
   pub are : call_inputs_of config (earlier ++ later) call_id
       ≡ call_inputs_of config earlier call_id ++ inputs
   pub none : AllByRecursion (λ timed. comes_from key id timed.input ≡ false) inputs

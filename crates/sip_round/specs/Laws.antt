@@ -5,16 +5,15 @@ use Rattle.sip_message.specs.declared.id.Id.{Id}
 use Rattle.sip_message.specs.Key.{key_cmp}
 use Rattle.sip_message.specs.declared.key.Key.{Key}
 use Rattle.sip_model.specs.Laws.{said_from}
-use Rattle.sip_model.specs.Machine.{IsLife, adds, outputs_from, state_after, Timed}
+use Rattle.sip_model.specs.Machine.{IsLife, adds, outputs_from, state_after, Timed, tick_at}
 use Rattle.sip_model.specs.Phase.{history}
 use Rattle.sip_transactions.specs.declared.input.Input.{Input}
 use Rattle.sip_transactions.specs.declared.output.Out.{Out}
 use Rattle.sip_transactions.specs.Laws.{IsServer, carries, id_of, requests_in}
-use Rattle.sip_transactions.specs.Machine.{transaction_machine, tick_at}
-use Rattle.sip_served.specs.declared.held_dialog.DialogLife.{DialogLife}
-use Rattle.sip_served.specs.declared.item.CallOut.{CallOut}
-use Rattle.sip_calls.specs.declared.calls.CallInput.{CallInput}
-use Rattle.sip_calls.specs.Call.{call_machine, tick_input}
+use Rattle.sip_transactions.specs.Machine.{transaction_machine}
+use Rattle.sip_common.specs.declared.held_dialog.DialogLife.{DialogLife}
+use Rattle.sip_common.specs.declared.item.CallOut.{CallOut}
+use Rattle.sip_calls.specs.Call.{call_machine, CallItem}
 use Rattle.sip_calls.specs.CallShard.{call_cmp}
 use Rattle.sip_calls.specs.Provisionals.{AnInvite, IsConsecutive, came, in_order, shown}
 use Rattle.sip_round.specs.declared.config.Config.{Config}
@@ -76,14 +75,14 @@ NothingAfterEachEnd = (config : Config) (rounds : List Round) → NothingAfterEn
 -- ---- calls
 
 -- all that a call is given in rounds, oldest first
-abbrev pub call_inputs_of : Config → List Round → List ℕ → List (Timed CallInput)
+abbrev pub call_inputs_of : Config → List Round → List ℕ → List (Timed CallItem)
 call_inputs_of config rounds call_id =
-    history call_cmp tick_input (past_of config rounds).calls call_id
+    history call_cmp tick_at (past_of config rounds).calls call_id
 
 -- all that the phases of rounds say of a call, in order
 abbrev pub said_of_call : Config → List Round → List ℕ → List CallOut
 said_of_call config rounds call_id =
-    said_from call_cmp (call_machine (calls_of config)) tick_input call_id []
+    said_from call_cmp (call_machine (calls_of config)) tick_at call_id []
     (past_of config rounds).calls
 
 -- What rounds say of a call is what its inputs add, in order; and of the reliable provisional

@@ -1,12 +1,12 @@
 -- How much is held after a past.
 use Rattle.std.specs.Prelude.{ℕ, List, is_some, count_by}
 use Rattle.std.specs.declared.cmp.Ordering.{Ordering}
-use Rattle.sip_calls.specs.Call.{call_machine, tick_input}
+use Rattle.sip_calls.specs.Call.{call_machine}
 use Rattle.sip_calls.specs.CallShard.{call_cmp}
 use Rattle.sip_message.specs.Key.{key_cmp}
-use Rattle.sip_model.specs.Machine.{Machine}
+use Rattle.sip_model.specs.Machine.{Machine, tick_at}
 use Rattle.sip_model.specs.Phase.{Phase, keys_of_phases, states_after}
-use Rattle.sip_transactions.specs.Machine.{transaction_machine, tick_at}
+use Rattle.sip_transactions.specs.Machine.{transaction_machine}
 use Rattle.sip_round.specs.declared.config.Config.{Config}
 use Rattle.sip_round.specs.Answers.{Past, calls_of}
 
@@ -20,5 +20,5 @@ live_after cmp machine tick phases =
 abbrev pub live_of : Config → Past → ℕ × ℕ
 live_of config past = (
   live_after key_cmp transaction_machine tick_at past.transactions,
-  live_after call_cmp (call_machine (calls_of config)) tick_input past.calls,
+  live_after call_cmp (call_machine (calls_of config)) tick_at past.calls,
 )

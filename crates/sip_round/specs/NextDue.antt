@@ -1,12 +1,12 @@
 -- When something is due of an agent, and what a round without events does before.
 use Rattle.std.specs.Prelude.{◌≡◌, ◌⊎◌, ℕ, List, [], ◌∷◌, ◌++◌, Some}
-use Rattle.sip_calls.specs.Call.{call_due, call_machine, tick_input}
+use Rattle.sip_calls.specs.Call.{call_due, call_machine}
 use Rattle.sip_calls.specs.CallShard.{call_cmp}
 use Rattle.sip_message.specs.Key.{key_cmp}
 use Rattle.sip_message.specs.declared.key.Key.{Key}
-use Rattle.sip_model.specs.Machine.{due_of}
+use Rattle.sip_model.specs.Machine.{due_of, tick_at}
 use Rattle.sip_model.specs.Phase.{states_after}
-use Rattle.sip_transactions.specs.Machine.{life_due, tick_at, transaction_machine}
+use Rattle.sip_transactions.specs.Machine.{life_due, transaction_machine}
 use Rattle.sip_round.specs.declared.config.Config.{Config}
 use Rattle.sip_round.specs.declared.round.Round.{Round}
 use Rattle.sip_round.specs.Answers.{Past, answers, calls_of, past_of}
@@ -21,8 +21,8 @@ pub record LeavesAlike (config : Config) (one other : Past) : Type 0 where
       → states_after key_cmp transaction_machine tick_at one.transactions key
       ≡ states_after key_cmp transaction_machine tick_at other.transactions key
   pub calls : (call_id : List ℕ)
-      → states_after call_cmp (call_machine (calls_of config)) tick_input one.calls call_id
-      ≡ states_after call_cmp (call_machine (calls_of config)) tick_input other.calls call_id
+      → states_after call_cmp (call_machine (calls_of config)) tick_at one.calls call_id
+      ≡ states_after call_cmp (call_machine (calls_of config)) tick_at other.calls call_id
 
 -- after these rounds a round without events at this moment gives nothing, and changes nothing of
 -- what is held
@@ -39,5 +39,5 @@ IsDueAfter config rounds moment =
     (states_after key_cmp transaction_machine tick_at (past_of config rounds).transactions key)
     ≡ Some moment))
     ⊎ ((call_id : List ℕ) × (due_of call_due
-    (states_after call_cmp (call_machine (calls_of config)) tick_input
+    (states_after call_cmp (call_machine (calls_of config)) tick_at
     (past_of config rounds).calls call_id) ≡ Some moment))

@@ -5,13 +5,13 @@ use Rattle.sip_message.specs.declared.id.Id.{Id}
 use Rattle.sip_transactions.specs.declared.input.Command.{Command}
 use Rattle.sip_transactions.specs.declared.output.Out.{Out}
 use Rattle.sip_transactions.specs.declared.output.Out.TheVariants as out
-use Rattle.sip_served.specs.declared.item.Item.{Item}
-use Rattle.sip_served.specs.declared.item.Item.TheVariants as item
-use Rattle.sip_served.specs.declared.item.CallOut.{CallOut}
-use Rattle.sip_served.specs.declared.item.CallOut.TheVariants as call_out
-use Rattle.sip_model.specs.Phase.{Told}
-use Rattle.sip_round.specs.declared.arrival.Arrival.{Arrival}
-use Rattle.sip_round.specs.declared.arrival.Arrival.TheVariants as arrival
+use Rattle.sip_common.specs.declared.item.Item.{Item}
+use Rattle.sip_common.specs.declared.item.Item.TheVariants as item
+use Rattle.sip_common.specs.declared.item.CallOut.{CallOut}
+use Rattle.sip_common.specs.declared.item.CallOut.TheVariants as call_out
+use Rattle.sip_model.specs.Phase.{PhaseOutputs}
+use Rattle.sip_round.specs.Arrivals.{Arrival}
+use Rattle.sip_round.specs.Arrivals as arrival
 use Rattle.sip_round.specs.declared.output.Output.{Output}
 use Rattle.sip_round.specs.declared.output.Output.TheVariants as output
 
@@ -44,11 +44,11 @@ abbrev pub joined : {L O : Type 0} → List (L × List O) → List O
 joined groups = flat_map (λ group. group.1) groups
 
 -- all that is said in a phase: to the tick in key order, and then by the items in their order
-abbrev pub all_said : {K O : Type 0} → Told K O → List O
+abbrev pub all_said : {K O : Type 0} → PhaseOutputs K O → List O
 all_said told = joined told.ticks ++ joined told.items
 
 -- what is said of the item at a place
-abbrev pub said_at : {K O : Type 0} → Told K O → ℕ → List O
+abbrev pub said_at : {K O : Type 0} → PhaseOutputs K O → ℕ → List O
 said_at told place = joined (filter (λ said. nat_eq (said.0).0 place) told.items)
 
 -- what comes of an arrival in the first phase, where the transactions say this by place

@@ -8,14 +8,13 @@ use Rattle.sip_message.specs.declared.key.Key.{Key}
 use Rattle.sip_transactions.specs.declared.input.Command.{Command}
 use Rattle.sip_transactions.specs.declared.input.Input.{Input}
 use Rattle.sip_transactions.specs.Shard.{asked_by, command_key}
-use Rattle.sip_served.specs.Command.{call_of_item}
-use Rattle.sip_served.specs.declared.item.Item as served
-use Rattle.sip_calls.specs.declared.calls.CallInput.{CallInput}
-use Rattle.sip_calls.specs.declared.calls.CallInput.TheVariants.{Item as AnItem}
+use Rattle.sip_common.specs.Command.{call_of_item}
+use Rattle.sip_common.specs.declared.item.Item as served
+use Rattle.sip_calls.specs.Call.{CallItem}
 use Rattle.sip_model.specs.declared.item.Item.{Item}
 use Rattle.sip_model.specs.Phase.{Phase, phase_at}
-use Rattle.sip_round.specs.declared.arrival.Arrival.{Arrival}
-use Rattle.sip_round.specs.declared.arrival.Arrival.TheVariants as arrival
+use Rattle.sip_round.specs.Arrivals.{Arrival}
+use Rattle.sip_round.specs.Arrivals as arrival
 
 -- an arrival that is an input of a transaction, at the place of its event
 abbrev pub transaction_item : Id → Arrival → List (Item Key Input)
@@ -33,13 +32,13 @@ first_phase now arrivals = phase_at now true (transaction_items arrivals)
 
 -- the second: the calls take a tick, and then what came up and the commands of the user, in their
 -- order
-abbrev pub call_items : ℕ → List (Id × served.Item) → List (Item (List ℕ) CallInput)
+abbrev pub call_items : ℕ → List (Id × served.Item) → List (Item (List ℕ) CallItem)
 call_items place [] = []
 call_items place (i ∷ is) =
-    record { place = place; key = call_of_item i.1; input = AnItem i.0 i.1 }
+    record { place = place; key = call_of_item i.1; input = i }
     ∷ call_items (suc place) is
 
-abbrev pub second_phase : ℕ → List (Id × served.Item) → Phase (List ℕ) (Timed CallInput)
+abbrev pub second_phase : ℕ → List (Id × served.Item) → Phase (List ℕ) (Timed CallItem)
 second_phase now items = phase_at now true (call_items 0 items)
 
 -- the third: the transactions take the commands of the calls, in their order, and no tick

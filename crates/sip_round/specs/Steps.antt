@@ -1,6 +1,6 @@
 -- Steps that only the code's proofs need: nothing of them has to be believed.
 pub mod Arrived
-pub mod Dealt
+pub mod AllShards
 pub mod Dues
 pub mod Led
 pub mod Transfer

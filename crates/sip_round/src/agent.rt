@@ -334,15 +334,24 @@ impl<C: Cut + Drop> Agent<C> {
         let Some(shards) = self.shards.take() else {
             return Err(NoMemory);
         };
-        let runner = PhaseRunner {
+        let (transactions, calls) = shards.into_parts();
+        let (number, now) = (self.next_round, round.moment);
+        let phases = PhaseRunner {
             rt,
             alloc: self.alloc,
             cut: &self.cut,
             workers,
             gate,
         };
-        let (shards, outputs) = runner.round(self.calls, self.next_round, round, shards, arrived)?;
-        self.shards = Some(shards);
+        let (transactions, mut outputs, items) = phases.first_phase(
+            transactions,
+            number,
+            now,
+            arrived,
+        )?;
+        let (calls, commands) = phases.second_phase(self.calls, calls, now, items, &mut outputs)?;
+        let transactions = phases.third_phase(transactions, now, commands, &mut outputs)?;
+        self.shards = Some(Shards::of(transactions, calls));
         Ok(outputs)
     }
 }

@@ -1,75 +1,81 @@
-//! What an event is for the transactions and the calls.
+//! What an event is to the transactions and the calls: its input is set out, and the rest waits.
 
-ghost use Rattle.std.specs.Prelude.{◌≡◌, IfOk};
+ghost use Rattle.std.specs.Prelude.{◌≡◌, ◌++◌, IfOk, OnOk};
 ghost use Rattle.sip_reader.specs.ReadMessage.{message_at};
-ghost use Rattle.sip_round.specs.Arrivals as arrivals;
+ghost use Rattle.sip_round.specs.Arrivals as arrival;
+ghost use Rattle.sip_round.specs.Arrivals.{arrival_of, datagram_arrival, message_arrival};
+ghost use Rattle.sip_round.specs.Phases.{transaction_item};
+ghost use Rattle.sip_round.specs.Steps.Waiting.{waiting_of};
 
 use crate::round::Event;
+use crate::waiting::Waiting;
 use sip_message::{Addr, Id, Key, Message, ReadFault, key_of, stamp_source};
+use sip_model::Item;
 use sip_reader::read;
-use sip_served::UserCommand;
 use sip_text::Boxed;
 use sip_transactions::{DropReason, Input, is_stray};
 use std::alloc::{AllocError, Global};
 
-/// What an event is for the transactions and the calls, with its datagram read and stamped.
-#[derive(Drop)]
-pub(crate) enum Arrival {
-    /// An input of the transaction of this key: a message, or a failed send.
-    Transaction(Key, Input),
-    /// A datagram that is no message, or a response to another sender.
-    Dropped(DropReason),
-    /// A command of the user, for its call.
-    User(UserCommand),
-}
-
-/// What the event of this id is.
+/// Sets out the event of this id, its datagram read and stamped: the input of a transaction goes
+/// behind the items, and what is left of the event is given.
 #[tactic(auto, unfolding(crate::specs::Arrivals::arrival_of))]
-pub(crate) fn arrival_of(
+pub(crate) fn set_out_event(
     alloc: Global,
     local: Addr,
     id: Id,
     event: &Event,
-) -> Result<Arrival, AllocError>
-    ensures { IfOk result (λ arrival. arrival ≡ arrivals.arrival_of local id event.now) }
+    items: &mut Vec<Item<Key, Input>>,
+) -> Result<Waiting, AllocError>
+    ensures items { OnOk result (items.new.items ≡ items.old.items
+        ++ transaction_item id (arrival_of local id event.now)) }
+    ensures left { IfOk result (λ left. left ≡ waiting_of (arrival_of local id event.now)) }
 {
     match event {
-        Event::Datagram { from, bytes } => arrived(alloc, local, id, *from, bytes.as_slice()),
-        Event::Failed(key) => Ok(Arrival::Transaction(key.clone()?, Input::Failed { id })),
-        Event::Command(command) => Ok(Arrival::User(command.clone()?)),
+        Event::Datagram { from, bytes } => {
+            set_out_datagram(alloc, local, id, *from, bytes.as_slice(), items)
+        }
+        Event::Failed(key) => set_out(id, key.clone()?, Input::Failed { id }, items),
+        Event::Command(command) => Ok(Waiting::User(command.clone()?)),
     }
 }
 
-fn arrived(
+fn set_out_datagram(
     alloc: Global,
     local: Addr,
     id: Id,
     from: Addr,
     bytes: &[u8],
-) -> Result<Arrival, AllocError>
-    ensures { IfOk result (λ arrival. arrival
-        ≡ arrivals.datagram_arrival local id from (message_at bytes.now)) }
+    items: &mut Vec<Item<Key, Input>>,
+) -> Result<Waiting, AllocError>
+    ensures items { OnOk result (items.new.items ≡ items.old.items
+        ++ transaction_item id (datagram_arrival local id from (message_at bytes.now))) }
+    ensures left { IfOk result (λ left. left
+        ≡ waiting_of (datagram_arrival local id from (message_at bytes.now))) }
 {
     match read(alloc, bytes) {
-        Ok(message) => taken(alloc, local, id, from, message),
+        Ok(message) => set_out_message(alloc, local, id, from, message, items),
         Err(ReadFault::NoMemory) => Err(AllocError),
-        Err(fault) => Ok(Arrival::Dropped(DropReason::Unreadable(fault))),
+        Err(fault) => Ok(Waiting::Dropped(DropReason::Unreadable(fault))),
     }
 }
 
 // The source is stamped on requests alone.
 #[tactic(auto, unfolding(crate::specs::Arrivals::message_arrival))]
-fn taken(
+fn set_out_message(
     alloc: Global,
     local: Addr,
     id: Id,
     from: Addr,
     mut message: Message,
-) -> Result<Arrival, AllocError>
-    ensures { IfOk result (λ arrival. arrival ≡ arrivals.message_arrival local id from message) }
+    items: &mut Vec<Item<Key, Input>>,
+) -> Result<Waiting, AllocError>
+    ensures items { OnOk result (items.new.items ≡ items.old.items
+        ++ transaction_item id (message_arrival local id from message)) }
+    ensures left { IfOk result (λ left. left
+        ≡ waiting_of (message_arrival local id from message)) }
 {
     if is_stray(local, &message) {
-        return Ok(Arrival::Dropped(DropReason::NotOurs));
+        return Ok(Waiting::Dropped(DropReason::NotOurs));
     }
     let mut reply_to = from;
     if message.is_request() {
@@ -82,5 +88,21 @@ fn taken(
         message,
         reply_to,
     };
-    Ok(Arrival::Transaction(key, input))
+    set_out(id, key, input, items)
+}
+
+// An input goes to the transaction of its key, at the place of its event.
+fn set_out(
+    id: Id,
+    key: Key,
+    input: Input,
+    items: &mut Vec<Item<Key, Input>>,
+) -> Result<Waiting, AllocError>
+    ensures items { OnOk result (items.new.items ≡ items.old.items
+        ++ transaction_item id (arrival.Transaction key input)) }
+    ensures left { IfOk result (λ left. left ≡ waiting_of (arrival.Transaction key input)) }
+{
+    let place = id.place as usize;
+    items.push(Item { place, key, input })?;
+    Ok(Waiting::Transaction)
 }

@@ -2,10 +2,10 @@
 
 ghost use Rattle.std.specs.Prelude.{◌≡◌, ℕ, Bool, IfSome, IsSome, false, true};
 ghost use Rattle.std.specs.List.{AllByRecursion};
-ghost use Rattle.sip_model.specs.Machine.{ticks_of};
 ghost use Rattle.sip_timers.specs.Queue.{is_due};
-ghost use Rattle.sip_round.specs.Steps.Dealt.{IsIdle};
+ghost use Rattle.sip_round.specs.Steps.AllShards.{IsIdle};
 ghost use Rattle.sip_round.specs.Steps.Dues.{IsDueIn};
+ghost use Rattle.sip_model.specs.Machine.{tick_at};
 
 use sip_model::{StateMachine, Table};
 use sip_timers::earlier;
@@ -14,7 +14,7 @@ use sip_timers::earlier;
 pub(crate) fn next_due_in<M: StateMachine>(machine: &M, tables: &[Table<M>]) -> Option<u64>
     ensures before { AllByRecursion (λ table. IsSome table) tables.now → (now : ℕ) (ticks : Bool)
         → (ticks ≡ true → is_due now result ≡ false) → AllByRecursion
-        (IsIdle M.Key.cmp (M.machine machine.now) (ticks_of M.tick) now ticks) tables.now }
+        (IsIdle M.Key.cmp (M.machine machine.now) tick_at now ticks) tables.now }
     ensures due { IfSome result (λ due. IsDueIn M.Key.cmp M.due due tables.now) }
 {
     match tables {

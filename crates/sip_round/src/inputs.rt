@@ -3,7 +3,6 @@
 ghost use Rattle.std.specs.Prelude.{◌≡◌, IfOk};
 ghost use Rattle.sip_round.specs.Phases as phase;
 
-use sip_calls::CallInput;
 use sip_message::{CallId, Id, Key};
 use sip_model as model;
 use sip_served::Item;
@@ -14,14 +13,14 @@ use std::alloc::{AllocError, Global};
 pub(crate) fn call_items(
     alloc: Global,
     items: Vec<(Id, Item)>,
-) -> Result<Vec<model::Item<CallId, CallInput>>, AllocError>
+) -> Result<Vec<model::Item<CallId, (Id, Item)>>, AllocError>
     ensures { IfOk result (λ made. made.items ≡ phase.call_items 0 items.items) }
 {
     let mut made = Vec::with_capacity(alloc, items.len())?;
     for (id, item) in items {
         let place = made.len();
         let key = item.call_id().clone()?;
-        let input = CallInput::Item(id, item);
+        let input = (id, item);
         made.push(model::Item { place, key, input })?;
     }
     Ok(made)

@@ -2,7 +2,7 @@
 
 ghost use Rattle.std.specs.Prelude.{◌≡◌, ◌++◌, OnOk, option_to_list};
 ghost use Rattle.std.specs.List.{flat_map};
-ghost use Rattle.sip_model.specs.Told.{groups};
+ghost use Rattle.sip_model.specs.Groups.{groups};
 ghost use Rattle.sip_round.specs.Outputs.{command_of, raised_of, sent_of, shown_of};
 
 use crate::output::Output;

@@ -2,13 +2,13 @@
 
 ghost use Rattle.std.specs.Prelude.{◌≡◌, ◌<◌, ◌≤◌, ◌^◌, [], IfOk, IsTrue, map, vec_len};
 ghost use Rattle.std.specs.List.{AllByRecursion};
-ghost use Rattle.sip_model.specs.Machine.{ticks_of};
-ghost use Rattle.sip_model.specs.Told.{groups};
+ghost use Rattle.sip_model.specs.Groups.{groups};
 ghost use Rattle.sip_workers.specs.Ran.{IsNumbered};
-ghost use Rattle.sip_round.specs.Steps.Dealt.{DealsParts, IsApart, IsIdle};
+ghost use Rattle.sip_round.specs.Steps.AllShards.{DealsParts, IsApart, IsIdle};
+ghost use Rattle.sip_model.specs.Machine.{tick_at};
 
 use crate::shard_work::{ShardDone, ShardWork};
-use sip_model::{Item, Replies, ShardFault, StateMachine, Table, laws_of_phases};
+use sip_model::{Item, PhaseOutputs, ShardFault, StateMachine, Table, laws_of_phases};
 use sip_workers::{Gate, NoMemory, Piece, dones_in_order, gather, run_pieces};
 use std::alloc::{AllocError, Global};
 use std::thread::Threads;
@@ -30,7 +30,7 @@ pub(crate) fn deal_phase<R: Threads + Sync, M: StateMachine + Copy + Send, G: Ga
     parts: Vec<Vec<Item<M::Key, M::Input>>>,
     workers: usize,
     gate: &G,
-) -> Result<(Vec<Table<M>>, Replies<M::Key, M::Output>), NoMemory>
+) -> Result<(Vec<Table<M>>, PhaseOutputs<M::Key, M::Output>), NoMemory>
 where
     M::Key: Send,
     M::State: Send,
@@ -40,7 +40,7 @@ where
     requires most { workers ≤ 64 }
     requires moment { now ≤ 2 ^ 62 }
     requires count { vec_len parts ≡ vec_len tables }
-    ensures { IfOk result (λ dealt. DealsParts M.Key.cmp (M.machine machine) (ticks_of M.tick) now
+    ensures { IfOk result (λ dealt. DealsParts M.Key.cmp (M.machine machine) tick_at now
         ticks (map (λ part. part.items) parts.items) tables.items dealt.0.items
         (groups dealt.1.ticks.items) (groups dealt.1.items.items)) }
 {
@@ -51,12 +51,12 @@ where
     if workers == 1 && have_no_items(&parts) && are_idle(&machine, now, ticks, &tables) {
         tell_of_each(tables.len(), gate);
         let (ticks, items) = (Vec::new(alloc), Vec::new(alloc));
-        return Ok((tables, Replies { ticks, items }));
+        return Ok((tables, PhaseOutputs { ticks, items }));
     }
     dones_in_order::<ShardWork<M>>();
     let pieces = pieces_of(alloc, machine, tables, now, ticks, parts)?;
     let dones = run_pieces(rt, alloc, pieces, workers, gate)?;
-    let (tables, replies) = apart(alloc, gather(alloc, dones)?)?;
+    let (tables, replies) = into_parts(alloc, gather(alloc, dones)?)?;
     Ok((tables, replies.in_order()))
 }
 
@@ -68,11 +68,11 @@ fn deal_alone<M: StateMachine + Copy, G: Gate>(
     ticks: bool,
     mut parts: Vec<Vec<Item<M::Key, M::Input>>>,
     gate: &G,
-) -> Result<(Vec<Table<M>>, Replies<M::Key, M::Output>), NoMemory>
+) -> Result<(Vec<Table<M>>, PhaseOutputs<M::Key, M::Output>), NoMemory>
     requires moment { now ≤ 2 ^ 62 }
     requires one { vec_len tables ≡ 1 }
     requires count { vec_len parts ≡ vec_len tables }
-    ensures { IfOk result (λ dealt. DealsParts M.Key.cmp (M.machine machine) (ticks_of M.tick) now
+    ensures { IfOk result (λ dealt. DealsParts M.Key.cmp (M.machine machine) tick_at now
         ticks (map (λ part. part.items) parts.items) tables.items dealt.0.items
         (groups dealt.1.ticks.items) (groups dealt.1.items.items)) }
 {
@@ -102,7 +102,7 @@ pub(crate) fn are_idle<M: StateMachine>(
     tables: &[Table<M>],
 ) -> bool
     ensures { IsTrue result → AllByRecursion
-        (IsIdle M.Key.cmp (M.machine machine.now) (ticks_of M.tick) now ticks) tables.now }
+        (IsIdle M.Key.cmp (M.machine machine.now) tick_at now ticks) tables.now }
 {
     match tables {
         [] => true,
@@ -163,10 +163,10 @@ fn pieces_of<M: StateMachine + Copy>(
 }
 
 // The tables of the shards, and all that was said, shard by shard.
-fn apart<M: StateMachine>(
+fn into_parts<M: StateMachine>(
     alloc: Global,
     dones: Vec<Result<ShardDone<M>, ShardFault>>,
-) -> Result<(Vec<Table<M>>, Replies<M::Key, M::Output>), NoMemory>
+) -> Result<(Vec<Table<M>>, PhaseOutputs<M::Key, M::Output>), NoMemory>
     ensures { IfOk result (λ all. IsApart (λ dealt. dealt.table)
         (λ dealt. groups dealt.replies.ticks.items)
         (λ dealt. groups dealt.replies.items.items) dones.items all.0.items
@@ -183,5 +183,5 @@ fn apart<M: StateMachine>(
         ticks.append(&mut replies.ticks)?;
         items.append(&mut replies.items)?;
     }
-    Ok((tables, Replies { ticks, items }))
+    Ok((tables, PhaseOutputs { ticks, items }))
 }

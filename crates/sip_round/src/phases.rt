@@ -3,10 +3,9 @@
 ghost use Rattle.std.specs.Prelude.{◌≡◌, ◌<◌, ◌≤◌, ◌^◌, ℕ, List, IfOk, length, map};
 ghost use Rattle.sip_message.specs.Key.{branch_in};
 ghost use Rattle.sip_message.specs.declared.id.Id.{Id as AnId};
-ghost use Rattle.sip_round.specs.declared.arrival.Arrival.{Arrival as AnArrival};
-ghost use Rattle.sip_round.specs.Arrivals.{arrivals_from};
+ghost use Rattle.sip_round.specs.Arrivals.{Arrival as AnArrival};
 ghost use Rattle.sip_round.specs.Steps.Arrived.{IsArrived};
-ghost use Rattle.sip_round.specs.Steps.Led.{Deals, LedFirst, LedSecond, LedThird};
+ghost use Rattle.sip_round.specs.Steps.Led.{LedFirst, LedSecond, LedThird};
 ghost use Rattle.sip_round.specs.Parts.{owner_of};
 
 use crate::inputs::{call_items, command_items};
@@ -14,12 +13,10 @@ use crate::output::Output;
 use crate::outs::{part_calls, send_all};
 use crate::parts::parts_of;
 use crate::phase::deal_phase;
-use crate::round::Round;
-use crate::shards::Shards;
 use crate::waiting::{Waiting, first_outputs};
 use sip_calls::Calls;
 use sip_message::{Cut, Id, Key};
-use sip_model::{self as model, Replies, Table, laws_of_phases};
+use sip_model::{self as model, PhaseOutputs, Table, laws_of_phases};
 use sip_served::Item;
 use sip_transactions::{Command, Input, Transactions};
 use sip_workers::{Gate, NoMemory};
@@ -41,39 +38,6 @@ pub(crate) struct PhaseRunner<'a, R, C, G> {
 pub(crate) type Arrived = (Vec<Vec<model::Item<Key, Input>>>, Vec<(Id, Waiting)>);
 
 impl<'a, R: Threads + Sync, C: Cut, G: Gate> PhaseRunner<'a, R, C, G> {
-    /// The three phases of a round of this number. Gives the shards back, and the outputs in stamp
-    /// order.
-    pub(crate) fn round(
-        &self,
-        calls: Calls,
-        number: u64,
-        round: &Round,
-        shards: Shards,
-        arrived: Arrived,
-    ) -> Result<(Shards, Vec<Output>), NoMemory>
-        requires some { 0 < self.now.workers }
-        requires most { self.now.workers ≤ 64 }
-        requires moment { round.now.moment ≤ 2 ^ 62 }
-        requires arrived { IsArrived (owner_of (C.shard_of self.now.cut.now) branch_in
-            (length shards.transactions)) (length shards.transactions)
-            (arrivals_from calls.local number 1 round.now.events)
-            (map (λ part. part.items) arrived.0.items) arrived.1.items }
-        ensures { IfOk result (λ led. Deals calls
-            (C.shard_of self.now.cut.now) number round.now shards led.0 led.1.items) }
-    {
-        let now = round.moment;
-        let (transactions, tables) = shards.apart();
-        let (transactions, mut outputs, items) = self.first_phase(
-            transactions,
-            number,
-            now,
-            arrived,
-        )?;
-        let (tables, commands) = self.second_phase(calls, tables, now, items, &mut outputs)?;
-        let transactions = self.third_phase(transactions, now, commands, &mut outputs)?;
-        Ok((Shards::of(transactions, tables), outputs))
-    }
-
     /// The first phase: every transaction takes a tick, and then what arrived, by place. Gives the
     /// tables back, the outputs, and the items of the calls.
     pub(crate) fn first_phase(
@@ -114,6 +78,7 @@ impl<'a, R: Threads + Sync, C: Cut, G: Gate> PhaseRunner<'a, R, C, G> {
         let (outputs, items) = first_outputs(self.alloc, number, replies, waiting)?;
         Ok((tables, outputs, items))
     }
+
     /// The second phase: every call takes a tick, and then each item goes to its call. Notices and
     /// direct sends go behind the outputs, and what is left are the commands of the third phase.
     pub(crate) fn second_phase(
@@ -147,7 +112,7 @@ impl<'a, R: Threads + Sync, C: Cut, G: Gate> PhaseRunner<'a, R, C, G> {
             self.workers,
             self.gate,
         )?;
-        let Replies { ticks, items } = replies;
+        let PhaseOutputs { ticks, items } = replies;
         let mut commands = Vec::new(self.alloc);
         part_calls(ticks, outputs, &mut commands)?;
         part_calls(items, outputs, &mut commands)?;
@@ -184,7 +149,7 @@ impl<'a, R: Threads + Sync, C: Cut, G: Gate> PhaseRunner<'a, R, C, G> {
             self.workers,
             self.gate,
         )?;
-        let Replies { ticks, items } = replies;
+        let PhaseOutputs { ticks, items } = replies;
         send_all(ticks, outputs)?;
         send_all(items, outputs)?;
         Ok(tables)

@@ -1,11 +1,11 @@
 //! The work of one shard in a phase.
 
 ghost use Rattle.std.specs.Prelude.{◌≤◌, ◌^◌, List, IfOk};
-ghost use Rattle.sip_model.specs.Machine.{ticks_of};
 ghost use Rattle.sip_model.specs.Phase.{AddsPhase, phase_at};
-ghost use Rattle.sip_model.specs.Told.{groups};
+ghost use Rattle.sip_model.specs.Groups.{groups};
+ghost use Rattle.sip_model.specs.Machine.{tick_at};
 
-use sip_model::{Item, Replies, ShardFault, StateMachine, Table};
+use sip_model::{Item, PhaseOutputs, ShardFault, StateMachine, Table};
 use sip_workers::Job;
 
 /// A shard's table, and its part of a phase.
@@ -23,14 +23,14 @@ pub(crate) struct ShardWork<M: StateMachine> {
 #[derive(Drop)]
 pub(crate) struct ShardDone<M: StateMachine> {
     pub(crate) table: Table<M>,
-    pub(crate) replies: Replies<M::Key, M::Output>,
+    pub(crate) replies: PhaseOutputs<M::Key, M::Output>,
 }
 
 impl<M: StateMachine + Drop> Job for ShardWork<M> {
     type Done = Result<ShardDone<M>, ShardFault>;
 
     ghost gives = { λ job done. IfOk done
-        (λ dealt. AddsPhase M.Key.cmp (M.machine job.machine) (ticks_of M.tick) job.table
+        (λ dealt. AddsPhase M.Key.cmp (M.machine job.machine) tick_at job.table
         dealt.table (phase_at job.now job.ticks job.items.items) (groups dealt.replies.ticks.items)
         (groups dealt.replies.items.items)) };
 

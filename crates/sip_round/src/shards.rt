@@ -2,15 +2,15 @@
 
 ghost use Rattle.std.specs.Prelude.{◌≡◌, ◌⊎◌, ◌<◌, ◌≤◌, ℕ, Bool, List, Some, [], IfOk, IfSome, IsSome, IsTrue, All, count_by, is_some, length, sum_by, true, false, vec_len};
 ghost use Rattle.std.specs.List.{AllByRecursion};
-ghost use Rattle.sip_calls.specs.Call.{call_due, call_machine, tick_input};
+ghost use Rattle.sip_calls.specs.Call.{call_due, call_machine, CallItem};
 ghost use Rattle.sip_calls.specs.CallShard.{call_cmp};
 ghost use Rattle.sip_message.specs.Key.{key_cmp};
 ghost use Rattle.sip_message.specs.declared.key.Key.{Key};
 ghost use Rattle.sip_model.specs.Table.{Covers, state_at};
-ghost use Rattle.sip_round.specs.Steps.Dealt.{IsIdle};
+ghost use Rattle.sip_round.specs.Steps.AllShards.{IsIdle};
 ghost use Rattle.sip_round.specs.Steps.Dues.{IsDueIn};
 ghost use Rattle.sip_timers.specs.Queue.{is_due};
-ghost use Rattle.sip_transactions.specs.Machine.{life_due, transaction_machine, tick_at};
+ghost use Rattle.sip_transactions.specs.Machine.{life_due, transaction_machine};
 
 use crate::due::next_due_in;
 use crate::phase::are_idle;
@@ -52,11 +52,10 @@ impl Drop for Shards {
 }
 
 impl Shards {
-    ghost use Rattle.sip_calls.specs.declared.calls.CallInput.{CallInput};
     ghost use Rattle.sip_model.specs.Phase.{Phase};
     ghost use Rattle.sip_round.specs.AgentState.{ShardTables, AreShards};
     ghost use Rattle.sip_round.specs.Answers.{HoldCalls, HoldTransactions};
-    ghost use Rattle.sip_model.specs.Machine.{Timed};
+    ghost use Rattle.sip_model.specs.Machine.{Timed, tick_at};
     ghost use Rattle.sip_transactions.specs.declared.input.Input.{Input};
 
     /// So many shards that hold nothing.
@@ -88,7 +87,7 @@ impl Shards {
     }
 
     /// The tables.
-    pub(crate) fn apart(self) -> (Vec<Table<Transactions>>, Vec<Table<Calls>>)
+    pub(crate) fn into_parts(self) -> (Vec<Table<Transactions>>, Vec<Table<Calls>>)
         ensures tables { record { transactions = result.0.items; calls = result.1.items } ≡ self }
         ensures shards { AreShards (record {
           transactions = result.0.items;
@@ -121,12 +120,12 @@ impl Shards {
         ensures transactions { IfOk result (λ moved. (past : List (Phase Key (Timed Input)))
             → HoldTransactions (C.shard_of cut.now) self past
             → HoldTransactions (C.shard_of cut.now) moved past) }
-        ensures calls { IfOk result (λ moved. (past : List (Phase (List ℕ) (Timed CallInput)))
+        ensures calls { IfOk result (λ moved. (past : List (Phase (List ℕ) (Timed CallItem)))
             → HoldCalls calls.now (C.shard_of cut.now) self past
             → HoldCalls calls.now (C.shard_of cut.now) moved past) }
     {
-        let (transactions, tables) = self.apart();
-        let (other_transactions, other_tables) = others.apart();
+        let (transactions, tables) = self.into_parts();
+        let (other_transactions, other_tables) = others.into_parts();
         let transactions = transfer(cut, &Transactions, transactions, other_transactions)?;
         let tables = transfer(cut, calls, tables, other_tables)?;
         Ok(Shards::of(transactions, tables))
@@ -147,7 +146,7 @@ impl Shards {
         ensures first { IsTrue result → AllByRecursion
             (IsIdle key_cmp transaction_machine tick_at moment true) self.now.transactions }
         ensures second { IsTrue result → AllByRecursion
-            (IsIdle call_cmp (call_machine calls.now) tick_input moment true) self.now.calls }
+            (IsIdle call_cmp (call_machine calls.now) tick_at moment true) self.now.calls }
         ensures third { IsTrue result → AllByRecursion
             (IsIdle key_cmp transaction_machine tick_at moment false) self.now.transactions }
     {
@@ -165,7 +164,7 @@ impl Shards {
             self.now.transactions }
         ensures calls { AllByRecursion (λ table. IsSome table) self.now.calls
             → (now : ℕ) (ticks : Bool) → (ticks ≡ true → is_due now result ≡ false)
-            → AllByRecursion (IsIdle call_cmp (call_machine calls.now) tick_input now ticks)
+            → AllByRecursion (IsIdle call_cmp (call_machine calls.now) tick_at now ticks)
             self.now.calls }
         ensures due { IfSome result (λ due. IsDueIn key_cmp life_due due self.now.transactions
             ⊎ IsDueIn call_cmp call_due due self.now.calls) }

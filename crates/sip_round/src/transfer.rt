@@ -2,7 +2,7 @@
 
 ghost use Rattle.std.specs.Prelude.{◌≡◌, ◌<◌, ◌≤◌, ℕ, List, Some, [], All, IfOk, OnOk, length, vec_len};
 ghost use Rattle.std.specs.Option.{option_or};
-ghost use Rattle.sip_model.specs.Machine.{Timed, ticks_of};
+ghost use Rattle.sip_model.specs.Machine.{Timed, tick_at};
 ghost use Rattle.sip_model.specs.Phase.{Phase};
 ghost use Rattle.sip_model.specs.Shards.{HoldFrom};
 ghost use Rattle.sip_model.specs.Table.{state_at};
@@ -35,9 +35,9 @@ where
     ensures holds { IfOk result (λ moved. (owner : M.Key → ℕ)
         (phases : List (Phase M.Key (Timed M.Input)))
         → ((key : M.Key) → owner key < length tables.items)
-        → HoldFrom M.Key.cmp (M.machine machine.now) (ticks_of M.tick) owner 0
+        → HoldFrom M.Key.cmp (M.machine machine.now) tick_at owner 0
         tables.items phases
-        → HoldFrom M.Key.cmp (M.machine machine.now) (ticks_of M.tick)
+        → HoldFrom M.Key.cmp (M.machine machine.now) tick_at
         (owner_of (C.shard_of cut.now) M.Key.name (length others.items)) 0 moved.items phases) }
 {
     laws_of_phases(machine);

@@ -3,18 +3,18 @@
 ghost use Rattle.std.specs.Prelude.{◌≡◌, ◌≤◌, ◌++◌, IfOk, OnOk, length};
 ghost use Rattle.std.specs.List.{flat_map};
 ghost use Rattle.std.specs.Vec.Iter.{into_iter_items};
-ghost use Rattle.sip_model.specs.Told.{groups};
+ghost use Rattle.sip_model.specs.Groups.{groups};
 ghost use Rattle.sip_round.specs.Arrivals.{arrivals_from};
 ghost use Rattle.sip_round.specs.Outputs.{joined, raised_of, sent_of};
-ghost use Rattle.sip_round.specs.Phases.{transaction_item, transaction_items};
-ghost use Rattle.sip_round.specs.Steps.Waiting.{all_waiting, items_waiting, outs_next, said_rest, waiting_of, woven};
+ghost use Rattle.sip_round.specs.Phases.{transaction_items};
+ghost use Rattle.sip_round.specs.Steps.Waiting.{all_waiting, items_waiting, outs_next, said_rest, by_event};
 
-use crate::arrival::{Arrival, arrival_of};
+use crate::arrival::set_out_event;
 use crate::output::Output;
 use crate::outs::{part, part_all};
 use crate::round::Event;
 use sip_message::{Addr, Id, Key};
-use sip_model::{self as model, Replies};
+use sip_model::{self as model, PhaseOutputs};
 use sip_served::{Item, UserCommand};
 use sip_transactions::{DropReason, Input, Out};
 use std::alloc::{AllocError, Global};
@@ -51,32 +51,10 @@ pub(crate) fn set_out(
     for event in events {
         place += 1;
         let id = Id { round, place };
-        let arrival = arrival_of(alloc, local, id, event)?;
-        let left = put_input(id, arrival, &mut items)?;
+        let left = set_out_event(alloc, local, id, event, &mut items)?;
         waiting.push((id, left))?;
     }
     Ok((items, waiting))
-}
-
-// Puts the input of an arrival on its way, and gives what is left of it.
-fn put_input(
-    id: Id,
-    arrival: Arrival,
-    items: &mut Vec<model::Item<Key, Input>>,
-) -> Result<Waiting, AllocError>
-    ensures items { OnOk result (items.new.items ≡ items.old.items
-        ++ transaction_item id arrival) }
-    ensures left { IfOk result (λ left. left ≡ waiting_of arrival) }
-{
-    match arrival {
-        Arrival::Transaction(key, input) => {
-            let place = id.place as usize;
-            items.push(model::Item { place, key, input })?;
-            Ok(Waiting::Transaction)
-        }
-        Arrival::Dropped(reason) => Ok(Waiting::Dropped(reason)),
-        Arrival::User(command) => Ok(Waiting::User(command)),
-    }
 }
 
 /// The outputs of the first phase of the round of this number, and the items of the calls: those of
@@ -84,20 +62,20 @@ fn put_input(
 pub(crate) fn first_outputs(
     alloc: Global,
     round: u64,
-    replies: Replies<Key, Out>,
+    replies: PhaseOutputs<Key, Out>,
     waiting: Vec<(Id, Waiting)>,
 ) -> Result<(Vec<Output>, Vec<(Id, Item)>), AllocError>
     ensures outputs { IfOk result (λ both. both.0.items
         ≡ flat_map sent_of (joined (groups replies.ticks.items))
         ++ flat_map (λ w. flat_map sent_of w.1)
-        (woven waiting.items (groups replies.items.items))) }
+        (by_event waiting.items (groups replies.items.items))) }
     ensures items { IfOk result (λ both. both.1.items
         ≡ flat_map (raised_of (record { round = round; place = 0 }))
         (joined (groups replies.ticks.items))
         ++ flat_map (λ w. flat_map (raised_of w.0) w.1 ++ w.2)
-        (woven waiting.items (groups replies.items.items))) }
+        (by_event waiting.items (groups replies.items.items))) }
 {
-    let Replies { ticks, items: said } = replies;
+    let PhaseOutputs { ticks, items: said } = replies;
     let mut outputs = Vec::with_capacity(alloc, waiting.len())?;
     let mut items = Vec::with_capacity(alloc, waiting.len())?;
     part_all(ticks, Id { round, place: 0 }, &mut outputs, &mut items)?;
@@ -112,10 +90,10 @@ fn put_by_place(
     items: &mut Vec<(Id, Item)>,
 ) -> Result<(), AllocError>
     ensures outputs { OnOk result (outputs.new.items ≡ outputs.old.items
-        ++ flat_map (λ w. flat_map sent_of w.1) (woven waiting.items (groups said.items))) }
+        ++ flat_map (λ w. flat_map sent_of w.1) (by_event waiting.items (groups said.items))) }
     ensures items { OnOk result (items.new.items ≡ items.old.items
         ++ flat_map (λ w. flat_map (raised_of w.0) w.1 ++ w.2)
-        (woven waiting.items (groups said.items))) }
+        (by_event waiting.items (groups said.items))) }
 {
     let mut said = said.into_iter();
     for (id, left) in waiting {

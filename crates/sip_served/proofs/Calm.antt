@@ -6,7 +6,7 @@ use Rattle.std.specs.Option.{option_and_then, option_map, option_map_or}
 use Rattle.std.proofs.lemmas.Bool.{true≢false}
 use Rattle.std.proofs.lemmas.List.{length-map}
 use Rattle.sip_timers.specs.Queue.{is_due}
-use Rattle.sip_model.specs.Told.{speaks}
+use Rattle.sip_model.specs.Groups.{speaks}
 use Rattle.sip_model.proofs.Ordered.{by_bool}
 use Rattle.arrayvec.specs.ArrayVec.{ArrayVec}
 use Rattle.sip_reliable.specs.declared.provisional.Retransmission.{Retransmission as Resending}
@@ -18,7 +18,7 @@ use Rattle.sip_reliable.proofs.Dues.{is_something, ledger_due, nothing_from as n
 use Rattle.sip_reliable.proofs.Sounds.{not_longer}
 use Rattle.sip_served.specs.declared.held_request.HeldRequest.{HeldRequest}
 use Rattle.sip_served.specs.declared.held_request.Success.{Success}
-use Rattle.sip_served.specs.declared.item.CallOut.{CallOut}
+use Rattle.sip_common.specs.declared.item.CallOut.{CallOut}
 use Rattle.sip_served.specs.declared.tick.SuccessDue.TheVariants as repeat
 use Rattle.sip_served.specs.State.{State, Taken, quiet}
 use Rattle.sip_served.specs.Tick.{is_kept_at, next_due, provisionals_by, provisionals_ticked, provisionals_told, request_due, request_ticked, retransmission_after, success_answer, success_moment, success_of, success_ticked, success_told, tick_taken, with_retransmission}

@@ -1,77 +1,31 @@
 -- Each item of the server side keeps what was heard in each dialog, ends the dialog, or makes it
 -- anew.
 use Rattle.std.proofs.Common.{ℕ, Bool, true, false, not, ◌&&◌, cond, List, [], refl}
-use Rattle.std.specs.Prelude.{Option, None, Some, find, is_some, if◌then◌else◌}
+use Rattle.std.specs.Prelude.{Option, None, Some, find, if◌then◌else◌}
 use Rattle.indexmap.specs.IndexMap.{insert_entry}
 use Rattle.sip_model.proofs.Ordered.{by_bool}
-use Rattle.sip_dialog.specs.Fault.{ended_fault}
-use Rattle.sip_dialog.specs.Opening.{contact_uri}
-use Rattle.sip_dialog.specs.Step.{confirmed_by, with_accepted, with_target}
 use Rattle.sip_message.specs.declared.id.Id.{Id}
 use Rattle.sip_message.specs.declared.message.Message.{Message}
 use Rattle.sip_transactions.specs.declared.output.Kind.{Kind}
 use Rattle.sip_transactions.specs.declared.output.Kind.TheVariants.{Request, Ack, Response, Timeout, Failed}
 use Rattle.sip_transactions.specs.declared.output.Up.{Up}
-use Rattle.sip_served.specs.declared.arrival.Arrival.{Arrival}
+use Rattle.sip_common.proofs.Keeps.{confirmed_keeps, visited_keeps}
 use Rattle.sip_served.specs.declared.arrival.ArrivalCase.{ArrivalCase}
 use Rattle.sip_served.specs.declared.arrival.ArrivalCase.TheVariants.{Merged, BadExtension, NoDialog, OutOfOrder, Acknowledges, AcknowledgesNothing, ForUser}
-use Rattle.sip_served.specs.declared.command.Respond.{Respond as Answer}
-use Rattle.sip_served.specs.declared.held_dialog.DialogName.{DialogName}
-use Rattle.sip_served.specs.declared.held_dialog.HeldDialog.{HeldDialog}
+use Rattle.sip_common.specs.declared.command.Respond.{Respond as Answer}
+use Rattle.sip_common.specs.declared.held_dialog.DialogName.{DialogName}
 use Rattle.sip_served.specs.declared.held_request.HeldRequest.{HeldRequest}
-use Rattle.sip_served.specs.declared.item.CallOut.{CallOut}
-use Rattle.sip_served.specs.declared.refusal.Refusal.{Refusal}
+use Rattle.sip_common.specs.declared.item.CallOut.{CallOut}
+use Rattle.sip_common.specs.declared.refusal.Refusal.{Refusal}
 use Rattle.sip_served.specs.Acknowledgment.{ack_noted, acknowledged_invite}
-use Rattle.sip_served.specs.Arrival.{arrival_of, by_case, bye_taken, case_of, noted, request_held}
+use Rattle.sip_served.specs.Arrival.{new_request, by_case, bye_taken, case_of, noted, request_held}
 use Rattle.sip_served.specs.Cancel.{by_cancelled, cancelled_request, is_unanswered_invite}
-use Rattle.sip_served.specs.Dialogs.{confirmed, dialog_changed, early_ended, ended_at, is_early_of, is_named, numbered, refreshed, retargeted, takes, visited}
-use Rattle.sip_served.specs.Requests.{dialog_name, is_bye, is_cancel, is_inside, is_invite}
+use Rattle.sip_common.specs.Dialogs.{confirmed, dialog_changed, early_ended, ended_at, is_early_of, is_named, visited, Dialogs}
+use Rattle.sip_common.specs.Requests.{dialog_name, is_bye, is_cancel, is_inside}
 use Rattle.sip_served.specs.Respond.{answer_to, by_refusal, by_request, confirms_dialog, made_dialog, makes_dialog, refusal_for, rejects, respond_taken}
-use Rattle.sip_served.specs.State.{Dialogs, State, Taken, has_id}
+use Rattle.sip_served.specs.State.{State, Taken, has_id}
 use Rattle.sip_served.specs.Step.{arrival_taken, kind_taken}
-use Rattle.sip_served.proofs.Heard.{AreApart, Keeps, Leads, keeps_then, leads_changed, leads_filtered, leads_made, leads_removed, leads_same, leads_then}
-
--- ---- changes of a dialog
-
-numbered_keeps : (number : ℕ) (held : HeldDialog) → Keeps held (numbered number held)
-numbered_keeps number held =
-    elim (takes held number) as (λ b.
-    Keeps held (if b then record held { dialog = with_accepted held.dialog number }
-    else held)) [ true ↦ (refl, refl) | false ↦ (refl, refl) ]
-
-pub retargeted_keeps : (uri : Option (List ℕ)) (held : HeldDialog)
-    → Keeps held (retargeted uri held)
-retargeted_keeps None held = (refl, refl)
-retargeted_keeps (Some uri) held =
-    elim (is_some (ended_fault held.dialog)) as (λ b.
-    Keeps held (if b then held else record held { dialog = with_target held.dialog uri })) [
-      | true ↦ (refl, refl)
-      | false ↦ (refl, refl)
-    ]
-
-refreshed_keeps : (request : Message) (held : HeldDialog) → Keeps held (refreshed request held)
-refreshed_keeps request held =
-    elim (is_invite request) as (λ b.
-    Keeps held (if b then retargeted (contact_uri request) held else held)) [
-      | true ↦ retargeted_keeps (contact_uri request) held
-      | false ↦ (refl, refl)
-    ]
-
-visited_keeps : (request : Message) (held : HeldDialog) → Keeps held (visited request held)
-visited_keeps request held =
-    let number = (request.cseq).number in
-    keeps_then held (numbered number held) (refreshed request (numbered number held))
-    (numbered_keeps number held) (refreshed_keeps request (numbered number held))
-
-pub confirmed_keeps : (response : Message) (held : HeldDialog)
-    → Keeps held (confirmed response held)
-confirmed_keeps response held =
-    elim (is_some (ended_fault held.dialog)) as (λ b.
-    Keeps held (if b then held else record held
-    { dialog = confirmed_by held.dialog response })) [
-      | true ↦ (refl, refl)
-      | false ↦ (refl, refl)
-    ]
+use Rattle.sip_common.proofs.Heard.{AreApart, Leads, leads_changed, leads_filtered, leads_made, leads_removed, leads_same, leads_then}
 
 -- ---- a request that comes up, and an ACK
 
@@ -95,50 +49,54 @@ module _ (Makes : Id → Type 0) where
   bye_leads true state name outs apart = leads_removed Makes name state.dialogs apart
   bye_leads false state name outs apart = leads_same Makes state.dialogs apart
 
-  case_leads : (case : ArrivalCase) (state : State) (name : DialogName) (arrival : Arrival)
+  case_leads : (case : ArrivalCase) (state : State) (call_id : List ℕ) (name : DialogName)
+      (arrival : HeldRequest)
       → AreApart state.dialogs → Leads Makes state.dialogs
-      ((by_case case state name arrival).0).dialogs
-  case_leads Merged state name arrival apart = leads_same Makes state.dialogs apart
-  case_leads BadExtension state name arrival apart = leads_same Makes state.dialogs apart
-  case_leads NoDialog state name arrival apart = leads_same Makes state.dialogs apart
-  case_leads OutOfOrder state name arrival apart = leads_same Makes state.dialogs apart
-  case_leads (Acknowledges invite rseq) state name arrival apart =
+      ((by_case case state call_id name arrival).0).dialogs
+  case_leads Merged state call_id name arrival apart = leads_same Makes state.dialogs apart
+  case_leads BadExtension state call_id name arrival apart = leads_same Makes state.dialogs apart
+  case_leads NoDialog state call_id name arrival apart = leads_same Makes state.dialogs apart
+  case_leads OutOfOrder state call_id name arrival apart = leads_same Makes state.dialogs apart
+  case_leads (Acknowledges invite rseq) state call_id name arrival apart =
       noted_leads state name arrival.request apart
-  case_leads AcknowledgesNothing state name arrival apart =
+  case_leads AcknowledgesNothing state call_id name arrival apart =
       noted_leads state name arrival.request apart
-  case_leads ForUser state name arrival apart =
+  case_leads ForUser state call_id name arrival apart =
       let before = noted state name arrival.request in
-      let held = (request_held before name arrival).0 in
-      leads_then Makes state.dialogs before.dialogs ((bye_taken arrival name held).0).dialogs
+      let held = (request_held before call_id name arrival).0 in
+      leads_then Makes state.dialogs before.dialogs
+      ((bye_taken arrival.request name held).0).dialogs
       (noted_leads state name arrival.request apart)
       (λ later. bye_leads (is_inside arrival.request && is_bye arrival.request) held name
       (ended_at name held.dialogs).1 later)
 
-  cancel_leads : (state : State) (arrival : Arrival) (now : ℕ) (o : Option HeldRequest)
+  cancel_leads : (state : State) (call_id : List ℕ) (arrival : HeldRequest) (now : ℕ)
+      (o : Option HeldRequest)
       → AreApart state.dialogs
-      → Leads Makes state.dialogs ((by_cancelled state arrival now o).0).dialogs
-  cancel_leads state arrival now None apart = leads_same Makes state.dialogs apart
-  cancel_leads state arrival now (Some held) apart =
+      → Leads Makes state.dialogs ((by_cancelled state call_id arrival now o).0).dialogs
+  cancel_leads state call_id arrival now None apart = leads_same Makes state.dialogs apart
+  cancel_leads state call_id arrival now (Some held) apart =
       by_bool (is_unanswered_invite held)
       (λ e. rw e (leads_filtered Makes (λ dialog. not (is_early_of held.id dialog)) state.dialogs
       apart))
       (λ e. rw e (leads_same Makes state.dialogs apart))
 
-  arrival_leads : (state : State) (arrival : Arrival) (now : ℕ) → AreApart state.dialogs
-      → Leads Makes state.dialogs ((arrival_taken state arrival now).0).dialogs
-  arrival_leads state arrival now apart =
+  arrival_leads : (state : State) (call_id : List ℕ) (arrival : HeldRequest) (now : ℕ)
+      → AreApart state.dialogs
+      → Leads Makes state.dialogs ((arrival_taken state call_id arrival now).0).dialogs
+  arrival_leads state call_id arrival now apart =
       let name = dialog_name arrival.request arrival.tag in
       by_bool (is_cancel arrival.request)
-      (λ e. rw e (cancel_leads state arrival now
+      (λ e. rw e (cancel_leads state call_id arrival now
       (cancelled_request arrival.key state.requests) apart))
-      (λ e. rw e (case_leads (case_of state.requests state.dialogs name arrival.request) state name
-      arrival apart))
+      (λ e. rw e (case_leads (case_of state.requests state.dialogs name arrival.request) state
+      call_id name arrival apart))
 
   pub kind_leads : (state : State) (tag : List ℕ) (up : Up) (kind : Kind) (now : ℕ)
       → AreApart state.dialogs
       → Leads Makes state.dialogs ((kind_taken state tag up kind now).0).dialogs
   kind_leads state tag up (Request request reply_to) now apart =
-      arrival_leads state (arrival_of up tag request reply_to) now apart
+      arrival_leads state up.call_id (new_request up.key up.id request reply_to tag) now apart
   kind_leads state tag up (Ack ack) now apart = ack_leads (acknowledged_invite ack state.requests)
     where
       ack_leads : (o : Option Id) → Leads Makes state.dialogs

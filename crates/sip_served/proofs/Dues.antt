@@ -6,36 +6,16 @@ use Rattle.std.specs.Option.{option_and_then, option_map, option_map_or}
 use Rattle.std.proofs.lemmas.Grind.{common_steps}
 use Rattle.sip_timers.specs.Queue.{is_due}
 use Rattle.sip_timers.specs.Earlier.{earlier}
-use Rattle.sip_model.specs.Told.{speaks}
+use Rattle.sip_model.specs.Groups.{speaks}
 use Rattle.sip_message.specs.declared.message.Message.{Message}
 use Rattle.sip_reliable.specs.Ledger.{next_moment}
+use Rattle.sip_common.proofs.Dues.{earlier_due, earliest, or_assoc, or_false}
 use Rattle.sip_served.specs.declared.held_request.HeldRequest.{HeldRequest}
 use Rattle.sip_served.specs.declared.held_request.Retransmission.{Retransmission}
 use Rattle.sip_served.specs.declared.held_request.Success.{Success}
 use Rattle.sip_served.specs.declared.tick.SuccessDue.{SuccessDue}
 use Rattle.sip_served.specs.declared.tick.SuccessDue.TheVariants as repeat
 use Rattle.sip_served.specs.Tick.{due_with, next_due_of, request_due, request_ticked, success_answer, success_moment, success_of, success_told}
-
--- ---- truth values
-
-or_false : (x : Bool) → (x || false) ≡ x
-or_false true = refl
-or_false false = refl
-
-pub or_assoc : (x y z : Bool) → ((x || y) || z) ≡ (x || (y || z))
-or_assoc true y z = refl
-or_assoc false y z = refl
-
--- ---- moments
-
-earliest : (now a b : ℕ) → nat_le (min a b) now ≡ (nat_le a now || nat_le b now)
-earliest now a b = grind (arith, common_steps)
-
-pub earlier_due : (now : ℕ) (a b : Option ℕ)
-    → is_due now (earlier a b) ≡ (is_due now a || is_due now b)
-earlier_due now None b = refl
-earlier_due now (Some a) None = sym (or_false (nat_le a now))
-earlier_due now (Some a) (Some b) = earliest now a b
 
 -- ---- the 2xx
 

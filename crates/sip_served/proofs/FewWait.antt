@@ -15,29 +15,28 @@ use Rattle.sip_reliable.proofs.Sounds.{few_wait as few_by, free, sound_given_up,
 use Rattle.sip_transactions.specs.declared.output.Kind.{Kind}
 use Rattle.sip_transactions.specs.declared.output.Kind.TheVariants.{Request, Ack, Response, Timeout, Failed}
 use Rattle.sip_transactions.specs.declared.output.Up.{Up}
-use Rattle.sip_served.specs.declared.arrival.Arrival.{Arrival}
 use Rattle.sip_served.specs.declared.arrival.ArrivalCase.{ArrivalCase}
 use Rattle.sip_served.specs.declared.arrival.ArrivalCase.TheVariants.{Merged, BadExtension, NoDialog, OutOfOrder, Acknowledges, AcknowledgesNothing, ForUser}
-use Rattle.sip_served.specs.declared.command.Respond.{Respond as Answer}
-use Rattle.sip_served.specs.declared.command.UserCommand.{UserCommand}
-use Rattle.sip_served.specs.declared.command.UserCommand.TheVariants as command
-use Rattle.sip_served.specs.declared.held_dialog.DialogName.{DialogName}
+use Rattle.sip_common.specs.declared.command.Respond.{Respond as Answer}
+use Rattle.sip_common.specs.declared.command.UserCommand.{UserCommand}
+use Rattle.sip_common.specs.declared.command.UserCommand.TheVariants as command
+use Rattle.sip_common.specs.declared.held_dialog.DialogName.{DialogName}
 use Rattle.sip_served.specs.declared.held_request.HeldRequest.{HeldRequest}
 use Rattle.sip_served.specs.declared.held_request.Success.{Success}
-use Rattle.sip_served.specs.declared.item.Item.TheVariants as item
-use Rattle.sip_served.specs.declared.refusal.Refusal.{Refusal}
+use Rattle.sip_common.specs.declared.item.Item.TheVariants as item
+use Rattle.sip_common.specs.declared.refusal.Refusal.{Refusal}
 use Rattle.sip_served.specs.Acknowledgment.{ack_noted, acked, acknowledged_invite}
-use Rattle.sip_served.specs.Arrival.{arrival_of, first_rseq, by_case, case_of, noted, pracked, bye_taken}
+use Rattle.sip_served.specs.Arrival.{new_request, first_rseq, by_case, case_of, noted, pracked, bye_taken}
 use Rattle.sip_served.specs.Cancel.{by_cancelled, cancelled_request, is_unanswered_invite, request_terminated}
-use Rattle.sip_served.specs.Requests.{dialog_name, is_bye, is_cancel, is_inside}
+use Rattle.sip_common.specs.Requests.{dialog_name, is_bye, is_cancel, is_inside, is_final}
 use Rattle.sip_served.specs.Respond.{answered, by_refusal, by_request, finished, makes_dialog, sent_as, refusal_for, with_dialog, is_sent_reliably}
-use Rattle.sip_served.specs.Requests.{is_final}
 use Rattle.sip_served.specs.Run.{Event, Takes, Ticks, FewWaitEach, event_taken, state_after}
 use Rattle.sip_served.specs.ServerSide.{empty_at}
 use Rattle.sip_served.specs.State.{State, has_id}
 use Rattle.sip_served.specs.Step.{arrival_taken, command_taken, kind_taken}
 use Rattle.sip_served.specs.Tick.{is_kept_at, provisionals_by, request_ticked, success_of, success_ticked}
-use Rattle.sip_served.proofs.Each as each
+use Rattle.sip_common.proofs.Each as each
+use Rattle.sip_served.proofs.FirstChanged.{first_changed}
 
 -- ---- one request
 
@@ -98,57 +97,62 @@ noted_keeps : (state : State) (name : DialogName) (request : Message) → IsKept
     → IsKeptEach (noted state name request)
 noted_keeps state name request all = by_bool (is_inside request) (λ e. rw e all) (λ e. rw e all)
 
-bye_keeps : (arrival : Arrival) (name : DialogName) (state : State) → IsKeptEach state
-    → IsKeptEach (bye_taken arrival name state).0
-bye_keeps arrival name state all =
-    by_bool (is_inside arrival.request)
-    (λ e. by_bool (is_bye arrival.request) (λ f. rw (e, f) all) (λ f. rw (e, f) all))
+bye_keeps : (request : Message) (name : DialogName) (state : State) → IsKeptEach state
+    → IsKeptEach (bye_taken request name state).0
+bye_keeps request name state all =
+    by_bool (is_inside request)
+    (λ e. by_bool (is_bye request) (λ f. rw (e, f) all) (λ f. rw (e, f) all))
     (λ e. rw e all)
 
-case_keeps : (case : ArrivalCase) (state : State) (name : DialogName) (arrival : Arrival)
-    → IsKeptEach state → IsKeptEach (by_case case state name arrival).0
-case_keeps Merged state name arrival all = all
-case_keeps BadExtension state name arrival all = all
-case_keeps NoDialog state name arrival all = all
-case_keeps OutOfOrder state name arrival all = all
-case_keeps (Acknowledges invite rseq) state name arrival all =
-    each.changed IsKept (has_id invite) (pracked rseq) (pracked_keeps rseq)
+case_keeps : (case : ArrivalCase) (state : State) (call_id : List ℕ) (name : DialogName)
+    (arrival : HeldRequest) → IsKept arrival → IsKeptEach state
+    → IsKeptEach (by_case case state call_id name arrival).0
+case_keeps Merged state call_id name arrival one all = all
+case_keeps BadExtension state call_id name arrival one all = all
+case_keeps NoDialog state call_id name arrival one all = all
+case_keeps OutOfOrder state call_id name arrival one all = all
+case_keeps (Acknowledges invite rseq) state call_id name arrival one all =
+    first_changed IsKept (has_id invite) (pracked rseq) (pracked_keeps rseq)
     (noted state name arrival.request).requests (noted_keeps state name arrival.request all)
-case_keeps AcknowledgesNothing state name arrival all = noted_keeps state name arrival.request all
-case_keeps ForUser state name arrival all =
-    bye_keeps arrival name _ (each.both IsKept (noted state name arrival.request).requests _
-    (noted_keeps state name arrival.request all) (sound_new first_rseq, tt))
+case_keeps AcknowledgesNothing state call_id name arrival one all =
+    noted_keeps state name arrival.request all
+case_keeps ForUser state call_id name arrival one all =
+    bye_keeps arrival.request name _
+    (each.both IsKept (noted state name arrival.request).requests _
+    (noted_keeps state name arrival.request all) (one, tt))
 
-cancel_keeps : (state : State) (arrival : Arrival) (now : ℕ) (o : Option HeldRequest)
-    → IsKeptEach state → IsKeptEach (by_cancelled state arrival now o).0
-cancel_keeps state arrival now None all = all
-cancel_keeps state arrival now (Some held) all =
+cancel_keeps : (state : State) (call_id : List ℕ) (arrival : HeldRequest) (now : ℕ)
+    (o : Option HeldRequest) → IsKeptEach state
+    → IsKeptEach (by_cancelled state call_id arrival now o).0
+cancel_keeps state call_id arrival now None all = all
+cancel_keeps state call_id arrival now (Some held) all =
     by_bool (is_unanswered_invite held)
-    (λ e. rw e (each.changed IsKept (has_id held.id) (finished (request_terminated held) 487 now)
+    (λ e. rw e (first_changed IsKept (has_id held.id) (finished (request_terminated held) 487 now)
     (λ one kept. kept) state.requests all))
     (λ e. rw e all)
 
-arrival_keeps : (state : State) (arrival : Arrival) (now : ℕ) → IsKeptEach state
-    → IsKeptEach (arrival_taken state arrival now).0
-arrival_keeps state arrival now all =
+arrival_keeps : (state : State) (call_id : List ℕ) (arrival : HeldRequest) (now : ℕ)
+    → IsKept arrival → IsKeptEach state
+    → IsKeptEach (arrival_taken state call_id arrival now).0
+arrival_keeps state call_id arrival now one all =
     let name = dialog_name arrival.request arrival.tag in
     by_bool (is_cancel arrival.request)
-    (λ e. rw e (cancel_keeps state arrival now
+    (λ e. rw e (cancel_keeps state call_id arrival now
     (cancelled_request arrival.key state.requests) all))
-    (λ e. rw e (case_keeps (case_of state.requests state.dialogs name arrival.request) state name
-    arrival all))
+    (λ e. rw e (case_keeps (case_of state.requests state.dialogs name arrival.request) state
+    call_id name arrival one all))
 
 ack_keeps : (state : State) (call_id : List ℕ) (ack : Message) (o : Option Id) → IsKeptEach state
     → IsKeptEach (ack_noted state call_id ack o).0
 ack_keeps state call_id ack None all = all
 ack_keeps state call_id ack (Some invite) all =
-    each.changed IsKept (has_id invite) acked (λ held one. one) state.requests all
+    first_changed IsKept (has_id invite) acked (λ held one. one) state.requests all
 
 refusal_keeps : (state : State) (event : Id) (r : Answer) (now : ℕ) (held : HeldRequest)
     (o : Option Refusal) → IsKeptEach state → IsKeptEach (by_refusal state event r now held o).0
 refusal_keeps state event r now held (Some refusal) all = all
 refusal_keeps state event r now held None all =
-    each.changed IsKept (has_id r.id) (λ held. answered r _ now (with_dialog event r held))
+    first_changed IsKept (has_id r.id) (λ held. answered r _ now (with_dialog event r held))
     (λ held one. answered_keeps r _ now (with_dialog event r held) (dialog_keeps event r held one))
     state.requests all
 
@@ -161,7 +165,8 @@ respond_keeps state event r now (Some held) all =
 kind_keeps : (state : State) (tag : List ℕ) (up : Up) (kind : Kind) (now : ℕ)
     → IsKeptEach state → IsKeptEach (kind_taken state tag up kind now).0
 kind_keeps state tag up (Request request reply_to) now all =
-    arrival_keeps state (arrival_of up tag request reply_to) now all
+    arrival_keeps state up.call_id (new_request up.key up.id request reply_to tag) now
+    (sound_new first_rseq) all
 kind_keeps state tag up (Ack ack) now all =
     ack_keeps state up.call_id ack (acknowledged_invite ack state.requests) all
 kind_keeps state tag up (Response response) now all = all

@@ -2,9 +2,6 @@ pub mod Calm
 pub mod Changes
 pub mod DialogSteps
 pub mod Dues
-pub mod Each
-pub mod Entries
-pub mod Heard
 pub mod Joined
 pub mod Mapped
 pub mod Names
@@ -12,6 +9,7 @@ pub mod NoStarts
 pub mod Numbers
 pub mod OwnCall
 pub mod FewWait
+pub mod FirstChanged
 pub mod Places
 pub mod Shows
 pub mod Stories

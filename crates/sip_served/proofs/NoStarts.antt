@@ -1,91 +1,41 @@
 -- The server side of a call starts no transaction of a client: what it asks of transactions are
 -- answers.
-use Rattle.std.proofs.Common.{◌≡◌, ℕ, Bool, true, false, ◌&&◌, cond, List, [], ◌∷◌, ◌++◌, map, refl, ◌∙◌}
-use Rattle.std.specs.Prelude.{Option, None, Some, filter, filter_map, find}
-use Rattle.std.specs.List.{cons_option, flat_map}
-use Rattle.std.specs.Map.{values_of}
-use Rattle.std.specs.Option.{option_map_or}
-use Rattle.std.proofs.lemmas.List.Elements.{filter_map-append}
+use Rattle.std.proofs.Common.{◌≡◌, ℕ, Bool, true, false, ◌&&◌, cond, List, [], ◌∷◌, map, refl}
+use Rattle.std.specs.Prelude.{Option, None, Some, find}
 use Rattle.indexmap.specs.IndexMap.{insert_entry}
 use Rattle.sip_model.proofs.Ordered.{by_bool}
 use Rattle.sip_message.specs.declared.id.Id.{Id}
-use Rattle.sip_message.specs.declared.key.Key.{Key}
 use Rattle.sip_message.specs.declared.message.Message.{Message}
 use Rattle.sip_reliable.specs.declared.tick.Tick.{Tick}
 use Rattle.sip_reliable.specs.declared.tick.Tick.TheVariants as tick
 use Rattle.sip_reliable.specs.Ledger.{tick_answer}
-use Rattle.sip_transactions.specs.declared.input.Command.{Command as Order}
 use Rattle.sip_transactions.specs.declared.input.Command.TheVariants as order
 use Rattle.sip_transactions.specs.declared.output.Kind.{Kind}
 use Rattle.sip_transactions.specs.declared.output.Kind.TheVariants.{Request, Ack, Response, Timeout, Failed}
 use Rattle.sip_transactions.specs.declared.output.Up.{Up}
-use Rattle.sip_served.specs.declared.arrival.Arrival.{Arrival}
+use Rattle.sip_common.proofs.Starts.{early_starts, ended_starts, none_of_all, none_of_both, starts}
 use Rattle.sip_served.specs.declared.arrival.ArrivalCase.{ArrivalCase}
 use Rattle.sip_served.specs.declared.arrival.ArrivalCase.TheVariants.{Merged, BadExtension, NoDialog, OutOfOrder, Acknowledges, AcknowledgesNothing, ForUser}
-use Rattle.sip_served.specs.declared.command.Respond.{Respond as Answer}
-use Rattle.sip_served.specs.declared.held_dialog.DialogName.{DialogName}
-use Rattle.sip_served.specs.declared.held_dialog.HeldDialog.{HeldDialog}
+use Rattle.sip_common.specs.declared.command.Respond.{Respond as Answer}
+use Rattle.sip_common.specs.declared.held_dialog.DialogName.{DialogName}
 use Rattle.sip_served.specs.declared.held_request.HeldRequest.{HeldRequest}
 use Rattle.sip_served.specs.declared.held_request.Success.{Success}
-use Rattle.sip_served.specs.declared.item.CallOut.{CallOut}
-use Rattle.sip_served.specs.declared.item.CallOut.TheVariants as out
+use Rattle.sip_common.specs.declared.item.CallOut.{CallOut}
+use Rattle.sip_common.specs.declared.item.CallOut.TheVariants as out
 use Rattle.sip_served.specs.declared.provisionals.NumberedResponse.{NumberedResponse}
-use Rattle.sip_served.specs.declared.refusal.Refusal.{Refusal}
+use Rattle.sip_common.specs.declared.refusal.Refusal.{Refusal}
 use Rattle.sip_served.specs.declared.tick.SuccessDue.{SuccessDue}
 use Rattle.sip_served.specs.declared.tick.SuccessDue.TheVariants as repeat
 use Rattle.sip_served.specs.Provisionals.{of_numbers}
 use Rattle.sip_served.specs.Acknowledgment.{ack_noted, acknowledged_invite}
-use Rattle.sip_served.specs.Arrival.{arrival_of, by_case, case_of, noted, request_held}
+use Rattle.sip_served.specs.Arrival.{new_request, by_case, case_of, noted, request_held}
 use Rattle.sip_served.specs.Cancel.{by_cancelled, cancelled_request, is_unanswered_invite}
-use Rattle.sip_served.specs.Dialogs.{confirmed, dialog_at, dialog_changed, early_ended, ended_at, ended_notice, is_early_of, is_named}
-use Rattle.sip_served.specs.Requests.{dialog_name, is_bye, is_cancel, is_inside}
+use Rattle.sip_common.specs.Dialogs.{confirmed, dialog_changed, early_ended, ended_at, is_named, Dialogs}
+use Rattle.sip_common.specs.Requests.{dialog_name, is_bye, is_cancel, is_inside}
 use Rattle.sip_served.specs.Respond.{answer_to, by_refusal, by_request, confirms_dialog, made_dialog, makes_dialog, refusal_for, rejects, respond_taken}
-use Rattle.sip_served.specs.State.{Dialogs, State, Taken, has_id}
+use Rattle.sip_served.specs.State.{State, Taken, has_id}
 use Rattle.sip_served.specs.Step.{arrival_taken, kind_taken}
 use Rattle.sip_served.specs.Tick.{provisionals_ticked, provisionals_told, request_ticked, success_answer, success_of, success_ticked, success_told, tick_taken}
-
--- a transaction of a client that is started, by its id and its key
-abbrev pub start_of : Id → Order → Option (Id × Key)
-start_of id (order.Start key call_id message to) = Some (id, key)
-start_of id (order.Answer key message) = None
-
-abbrev pub start_in : CallOut → Option (Id × Key)
-start_in (out.Notice notice) = None
-start_in (out.Command id command) = start_of id command
-start_in (out.Direct to bytes) = None
-
-abbrev pub starts : List CallOut → List (Id × Key)
-starts outs = filter_map start_in outs
-
--- ---- lists of outputs
-
-pub none_of_both : (xs ys : List CallOut) → starts xs ≡ [] → starts ys ≡ [] → starts (xs ++ ys) ≡ []
-none_of_both xs ys no_x no_y = filter_map-append start_in xs ys ∙ (λ i. no_x i ++ no_y i)
-
-pub none_of_map : {X : Type 0} (f : X → CallOut) → ((x : X) → start_in (f x) ≡ None) → (xs : List X)
-    → starts (map f xs) ≡ []
-none_of_map f none [] = refl
-none_of_map f none (x ∷ xs) = (λ i. option_rest (none x i)) ∙ none_of_map f none xs
-  where
-    option_rest : Option (Id × Key) → List (Id × Key)
-    option_rest o = cons_option o (starts (map f xs))
-
-pub none_of_all : {X : Type 0} (f : X → List CallOut) → ((x : X) → starts (f x) ≡ [])
-    → (xs : List X) → starts (flat_map f xs) ≡ []
-none_of_all f none [] = refl
-none_of_all f none (x ∷ xs) = none_of_both (f x) (flat_map f xs) (none x) (none_of_all f none xs)
-
-pub early_starts : (invite : Id) (dialogs : Dialogs) → starts (early_ended invite dialogs).1 ≡ []
-early_starts invite dialogs =
-    none_of_map ended_notice (λ held. refl) (filter (is_early_of invite) (values_of dialogs))
-
-pub ended_starts : (name : DialogName) (dialogs : Dialogs) → starts (ended_at name dialogs).1 ≡ []
-ended_starts name dialogs = by_dialog (dialog_at name dialogs)
-  where
-    by_dialog : (o : Option HeldDialog)
-        → starts (option_map_or (λ held. ended_notice held ∷ []) o []) ≡ []
-    by_dialog None = refl
-    by_dialog (Some held) = refl
 
 -- ---- what comes up
 
@@ -94,41 +44,42 @@ bye_starts : (b : Bool) (state : State) (outs : List CallOut) (after : State) �
 bye_starts true state outs after none = none
 bye_starts false state outs after none = refl
 
-case_starts : (case : ArrivalCase) (state : State) (name : DialogName) (arrival : Arrival)
-    → starts (by_case case state name arrival).1 ≡ []
-case_starts Merged state name arrival = refl
-case_starts BadExtension state name arrival = refl
-case_starts NoDialog state name arrival = refl
-case_starts OutOfOrder state name arrival = refl
-case_starts (Acknowledges invite rseq) state name arrival = refl
-case_starts AcknowledgesNothing state name arrival = refl
-case_starts ForUser state name arrival =
-    let before = (request_held (noted state name arrival.request) name arrival).0 in
+case_starts : (case : ArrivalCase) (state : State) (call_id : List ℕ) (name : DialogName)
+    (arrival : HeldRequest) → starts (by_case case state call_id name arrival).1 ≡ []
+case_starts Merged state call_id name arrival = refl
+case_starts BadExtension state call_id name arrival = refl
+case_starts NoDialog state call_id name arrival = refl
+case_starts OutOfOrder state call_id name arrival = refl
+case_starts (Acknowledges invite rseq) state call_id name arrival = refl
+case_starts AcknowledgesNothing state call_id name arrival = refl
+case_starts ForUser state call_id name arrival =
+    let before = (request_held (noted state name arrival.request) call_id name arrival).0 in
     bye_starts (is_inside arrival.request && is_bye arrival.request) before
     (ended_at name before.dialogs).1
     (record before { dialogs = (ended_at name before.dialogs).0 })
     (ended_starts name before.dialogs)
 
-cancel_starts : (state : State) (arrival : Arrival) (now : ℕ) (o : Option HeldRequest)
-    → starts (by_cancelled state arrival now o).1 ≡ []
-cancel_starts state arrival now None = refl
-cancel_starts state arrival now (Some held) =
+cancel_starts : (state : State) (call_id : List ℕ) (arrival : HeldRequest) (now : ℕ)
+    (o : Option HeldRequest) → starts (by_cancelled state call_id arrival now o).1 ≡ []
+cancel_starts state call_id arrival now None = refl
+cancel_starts state call_id arrival now (Some held) =
     by_bool (is_unanswered_invite held) (λ e. rw e (early_starts held.id state.dialogs))
     (λ e. rw e refl)
 
-arrival_starts : (state : State) (arrival : Arrival) (now : ℕ)
-    → starts (arrival_taken state arrival now).1 ≡ []
-arrival_starts state arrival now =
+arrival_starts : (state : State) (call_id : List ℕ) (arrival : HeldRequest) (now : ℕ)
+    → starts (arrival_taken state call_id arrival now).1 ≡ []
+arrival_starts state call_id arrival now =
     let name = dialog_name arrival.request arrival.tag in
     by_bool (is_cancel arrival.request)
-    (λ e. rw e (cancel_starts state arrival now (cancelled_request arrival.key state.requests)))
-    (λ e. rw e (case_starts (case_of state.requests state.dialogs name arrival.request) state name
-    arrival))
+    (λ e. rw e (cancel_starts state call_id arrival now
+    (cancelled_request arrival.key state.requests)))
+    (λ e. rw e (case_starts (case_of state.requests state.dialogs name arrival.request) state
+    call_id name arrival))
 
 pub kind_starts : (state : State) (tag : List ℕ) (up : Up) (kind : Kind) (now : ℕ)
     → starts (kind_taken state tag up kind now).1 ≡ []
 kind_starts state tag up (Request request reply_to) now =
-    arrival_starts state (arrival_of up tag request reply_to) now
+    arrival_starts state up.call_id (new_request up.key up.id request reply_to tag) now
 kind_starts state tag up (Ack ack) now = by_invite (acknowledged_invite ack state.requests)
   where
     by_invite : (o : Option Id) → starts (ack_noted state up.call_id ack o).1 ≡ []

@@ -1,19 +1,10 @@
 -- The server side of a call holds and tells what is of its own Call-ID, and nothing else.
-use Rattle.std.proofs.Common.{◌≡◌, ℕ, ◌&&◌, not, List, [], ◌∷◌, map, refl, ap, ◌∙◌}
-use Rattle.std.specs.Prelude.{Option, None, Some, Result, Ok, Err, filter, find}
-use Rattle.std.specs.List.{AllByRecursion}
-use Rattle.std.specs.Map.{values_of}
+use Rattle.std.proofs.Common.{◌≡◌, ℕ, ◌&&◌, List, [], ◌∷◌, map, refl, ap, ◌∙◌}
+use Rattle.std.specs.Prelude.{Option, None, Some, Result, Ok, Err, find}
 use Rattle.sip_model.proofs.Ordered.{by_bool}
 use Rattle.sip_message.specs.declared.addr.Addr.{Addr}
 use Rattle.sip_message.specs.declared.id.Id.{Id}
 use Rattle.sip_message.specs.declared.message.Message.{Message}
-use Rattle.sip_dialog.specs.declared.dialog.Dialog.{Dialog}
-use Rattle.sip_dialog.specs.declared.dialog.Side.{Side}
-use Rattle.sip_dialog.specs.declared.dialog.Side.TheVariants.{Caller, Callee}
-use Rattle.sip_dialog.specs.Fault.{ended_fault}
-use Rattle.sip_dialog.specs.Opening.{contact_uri}
-use Rattle.sip_dialog.specs.Step.{confirmed_at}
-use Rattle.std.specs.Option.{is_some}
 use Rattle.sip_reliable.specs.declared.tick.Tick.{Tick}
 use Rattle.sip_reliable.specs.declared.tick.Tick.TheVariants as tick
 use Rattle.sip_reliable.specs.declared.send_fault.SendFault.{SendFault}
@@ -22,39 +13,39 @@ use Rattle.sip_transactions.specs.declared.input.Command.TheVariants.{Answer as 
 use Rattle.sip_transactions.specs.declared.output.Kind.{Kind}
 use Rattle.sip_transactions.specs.declared.output.Kind.TheVariants.{Request, Ack, Response, Timeout, Failed}
 use Rattle.sip_transactions.specs.declared.output.Up.{Up}
-use Rattle.sip_served.specs.declared.arrival.Arrival.{Arrival}
+use Rattle.sip_common.proofs.OwnDialogs.{changed_dialog, confirmed_keeps, early_own, ended_own, visited_keeps}
 use Rattle.sip_served.specs.declared.arrival.ArrivalCase.{ArrivalCase}
 use Rattle.sip_served.specs.declared.arrival.ArrivalCase.TheVariants.{Merged, BadExtension, NoDialog, OutOfOrder, Acknowledges, AcknowledgesNothing, ForUser}
-use Rattle.sip_served.specs.declared.command.Respond.{Respond as Answer}
-use Rattle.sip_served.specs.declared.command.UserCommand.{UserCommand}
-use Rattle.sip_served.specs.declared.command.UserCommand.TheVariants as command
-use Rattle.sip_served.specs.declared.held_dialog.DialogName.{DialogName}
-use Rattle.sip_served.specs.declared.held_dialog.HeldDialog.{HeldDialog}
+use Rattle.sip_common.specs.declared.command.Respond.{Respond as Answer}
+use Rattle.sip_common.specs.declared.command.UserCommand.{UserCommand}
+use Rattle.sip_common.specs.declared.command.UserCommand.TheVariants as command
+use Rattle.sip_common.specs.declared.held_dialog.DialogName.{DialogName}
 use Rattle.sip_served.specs.declared.held_request.HeldRequest.{HeldRequest}
 use Rattle.sip_served.specs.declared.held_request.Success.{Success}
-use Rattle.sip_served.specs.declared.item.CallOut.{CallOut}
-use Rattle.sip_served.specs.declared.item.CallOut.TheVariants.{Command}
-use Rattle.sip_served.specs.declared.item.Item.{Item}
-use Rattle.sip_served.specs.declared.item.Item.TheVariants as item
+use Rattle.sip_common.specs.declared.item.CallOut.TheVariants.{Command}
+use Rattle.sip_common.specs.declared.item.Item.{Item}
+use Rattle.sip_common.specs.declared.item.Item.TheVariants as item
 use Rattle.sip_served.specs.declared.provisionals.NumberedResponse.{NumberedResponse}
-use Rattle.sip_served.specs.declared.refusal.Refusal.{Refusal}
+use Rattle.sip_common.specs.declared.refusal.Refusal.{Refusal}
 use Rattle.sip_served.specs.declared.tick.SuccessDue.{SuccessDue}
 use Rattle.sip_served.specs.declared.tick.SuccessDue.TheVariants as repeat
 use Rattle.sip_served.specs.Acknowledgment.{ack_noted, acked, acknowledged_invite}
-use Rattle.sip_served.specs.Arrival.{arrival_of, by_case, bye_taken, case_of, noted, pracked, request_held}
+use Rattle.sip_served.specs.Arrival.{new_request, by_case, bye_taken, case_of, noted, pracked, request_held}
 use Rattle.sip_served.specs.Cancel.{by_cancelled, cancelled_request, invite_terminated, is_unanswered_invite, request_terminated}
-use Rattle.sip_served.specs.Dialogs.{confirmed, dialog_at, dialog_changed, early_ended, ended_at, ended_notice, is_early_of, is_named, numbered, refreshed, retargeted, takes, visited}
-use Rattle.sip_served.specs.OwnCall.{AreDialogsOf, AreRequestsOf, IsEventOf, IsItemOf, IsKindOf, IsNoticeOf, IsStateOf}
+use Rattle.sip_common.specs.Dialogs.{confirmed, is_named, visited, Dialogs}
+use Rattle.sip_common.specs.OwnCall.{AreDialogsOf, AreNoticesOf, IsDialogOf, IsItemOf, IsKindOf, IsNoticeOf}
+use Rattle.sip_served.specs.OwnCall.{AreRequestsOf, IsEventOf, IsStateOf}
 use Rattle.sip_served.specs.Provisionals.{of_numbers}
-use Rattle.sip_served.specs.Requests.{dialog_name, is_bye, is_cancel, is_final, is_inside, is_invite}
+use Rattle.sip_common.specs.Requests.{dialog_name, is_bye, is_cancel, is_final, is_inside}
 use Rattle.sip_served.specs.Respond.{answer_to, answered, by_refusal, by_request, confirms_dialog, dialogs_answered, finished, is_sent_reliably, made_dialog, makes_dialog, refusal_for, rejects, respond_taken, sent_as, with_dialog}
 use Rattle.sip_served.specs.Run.{Event, Takes, Ticks, event_taken}
 use Rattle.sip_served.specs.ServerSide.{empty_at}
-use Rattle.sip_served.specs.State.{Dialogs, State, Taken, changed_at, followed, has_id}
+use Rattle.sip_served.specs.State.{State, Taken, changed_at, followed, has_id}
 use Rattle.sip_served.specs.Step.{arrival_taken, command_taken, item_taken, kind_taken}
-use Rattle.sip_served.specs.Command.{call_of_command}
+use Rattle.sip_common.specs.Command.{call_of_command}
 use Rattle.sip_served.specs.Tick.{is_kept_at, provisionals_ticked, provisionals_told, request_ticked, success_answer, success_of, success_ticked, success_told, tick_taken}
-use Rattle.sip_served.proofs.Each as each
+use Rattle.sip_common.proofs.Each as each
+use Rattle.sip_served.proofs.FirstChanged.{first_changed}
 
 -- ---- one request, and one dialog, keeps its Call-ID
 
@@ -80,52 +71,13 @@ success_keeps : (now : ℕ) (held : HeldRequest) (o : Option Success)
 success_keeps now held None = refl
 success_keeps now held (Some success) = refl
 
-pub numbered_keeps : (number : ℕ) (held : HeldDialog)
-    → (numbered number held).dialog.call_id ≡ held.dialog.call_id
-numbered_keeps number held = by_bool (takes held number) (λ e. rw e refl) (λ e. rw e refl)
-
-pub retargeted_keeps : (o : Option (List ℕ)) (held : HeldDialog)
-    → (retargeted o held).dialog.call_id ≡ held.dialog.call_id
-retargeted_keeps None held = refl
-retargeted_keeps (Some uri) held =
-    by_bool (is_some (ended_fault held.dialog)) (λ e. rw e refl) (λ e. rw e refl)
-
-pub refreshed_keeps : (request : Message) (held : HeldDialog)
-    → (refreshed request held).dialog.call_id ≡ held.dialog.call_id
-refreshed_keeps request held =
-    by_bool (is_invite request) (λ e. rw e (retargeted_keeps (contact_uri request) held))
-    (λ e. rw e refl)
-
-pub visited_keeps : (request : Message) (held : HeldDialog)
-    → (visited request held).dialog.call_id ≡ held.dialog.call_id
-visited_keeps request held =
-    refreshed_keeps request (numbered request.cseq.number held)
-    ∙ numbered_keeps request.cseq.number held
-
-confirmed_so : (side : Side) (dialog : Dialog) (response : Message)
-    → (confirmed_at side dialog response).call_id ≡ dialog.call_id
-confirmed_so Callee dialog response = refl
-confirmed_so Caller dialog response = refl
-
-pub confirmed_keeps : (response : Message) (held : HeldDialog)
-    → (confirmed response held).dialog.call_id ≡ held.dialog.call_id
-confirmed_keeps response held =
-    by_bool (is_some (ended_fault held.dialog)) (λ e. rw e refl)
-    (λ e. rw e (confirmed_so held.dialog.side held.dialog response))
-
 module _ (call_id : List ℕ) where
   abbrev pub IsRequestOf : HeldRequest → Type 0
   IsRequestOf held = held.request.call_id ≡ call_id
 
-  abbrev pub IsDialogOf : HeldDialog → Type 0
-  IsDialogOf held = held.dialog.call_id ≡ call_id
-
-  abbrev pub AreNoticesOf : List CallOut → Type 0
-  AreNoticesOf outs = AllByRecursion (IsNoticeOf call_id) outs
-
   -- both what is held then and what is told
   abbrev pub IsTakenOf : Taken → Type 0
-  IsTakenOf taken = IsStateOf call_id taken.0 × AreNoticesOf taken.1
+  IsTakenOf taken = IsStateOf call_id taken.0 × AreNoticesOf call_id taken.1
 
   -- nothing is held
   pub empty_is : (local : Addr) → IsStateOf call_id (empty_at local)
@@ -138,45 +90,8 @@ module _ (call_id : List ℕ) where
       → (requests : List HeldRequest) → AreRequestsOf call_id requests
       → AreRequestsOf call_id (changed_at id change requests)
   request_changed id change same requests all =
-      each.changed IsRequestOf (has_id id) change
+      first_changed IsRequestOf (has_id id) change
       (λ held is. ap (λ (m : Message). m.call_id) (same held) ∙ is) requests all
-
-  -- the dialog of a name, changed so that it keeps its Call-ID
-  pub changed_dialog : (name : DialogName) (change : HeldDialog → HeldDialog)
-      → ((held : HeldDialog) → (change held).dialog.call_id ≡ held.dialog.call_id)
-      → (dialogs : Dialogs) → AreDialogsOf call_id dialogs
-      → AreDialogsOf call_id (dialog_changed name change dialogs)
-  changed_dialog name change same dialogs all =
-      each.value_changed IsDialogOf (is_named name) change (λ held is. same held ∙ is) dialogs
-      (dialog_at name dialogs) refl all
-
-  ended_so : (name : DialogName) (dialogs : Dialogs) (o : Option HeldDialog)
-      → dialog_at name dialogs ≡ o → AreDialogsOf call_id dialogs
-      → AreNoticesOf (ended_at name dialogs).1
-  ended_so name dialogs None is all = rw is tt
-  ended_so name dialogs (Some held) is all =
-      rw is (each.looked_up IsDialogOf (is_named name) dialogs held all is, tt)
-
-  -- the dialog of a name ends
-  pub dialog_ended : (name : DialogName) (dialogs : Dialogs) → AreDialogsOf call_id dialogs
-      → AreDialogsOf call_id (ended_at name dialogs).0 × AreNoticesOf (ended_at name dialogs).1
-  dialog_ended name dialogs all = (
-    each.entry_removed IsDialogOf (is_named name) dialogs all,
-    ended_so name dialogs (dialog_at name dialogs) refl all,
-  )
-
-  -- the early dialogs of an INVITE end
-  pub early_dialogs_ended : (invite : Id) (dialogs : Dialogs) → AreDialogsOf call_id dialogs
-      → AreDialogsOf call_id (early_ended invite dialogs).0
-      × AreNoticesOf (early_ended invite dialogs).1
-  early_dialogs_ended invite dialogs all = (
-    each.filtered (λ entry. IsDialogOf entry.1) (λ entry. not (is_early_of invite entry.1)) dialogs
-        all,
-    each.mapped IsDialogOf (IsNoticeOf call_id) ended_notice (λ held is. is)
-        (filter (is_early_of invite) (values_of dialogs))
-        (each.filtered IsDialogOf (is_early_of invite) (values_of dialogs)
-        (each.each_value IsDialogOf dialogs all)),
-  )
 
   -- ---- a request that comes up
 
@@ -193,23 +108,23 @@ module _ (call_id : List ℕ) where
       by_bool (is_inside request)
       (λ e. rw e record {
         requests = its.requests;
-        dialogs = changed_dialog name (visited request) (visited_keeps request) state.dialogs
-            its.dialogs;
+        dialogs = changed_dialog call_id name (visited request) (visited_keeps request)
+            state.dialogs its.dialogs;
       })
       (λ e. rw e its)
 
-  bye_is : (arrival : Arrival) (name : DialogName) (state : State) → IsStateOf call_id state
-      → IsTakenOf (bye_taken arrival name state)
-  bye_is arrival name state its =
-      let ended = dialog_ended name state.dialogs its.dialogs in
-      by_bool (is_inside arrival.request && is_bye arrival.request)
+  bye_is : (request : Message) (name : DialogName) (state : State) → IsStateOf call_id state
+      → IsTakenOf (bye_taken request name state)
+  bye_is request name state its =
+      let ended = ended_own call_id name state.dialogs its.dialogs in
+      by_bool (is_inside request && is_bye request)
       (λ e. rw e (record { requests = its.requests; dialogs = ended.0 }, ended.1))
       (λ e. rw e (its, tt))
 
-  held_is : (state : State) (name : DialogName) (arrival : Arrival) → arrival.call_id ≡ call_id
-      → arrival.request.call_id ≡ call_id → IsStateOf call_id state
-      → IsTakenOf (request_held state name arrival)
-  held_is state name arrival of_call of_request its = (
+  held_is : (state : State) (its_call : List ℕ) (name : DialogName) (arrival : HeldRequest)
+      → its_call ≡ call_id → IsRequestOf arrival → IsStateOf call_id state
+      → IsTakenOf (request_held state its_call name arrival)
+  held_is state its_call name arrival of_call of_request its = (
     record {
       requests = each.both IsRequestOf state.requests _ its.requests (of_request, tt);
       dialogs = its.dialogs;
@@ -217,14 +132,14 @@ module _ (call_id : List ℕ) where
     (of_call, tt),
   )
 
-  case_is : (case : ArrivalCase) (state : State) (name : DialogName) (arrival : Arrival)
-      → arrival.call_id ≡ call_id → arrival.request.call_id ≡ call_id → IsStateOf call_id state
-      → IsTakenOf (by_case case state name arrival)
-  case_is Merged state name arrival of_call of_request its = (its, (tt, tt))
-  case_is BadExtension state name arrival of_call of_request its = (its, (tt, tt))
-  case_is NoDialog state name arrival of_call of_request its = (its, (tt, tt))
-  case_is OutOfOrder state name arrival of_call of_request its = (its, (tt, tt))
-  case_is (Acknowledges invite rseq) state name arrival of_call of_request its =
+  case_is : (case : ArrivalCase) (state : State) (its_call : List ℕ) (name : DialogName)
+      (arrival : HeldRequest) → its_call ≡ call_id → IsRequestOf arrival → IsStateOf call_id state
+      → IsTakenOf (by_case case state its_call name arrival)
+  case_is Merged state its_call name arrival of_call of_request its = (its, (tt, tt))
+  case_is BadExtension state its_call name arrival of_call of_request its = (its, (tt, tt))
+  case_is NoDialog state its_call name arrival of_call of_request its = (its, (tt, tt))
+  case_is OutOfOrder state its_call name arrival of_call of_request its = (its, (tt, tt))
+  case_is (Acknowledges invite rseq) state its_call name arrival of_call of_request its =
       let seen = noted_is state name arrival.request its in (
         record {
           requests = request_changed invite (pracked rseq) (λ held. refl)
@@ -233,20 +148,21 @@ module _ (call_id : List ℕ) where
         },
         (tt, (of_call, tt)),
       )
-  case_is AcknowledgesNothing state name arrival of_call of_request its =
+  case_is AcknowledgesNothing state its_call name arrival of_call of_request its =
       (noted_is state name arrival.request its, (tt, tt))
-  case_is ForUser state name arrival of_call of_request its =
-      after (request_held (noted state name arrival.request) name arrival) (bye_taken arrival name)
-      (held_is (noted state name arrival.request) name arrival of_call of_request
+  case_is ForUser state its_call name arrival of_call of_request its =
+      let before = noted state name arrival.request in
+      after (request_held before its_call name arrival) (bye_taken arrival.request name)
+      (held_is before its_call name arrival of_call of_request
       (noted_is state name arrival.request its))
-      (bye_is arrival name)
+      (bye_is arrival.request name)
 
   -- ---- a CANCEL, and an ACK
 
   terminated_is : (response : Message) (invite : Id) (now : ℕ) (state : State)
       → IsStateOf call_id state → IsTakenOf (invite_terminated response invite now state)
   terminated_is response invite now state its =
-      let ended = early_dialogs_ended invite state.dialogs its.dialogs in (
+      let ended = early_own call_id invite state.dialogs its.dialogs in (
         record {
           requests = request_changed invite (finished response 487 now) (λ held. refl)
               state.requests its.requests;
@@ -255,27 +171,27 @@ module _ (call_id : List ℕ) where
         ended.1,
       )
 
-  cancel_is : (state : State) (arrival : Arrival) (now : ℕ) (o : Option HeldRequest)
-      → arrival.call_id ≡ call_id → IsStateOf call_id state
-      → IsTakenOf (by_cancelled state arrival now o)
-  cancel_is state arrival now None of_call its = (its, (tt, tt))
-  cancel_is state arrival now (Some held) of_call its =
+  cancel_is : (state : State) (its_call : List ℕ) (arrival : HeldRequest) (now : ℕ)
+      (o : Option HeldRequest) → its_call ≡ call_id → IsStateOf call_id state
+      → IsTakenOf (by_cancelled state its_call arrival now o)
+  cancel_is state its_call arrival now None of_call its = (its, (tt, tt))
+  cancel_is state its_call arrival now (Some held) of_call its =
       let terminated =
       terminated_is (request_terminated held) held.id now state its in
       by_bool (is_unanswered_invite held)
       (λ e. rw e (terminated.0, (tt, (tt, (of_call, terminated.1)))))
       (λ e. rw e (its, (tt, tt)))
 
-  arrival_is : (state : State) (arrival : Arrival) (now : ℕ) → arrival.call_id ≡ call_id
-      → arrival.request.call_id ≡ call_id → IsStateOf call_id state
-      → IsTakenOf (arrival_taken state arrival now)
-  arrival_is state arrival now of_call of_request its =
+  arrival_is : (state : State) (its_call : List ℕ) (arrival : HeldRequest) (now : ℕ)
+      → its_call ≡ call_id → IsRequestOf arrival → IsStateOf call_id state
+      → IsTakenOf (arrival_taken state its_call arrival now)
+  arrival_is state its_call arrival now of_call of_request its =
       let name = dialog_name arrival.request arrival.tag in
       by_bool (is_cancel arrival.request)
-      (λ e. rw e (cancel_is state arrival now
+      (λ e. rw e (cancel_is state its_call arrival now
       (cancelled_request arrival.key state.requests) of_call its))
-      (λ e. rw e (case_is (case_of state.requests state.dialogs name arrival.request) state name
-      arrival of_call of_request its))
+      (λ e. rw e (case_is (case_of state.requests state.dialogs name arrival.request) state
+      its_call name arrival of_call of_request its))
 
   ack_is : (state : State) (its_call : List ℕ) (ack : Message) (o : Option Id)
       → its_call ≡ call_id → IsStateOf call_id state → IsTakenOf (ack_noted state its_call ack o)
@@ -293,23 +209,23 @@ module _ (call_id : List ℕ) where
   dialogs_is : (event : Id) (held : HeldRequest) (r : Answer) (response : Message)
       (dialogs : Dialogs) → IsRequestOf held → AreDialogsOf call_id dialogs
       → AreDialogsOf call_id (dialogs_answered event held r response dialogs).0
-      × AreNoticesOf (dialogs_answered event held r response dialogs).1
+      × AreNoticesOf call_id (dialogs_answered event held r response dialogs).1
   dialogs_is event held r response dialogs of_request all =
       let name = dialog_name held.request held.tag in
       by_bool (makes_dialog held r.status)
       (λ e. rw e (
-        each.entry_inserted IsDialogOf is_named dialogs name
-            (made_dialog event held r.status) of_request all,
+        each.each_inserted (IsDialogOf call_id) is_named name
+            (made_dialog event held r.status) of_request dialogs all,
         tt,
       ))
       (λ e. by_bool (confirms_dialog held r.status)
       (λ f. rw (e, f) (
-        changed_dialog name (confirmed response) (confirmed_keeps response) dialogs
+        changed_dialog call_id name (confirmed response) (confirmed_keeps response) dialogs
             all,
         tt,
       ))
       (λ f. by_bool (rejects held r.status)
-      (λ g. rw (e, f, g) (early_dialogs_ended held.id dialogs all))
+      (λ g. rw (e, f, g) (early_own call_id held.id dialogs all))
       (λ g. rw (e, f, g) (all, tt))))
 
   refusal_is : (state : State) (event : Id) (r : Answer) (now : ℕ) (held : HeldRequest)
@@ -345,24 +261,25 @@ module _ (call_id : List ℕ) where
   -- ---- a tick
 
   success_told_is : (t : SuccessDue) (held : HeldRequest) (response : Message) → IsRequestOf held
-      → AreNoticesOf (success_told t held response)
+      → AreNoticesOf call_id (success_told t held response)
   success_told_is repeat.Nothing held response of_request = tt
   success_told_is repeat.Again held response of_request = (tt, tt)
   success_told_is repeat.GivenUp held response of_request = (of_request, tt)
 
   success_is : (now : ℕ) (held : HeldRequest) (o : Option Success) → IsRequestOf held
-      → AreNoticesOf (success_of now held o).1
+      → AreNoticesOf call_id (success_of now held o).1
   success_is now held None of_request = tt
   success_is now held (Some success) of_request =
       success_told_is (success_answer now success) held success.response of_request
 
   repeats_are : (held : HeldRequest) (responses : List NumberedResponse)
-      → AreNoticesOf (map (λ one. Command held.id (ByAnswer held.key one.response)) responses)
+      → AreNoticesOf call_id
+      (map (λ one. Command held.id (ByAnswer held.key one.response)) responses)
   repeats_are held [] = tt
   repeats_are held (one ∷ responses) = (tt, repeats_are held responses)
 
   provisionals_are : (t : Tick) (held : HeldRequest) → IsRequestOf held
-      → AreNoticesOf (provisionals_told t held)
+      → AreNoticesOf call_id (provisionals_told t held)
   provisionals_are tick.Nothing held of_request = tt
   provisionals_are (tick.Again numbers) held of_request =
       repeats_are held (of_numbers numbers.items held.provisionals)
@@ -373,7 +290,7 @@ module _ (call_id : List ℕ) where
   ticked_keeps now held = success_keeps now held held.success
 
   ticked_is : (now : ℕ) (held : HeldRequest) → IsRequestOf held
-      → AreNoticesOf (request_ticked now held).1
+      → AreNoticesOf call_id (request_ticked now held).1
   ticked_is now held of_request =
       let first = (success_ticked now held).0 in
       each.both (IsNoticeOf call_id) (success_ticked now held).1 (provisionals_ticked now first).1
@@ -402,7 +319,8 @@ module _ (call_id : List ℕ) where
       → up.call_id ≡ call_id → IsKindOf call_id kind → IsStateOf call_id state
       → IsTakenOf (kind_taken state tag up kind now)
   kind_is state tag up (Request request reply_to) now of_call of_request its =
-      arrival_is state (arrival_of up tag request reply_to) now of_call of_request its
+      arrival_is state up.call_id (new_request up.key up.id request reply_to tag) now of_call
+      of_request its
   kind_is state tag up (Ack ack) now of_call of_kind its =
       ack_is state up.call_id ack (acknowledged_invite ack state.requests) of_call its
   kind_is state tag up (Response response) now of_call of_kind its = (its, tt)

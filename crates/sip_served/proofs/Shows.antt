@@ -1,9 +1,7 @@
 -- Each request that comes up for the user is told once, as it comes up.
-use Rattle.std.proofs.Common.{◌≡◌, ℕ, ◌+◌, ◌≤◌, Bool, true, false, cond, ◌&&◌, List, [], ◌∷◌, ◌++◌, map, length, refl, sym, ap, subst, ◌∙◌, arith}
+use Rattle.std.proofs.Common.{◌≡◌, ℕ, ◌+◌, ◌≤◌, Bool, true, false, cond, ◌&&◌, List, [], ◌∷◌, ◌++◌, map, length, refl, sym, ap, subst, arith}
 use Rattle.std.specs.Prelude.{Option, None, Some, count_by, find, filter}
-use Rattle.std.specs.List.{filter_map, flat_map}
-use Rattle.std.specs.Map.{values_of}
-use Rattle.std.proofs.lemmas.List.Elements.{filter_map-append}
+use Rattle.std.specs.List.{flat_map}
 use Rattle.std.proofs.lemmas.List.Sums.{length-filter}
 use Rattle.sip_model.proofs.Ordered.{by_bool}
 use Rattle.sip_message.specs.declared.id.Id.{Id}
@@ -15,49 +13,36 @@ use Rattle.sip_transactions.specs.declared.input.Command.TheVariants.{Answer as 
 use Rattle.sip_transactions.specs.declared.output.Kind.{Kind}
 use Rattle.sip_transactions.specs.declared.output.Kind.TheVariants.{Request, Ack, Response, Timeout, Failed}
 use Rattle.sip_transactions.specs.declared.output.Up.{Up}
-use Rattle.sip_served.specs.declared.arrival.Arrival.{Arrival}
+use Rattle.sip_common.proofs.Shown.{early_shown, end_shown, none_of_both, shown}
 use Rattle.sip_served.specs.declared.arrival.ArrivalCase.{ArrivalCase}
 use Rattle.sip_served.specs.declared.arrival.ArrivalCase.TheVariants.{Merged, BadExtension, NoDialog, OutOfOrder, Acknowledges, AcknowledgesNothing, ForUser}
-use Rattle.sip_served.specs.declared.command.Respond.{Respond as Answer}
-use Rattle.sip_served.specs.declared.command.UserCommand.{UserCommand}
-use Rattle.sip_served.specs.declared.command.UserCommand.TheVariants as command
-use Rattle.sip_served.specs.declared.held_dialog.DialogName.{DialogName}
-use Rattle.sip_served.specs.declared.held_dialog.HeldDialog.{HeldDialog}
+use Rattle.sip_common.specs.declared.command.Respond.{Respond as Answer}
+use Rattle.sip_common.specs.declared.command.UserCommand.{UserCommand}
+use Rattle.sip_common.specs.declared.command.UserCommand.TheVariants as command
+use Rattle.sip_common.specs.declared.held_dialog.DialogName.{DialogName}
 use Rattle.sip_served.specs.declared.held_request.HeldRequest.{HeldRequest}
 use Rattle.sip_served.specs.declared.held_request.Success.{Success}
-use Rattle.sip_served.specs.declared.item.CallOut.{CallOut}
-use Rattle.sip_served.specs.declared.item.CallOut.TheVariants.{Command}
-use Rattle.sip_served.specs.declared.item.Item.TheVariants as item
+use Rattle.sip_common.specs.declared.item.CallOut.TheVariants.{Command}
+use Rattle.sip_common.specs.declared.item.Item.TheVariants as item
 use Rattle.sip_served.specs.declared.provisionals.NumberedResponse.{NumberedResponse}
-use Rattle.sip_served.specs.declared.refusal.Refusal.{Refusal}
+use Rattle.sip_common.specs.declared.refusal.Refusal.{Refusal}
 use Rattle.sip_served.specs.declared.tick.SuccessDue.{SuccessDue}
 use Rattle.sip_served.specs.declared.tick.SuccessDue.TheVariants as repeat
 use Rattle.sip_served.specs.Acknowledgment.{ack_noted, acknowledged_invite}
-use Rattle.sip_served.specs.Arrival.{arrival_of, by_case, bye_taken, case_of}
+use Rattle.sip_served.specs.Arrival.{new_request, by_case, bye_taken, case_of}
 use Rattle.sip_served.specs.Cancel.{by_cancelled, cancelled_request, is_unanswered_invite}
-use Rattle.sip_served.specs.Dialogs.{dialog_at, ended_at, ended_notice, is_early_of}
-use Rattle.sip_served.specs.Requests.{dialog_name, is_bye, is_cancel, is_inside}
+use Rattle.sip_common.specs.Dialogs.{Dialogs}
+use Rattle.sip_common.specs.Requests.{dialog_name, is_bye, is_cancel, is_inside}
 use Rattle.sip_served.specs.Provisionals.{of_numbers}
 use Rattle.sip_served.specs.Respond.{answer_to, by_refusal, by_request, confirms_dialog, dialogs_answered, makes_dialog, refusal_for, rejects}
 use Rattle.sip_served.specs.Run.{Event, Takes, Ticks, event_taken}
-use Rattle.sip_served.specs.Shown.{brings, for_user, for_user_of, if_for_user, is_request, request_in, told_from}
-use Rattle.sip_served.specs.State.{Dialogs, State, has_id, is_id}
+use Rattle.sip_served.specs.Shown.{brings, for_user, for_user_of, if_for_user, is_request, told_from}
+use Rattle.sip_common.specs.Ids.{is_id}
+use Rattle.sip_served.specs.State.{State, has_id}
 use Rattle.sip_served.specs.Step.{command_taken, kind_taken}
 use Rattle.sip_served.specs.Tick.{provisionals_ticked, provisionals_told, request_ticked, success_answer, success_of, success_ticked, success_told}
 
-abbrev shown : List CallOut → List Id
-shown outs = filter_map request_in outs
-
--- ---- ends and repeats show no request
-
-ends_show : (dialogs : List HeldDialog) → shown (map ended_notice dialogs) ≡ []
-ends_show [] = refl
-ends_show (dialog ∷ dialogs) = ends_show dialogs
-
-end_shows : (name : DialogName) (dialogs : Dialogs) (o : Option HeldDialog)
-    → dialog_at name dialogs ≡ o → shown (ended_at name dialogs).1 ≡ []
-end_shows name dialogs None is = rw is refl
-end_shows name dialogs (Some held) is = rw is refl
+-- ---- repeats show no request
 
 success_shows : (now : ℕ) (held : HeldRequest) (o : Option Success)
     → shown (success_of now held o).1 ≡ []
@@ -80,9 +65,6 @@ provisionals_show (tick.Again numbers) held =
     repeats_show held (of_numbers numbers.items held.provisionals)
 provisionals_show tick.GivenUp held = refl
 
-none_of_both : (xs ys : List CallOut) → shown xs ≡ [] → shown ys ≡ [] → shown (xs ++ ys) ≡ []
-none_of_both xs ys first second = filter_map-append request_in xs ys ∙ (λ i. first i ++ second i)
-
 ticks_show : (now : ℕ) (requests : List HeldRequest)
     → shown (flat_map (λ held. (request_ticked now held).1) requests) ≡ []
 ticks_show now [] = refl
@@ -97,29 +79,31 @@ ticks_show now (held ∷ requests) =
 
 -- ---- each case
 
-bye_shows : (arrival : Arrival) (name : DialogName) (state : State)
-    → shown (bye_taken arrival name state).1 ≡ []
-bye_shows arrival name state =
-    by_bool (is_inside arrival.request && is_bye arrival.request)
-    (λ e. rw e (end_shows name state.dialogs (dialog_at name state.dialogs) refl))
+bye_shows : (request : Message) (name : DialogName) (state : State)
+    → shown (bye_taken request name state).1 ≡ []
+bye_shows request name state =
+    by_bool (is_inside request && is_bye request)
+    (λ e. rw e (end_shown name state.dialogs))
     (λ e. rw e refl)
 
-case_shows : (case : ArrivalCase) (state : State) (name : DialogName) (arrival : Arrival)
-    → shown (by_case case state name arrival).1 ≡ if_for_user arrival.id case
-case_shows Merged state name arrival = refl
-case_shows BadExtension state name arrival = refl
-case_shows NoDialog state name arrival = refl
-case_shows OutOfOrder state name arrival = refl
-case_shows (Acknowledges invite rseq) state name arrival = refl
-case_shows AcknowledgesNothing state name arrival = refl
-case_shows ForUser state name arrival = ap (λ rest. arrival.id ∷ rest) (bye_shows arrival name _)
+case_shows : (case : ArrivalCase) (state : State) (call_id : List ℕ) (name : DialogName)
+    (arrival : HeldRequest)
+    → shown (by_case case state call_id name arrival).1 ≡ if_for_user arrival.id case
+case_shows Merged state call_id name arrival = refl
+case_shows BadExtension state call_id name arrival = refl
+case_shows NoDialog state call_id name arrival = refl
+case_shows OutOfOrder state call_id name arrival = refl
+case_shows (Acknowledges invite rseq) state call_id name arrival = refl
+case_shows AcknowledgesNothing state call_id name arrival = refl
+case_shows ForUser state call_id name arrival =
+    ap (λ rest. arrival.id ∷ rest) (bye_shows arrival.request name _)
 
-cancel_shows : (state : State) (arrival : Arrival) (now : ℕ) (o : Option HeldRequest)
-    → shown (by_cancelled state arrival now o).1 ≡ []
-cancel_shows state arrival now None = refl
-cancel_shows state arrival now (Some held) =
+cancel_shows : (state : State) (call_id : List ℕ) (arrival : HeldRequest) (now : ℕ)
+    (o : Option HeldRequest) → shown (by_cancelled state call_id arrival now o).1 ≡ []
+cancel_shows state call_id arrival now None = refl
+cancel_shows state call_id arrival now (Some held) =
     by_bool (is_unanswered_invite held)
-    (λ e. rw e (ends_show (filter (is_early_of held.id) (values_of state.dialogs))))
+    (λ e. rw e (early_shown held.id state.dialogs))
     (λ e. rw e refl)
 
 ack_shows : (state : State) (call_id : List ℕ) (ack : Message) (o : Option Id)
@@ -133,7 +117,7 @@ answer_shows event held r response dialogs =
     by_bool (makes_dialog held r.status) (λ e. rw e refl)
     (λ e. by_bool (confirms_dialog held r.status) (λ f. rw (e, f) refl)
     (λ f. by_bool (rejects held r.status)
-    (λ g. rw (e, f, g) (ends_show (filter (is_early_of held.id) (values_of dialogs))))
+    (λ g. rw (e, f, g) (early_shown held.id dialogs))
     (λ g. rw (e, f, g) refl)))
 
 refusal_shows : (state : State) (event : Id) (r : Answer) (now : ℕ) (held : HeldRequest)
@@ -151,11 +135,12 @@ respond_shows state event r now (Some held) =
 kind_shows : (state : State) (tag : List ℕ) (up : Up) (kind : Kind) (now : ℕ)
     → shown (kind_taken state tag up kind now).1 ≡ for_user_of state tag up.id kind
 kind_shows state tag up (Request request reply_to) now =
-    let arrival = arrival_of up tag request reply_to in
+    let arrival = new_request up.key up.id request reply_to tag in
     by_bool (is_cancel request)
-    (λ e. rw e (cancel_shows state arrival now (cancelled_request up.key state.requests)))
+    (λ e. rw e (cancel_shows state up.call_id arrival now
+    (cancelled_request up.key state.requests)))
     (λ e. rw e (case_shows (case_of state.requests state.dialogs (dialog_name request tag) request)
-    state (dialog_name request tag) arrival))
+    state up.call_id (dialog_name request tag) arrival))
 kind_shows state tag up (Ack ack) now =
     ack_shows state up.call_id ack (acknowledged_invite ack state.requests)
 kind_shows state tag up (Response response) now = refl

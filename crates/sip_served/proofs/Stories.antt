@@ -33,34 +33,33 @@ use Rattle.sip_transactions.specs.declared.output.Kind.TheVariants.{Request, Ack
 use Rattle.sip_transactions.specs.declared.output.Up.{Up}
 use Rattle.sip_transactions.specs.declared.step.Pace.TheVariants.{Capped}
 use Rattle.sip_transactions.specs.Timers.{interval}
-use Rattle.sip_served.specs.declared.arrival.Arrival.{Arrival}
 use Rattle.sip_served.specs.declared.arrival.ArrivalCase.{ArrivalCase}
 use Rattle.sip_served.specs.declared.arrival.ArrivalCase.TheVariants.{Merged, BadExtension, NoDialog, OutOfOrder, Acknowledges, AcknowledgesNothing, ForUser}
-use Rattle.sip_served.specs.declared.command.Respond.{Respond as Answer}
-use Rattle.sip_served.specs.declared.command.UserCommand.{UserCommand}
-use Rattle.sip_served.specs.declared.command.UserCommand.TheVariants as command
-use Rattle.sip_served.specs.declared.held_dialog.DialogName.{DialogName}
-use Rattle.sip_served.specs.declared.held_dialog.HeldDialog.{HeldDialog}
+use Rattle.sip_common.specs.declared.command.Respond.{Respond as Answer}
+use Rattle.sip_common.specs.declared.command.UserCommand.{UserCommand}
+use Rattle.sip_common.specs.declared.command.UserCommand.TheVariants as command
+use Rattle.sip_common.specs.declared.held_dialog.DialogName.{DialogName}
+use Rattle.sip_common.specs.declared.held_dialog.HeldDialog.{HeldDialog}
 use Rattle.sip_served.specs.declared.held_request.HeldRequest.{HeldRequest}
 use Rattle.sip_served.specs.declared.held_request.Success.{Success}
-use Rattle.sip_served.specs.declared.item.Item.TheVariants as item
-use Rattle.sip_served.specs.declared.item.CallOut.{CallOut}
+use Rattle.sip_common.specs.declared.item.Item.TheVariants as item
+use Rattle.sip_common.specs.declared.item.CallOut.{CallOut}
 use Rattle.sip_served.specs.declared.provisionals.NumberedResponse.{NumberedResponse}
-use Rattle.sip_served.specs.declared.refusal.Refusal.{Refusal}
-use Rattle.sip_served.specs.declared.refusal.Refusal.TheVariants as bad
+use Rattle.sip_common.specs.declared.refusal.Refusal.{Refusal}
+use Rattle.sip_common.specs.declared.refusal.Refusal.TheVariants as bad
 use Rattle.sip_timers.specs.declared.estimate.TheConstants.{LIFETIME}
 use Rattle.sip_transactions.specs.declared.timers.TheConstants.{T2}
 use Rattle.sip_served.specs.declared.tick.SuccessDue.{SuccessDue}
 use Rattle.sip_served.specs.declared.tick.SuccessDue.TheVariants as repeat
 use Rattle.sip_served.specs.Acknowledgment.{ack_noted, acked, acknowledged_invite}
-use Rattle.sip_served.specs.Arrival.{first_rseq, arrival_of, by_case, case_of, noted, pracked, bye_taken, request_held}
+use Rattle.sip_served.specs.Arrival.{first_rseq, new_request, by_case, case_of, noted, pracked, bye_taken, request_held}
 use Rattle.sip_served.specs.Cancel.{by_cancelled, cancelled_request, invite_terminated, is_unanswered_invite, request_terminated}
-use Rattle.sip_served.specs.Dialogs.{confirmed, dialog_changed, early_ended, ended_at, is_early_of, is_named, numbered, refreshed, retargeted, takes, visited}
+use Rattle.sip_common.specs.Dialogs.{own_dialog, confirmed, dialog_changed, early_ended, ended_at, is_early_of, is_named, numbered, refreshed, retargeted, takes, visited, Dialogs}
 use Rattle.sip_served.specs.Provisionals.{without}
-use Rattle.sip_served.specs.Requests.{dialog_name, is_bye, is_cancel, is_final, is_inside, is_invite, is_success, supports_100rel}
+use Rattle.sip_common.specs.Requests.{dialog_name, is_bye, is_cancel, is_final, is_inside, is_invite, is_success, supports_100rel}
 use Rattle.sip_served.specs.Respond.{answer_given, answer_to, made_dialog, answered, by_refusal, by_request, confirms_dialog, finished, has_ended, is_of_dialog, is_reliable, is_sent_reliably, is_user_status, makes_dialog, sent_as, may_be_reliable, refusal_for, refusal_of_fault, rejects, sent_reliably, with_dialog}
 use Rattle.sip_served.specs.Run.{Event, Takes, Ticks, event_taken, state_after}
-use Rattle.sip_served.specs.State.{Dialogs, State, Taken, changed_at, has_id}
+use Rattle.sip_served.specs.State.{State, Taken, changed_at, has_id}
 use Rattle.sip_served.specs.Step.{arrival_taken, command_taken, kind_taken}
 use Rattle.sip_served.specs.Story.{DialogStories, DialogStory, RequestStory, Story, SuccessStory, dialog_of, dialogs_of, greatest_accepted, held_by, ledger_of, next_sending, request_of, responses_of, success_of}
 use Rattle.sip_served.specs.Telling.{ack_told, answer_told, arrival_told, cancel_told, terminates, answers, at_dialog, at_request, begins, begun, command_told, ends_at, ends_early, event_told, finishes, acks, confirms, holds_one, notes, numbers, refreshes, retargets, visits, kind_told, provisionals_go, provisionals_pass, request_passes, sends, story_after, success_goes, success_passes, takes_dialog, tick_told, told_by_case, told_by_refusal, told_by_request}
@@ -425,13 +424,22 @@ noted_on story name request = by_bool (is_inside request)
     (visited_on request))))
     (λ e. rw e refl)
 
-held_on : (story : Story) (name : DialogName) (arrival : Arrival)
-    → held_by (holds_one name arrival story) ≡ (request_held (held_by story) name arrival).0
-held_on story name arrival =
-    ap (λ requests. state_with story.local requests (held_by story).dialogs)
-    (append_mapped request_of story.requests _)
+-- a request, as it came up
+abbrev as_new : HeldRequest → HeldRequest
+as_new held = new_request held.key held.id held.request held.reply_to held.tag
 
-bye_on : (story : Story) (name : DialogName) (arrival : Arrival) (b : Bool)
+held_on : (story : Story) (call_id : List ℕ) (name : DialogName) (arrival : HeldRequest)
+    → arrival ≡ as_new arrival
+    → held_by (holds_one name arrival story)
+    ≡ (request_held (held_by story) call_id name arrival).0
+held_on story call_id name arrival new =
+    let dialog = own_dialog arrival.request name (held_by story).dialogs in
+    ap (λ requests. state_with story.local requests (held_by story).dialogs)
+    (append_mapped request_of story.requests _
+    ∙ ap (λ (held : HeldRequest). map request_of story.requests
+    ++ record held { dialog = dialog } ∷ []) (sym new))
+
+bye_on : (story : Story) (name : DialogName) (b : Bool)
     → held_by (cond b (record story { dialogs = ends_at name story.dialogs }) story)
     ≡ (cond {A = Taken} b (
       record (held_by story) {
@@ -440,10 +448,10 @@ bye_on : (story : Story) (name : DialogName) (arrival : Arrival) (b : Bool)
       },
       (ended_at name (held_by story).dialogs).1,
     ) (held_by story, [])).0
-bye_on story name arrival true =
+bye_on story name true =
     ap (state_with story.local (held_by story).requests)
     (removed_mapped dialog_of (is_named name) story.dialogs)
-bye_on story name arrival false = refl
+bye_on story name false = refl
 
 pracked_at : (story : Story) (invite : Id) (rseq : ℕ)
     → held_by (at_request invite (provisionals_go (reliable.Acknowledges rseq ∷ [])) story)
@@ -456,25 +464,28 @@ pracked_at story invite rseq =
     (changed_mapped request_of (has_id invite) (pracked rseq)
     (provisionals_go (reliable.Acknowledges rseq ∷ [])) (pracked_on rseq) story.requests)
 
-case_on : (case : ArrivalCase) (story : Story) (name : DialogName) (arrival : Arrival)
-    → held_by (told_by_case case story name arrival) ≡ (by_case case (held_by story) name arrival).0
-case_on Merged story name arrival = refl
-case_on BadExtension story name arrival = refl
-case_on NoDialog story name arrival = refl
-case_on OutOfOrder story name arrival = refl
-case_on (Acknowledges invite rseq) story name arrival =
+case_on : (case : ArrivalCase) (story : Story) (call_id : List ℕ) (name : DialogName)
+    (arrival : HeldRequest) → arrival ≡ as_new arrival
+    → held_by (told_by_case case story name arrival)
+    ≡ (by_case case (held_by story) call_id name arrival).0
+case_on Merged story call_id name arrival new = refl
+case_on BadExtension story call_id name arrival new = refl
+case_on NoDialog story call_id name arrival new = refl
+case_on OutOfOrder story call_id name arrival new = refl
+case_on (Acknowledges invite rseq) story call_id name arrival new =
     pracked_at (notes name arrival.request story) invite rseq
     ∙ ap (λ (state : State). record state {
       requests = changed_at invite
           (pracked rseq) state.requests;
     }) (noted_on story name arrival.request)
-case_on AcknowledgesNothing story name arrival = noted_on story name arrival.request
-case_on ForUser story name arrival =
+case_on AcknowledgesNothing story call_id name arrival new = noted_on story name arrival.request
+case_on ForUser story call_id name arrival new =
     let before = notes name arrival.request story in
-    bye_on (holds_one name arrival before) name arrival (is_inside arrival.request
+    bye_on (holds_one name arrival before) name (is_inside arrival.request
     && is_bye arrival.request)
-    ∙ ap (λ (state : State). (bye_taken arrival name state).0) (held_on before name arrival
-    ∙ ap (λ (state : State). (request_held state name arrival).0)
+    ∙ ap (λ (state : State). (bye_taken arrival.request name state).0)
+    (held_on before call_id name arrival new
+    ∙ ap (λ (state : State). (request_held state call_id name arrival).0)
     (noted_on story name arrival.request))
 
 terminated_on : (story : Story) (response : Message) (invite : Id) (now : ℕ)
@@ -488,24 +499,27 @@ terminated_on story response invite now =
     filter_mapped _ (λ entry. not (is_early_of invite entry.1)) story.dialogs in
     λ i. state_with story.local (requests i) (sym dialogs i)
 
-cancel_on : (story : Story) (arrival : Arrival) (now : ℕ) (o : Option HeldRequest)
-    → held_by (cancel_told story now o) ≡ (by_cancelled (held_by story) arrival now o).0
-cancel_on story arrival now None = refl
-cancel_on story arrival now (Some held) =
+cancel_on : (story : Story) (call_id : List ℕ) (arrival : HeldRequest) (now : ℕ)
+    (o : Option HeldRequest)
+    → held_by (cancel_told story now o) ≡ (by_cancelled (held_by story) call_id arrival now o).0
+cancel_on story call_id arrival now None = refl
+cancel_on story call_id arrival now (Some held) =
     by_bool (is_unanswered_invite held)
     (λ e. rw e (terminated_on story (request_terminated held) held.id now))
     (λ e. rw e refl)
 
-arrival_on : (story : Story) (arrival : Arrival) (now : ℕ)
-    → held_by (arrival_told story arrival now) ≡ (arrival_taken (held_by story) arrival now).0
-arrival_on story arrival now =
+arrival_on : (story : Story) (call_id : List ℕ) (arrival : HeldRequest) (now : ℕ)
+    → arrival ≡ as_new arrival
+    → held_by (arrival_told story arrival now)
+    ≡ (arrival_taken (held_by story) call_id arrival now).0
+arrival_on story call_id arrival now new =
     let name = dialog_name arrival.request arrival.tag in
     by_bool (is_cancel arrival.request)
-    (λ e. rw e (cancel_on story arrival now
+    (λ e. rw e (cancel_on story call_id arrival now
     (cancelled_request arrival.key (held_by story).requests)))
     (λ e. rw e (case_on
-    (case_of (held_by story).requests (held_by story).dialogs name arrival.request) story name
-    arrival))
+    (case_of (held_by story).requests (held_by story).dialogs name arrival.request) story call_id
+    name arrival new))
 
 ack_on : (story : Story) (call_id : List ℕ) (ack : Message) (o : Option Id)
     → held_by (ack_told story o) ≡ (ack_noted (held_by story) call_id ack o).0
@@ -595,7 +609,7 @@ tick_on story now all =
 kind_on : (story : Story) (tag : List ℕ) (up : Up) (kind : Kind) (now : ℕ)
     → held_by (kind_told story tag up kind now) ≡ (kind_taken (held_by story) tag up kind now).0
 kind_on story tag up (Request request reply_to) now =
-    arrival_on story (arrival_of up tag request reply_to) now
+    arrival_on story up.call_id (new_request up.key up.id request reply_to tag) now refl
 kind_on story tag up (Ack ack) now =
     ack_on story up.call_id ack (acknowledged_invite ack (held_by story).requests)
 kind_on story tag up (Response response) now = refl

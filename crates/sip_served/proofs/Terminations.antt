@@ -8,13 +8,13 @@ use Rattle.sip_message.specs.declared.message.Message.{Message}
 use Rattle.sip_message.specs.Message.{with_body_of}
 use Rattle.sip_transactions.specs.declared.input.Command.TheVariants.{Answer}
 use Rattle.sip_served.specs.declared.held_request.HeldRequest.{HeldRequest}
-use Rattle.sip_served.specs.declared.item.CallOut.{CallOut}
-use Rattle.sip_served.specs.declared.item.CallOut.TheVariants.{Command}
+use Rattle.sip_common.specs.declared.item.CallOut.{CallOut}
+use Rattle.sip_common.specs.declared.item.CallOut.TheVariants.{Command}
 use Rattle.sip_served.specs.Cancel.{invite_terminated, is_unanswered_invite, request_terminated, user_termination}
-use Rattle.sip_served.specs.Dialogs.{early_ended}
-use Rattle.sip_served.specs.Requests.{is_invite}
+use Rattle.sip_common.specs.Dialogs.{early_ended, Dialogs}
+use Rattle.sip_common.specs.Requests.{is_invite}
 use Rattle.sip_served.specs.Respond.{answer_given, answer_to, answered, by_refusal, by_request, dialogs_answered, finished, refusal_for, respond_taken, with_dialog}
-use Rattle.sip_served.specs.State.{Dialogs, State, Taken, changed_at, followed, has_id}
+use Rattle.sip_served.specs.State.{State, Taken, changed_at, followed, has_id}
 
 both : (x y : Bool) → (x && y) ≡ true → (x ≡ true) × (y ≡ true)
 both true y e = (refl, e)

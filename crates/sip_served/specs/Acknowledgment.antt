@@ -7,9 +7,9 @@ use Rattle.sip_message.specs.declared.message.Message.{Message}
 use Rattle.sip_message.specs.Party.{tag_of}
 use Rattle.sip_served.specs.declared.held_request.HeldRequest.{HeldRequest}
 use Rattle.sip_served.specs.declared.held_request.Success.{Success}
-use Rattle.sip_served.specs.declared.item.CallOut.TheVariants.{Notice}
-use Rattle.sip_served.specs.declared.notice.Notice.TheVariants.{Ack}
-use Rattle.sip_served.specs.Requests.{is_invite, local_tag_of}
+use Rattle.sip_common.specs.declared.item.CallOut.TheVariants.{Notice}
+use Rattle.sip_common.specs.declared.notice.Notice.TheVariants.{Ack}
+use Rattle.sip_common.specs.Requests.{is_invite, local_tag_of}
 use Rattle.sip_served.specs.State.{State, Taken, changed_at, quiet}
 
 -- an INVITE that was answered with a 2xx, whose ACK hasn't come

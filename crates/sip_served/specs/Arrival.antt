@@ -7,28 +7,49 @@ use Rattle.std.specs.Str.{bytes_eq, str_eq_ignore_ascii_case}
 use Rattle.sip_message.specs.declared.addr.Addr.{Addr}
 use Rattle.sip_message.specs.declared.header.Header.{Header}
 use Rattle.sip_message.specs.declared.id.Id.{Id}
+use Rattle.sip_message.specs.declared.key.Key.{Key}
 use Rattle.sip_message.specs.declared.message.Message.{Message}
 use Rattle.sip_message.specs.declared.rack.RAck.{RAck}
 use Rattle.sip_message.specs.Party.{tag_of}
 use Rattle.sip_message.specs.Response.{response_of}
 use Rattle.sip_reliable.specs.Ledger.{acknowledged, ledger_after, waits_for}
 use Rattle.sip_transactions.specs.declared.input.Command.TheVariants.{Answer}
-use Rattle.sip_transactions.specs.declared.output.Up.{Up}
-use Rattle.sip_served.specs.declared.arrival.Arrival.{Arrival}
 use Rattle.sip_served.specs.declared.arrival.ArrivalCase.{ArrivalCase}
 use Rattle.sip_served.specs.declared.arrival.ArrivalCase.TheVariants.{Merged, BadExtension, NoDialog, OutOfOrder, Acknowledges, AcknowledgesNothing, ForUser}
-use Rattle.sip_served.specs.declared.held_dialog.DialogLife.{DialogLife}
-use Rattle.sip_served.specs.declared.held_dialog.DialogName.{DialogName}
-use Rattle.sip_served.specs.declared.held_dialog.HeldDialog.{HeldDialog}
+use Rattle.sip_common.specs.declared.held_dialog.DialogName.{DialogName}
+use Rattle.sip_common.specs.declared.held_dialog.HeldDialog.{HeldDialog}
 use Rattle.sip_served.specs.declared.held_request.HeldRequest.{HeldRequest}
-use Rattle.sip_served.specs.declared.item.CallOut.{CallOut}
-use Rattle.sip_served.specs.declared.item.CallOut.TheVariants.{Notice, Command}
-use Rattle.sip_served.specs.declared.notice.Notice.TheVariants.{Prack}
-use Rattle.sip_served.specs.Dialogs.{dialog_at, dialog_changed, ended_at, is_named, takes, visited}
-use Rattle.sip_served.specs.Notices.{request_notice}
+use Rattle.sip_common.specs.declared.item.CallOut.{CallOut}
+use Rattle.sip_common.specs.declared.item.CallOut.TheVariants.{Notice, Command}
+use Rattle.sip_common.specs.declared.notice.Notice.{Notice as ANotice}
+use Rattle.sip_common.specs.declared.notice.Notice.TheVariants.{Prack, Request}
+use Rattle.sip_common.specs.Dialogs.{dialog_at, dialog_changed, ended_at, is_named, own_dialog, takes, visited, Dialogs}
 use Rattle.sip_served.specs.Provisionals.{without}
-use Rattle.sip_served.specs.Requests.{dialog_name, is_bye, is_inside, is_invite, is_prack, is_unknown_option, supports_100rel}
-use Rattle.sip_served.specs.State.{Dialogs, State, Taken, changed_at, followed, is_id, quiet}
+use Rattle.sip_common.specs.Requests.{dialog_name, is_bye, is_inside, is_invite, is_prack, is_unknown_option, local_tag_of, supports_100rel}
+use Rattle.sip_common.specs.Ids.{is_id}
+use Rattle.sip_served.specs.State.{State, Taken, changed_at, followed, quiet}
+
+-- ---- what is held of it
+
+-- the RSeq of the first reliable provisional response to a request
+abbrev pub first_rseq : ℕ
+first_rseq = 1
+
+-- as it comes up: in no dialog, and no answer to it was sent; `tag` is the To tag made for one
+-- without
+abbrev pub new_request : Key → Id → Message → Addr → List ℕ → HeldRequest
+new_request key id request reply_to tag = record {
+  id = id;
+  key = key;
+  request = request;
+  reply_to = reply_to;
+  tag = tag;
+  dialog = None;
+  ledger = ledger_after first_rseq (supports_100rel request) [];
+  provisionals = [];
+  success = None;
+  removal = None;
+}
 
 -- ---- which case it is
 
@@ -86,10 +107,10 @@ case_of requests dialogs name request =
 -- ---- what the agent answers by itself
 
 -- the command by which a response goes to the transaction of the request
-abbrev pub command_for : Arrival → Message → CallOut
+abbrev pub command_for : HeldRequest → Message → CallOut
 command_for arrival response = Command arrival.id (Answer arrival.key response)
 
-abbrev pub answered_with : Arrival → ℕ → List ℕ → List CallOut
+abbrev pub answered_with : HeldRequest → ℕ → List ℕ → List CallOut
 answered_with arrival status reason =
     command_for arrival (response_of arrival.request status reason arrival.tag) ∷ []
 
@@ -102,14 +123,14 @@ abbrev pub with_header : Header → Message → Message
 with_header header message = record message { others = message.others ++ header ∷ [] }
 
 -- the options that the agent doesn't know are named (RFC 3261, section 8.2.2.3)
-abbrev pub refused_extension : Arrival → List CallOut
+abbrev pub refused_extension : HeldRequest → List CallOut
 refused_extension arrival =
     command_for arrival
     (with_header (unsupported (filter is_unknown_option arrival.request.require))
     (response_of arrival.request 420 (codes "Bad Extension") arrival.tag))
     ∷ []
 
-abbrev pub no_such_dialog : Arrival → List CallOut
+abbrev pub no_such_dialog : HeldRequest → List CallOut
 no_such_dialog arrival = answered_with arrival 481 (codes "Call/Transaction Does Not Exist")
 
 -- ---- a PRACK that names a response which waits for it
@@ -120,76 +141,45 @@ pracked rseq held = record held {
   provisionals = without rseq held.provisionals;
 }
 
-abbrev pub prack_taken : State → Arrival → Id → ℕ → Taken
-prack_taken state arrival invite rseq = (
+abbrev pub prack_taken : State → List ℕ → HeldRequest → Id → ℕ → Taken
+prack_taken state call_id arrival invite rseq = (
   record state { requests = changed_at invite (pracked rseq) state.requests },
   command_for arrival (response_of arrival.request 200 (codes "OK") arrival.tag)
-      ∷ Notice (Prack arrival.call_id invite rseq arrival.request.body) ∷ [],
+      ∷ Notice (Prack call_id invite rseq arrival.request.body) ∷ [],
 )
 
 -- ---- a request for the user
 
--- the dialog of this name, as it is now
-abbrev pub life_at : DialogName → Dialogs → Option DialogLife
-life_at name dialogs =
-    option_map (λ held. record { name = name; born = held.born }) (dialog_at name dialogs)
+abbrev pub request_notice : List ℕ → HeldRequest → ANotice
+request_notice call_id arrival =
+    Request call_id arrival.id arrival.request.cseq.method
+    (local_tag_of arrival.request arrival.tag) (tag_of arrival.request.from) arrival.request.body
 
-abbrev pub own_dialog : Message → DialogName → Dialogs → Option DialogLife
-own_dialog request name dialogs = if is_inside request then life_at name dialogs else None
-
--- the RSeq of the first reliable provisional response to a request
-abbrev pub first_rseq : ℕ
-first_rseq = 1
-
--- it is held, and no answer to it was sent
-abbrev pub held_for : Arrival → Option DialogLife → HeldRequest
-held_for arrival dialog = record {
-  id = arrival.id;
-  key = arrival.key;
-  request = arrival.request;
-  reply_to = arrival.reply_to;
-  tag = arrival.tag;
-  dialog = dialog;
-  ledger = ledger_after first_rseq (supports_100rel arrival.request) [];
-  provisionals = [];
-  success = None;
-  removal = None;
-}
-
-abbrev pub request_held : State → DialogName → Arrival → Taken
-request_held state name arrival = (
+-- it is held, in the dialog of this name where it came in one
+abbrev pub request_held : State → List ℕ → DialogName → HeldRequest → Taken
+request_held state call_id name arrival = (
   record state {
     requests = state.requests
-        ++ held_for arrival (own_dialog arrival.request name state.dialogs) ∷ [];
+        ++ record arrival { dialog = own_dialog arrival.request name state.dialogs } ∷ [];
   },
-  Notice (request_notice arrival.id arrival.call_id arrival.request arrival.tag) ∷ [],
+  Notice (request_notice call_id arrival) ∷ [],
 )
 
 -- a BYE ends its dialog (RFC 3261, section 15.1.2)
-abbrev pub bye_taken : Arrival → DialogName → State → Taken
-bye_taken arrival name state =
-    if is_inside arrival.request && is_bye arrival.request
+abbrev pub bye_taken : Message → DialogName → State → Taken
+bye_taken request name state =
+    if is_inside request && is_bye request
     then (
       record state { dialogs = (ended_at name state.dialogs).0 },
       (ended_at name state.dialogs).1,
     )
     else quiet state
 
-abbrev pub for_user : State → DialogName → Arrival → Taken
-for_user state name arrival = followed (request_held state name arrival) (bye_taken arrival name)
+abbrev pub for_user : State → List ℕ → DialogName → HeldRequest → Taken
+for_user state call_id name arrival =
+    followed (request_held state call_id name arrival) (bye_taken arrival.request name)
 
 -- ---- all of it
-
--- what is handed up, with the To tag made for a request without one
-abbrev pub arrival_of : Up → List ℕ → Message → Addr → Arrival
-arrival_of up tag request reply_to = record {
-  key = up.key;
-  id = up.id;
-  call_id = up.call_id;
-  request = request;
-  reply_to = reply_to;
-  tag = tag;
-}
 
 -- a request in a dialog is noted there
 abbrev pub noted : State → DialogName → Message → State
@@ -198,19 +188,22 @@ noted state name request =
     then record state { dialogs = dialog_changed name (visited request) state.dialogs }
     else state
 
-abbrev pub by_case : ArrivalCase → State → DialogName → Arrival → Taken
-by_case Merged state name arrival = (state, answered_with arrival 482 (codes "Loop Detected"))
-by_case BadExtension state name arrival = (state, refused_extension arrival)
-by_case NoDialog state name arrival = (state, no_such_dialog arrival)
-by_case OutOfOrder state name arrival =
+abbrev pub by_case : ArrivalCase → State → List ℕ → DialogName → HeldRequest → Taken
+by_case Merged state call_id name arrival =
+    (state, answered_with arrival 482 (codes "Loop Detected"))
+by_case BadExtension state call_id name arrival = (state, refused_extension arrival)
+by_case NoDialog state call_id name arrival = (state, no_such_dialog arrival)
+by_case OutOfOrder state call_id name arrival =
     (state, answered_with arrival 500 (codes "Server Internal Error"))
-by_case (Acknowledges invite rseq) state name arrival =
-    prack_taken (noted state name arrival.request) arrival invite rseq
-by_case AcknowledgesNothing state name arrival =
+by_case (Acknowledges invite rseq) state call_id name arrival =
+    prack_taken (noted state name arrival.request) call_id arrival invite rseq
+by_case AcknowledgesNothing state call_id name arrival =
     (noted state name arrival.request, no_such_dialog arrival)
-by_case ForUser state name arrival = for_user (noted state name arrival.request) name arrival
+by_case ForUser state call_id name arrival =
+    for_user (noted state name arrival.request) call_id name arrival
 
-abbrev pub request_taken : State → Arrival → Taken
-request_taken state arrival =
+-- a request of a transaction of this Call-ID
+abbrev pub request_taken : State → List ℕ → HeldRequest → Taken
+request_taken state call_id arrival =
     let name = dialog_name arrival.request arrival.tag in
-    by_case (case_of state.requests state.dialogs name arrival.request) state name arrival
+    by_case (case_of state.requests state.dialogs name arrival.request) state call_id name arrival

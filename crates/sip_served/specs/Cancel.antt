@@ -6,17 +6,15 @@ use Rattle.sip_message.specs.declared.key.Key.{Key}
 use Rattle.sip_message.specs.declared.key.Key.TheVariants.{Server}
 use Rattle.sip_message.specs.declared.message.Message.{Message}
 use Rattle.sip_message.specs.Response.{response_of}
-use Rattle.sip_transactions.specs.declared.input.Command.TheVariants.{Answer}
-use Rattle.sip_served.specs.declared.arrival.Arrival.{Arrival}
-use Rattle.sip_served.specs.declared.command.Reliability.TheVariants.{Plain}
-use Rattle.sip_served.specs.declared.command.Respond.{Respond}
+use Rattle.sip_common.specs.declared.command.Reliability.TheVariants.{Plain}
+use Rattle.sip_common.specs.declared.command.Respond.{Respond}
 use Rattle.sip_served.specs.declared.held_request.HeldRequest.{HeldRequest}
-use Rattle.sip_served.specs.declared.item.CallOut.{CallOut}
-use Rattle.sip_served.specs.declared.item.CallOut.TheVariants.{Notice, Command}
-use Rattle.sip_served.specs.declared.notice.Notice.TheVariants.{Cancel}
+use Rattle.sip_common.specs.declared.item.CallOut.{CallOut}
+use Rattle.sip_common.specs.declared.item.CallOut.TheVariants.{Notice}
+use Rattle.sip_common.specs.declared.notice.Notice.TheVariants.{Cancel}
 use Rattle.sip_served.specs.Arrival.{command_for, no_such_dialog}
-use Rattle.sip_served.specs.Dialogs.{early_ended}
-use Rattle.sip_served.specs.Requests.{is_invite, local_tag_of}
+use Rattle.sip_common.specs.Dialogs.{early_ended}
+use Rattle.sip_common.specs.Requests.{is_invite, local_tag_of}
 use Rattle.sip_served.specs.Respond.{finished}
 use Rattle.sip_served.specs.State.{State, Taken, changed_at, followed}
 
@@ -41,7 +39,7 @@ is_unanswered_invite held = is_invite held.request && is_none held.removal
 -- ---- what is answered
 
 -- the 200 to the CANCEL has the local tag of that request
-abbrev pub cancel_accepted : Arrival → HeldRequest → CallOut
+abbrev pub cancel_accepted : HeldRequest → HeldRequest → CallOut
 cancel_accepted arrival held =
     command_for arrival
     (response_of arrival.request 200 (codes "OK") (local_tag_of held.request held.tag))
@@ -51,10 +49,9 @@ abbrev pub request_terminated : HeldRequest → Message
 request_terminated held = response_of held.request 487 (codes "Request Terminated") held.tag
 
 -- first the CANCEL is answered and then the INVITE, and the user is told
-abbrev pub termination_told : Arrival → HeldRequest → Message → List CallOut
-termination_told arrival held response =
-    cancel_accepted arrival held ∷ Command held.id (Answer held.key response)
-    ∷ Notice (Cancel arrival.call_id held.id) ∷ []
+abbrev pub termination_told : List ℕ → HeldRequest → HeldRequest → Message → List CallOut
+termination_told call_id arrival held response =
+    cancel_accepted arrival held ∷ command_for held response ∷ Notice (Cancel call_id held.id) ∷ []
 
 -- ---- what becomes of the INVITE
 
@@ -81,16 +78,16 @@ user_termination call_id invite = record {
 
 -- ---- all of it
 
-abbrev pub by_cancelled : State → Arrival → ℕ → Option HeldRequest → Taken
-by_cancelled state arrival now None = (state, no_such_dialog arrival)
-by_cancelled state arrival now (Some held) =
+abbrev pub by_cancelled : State → List ℕ → HeldRequest → ℕ → Option HeldRequest → Taken
+by_cancelled state call_id arrival now None = (state, no_such_dialog arrival)
+by_cancelled state call_id arrival now (Some held) =
     let response = request_terminated held in
     if is_unanswered_invite held
-    then followed (state, termination_told arrival held response)
+    then followed (state, termination_told call_id arrival held response)
     (invite_terminated response held.id now)
     else (state, cancel_accepted arrival held ∷ [])
 
 -- A CANCEL is never held, and no dialog notes it.
-abbrev pub cancel_taken : State → Arrival → ℕ → Taken
-cancel_taken state arrival now =
-    by_cancelled state arrival now (cancelled_request arrival.key state.requests)
+abbrev pub cancel_taken : State → List ℕ → HeldRequest → ℕ → Taken
+cancel_taken state call_id arrival now =
+    by_cancelled state call_id arrival now (cancelled_request arrival.key state.requests)

@@ -1,13 +1,8 @@
 pub mod Acknowledgment
 pub mod Arrival
 pub mod Cancel
-pub mod Command
-pub mod Dialogs
 pub mod Lending
-pub mod Notices
 pub mod OwnCall
-pub mod Refusal
-pub mod Requests
 pub mod Provisionals
 pub mod Respond
 pub mod Run

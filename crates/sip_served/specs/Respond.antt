@@ -16,21 +16,21 @@ use Rattle.sip_reliable.specs.declared.send_fault.SendFault.{SendFault}
 use Rattle.sip_reliable.specs.declared.send_fault.SendFault.TheVariants as send
 use Rattle.sip_reliable.specs.Ledger.{closed_now, send_answer, send_fault, with_sent}
 use Rattle.sip_transactions.specs.declared.input.Command.TheVariants.{Answer}
-use Rattle.sip_served.specs.declared.command.Reliability.{Reliability}
-use Rattle.sip_served.specs.declared.command.Reliability.TheVariants.{Plain, Reliable}
-use Rattle.sip_served.specs.declared.command.Respond.{Respond}
-use Rattle.sip_served.specs.declared.held_dialog.HeldDialog.{HeldDialog}
+use Rattle.sip_common.specs.declared.command.Reliability.{Reliability}
+use Rattle.sip_common.specs.declared.command.Reliability.TheVariants.{Plain, Reliable}
+use Rattle.sip_common.specs.declared.command.Respond.{Respond}
+use Rattle.sip_common.specs.declared.held_dialog.HeldDialog.{HeldDialog}
 use Rattle.sip_served.specs.declared.held_request.HeldRequest.{HeldRequest}
 use Rattle.sip_served.specs.declared.held_request.Success.{Success}
-use Rattle.sip_served.specs.declared.item.CallOut.{CallOut}
-use Rattle.sip_served.specs.declared.item.CallOut.TheVariants.{Notice, Command}
-use Rattle.sip_served.specs.declared.notice.Notice.TheVariants.{Refused}
-use Rattle.sip_served.specs.declared.refusal.Refusal.{Refusal}
+use Rattle.sip_common.specs.declared.item.CallOut.{CallOut}
+use Rattle.sip_common.specs.declared.item.CallOut.TheVariants.{Notice, Command}
+use Rattle.sip_common.specs.declared.notice.Notice.TheVariants.{Refused}
+use Rattle.sip_common.specs.declared.refusal.Refusal.{Refusal}
 use Rattle.sip_timers.specs.declared.estimate.TheConstants.{LIFETIME, T1}
-use Rattle.sip_served.specs.declared.refusal.Refusal.TheVariants.{NoSuchRequest, AlreadyFinal, BadStatus, ReliablePending, NotSupported, SequenceUsedUp, DialogEnded}
-use Rattle.sip_served.specs.Dialogs.{confirmed, dialog_changed, early_ended, is_named, lives}
-use Rattle.sip_served.specs.Requests.{dialog_name, is_final, is_inside, is_invite, is_provisional, is_success, requires_100rel, supports_100rel}
-use Rattle.sip_served.specs.State.{Dialogs, State, Taken, changed_at, has_id}
+use Rattle.sip_common.specs.declared.refusal.Refusal.TheVariants.{NoSuchRequest, AlreadyFinal, BadStatus, ReliablePending, NotSupported, SequenceUsedUp, DialogEnded}
+use Rattle.sip_common.specs.Dialogs.{confirmed, dialog_changed, early_ended, is_named, lives, Dialogs}
+use Rattle.sip_common.specs.Requests.{dialog_name, is_final, is_inside, is_invite, is_provisional, is_success, requires_100rel, supports_100rel}
+use Rattle.sip_served.specs.State.{State, Taken, changed_at, has_id}
 
 -- ---- when it is refused
 

@@ -1,7 +1,7 @@
 -- What the server side of a Call-ID shows.
 use Rattle.std.specs.Prelude.{Bool, true, List, []}
 use Rattle.sip_message.specs.declared.addr.Addr.{Addr}
-use Rattle.sip_served.specs.declared.item.CallOut.{CallOut}
+use Rattle.sip_common.specs.declared.item.CallOut.{CallOut}
 use Rattle.sip_served.specs.State.{State, Taken}
 
 -- whether a call met want of memory, and what is held

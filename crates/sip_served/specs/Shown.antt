@@ -1,24 +1,18 @@
 -- The requests that come up for the user of a call, and those that the user is told of.
-use Rattle.std.specs.Prelude.{ℕ, Bool, false, List, [], ◌∷◌, ◌++◌, Option, None, Some, if◌then◌else◌}
+use Rattle.std.specs.Prelude.{ℕ, Bool, false, List, [], ◌∷◌, ◌++◌, if◌then◌else◌}
 use Rattle.std.specs.List.{filter_map}
 use Rattle.sip_message.specs.declared.id.Id.{Id}
 use Rattle.sip_transactions.specs.declared.output.Kind.{Kind}
 use Rattle.sip_transactions.specs.declared.output.Kind.TheVariants.{Request}
 use Rattle.sip_served.specs.declared.arrival.ArrivalCase.{ArrivalCase}
 use Rattle.sip_served.specs.declared.arrival.ArrivalCase.TheVariants.{ForUser}
-use Rattle.sip_served.specs.declared.item.CallOut.{CallOut}
-use Rattle.sip_served.specs.declared.item.CallOut.TheVariants.{Notice}
-use Rattle.sip_served.specs.declared.item.Item.TheVariants.{Up as FromBelow}
-use Rattle.sip_served.specs.declared.notice.Notice.TheVariants as notice
+use Rattle.sip_common.specs.declared.item.Item.TheVariants.{Up as FromBelow}
+use Rattle.sip_common.specs.Ids.{is_id}
+use Rattle.sip_common.specs.Notices.{request_in}
+use Rattle.sip_common.specs.Requests.{dialog_name, is_cancel}
 use Rattle.sip_served.specs.Arrival.{case_of}
-use Rattle.sip_served.specs.Requests.{dialog_name, is_cancel}
 use Rattle.sip_served.specs.Run.{Event, Takes, event_taken}
-use Rattle.sip_served.specs.State.{State, is_id}
-
--- the request that an output tells the user of
-abbrev pub request_in : CallOut → Option Id
-request_in (Notice (notice.Request call_id id method local_tag remote_tag body)) = Some id
-request_in _ = None
+use Rattle.sip_served.specs.State.{State}
 
 -- the requests that the user is told of by an event, and by a list of events
 abbrev pub told_by : State → Event → List Id

@@ -1,15 +1,11 @@
 -- The server side of one Call-ID: what is held, and what is told when it changes.
-use Rattle.std.specs.Prelude.{Bool, ◌&&◌, ◌==◌, List, [], ◌∷◌, ◌++◌, if◌then◌else◌}
+use Rattle.std.specs.Prelude.{Bool, List, [], ◌∷◌, ◌++◌, if◌then◌else◌}
 use Rattle.sip_message.specs.declared.addr.Addr.{Addr}
 use Rattle.sip_message.specs.declared.id.Id.{Id}
-use Rattle.sip_served.specs.declared.held_dialog.DialogName.{DialogName}
-use Rattle.sip_served.specs.declared.held_dialog.HeldDialog.{HeldDialog}
+use Rattle.sip_common.specs.declared.item.CallOut.{CallOut}
+use Rattle.sip_common.specs.Dialogs.{Dialogs}
+use Rattle.sip_common.specs.Ids.{is_id}
 use Rattle.sip_served.specs.declared.held_request.HeldRequest.{HeldRequest}
-use Rattle.sip_served.specs.declared.item.CallOut.{CallOut}
-
--- the held dialogs by name, in the order in which they were made
-abbrev pub Dialogs : Type 0
-Dialogs = List (DialogName × HeldDialog)
 
 -- the agent's own address, the held requests in the order in which they came up, and the held
 -- dialogs
@@ -29,9 +25,6 @@ quiet state = (state, [])
 -- something happens after something else
 abbrev pub followed : Taken → (State → Taken) → Taken
 followed done more = ((more done.0).0, done.1 ++ (more done.0).1)
-
-abbrev pub is_id : Id → Id → Bool
-is_id one other = (one.round == other.round) && (one.place == other.place)
 
 abbrev pub has_id : Id → HeldRequest → Bool
 has_id id held = is_id held.id id

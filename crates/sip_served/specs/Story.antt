@@ -14,18 +14,18 @@ use Rattle.sip_reliable.specs.Ledger.{Ledger, ledger_after}
 use Rattle.sip_reliable.specs.Provisional.{Provisional}
 use Rattle.sip_transactions.specs.declared.step.Pace.TheVariants.{Capped}
 use Rattle.sip_transactions.specs.Timers.{interval}
-use Rattle.sip_served.specs.declared.arrival.Arrival.{Arrival}
-use Rattle.sip_served.specs.declared.held_dialog.DialogLife.{DialogLife}
-use Rattle.sip_served.specs.declared.held_dialog.DialogName.{DialogName}
-use Rattle.sip_served.specs.declared.held_dialog.HeldDialog.{HeldDialog}
+use Rattle.sip_common.specs.declared.held_dialog.DialogLife.{DialogLife}
+use Rattle.sip_common.specs.declared.held_dialog.DialogName.{DialogName}
+use Rattle.sip_common.specs.declared.held_dialog.HeldDialog.{HeldDialog}
 use Rattle.sip_served.specs.declared.held_request.HeldRequest.{HeldRequest}
 use Rattle.sip_served.specs.declared.held_request.Retransmission.{Retransmission}
 use Rattle.sip_served.specs.declared.held_request.Success.{Success}
 use Rattle.sip_served.specs.declared.provisionals.NumberedResponse.{NumberedResponse}
 use Rattle.sip_timers.specs.declared.estimate.TheConstants.{T1}
-use Rattle.sip_served.specs.Arrival.{first_rseq, held_for}
-use Rattle.sip_served.specs.Requests.{supports_100rel}
-use Rattle.sip_served.specs.State.{Dialogs, State}
+use Rattle.sip_served.specs.Arrival.{first_rseq}
+use Rattle.sip_common.specs.Requests.{supports_100rel}
+use Rattle.sip_common.specs.Dialogs.{Dialogs}
+use Rattle.sip_served.specs.State.{State}
 
 -- ---- a dialog
 
@@ -81,7 +81,7 @@ success_of story = record {
 -- provisional responses, each of these by its number, the latest first, its 2xx, and the moment of
 -- its final response
 pub record RequestStory : Type 0 where
-  pub arrival : Arrival
+  pub arrival : HeldRequest
   pub dialog : Option DialogLife
   pub provisionals : List reliable.Happening
   pub responses : List (ℕ × Message)
@@ -99,7 +99,8 @@ responses_of responses waiting =
     (lookup (λ number. number == p.number) responses)) waiting
 
 abbrev pub request_of : RequestStory → HeldRequest
-request_of story = record (held_for story.arrival story.dialog) {
+request_of story = record story.arrival {
+  dialog = story.dialog;
   ledger = ledger_of story;
   provisionals = responses_of story.responses (ledger_of story).waiting;
   success = option_map success_of story.success;

@@ -14,21 +14,20 @@ use Rattle.sip_reliable.specs.Ledger.{happenings_of, tick_answer}
 use Rattle.sip_transactions.specs.declared.output.Kind.{Kind}
 use Rattle.sip_transactions.specs.declared.output.Kind.TheVariants.{Request, Ack, Response, Timeout, Failed}
 use Rattle.sip_transactions.specs.declared.output.Up.{Up}
-use Rattle.sip_served.specs.declared.arrival.Arrival.{Arrival}
 use Rattle.sip_served.specs.declared.arrival.ArrivalCase.{ArrivalCase}
 use Rattle.sip_served.specs.declared.arrival.ArrivalCase.TheVariants.{Merged, BadExtension, NoDialog, OutOfOrder, Acknowledges, AcknowledgesNothing, ForUser}
-use Rattle.sip_served.specs.declared.command.Respond.{Respond}
-use Rattle.sip_served.specs.declared.command.UserCommand.{UserCommand}
-use Rattle.sip_served.specs.declared.command.UserCommand.TheVariants as command
-use Rattle.sip_served.specs.declared.held_dialog.DialogName.{DialogName}
+use Rattle.sip_common.specs.declared.command.Respond.{Respond}
+use Rattle.sip_common.specs.declared.command.UserCommand.{UserCommand}
+use Rattle.sip_common.specs.declared.command.UserCommand.TheVariants as command
+use Rattle.sip_common.specs.declared.held_dialog.DialogName.{DialogName}
 use Rattle.sip_served.specs.declared.held_request.HeldRequest.{HeldRequest}
-use Rattle.sip_served.specs.declared.item.Item.TheVariants as item
-use Rattle.sip_served.specs.declared.refusal.Refusal.{Refusal}
+use Rattle.sip_common.specs.declared.item.Item.TheVariants as item
+use Rattle.sip_common.specs.declared.refusal.Refusal.{Refusal}
 use Rattle.sip_served.specs.Acknowledgment.{acknowledged_invite}
-use Rattle.sip_served.specs.Arrival.{arrival_of, case_of, own_dialog}
+use Rattle.sip_common.specs.Dialogs.{own_dialog, is_early_of, is_named, takes}
+use Rattle.sip_served.specs.Arrival.{case_of, new_request}
 use Rattle.sip_served.specs.Cancel.{cancelled_request, is_unanswered_invite, request_terminated}
-use Rattle.sip_served.specs.Dialogs.{is_early_of, is_named, takes}
-use Rattle.sip_served.specs.Requests.{dialog_name, is_bye, is_cancel, is_final, is_inside, is_invite, is_success}
+use Rattle.sip_common.specs.Requests.{dialog_name, is_bye, is_cancel, is_final, is_inside, is_invite, is_success}
 use Rattle.sip_served.specs.Respond.{answer_to, confirms_dialog, is_sent_reliably, makes_dialog, refusal_for, rejects}
 use Rattle.sip_served.specs.Run.{Event, Takes, Ticks}
 use Rattle.sip_served.specs.State.{changed_first, has_id}
@@ -162,7 +161,7 @@ notes name request story =
     else story
 
 -- it is held, and nothing came for it
-abbrev pub holds_one : DialogName → Arrival → Story → Story
+abbrev pub holds_one : DialogName → HeldRequest → Story → Story
 holds_one name arrival story = record story {
   requests = story.requests ++ record {
     arrival = arrival;
@@ -181,7 +180,7 @@ ends_by_bye name request story =
     then record story { dialogs = ends_at name story.dialogs }
     else story
 
-abbrev pub told_by_case : ArrivalCase → Story → DialogName → Arrival → Story
+abbrev pub told_by_case : ArrivalCase → Story → DialogName → HeldRequest → Story
 told_by_case Merged story name arrival = story
 told_by_case BadExtension story name arrival = story
 told_by_case NoDialog story name arrival = story
@@ -193,7 +192,7 @@ told_by_case AcknowledgesNothing story name arrival = notes name arrival.request
 told_by_case ForUser story name arrival =
     ends_by_bye name arrival.request (holds_one name arrival (notes name arrival.request story))
 
-abbrev pub request_told : Story → Arrival → Story
+abbrev pub request_told : Story → HeldRequest → Story
 request_told story arrival =
     let name = dialog_name arrival.request arrival.tag in
     told_by_case (case_of (held_by story).requests (held_by story).dialogs name arrival.request)
@@ -215,7 +214,7 @@ cancel_told story now (Some held) =
     then terminates (request_terminated held) held.id now story
     else story
 
-abbrev pub arrival_told : Story → Arrival → ℕ → Story
+abbrev pub arrival_told : Story → HeldRequest → ℕ → Story
 arrival_told story arrival now =
     if is_cancel arrival.request
     then cancel_told story now (cancelled_request arrival.key (held_by story).requests)
@@ -287,7 +286,7 @@ tick_told story now = record story {
 
 abbrev pub kind_told : Story → List ℕ → Up → Kind → ℕ → Story
 kind_told story tag up (Request request reply_to) now =
-    arrival_told story (arrival_of up tag request reply_to) now
+    arrival_told story (new_request up.key up.id request reply_to tag) now
 kind_told story tag up (Ack ack) now =
     ack_told story (acknowledged_invite ack (held_by story).requests)
 kind_told story tag up (Response response) now = story

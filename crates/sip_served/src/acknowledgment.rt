@@ -8,8 +8,8 @@ ghost use Rattle.sip_served.specs.Arrival.{pracked};
 ghost use Rattle.sip_served.specs.State.{changed_at};
 
 use crate::held_request::HeldRequest;
-use crate::request::{is_invite, local_tag};
 use crate::requests::place_of;
+use sip_common::request::{is_invite, local_tag};
 use sip_message::{Id, Message};
 use sip_reliable::Outbound;
 use sip_text::token_eq;

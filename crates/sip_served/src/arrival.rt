@@ -4,74 +4,14 @@ ghost use Rattle.std.specs.Prelude.{◌≡◌, find, option_map};
 ghost use Rattle.std.specs.List.{list_any};
 ghost use Rattle.std.specs.Option.{option_copied};
 ghost use Rattle.sip_served.specs.Arrival as arrival;
-ghost use Rattle.sip_served.specs.Requests.{is_unknown_option};
+ghost use Rattle.sip_common.specs.Requests.{is_unknown_option};
 
-use crate::dialogs::{Dialogs, takes};
-use crate::held_dialog::{DialogLife, DialogName, HeldDialog};
 use crate::held_request::HeldRequest;
-use crate::provisionals::Provisionals;
-use crate::request::{is_bye, is_inside, is_invite, is_prack, is_unknown_option, supports_100rel};
-use sip_message::{Addr, CallId, Id, Key, Message, RAck, Token};
-use sip_reliable::Outbound;
-use sip_text::{Boxed, token_eq};
-use std::alloc::Global;
-
-/// A request that came up, with all that comes up with it.
-pub struct Arrival {
-    pub key: Key,
-    pub id: Id,
-    pub call_id: CallId,
-    pub request: Boxed<Message>,
-    /// Where its answers go.
-    pub reply_to: Addr,
-    /// The To tag that its responses get where it has none.
-    pub tag: Token,
-}
-
-/// The RSeq of the first reliable provisional response to a request.
-const FIRST_RSEQ: u32 = 1;
-
-impl Arrival {
-    /// What is held of it, in this dialog or in none.
-    pub(crate) fn into_held(self, alloc: Global, dialog: Option<DialogLife>) -> HeldRequest
-        ensures { result ≡ arrival.held_for self dialog }
-    {
-        let Arrival {
-            key,
-            id,
-            call_id: _,
-            request,
-            reply_to,
-            tag,
-        } = self;
-        let ledger = Outbound::new(FIRST_RSEQ, supports_100rel(request.get()));
-        HeldRequest {
-            id,
-            key,
-            request,
-            reply_to,
-            tag,
-            dialog,
-            ledger,
-            provisionals: Provisionals::new(alloc),
-            success: None,
-            removal: None,
-        }
-    }
-}
-
-impl Drop for Arrival {
-    fn drop(self) {
-        let Arrival {
-            key: _,
-            id: _,
-            call_id: _,
-            request: _,
-            reply_to: _,
-            tag: _,
-        } = self;
-    }
-}
+use sip_common::dialogs::takes;
+use sip_common::request::{is_bye, is_inside, is_invite, is_prack, is_unknown_option};
+use sip_common::{DialogName, Dialogs, HeldDialog};
+use sip_message::{Id, Message, RAck};
+use sip_text::token_eq;
 
 /// What a request that comes up, other than a CANCEL, is (RFC 3261, sections 8.2 and 12.2.2).
 #[derive(Clone, Copy)]

@@ -3,19 +3,18 @@
 ghost use Rattle.std.specs.Prelude.{◌≡◌, ◌≤◌, ◌^◌, IfOk, OnOk};
 ghost use Rattle.std.specs.Option.{option_copied};
 ghost use Rattle.sip_served.specs.Cancel as spec;
-ghost use Rattle.sip_served.specs.Requests.{local_tag_of};
+ghost use Rattle.sip_common.specs.Requests.{local_tag_of};
 ghost use Rattle.sip_served.specs.Respond.{finished};
 ghost use Rattle.sip_served.specs.State.{changed_at};
 
-use crate::arrival::Arrival;
 use crate::held_request::HeldRequest;
-use crate::item::CallOut;
-use crate::notice::Notice;
-use crate::outputs::{ok_with_tag, one};
-use crate::request::{is_invite, own_tag};
+use crate::outputs::{command_for, ok_with_tag};
 use crate::requests::place_of;
-use crate::respond::{answer_command, finish};
-use sip_message::{Id, Key, Message, Reason, StatusCode, Token, response_to};
+use crate::respond::finish;
+use sip_common::outputs::one;
+use sip_common::request::{is_invite, own_tag};
+use sip_common::{CallOut, Notice};
+use sip_message::{CallId, Id, Key, Message, Reason, StatusCode, Token, response_to};
 use sip_text::Text;
 use std::alloc::{AllocError, Global};
 
@@ -70,7 +69,7 @@ pub(crate) fn is_unanswered_invite(held: &HeldRequest) -> bool
 /// The 200 to a CANCEL, with the tag of the request that it names.
 pub(crate) fn cancel_accepted(
     alloc: Global,
-    arrival: &Arrival,
+    arrival: &HeldRequest,
     held: &HeldRequest,
 ) -> Result<CallOut, AllocError>
     ensures { IfOk result (λ out. out ≡ spec.cancel_accepted arrival.now held.now) }
@@ -102,17 +101,18 @@ pub(crate) fn request_terminated(alloc: Global, held: &HeldRequest) -> Result<Me
 /// user is told.
 pub(crate) fn termination_told(
     alloc: Global,
-    arrival: &Arrival,
+    call_id: CallId,
+    arrival: &HeldRequest,
     held: &HeldRequest,
     response: &Message,
 ) -> Result<Vec<CallOut>, AllocError>
     ensures { IfOk result (λ outs. outs.items
-        ≡ spec.termination_told arrival.now held.now response.now) }
+        ≡ spec.termination_told call_id arrival.now held.now response.now) }
 {
     let mut outs = one(alloc, cancel_accepted(alloc, arrival, held)?)?;
-    outs.push(answer_command(alloc, held, response)?)?;
+    outs.push(command_for(alloc, held, response.clone()?)?)?;
     outs.push(CallOut::Notice(Notice::Cancel {
-        call_id: arrival.call_id.clone()?,
+        call_id,
         id: held.id,
     }))?;
     Ok(outs)

@@ -1,12 +1,20 @@
 //! A server request that is held.
 
-use crate::held_dialog::DialogLife;
+ghost use Rattle.std.specs.Prelude.{◌≡◌};
+ghost use Rattle.sip_served.specs.Arrival.{new_request};
+
 use crate::provisionals::Provisionals;
+use sip_common::DialogLife;
+use sip_common::request::supports_100rel;
 use sip_message::{Addr, Id, Key, Message, Token};
 use sip_reliable::Outbound;
 use sip_text::Boxed;
+use std::alloc::Global;
 
-/// A server request that came up and was told to the user.
+/// The RSeq of the first reliable provisional response to a request.
+const FIRST_RSEQ: u32 = 1;
+
+/// A server request that came up and is told to the user.
 pub struct HeldRequest {
     pub id: Id,
     /// The key of its transaction.
@@ -26,6 +34,34 @@ pub struct HeldRequest {
     pub success: Option<Success>,
     /// After the final response: the moment in ms at which it is removed.
     pub removal: Option<u64>,
+}
+
+impl HeldRequest {
+    /// A request as it comes up: in no dialog, and no answer to it was sent. Takes no memory.
+    pub fn new(
+        alloc: Global,
+        key: Key,
+        id: Id,
+        request: Boxed<Message>,
+        reply_to: Addr,
+        tag: Token,
+    ) -> HeldRequest
+        ensures { result ≡ new_request key id request reply_to tag }
+    {
+        let ledger = Outbound::new(FIRST_RSEQ, supports_100rel(request.get()));
+        HeldRequest {
+            id,
+            key,
+            request,
+            reply_to,
+            tag,
+            dialog: None,
+            ledger,
+            provisionals: Provisionals::new(alloc),
+            success: None,
+            removal: None,
+        }
+    }
 }
 
 /// The 2xx response to an INVITE, which is sent again until its ACK comes (RFC 3261, section

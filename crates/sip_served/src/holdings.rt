@@ -11,27 +11,23 @@ ghost use Rattle.sip_served.specs.Tick.{tick_taken, next_due, is_kept_at};
 ghost use Rattle.sip_served.specs.declared.held_request.HeldRequest.{HeldRequest};
 
 use crate::acknowledgment::{acknowledge, acknowledged_invite, prack};
-use crate::arrival::{Arrival, ArrivalCase, case_of};
+use crate::arrival::{ArrivalCase, case_of};
 use crate::cancel::{
     cancel_accepted, cancelled_request, is_unanswered_invite, request_terminated, terminate,
     termination_told,
 };
-use crate::command::{Respond, UserCommand};
-use crate::dialogs::{Dialogs, end, end_early, own_dialog, visit};
-use crate::held_dialog::DialogName;
 use crate::held_request::HeldRequest;
-use crate::item::{CallOut, Item};
-use crate::notice::Notice;
 use crate::outputs::{
-    bad_extension, joined, loop_detected, no_such_dialog, notice_of_request, ok, one, out_of_order,
-    tell,
+    bad_extension, loop_detected, no_such_dialog, notice_of_request, ok, out_of_order,
 };
-use crate::refusal::Refusal;
-use crate::request::{dialog_name, is_bye, is_cancel, is_inside};
 use crate::requests::place_of;
 use crate::respond::{answer_to, dialogs_answered, note_answer, note_dialog, refusal_for};
 use crate::tick::{is_kept, next_due, tick_requests};
 use indexmap::IndexMap;
+use sip_common::dialogs::{end, end_early, own_dialog, visit};
+use sip_common::outputs::{joined, one, tell};
+use sip_common::request::{dialog_name, is_bye, is_cancel, is_inside};
+use sip_common::{CallOut, DialogName, Dialogs, Item, Notice, Refusal, Respond, UserCommand};
 use sip_message::{Addr, CallId, Id, Message, Token};
 use sip_text::Boxed;
 use sip_transactions::{Command, Kind, Up};
@@ -131,15 +127,8 @@ impl Holdings {
         } = up;
         match kind {
             Kind::Request(request, reply_to) => {
-                let arrival = Arrival {
-                    key,
-                    id,
-                    call_id,
-                    request,
-                    reply_to,
-                    tag,
-                };
-                self.arrive(arrival, now)
+                let arrival = HeldRequest::new(self.alloc, key, id, request, reply_to, tag);
+                self.arrive(call_id, arrival, now)
             }
             Kind::Ack(ack) => self.ack(call_id, ack.get()),
             Kind::Response(_) | Kind::Timeout | Kind::Failed => Ok(Vec::new(self.alloc)),
@@ -147,32 +136,42 @@ impl Holdings {
     }
 
     /// A request comes up, at the moment `now` in ms. A CANCEL is a case of its own.
-    pub(crate) fn arrive(&mut self, arrival: Arrival, now: u64) -> Result<Vec<CallOut>, AllocError>
+    pub(crate) fn arrive(
+        &mut self,
+        call_id: CallId,
+        arrival: HeldRequest,
+        now: u64,
+    ) -> Result<Vec<CallOut>, AllocError>
         requires { now ≤ 2 ^ 62 }
         ensures { IfOk result (λ outs. (self.new, outs.items)
-            ≡ step.arrival_taken self.old arrival now) }
+            ≡ step.arrival_taken self.old call_id arrival now) }
     {
         if is_cancel(arrival.request.get()) {
-            self.cancel(arrival, now)
+            self.cancel(call_id, &arrival, now)
         } else {
-            self.request(arrival)
+            self.request(call_id, arrival)
         }
     }
 
     // A CANCEL.
-    fn cancel(&mut self, arrival: Arrival, now: u64) -> Result<Vec<CallOut>, AllocError>
+    fn cancel(
+        &mut self,
+        call_id: CallId,
+        arrival: &HeldRequest,
+        now: u64,
+    ) -> Result<Vec<CallOut>, AllocError>
         requires { now ≤ 2 ^ 62 }
         ensures { IfOk result (λ outs. (self.new, outs.items)
-            ≡ cancels.cancel_taken self.old arrival now) }
+            ≡ cancels.cancel_taken self.old call_id arrival.now now) }
     {
         let Some(held) = cancelled_request(self.requests.as_slice(), &arrival.key) else {
-            return no_such_dialog(self.alloc, &arrival);
+            return no_such_dialog(self.alloc, arrival);
         };
         if !is_unanswered_invite(held) {
-            return one(self.alloc, cancel_accepted(self.alloc, &arrival, held)?);
+            return one(self.alloc, cancel_accepted(self.alloc, arrival, held)?);
         }
         let (invite, response) = (held.id, request_terminated(self.alloc, held)?);
-        let told = termination_told(self.alloc, &arrival, held, &response)?;
+        let told = termination_told(self.alloc, call_id, arrival, held, &response)?;
         let ended = self.terminate(invite, &response, now)?;
         joined(told, ended)
     }
@@ -193,9 +192,9 @@ impl Holdings {
     }
 
     // Any other request.
-    fn request(&mut self, arrival: Arrival) -> Result<Vec<CallOut>, AllocError>
+    fn request(&mut self, call_id: CallId, arrival: HeldRequest) -> Result<Vec<CallOut>, AllocError>
         ensures { IfOk result (λ outs. (self.new, outs.items)
-            ≡ arrived.request_taken self.old arrival) }
+            ≡ arrived.request_taken self.old call_id arrival) }
     {
         let name = dialog_name(self.alloc, arrival.request.get(), &arrival.tag)?;
         let case = case_of(
@@ -204,17 +203,18 @@ impl Holdings {
             &name,
             arrival.request.get(),
         );
-        self.by_case(case, name, arrival)
+        self.by_case(case, call_id, name, arrival)
     }
 
     fn by_case(
         &mut self,
         case: ArrivalCase,
+        call_id: CallId,
         name: DialogName,
-        arrival: Arrival,
+        arrival: HeldRequest,
     ) -> Result<Vec<CallOut>, AllocError>
         ensures { IfOk result (λ outs. (self.new, outs.items)
-            ≡ arrived.by_case case self.old name arrival) }
+            ≡ arrived.by_case case self.old call_id name arrival) }
     {
         match case {
             ArrivalCase::Merged => loop_detected(self.alloc, &arrival),
@@ -223,7 +223,7 @@ impl Holdings {
             ArrivalCase::OutOfOrder => out_of_order(self.alloc, &arrival),
             ArrivalCase::Acknowledges(invite, rseq) => {
                 self.note(&name, arrival.request.get())?;
-                self.prack(arrival, invite, rseq)
+                self.prack(call_id, &arrival, invite, rseq)
             }
             ArrivalCase::AcknowledgesNothing => {
                 self.note(&name, arrival.request.get())?;
@@ -231,7 +231,7 @@ impl Holdings {
             }
             ArrivalCase::ForUser => {
                 self.note(&name, arrival.request.get())?;
-                self.for_user(name, arrival)
+                self.for_user(call_id, name, arrival)
             }
         }
     }
@@ -247,13 +247,19 @@ impl Holdings {
     }
 
     // A PRACK that names a response which waits for it.
-    fn prack(&mut self, arrival: Arrival, invite: Id, rseq: u32) -> Result<Vec<CallOut>, AllocError>
+    fn prack(
+        &mut self,
+        call_id: CallId,
+        arrival: &HeldRequest,
+        invite: Id,
+        rseq: u32,
+    ) -> Result<Vec<CallOut>, AllocError>
         ensures { IfOk result (λ outs. (self.new, outs.items)
-            ≡ arrived.prack_taken self.old arrival invite rseq) }
+            ≡ arrived.prack_taken self.old call_id arrival.now invite rseq) }
     {
-        let mut outs = one(self.alloc, ok(self.alloc, &arrival)?)?;
+        let mut outs = one(self.alloc, ok(self.alloc, arrival)?)?;
         outs.push(CallOut::Notice(Notice::Prack {
-            call_id: arrival.call_id.clone()?,
+            call_id,
             id: invite,
             rseq,
             body: arrival.request.get().body.clone()?,
@@ -263,12 +269,17 @@ impl Holdings {
     }
 
     // A request for the user. A BYE ends its dialog.
-    fn for_user(&mut self, name: DialogName, arrival: Arrival) -> Result<Vec<CallOut>, AllocError>
+    fn for_user(
+        &mut self,
+        call_id: CallId,
+        name: DialogName,
+        arrival: HeldRequest,
+    ) -> Result<Vec<CallOut>, AllocError>
         ensures { IfOk result (λ outs. (self.new, outs.items)
-            ≡ arrived.for_user self.old name arrival) }
+            ≡ arrived.for_user self.old call_id name arrival) }
     {
         let ends = is_inside(arrival.request.get()) && is_bye(arrival.request.get());
-        let held = self.hold(&name, arrival)?;
+        let held = self.hold(call_id, &name, arrival)?;
         if !ends {
             return Ok(held);
         }
@@ -277,17 +288,22 @@ impl Holdings {
     }
 
     // It is held and told.
-    fn hold(&mut self, name: &DialogName, arrival: Arrival) -> Result<Vec<CallOut>, AllocError>
+    fn hold(
+        &mut self,
+        call_id: CallId,
+        name: &DialogName,
+        mut arrival: HeldRequest,
+    ) -> Result<Vec<CallOut>, AllocError>
         ensures { IfOk result (λ outs. (self.new, outs.items)
-            ≡ arrived.request_held self.old name.now arrival) }
+            ≡ arrived.request_held self.old call_id name.now arrival) }
     {
-        let notice = notice_of_request(self.alloc, &arrival)?;
-        let dialog = own_dialog(&self.dialogs, arrival.request.get(), name)?;
+        let notice = notice_of_request(self.alloc, call_id, &arrival)?;
+        arrival.dialog = own_dialog(&self.dialogs, arrival.request.get(), name)?;
         // Most calls hold one request, and a list that grows by itself begins with four places.
         if self.requests.is_empty() {
             self.requests.reserve_exact(1)?;
         }
-        self.requests.push(arrival.into_held(self.alloc, dialog))?;
+        self.requests.push(arrival)?;
         tell(self.alloc, notice)
     }
 

@@ -8,17 +8,19 @@ ghost use Rattle.sip_reliable.specs.Ledger.{FewWait};
 ghost use Rattle.sip_timers.specs.Queue.{is_due};
 ghost use Rattle.sip_transactions.specs.declared.input.Command.TheVariants.{Answer};
 ghost use Rattle.sip_served.specs.Cancel.{invite_terminated, is_unanswered_invite, request_terminated, user_termination};
-ghost use Rattle.sip_served.specs.OwnCall.{IsEventOf, IsNoticeOf, IsStateOf};
+ghost use Rattle.sip_common.specs.OwnCall.{IsNoticeOf};
+ghost use Rattle.sip_served.specs.OwnCall.{IsEventOf, IsStateOf};
 ghost use Rattle.sip_served.specs.Respond.{respond_taken};
 ghost use Rattle.sip_served.specs.Run.{Event, FewWaitEach, event_taken, state_after};
 ghost use Rattle.sip_served.specs.ServerSide.{empty_at};
 ghost use Rattle.sip_served.specs.Shown.{brings, for_user, told_by, told_from};
-ghost use Rattle.sip_served.specs.State.{State, followed, has_id, is_id, quiet};
+ghost use Rattle.sip_common.specs.Ids.{is_id};
+ghost use Rattle.sip_served.specs.State.{State, followed, has_id, quiet};
 ghost use Rattle.sip_served.specs.Story.{greatest_accepted, held_by, ledger_of};
 ghost use Rattle.sip_served.specs.Telling.{story_after};
 ghost use Rattle.sip_served.specs.Tick.{next_due, tick_taken};
 ghost use Rattle.sip_served.specs.declared.held_request.HeldRequest.{HeldRequest};
-ghost use Rattle.sip_served.specs.declared.item.CallOut.TheVariants.{Command};
+ghost use Rattle.sip_common.specs.declared.item.CallOut.TheVariants.{Command};
 
 /// Before the moment at which something is due a tick does nothing and says nothing; from then on
 /// it does or says something. Where nothing is ever due no tick does anything.

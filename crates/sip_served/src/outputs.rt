@@ -1,61 +1,37 @@
 //! What a call gives.
 
-ghost use Rattle.std.specs.Prelude.{◌≡◌, ◌≤◌, ◌∷◌, ◌++◌, [], IfOk, OnOk, filter, codes, IsTrue};
+ghost use Rattle.std.specs.Prelude.{◌≡◌, ◌≤◌, IfOk, OnOk, filter, codes, IsTrue};
 ghost use Rattle.sip_message.specs.Response.{response_of};
 ghost use Rattle.sip_parts.specs.Reason.{is_reason};
 ghost use Rattle.sip_served.specs.Arrival as arrived;
-ghost use Rattle.sip_served.specs.Notices.{request_notice};
-ghost use Rattle.sip_served.specs.Requests.{is_unknown_option};
-ghost use Rattle.sip_served.specs.declared.item.CallOut.TheVariants as call_out;
+ghost use Rattle.sip_common.specs.Requests.{is_unknown_option};
 
-use crate::arrival::Arrival;
-use crate::item::CallOut;
-use crate::notice::Notice;
-use crate::request::local_tag;
+use crate::held_request::HeldRequest;
 use crate::unsupported::unsupported;
-use sip_message::{Header, Message, Reason, StatusCode, Token, response_to};
+use sip_common::outputs::one;
+use sip_common::request::local_tag;
+use sip_common::{CallOut, Notice};
+use sip_message::{CallId, Header, Message, Reason, StatusCode, Token, response_to};
 use sip_text::{Boxed, Text};
 use sip_transactions::Command;
 use std::alloc::{AllocError, Global};
 
-/// One output.
-pub(crate) fn one(alloc: Global, out: CallOut) -> Result<Vec<CallOut>, AllocError>
-    ensures { IfOk result (λ outs. outs.items ≡ out ∷ []) }
+/// The command by which a response goes to the transaction of its request.
+pub(crate) fn command_for(
+    alloc: Global,
+    request: &HeldRequest,
+    response: Message,
+) -> Result<CallOut, AllocError>
+    ensures { IfOk result (λ out. out ≡ arrived.command_for request.now response) }
 {
-    let mut outs = Vec::with_capacity(alloc, 1)?;
-    outs.push(out)?;
-    Ok(outs)
-}
-
-/// What is told first, and then what is told after it.
-pub(crate) fn joined(
-    mut first: Vec<CallOut>,
-    mut later: Vec<CallOut>,
-) -> Result<Vec<CallOut>, AllocError>
-    ensures { IfOk result (λ outs. outs.items ≡ first.items ++ later.items) }
-{
-    first.append(&mut later)?;
-    Ok(first)
-}
-
-/// One notice.
-pub(crate) fn tell(alloc: Global, notice: Notice) -> Result<Vec<CallOut>, AllocError>
-    ensures { IfOk result (λ outs. outs.items ≡ call_out.Notice notice ∷ []) }
-{
-    one(alloc, CallOut::Notice(notice))
-}
-
-fn command_for(alloc: Global, arrival: &Arrival, message: Message) -> Result<CallOut, AllocError>
-    ensures { IfOk result (λ out. out ≡ arrived.command_for arrival.now message) }
-{
-    let key = arrival.key.clone()?;
-    let message = Boxed::new(alloc, message)?;
-    Ok(CallOut::Command(arrival.id, Command::Answer { key, message }))
+    let key = request.key.clone()?;
+    let message = Boxed::new(alloc, response)?;
+    Ok(CallOut::Command(request.id, Command::Answer { key, message }))
 }
 
 fn response_with(
     alloc: Global,
-    arrival: &Arrival,
+    arrival: &HeldRequest,
     status: u16,
     reason: &[u8],
     tag: &Token,
@@ -74,7 +50,7 @@ fn response_with(
 /// The agent's own answer to a request.
 pub(crate) fn reply(
     alloc: Global,
-    arrival: &Arrival,
+    arrival: &HeldRequest,
     status: u16,
     reason: &[u8],
 ) -> Result<CallOut, AllocError>
@@ -91,7 +67,7 @@ pub(crate) fn reply(
 /// The agent's own answer to a request, alone.
 pub(crate) fn answered_with(
     alloc: Global,
-    arrival: &Arrival,
+    arrival: &HeldRequest,
     status: u16,
     reason: &[u8],
 ) -> Result<Vec<CallOut>, AllocError>
@@ -105,7 +81,10 @@ pub(crate) fn answered_with(
 }
 
 /// The 482 to a request that came on another way too (RFC 3261, section 8.2.2.2).
-pub(crate) fn loop_detected(alloc: Global, arrival: &Arrival) -> Result<Vec<CallOut>, AllocError>
+pub(crate) fn loop_detected(
+    alloc: Global,
+    arrival: &HeldRequest,
+) -> Result<Vec<CallOut>, AllocError>
     ensures { IfOk result (λ outs. outs.items
         ≡ arrived.answered_with arrival.now 482 (codes "Loop Detected")) }
 {
@@ -113,7 +92,7 @@ pub(crate) fn loop_detected(alloc: Global, arrival: &Arrival) -> Result<Vec<Call
 }
 
 /// The 500 to a request whose number is out of order (RFC 3261, section 12.2.2).
-pub(crate) fn out_of_order(alloc: Global, arrival: &Arrival) -> Result<Vec<CallOut>, AllocError>
+pub(crate) fn out_of_order(alloc: Global, arrival: &HeldRequest) -> Result<Vec<CallOut>, AllocError>
     ensures { IfOk result (λ outs. outs.items
         ≡ arrived.answered_with arrival.now 500 (codes "Server Internal Error")) }
 {
@@ -122,14 +101,17 @@ pub(crate) fn out_of_order(alloc: Global, arrival: &Arrival) -> Result<Vec<CallO
 
 /// The 481 to a request for a dialog that isn't held, to a PRACK for nothing that waits for it, or
 /// to a CANCEL of no held request.
-pub(crate) fn no_such_dialog(alloc: Global, arrival: &Arrival) -> Result<Vec<CallOut>, AllocError>
+pub(crate) fn no_such_dialog(
+    alloc: Global,
+    arrival: &HeldRequest,
+) -> Result<Vec<CallOut>, AllocError>
     ensures { IfOk result (λ outs. outs.items ≡ arrived.no_such_dialog arrival.now) }
 {
     answered_with(alloc, arrival, 481, b"Call/Transaction Does Not Exist")
 }
 
 /// The 200 to a PRACK.
-pub(crate) fn ok(alloc: Global, arrival: &Arrival) -> Result<CallOut, AllocError>
+pub(crate) fn ok(alloc: Global, arrival: &HeldRequest) -> Result<CallOut, AllocError>
     ensures { IfOk result (λ out. out ≡ arrived.command_for arrival.now
         (response_of arrival.now.request 200 (codes "OK") arrival.now.tag)) }
 {
@@ -139,7 +121,7 @@ pub(crate) fn ok(alloc: Global, arrival: &Arrival) -> Result<CallOut, AllocError
 /// The 200 to a request, with this tag in To where the request has none.
 pub(crate) fn ok_with_tag(
     alloc: Global,
-    arrival: &Arrival,
+    arrival: &HeldRequest,
     tag: &Token,
 ) -> Result<CallOut, AllocError>
     ensures { IfOk result (λ out. out ≡ arrived.command_for arrival.now
@@ -151,7 +133,10 @@ pub(crate) fn ok_with_tag(
 
 /// The 420 to a request that requires options that the agent doesn't know; it names them (RFC 3261,
 /// section 8.2.2.3).
-pub(crate) fn bad_extension(alloc: Global, arrival: &Arrival) -> Result<Vec<CallOut>, AllocError>
+pub(crate) fn bad_extension(
+    alloc: Global,
+    arrival: &HeldRequest,
+) -> Result<Vec<CallOut>, AllocError>
     ensures { IfOk result (λ outs. outs.items ≡ arrived.refused_extension arrival.now) }
 {
     one(
@@ -160,7 +145,7 @@ pub(crate) fn bad_extension(alloc: Global, arrival: &Arrival) -> Result<Vec<Call
     )
 }
 
-fn bad_extension_response(alloc: Global, arrival: &Arrival) -> Result<Message, AllocError>
+fn bad_extension_response(alloc: Global, arrival: &HeldRequest) -> Result<Message, AllocError>
     ensures { IfOk result (λ response. response
         ≡ arrived.with_header (arrived.unsupported
         (filter is_unknown_option arrival.now.request.require))
@@ -179,13 +164,16 @@ fn add_header(response: &mut Message, header: Header) -> Result<(), AllocError>
 }
 
 /// How the user is told of a request.
-pub(crate) fn notice_of_request(alloc: Global, arrival: &Arrival) -> Result<Notice, AllocError>
-    ensures { IfOk result (λ notice. notice
-        ≡ request_notice arrival.now.id arrival.now.call_id arrival.now.request arrival.now.tag) }
+pub(crate) fn notice_of_request(
+    alloc: Global,
+    call_id: CallId,
+    arrival: &HeldRequest,
+) -> Result<Notice, AllocError>
+    ensures { IfOk result (λ notice. notice ≡ arrived.request_notice call_id arrival.now) }
 {
     let request = arrival.request.get();
     Ok(Notice::Request {
-        call_id: arrival.call_id.clone()?,
+        call_id,
         id: arrival.id,
         method: request.cseq.method.clone()?,
         local_tag: Text::copy_of(alloc, local_tag(request, &arrival.tag))?,

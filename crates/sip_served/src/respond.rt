@@ -2,29 +2,23 @@
 
 ghost use Rattle.std.specs.Prelude.{◌≡◌, ◌≤◌, ◌^◌, IfOk, OnOk, codes};
 ghost use Rattle.indexmap.specs.IndexMap.{insert_entry};
-ghost use Rattle.sip_transactions.specs.declared.input.Command.TheVariants.{Answer};
-ghost use Rattle.sip_served.specs.Dialogs.{is_named};
-ghost use Rattle.sip_served.specs.Requests.{dialog_name};
+ghost use Rattle.sip_common.specs.Dialogs.{is_named};
+ghost use Rattle.sip_common.specs.Requests.{dialog_name};
 ghost use Rattle.sip_served.specs.Respond as spec;
-ghost use Rattle.sip_served.specs.declared.item.CallOut.TheVariants as call_out;
 
-use crate::command::{Reliability, Respond};
-use crate::dialogs::{Dialogs, confirm, end_early, lives};
-use crate::held_dialog::{DialogLife, HeldDialog};
 use crate::held_request::{HeldRequest, Retransmission, Success};
-use crate::item::CallOut;
 use crate::provisionals::NumberedResponse;
-use crate::refusal::Refusal;
-use crate::request::{
+use sip_common::dialogs::{confirm, end_early, lives};
+use sip_common::request::{
     dialog_name, is_final, is_inside, is_invite, is_provisional, is_success, requires_100rel,
     supports_100rel,
 };
+use sip_common::{CallOut, DialogLife, Dialogs, HeldDialog, Refusal, Reliability, Respond};
 use sip_dialog::{Dialog, own_contact};
 use sip_message::{Addr, Id, Message, StatusCode, Token, response_to};
 use sip_reliable::{Inbound, SendFault};
 use sip_text::{Boxed, Series, Text};
 use sip_timers::{LIFETIME, T1};
-use sip_transactions::Command;
 use std::alloc::{AllocError, Global};
 
 /// The least status that the user may answer with.
@@ -352,18 +346,4 @@ pub(crate) fn note_dialog(
         held.dialog = Some(DialogLife { name, born: event });
     }
     Ok(())
-}
-
-/// The command by which an answer goes to the transaction of its request.
-pub(crate) fn answer_command(
-    alloc: Global,
-    held: &HeldRequest,
-    response: &Message,
-) -> Result<CallOut, AllocError>
-    ensures { IfOk result (λ out. out ≡ call_out.Command held.now.id
-        (Answer held.now.key response.now)) }
-{
-    let key = held.key.clone()?;
-    let message = Boxed::new(alloc, response.clone()?)?;
-    Ok(CallOut::Command(held.id, Command::Answer { key, message }))
 }

@@ -2,11 +2,9 @@
 
 ghost use Rattle.std.specs.Prelude.{◌≡◌, ◌≤◌, ◌^◌, false, Ok, Err, IfErr, IfOk, IsTrue, if◌then◌else◌};
 
-use crate::arrival::Arrival;
-use crate::command::Respond;
-use crate::dialogs::Dialogs;
+use crate::held_request::HeldRequest;
 use crate::holdings::Holdings;
-use crate::item::{CallOut, Item};
+use sip_common::{CallOut, Dialogs, Item, Respond};
 use sip_message::{Addr, CallId, Id, Message, Token};
 use sip_model::ShardFault;
 use std::alloc::{AllocError, Global};
@@ -103,22 +101,28 @@ impl Served {
         self.keep(taken)
     }
 
-    /// Takes a request that comes up, at the moment `now` in ms, as [`Served::item`] does.
+    /// Takes a request that comes up, as it would be held, at the moment `now` in ms, as
+    /// [`Served::item`] does. The Call-ID is that of its transaction.
     ///
     /// # Errors
     ///
     /// `Broken` after an earlier call answered `NoMemory`.
-    pub fn arrive(&mut self, arrival: Arrival, now: u64) -> Result<Vec<CallOut>, ShardFault>
+    pub fn arrive(
+        &mut self,
+        call_id: CallId,
+        arrival: HeldRequest,
+        now: u64,
+    ) -> Result<Vec<CallOut>, ShardFault>
         requires { now ≤ 2 ^ 62 }
         ensures broken { IsTrue self.old.broken → result ≡ Err ShardFault.Broken }
         ensures only_broken { result ≡ Err ShardFault.Broken → IsTrue self.old.broken }
         ensures broken_stays { result ≡ Err ShardFault.Broken → self.new ≡ self.old }
         ensures no_memory { result ≡ Err ShardFault.NoMemory → self.new ≡ lost self.old }
         ensures ok { IfOk result (λ outs. (self.new, outs.items)
-            ≡ after self.old (arrival_taken self.old.state arrival now)) }
+            ≡ after self.old (arrival_taken self.old.state call_id arrival now)) }
     {
         self.check()?;
-        let taken = self.holdings.arrive(arrival, now);
+        let taken = self.holdings.arrive(call_id, arrival, now);
         self.keep(taken)
     }
 

@@ -5,13 +5,12 @@ ghost use Rattle.std.specs.List.{flat_map};
 ghost use Rattle.std.specs.Option.{option_and_then, option_map};
 ghost use Rattle.sip_reliable.specs.Happening.{is_among};
 ghost use Rattle.sip_served.specs.Tick as spec;
-ghost use Rattle.sip_served.specs.declared.notice.Notice.TheVariants as notices;
+ghost use Rattle.sip_common.specs.declared.notice.Notice.TheVariants as notices;
 
 use crate::acknowledgment::stop_success;
 use crate::held_request::{HeldRequest, Retransmission, Success};
-use crate::item::CallOut;
-use crate::notice::Notice;
-use crate::respond::answer_command;
+use crate::outputs::command_for;
+use sip_common::{CallOut, Notice};
 use sip_reliable::Tick;
 use sip_timers::earlier;
 use sip_transactions::T2;
@@ -80,7 +79,7 @@ fn tick_success(
     match success_answer(success, now) {
         SuccessDue::Nothing => Ok(()),
         SuccessDue::Again => {
-            outs.push(answer_command(alloc, held, success.response.get())?)?;
+            outs.push(command_for(alloc, held, success.response.get().clone()?)?)?;
             repeat_success(held, now);
             Ok(())
         }
@@ -188,7 +187,7 @@ fn send_again(
 {
     for one in held.provisionals.as_slice() {
         if is_among(numbers, one.number) {
-            outs.push(answer_command(alloc, held, one.response.get())?)?;
+            outs.push(command_for(alloc, held, one.response.get().clone()?)?)?;
         }
     }
     Ok(())

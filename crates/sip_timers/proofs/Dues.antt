@@ -1,12 +1,12 @@
 -- Lemmas on the index of a queue: it stays the index at each change, and its first is the earliest.
 use Rattle.std.proofs.Common.{◌≡◌, ℕ, zero, suc, ◌≤◌, ◌<◌, Bool, true, false, cond, ◌&&◌, List, [], ◌∷◌, inl, inr, Option, Some, None, refl, sym, ap, subst, ◌∙◌, arith, min, IfSome, length}
 use Rattle.std.specs.Prelude.{nat_lt, nat_le, ◌==◌}
-use Rattle.std.specs.List.{reduce, fold, take_while, AllByRecursion}
+use Rattle.std.specs.List.{reduce, fold, list_any, take_while, AllByRecursion}
 use Rattle.std.specs.List.Sorted.{IsStrictlySortedBy}
 use Rattle.std.specs.Ordering.{is_eq, is_gt, ordering_then, nat_cmp, match_ordering}
 use Rattle.std.specs.Cmp.{IsTotalOrder}
 use Rattle.std.specs.BTreeMap.{is_at, insert_entry}
-use Rattle.std.specs.Map.{lookup, keys_of, values_of}
+use Rattle.std.specs.Map.{keys_of, values_of}
 use Rattle.std.specs.declared.cmp.Ordering.{Ordering}
 use Rattle.std.specs.declared.cmp.Ordering.TheVariants.{Less, Equal, Greater}
 use Rattle.std.proofs.lemmas.Bool.{false≢true, ltb-true, leb-true, leb-false, eqb-true, eq-eqb, ne_eqb, or_cases, and_parts}
@@ -30,7 +30,7 @@ equal_from_is_eq Equal e = refl
 equal_from_is_eq Greater e = absurd (false≢true e)
 
 -- two moments beside two keys are tied where the moments are and the keys are
-tied_pair : (a b : ℕ) (o : Ordering) → is_eq (ordering_then (nat_cmp a b) o) ≡ ((a == b) && is_eq o)
+pub tied_pair : (a b : ℕ) (o : Ordering) → is_eq (ordering_then (nat_cmp a b) o) ≡ ((a == b) && is_eq o)
 tied_pair a b o =
     by_bool (nat_lt a b)
     (λ lt.
@@ -60,21 +60,31 @@ Puts {K} cmp dues rest due key put =
     (p : ℕ × K) → is_due_at cmp rest p.0 p.1
     ≡ cond (is_eq (due_cmp cmp (due, key) p)) put (is_due_at cmp dues p.0 p.1)
 
--- the entries after a key's moment is put in or taken out
-abbrev pub Arms : {K : Type 0} → (K → K → Ordering) → List (K × ℕ) → List (K × ℕ) → K → Option ℕ
-    → Type 0
-Arms {K} cmp entries left key armed =
-    (q : K) → moment cmp left q ≡ cond (is_at (cmp key) q) armed (moment cmp entries q)
+-- the moments after a key's moment is put in or taken out
+abbrev pub Arms : {K : Type 0} → (K → K → Ordering) → (K → Option ℕ) → (K → Option ℕ) → K
+    → Option ℕ → Type 0
+Arms {K} cmp before after key armed =
+    (q : K) → after q ≡ cond (is_at (cmp key) q) armed (before q)
+
+-- two moments that are the same at each moment are one
+same_moment : (a b : Option ℕ) → ((at : ℕ) → is_moment at a ≡ is_moment at b) → a ≡ b
+same_moment None None same = refl
+same_moment None (Some due) same = absurd (false≢true (same due ∙ eq-eqb due due refl))
+same_moment (Some due) None same = absurd (false≢true (sym (same due) ∙ eq-eqb due due refl))
+same_moment (Some due) (Some other) same =
+    ap (λ (m : ℕ). Some m) (eqb-true due other (sym (same due) ∙ eq-eqb due due refl))
 
 module _ {K : Type 0} {cmp : K → K → Ordering} (total : IsTotalOrder cmp) where
   -- equal keys have one moment
-  pub moment_tied : (entries : List (K × ℕ)) (key q : K) → is_at (cmp key) q ≡ true
-      → moment cmp entries q ≡ moment cmp entries key
-  moment_tied entries key q tied =
+  pub moment_tied : (moments : K → Option ℕ) (dues : List (ℕ × K)) → IsIndexOf cmp moments dues
+      → (key q : K) → is_at (cmp key) q ≡ true → moments q ≡ moments key
+  moment_tied moments dues index key q tied =
       let equal : cmp key q ≡ Equal = equal_from_is_eq (cmp key q) tied in
-      let same : moment cmp entries key ≡ moment cmp entries q =
-      λ i. lookup (λ z. is_eq (total.congr key q z equal i)) entries in
-      sym same
+      same_moment (moments q) (moments key) (λ at.
+      let there : is_due_at cmp dues at key ≡ is_due_at cmp dues at q =
+      λ i. list_any (λ due. is_eq (ordering_then (nat_cmp at due.0)
+      (total.congr key q due.1 equal i))) dues in
+      sym (index at q) ∙ sym there ∙ index at key)
 
   put_apart : (dues rest : List (ℕ × K)) (due : ℕ) (key : K) (put : Bool)
       → Puts cmp dues rest due key put → (at : ℕ) (q : K) → is_at (cmp key) q ≡ false
@@ -91,21 +101,21 @@ module _ {K : Type 0} {cmp : K → K → Ordering} (total : IsTotalOrder cmp) wh
       ∙ by_bool (due == at) (λ same. rw (same, tied)) (λ other. rw other)
 
   -- ---- an unarmed key is armed, and its pair put in
-  module _ (entries left : List (K × ℕ)) (dues rest : List (ℕ × K)) (key : K) (due : ℕ)
-      (index : IsIndexOf cmp entries dues) where
-    not_there : moment cmp entries key ≡ None → (at : ℕ) (q : K) → is_at (cmp key) q ≡ true
+  module _ (before after : K → Option ℕ) (dues rest : List (ℕ × K)) (key : K) (due : ℕ)
+      (index : IsIndexOf cmp before dues) where
+    not_there : before key ≡ None → (at : ℕ) (q : K) → is_at (cmp key) q ≡ true
         → is_due_at cmp dues at q ≡ false
     not_there absent at q tied =
-        index at q ∙ ap (is_moment at) (moment_tied entries key q tied ∙ absent)
+        index at q ∙ ap (is_moment at) (moment_tied before dues index key q tied ∙ absent)
 
-    pub index_added : moment cmp entries key ≡ None → Puts cmp dues rest due key true
-        → Arms cmp entries left key (Some due) → IsIndexOf cmp left rest
+    pub index_added : before key ≡ None → Puts cmp dues rest due key true
+        → Arms cmp before after key (Some due) → IsIndexOf cmp after rest
     index_added absent puts arms = λ at q.
         by_bool (is_at (cmp key) q)
         (λ tied.
         let had : is_due_at cmp dues at q ≡ false = not_there absent at q tied in
-        let armed : moment cmp left q ≡ Some due =
-        arms q ∙ ap (λ b. cond b (Some due) (moment cmp entries q)) tied in
+        let armed : after q ≡ Some due =
+        arms q ∙ ap (λ b. cond b (Some due) (before q)) tied in
         let has : is_due_at cmp rest at q ≡ (due == at) =
         put_tied dues rest due key true puts at q tied
         ∙ by_bool (due == at) (λ same. rw (same)) (λ other. rw (other, had)) in
@@ -113,14 +123,14 @@ module _ {K : Type 0} {cmp : K → K → Ordering} (total : IsTotalOrder cmp) wh
         (λ apart.
         put_apart dues rest due key true puts at q apart ∙ index at q
         ∙ sym (ap (is_moment at) (arms q
-        ∙ ap (λ b. cond b (Some due) (moment cmp entries q)) apart)))
+        ∙ ap (λ b. cond b (Some due) (before q)) apart)))
 
     -- the pair that was put in is taken out again
-    pub index_undone : (between : List (ℕ × K)) → moment cmp entries key ≡ None
-        → Puts cmp dues between due key true → Puts cmp between rest due key false → left ≡ entries
-        → IsIndexOf cmp left rest
+    pub index_undone : (between : List (ℕ × K)) → before key ≡ None
+        → Puts cmp dues between due key true → Puts cmp between rest due key false → after ≡ before
+        → IsIndexOf cmp after rest
     index_undone between absent puts takes unchanged =
-        subst (λ (es : List (K × ℕ)). IsIndexOf cmp es rest) (sym unchanged) (λ at q.
+        subst (λ (moments : K → Option ℕ). IsIndexOf cmp moments rest) (sym unchanged) (λ at q.
         by_bool (is_at (cmp key) q)
         (λ tied.
         let had : is_due_at cmp dues at q ≡ false = not_there absent at q tied in
@@ -134,17 +144,17 @@ module _ {K : Type 0} {cmp : K → K → Ordering} (total : IsTotalOrder cmp) wh
         ∙ put_apart dues between due key true puts at q apart ∙ index at q))
 
     -- an armed key gets another moment
-    pub index_moved : (between : List (ℕ × K)) (former : ℕ) → moment cmp entries key ≡ Some former
+    pub index_moved : (between : List (ℕ × K)) (former : ℕ) → before key ≡ Some former
         → (former ≡ due → ⊥)
         → Puts cmp dues between due key true → Puts cmp between rest former key false
-        → Arms cmp entries left key (Some due) → IsIndexOf cmp left rest
+        → Arms cmp before after key (Some due) → IsIndexOf cmp after rest
     index_moved between former armed other puts takes arms = λ at q.
         by_bool (is_at (cmp key) q)
         (λ tied.
         let had : is_due_at cmp dues at q ≡ (at == former) =
-        index at q ∙ ap (is_moment at) (moment_tied entries key q tied ∙ armed) in
-        let after : moment cmp left q ≡ Some due =
-        arms q ∙ ap (λ b. cond b (Some due) (moment cmp entries q)) tied in
+        index at q ∙ ap (is_moment at) (moment_tied before dues index key q tied ∙ armed) in
+        let after : after q ≡ Some due =
+        arms q ∙ ap (λ b. cond b (Some due) (before q)) tied in
         let has : is_due_at cmp rest at q ≡ (due == at) =
         put_tied between rest former key false takes at q tied
         ∙ ap (cond (former == at) false)
@@ -162,18 +172,18 @@ module _ {K : Type 0} {cmp : K → K → Ordering} (total : IsTotalOrder cmp) wh
         put_apart between rest former key false takes at q apart
         ∙ put_apart dues between due key true puts at q apart ∙ index at q
         ∙ sym (ap (is_moment at) (arms q
-        ∙ ap (λ b. cond b (Some due) (moment cmp entries q)) apart)))
+        ∙ ap (λ b. cond b (Some due) (before q)) apart)))
 
     -- an armed key leaves
-    pub index_removed : moment cmp entries key ≡ Some due → Puts cmp dues rest due key false
-        → Arms cmp entries left key None → IsIndexOf cmp left rest
+    pub index_removed : before key ≡ Some due → Puts cmp dues rest due key false
+        → Arms cmp before after key None → IsIndexOf cmp after rest
     index_removed armed takes arms = λ at q.
         by_bool (is_at (cmp key) q)
         (λ tied.
         let had : is_due_at cmp dues at q ≡ (at == due) =
-        index at q ∙ ap (is_moment at) (moment_tied entries key q tied ∙ armed) in
-        let after : moment cmp left q ≡ None =
-        arms q ∙ ap (λ b. cond b None (moment cmp entries q)) tied in
+        index at q ∙ ap (is_moment at) (moment_tied before dues index key q tied ∙ armed) in
+        let after : after q ≡ None =
+        arms q ∙ ap (λ b. cond b None (before q)) tied in
         let has : is_due_at cmp rest at q ≡ false =
         put_tied dues rest due key false takes at q tied ∙ ap (cond (due == at) false) had
         ∙ by_bool (due == at) (λ same. rw same) (λ differ.
@@ -182,31 +192,32 @@ module _ {K : Type 0} {cmp : K → K → Ordering} (total : IsTotalOrder cmp) wh
         has ∙ sym (ap (is_moment at) after))
         (λ apart.
         put_apart dues rest due key false takes at q apart ∙ index at q
-        ∙ sym (ap (is_moment at) (arms q ∙ ap (λ b. cond b None (moment cmp entries q)) apart)))
+        ∙ sym (ap (is_moment at) (arms q ∙ ap (λ b. cond b None (before q)) apart)))
 
     -- the same where the key is removed by an equal one
-    pub index_removed_by : (asked : K) → cmp asked key ≡ Equal → moment cmp entries asked ≡ Some due
-        → Puts cmp dues rest due key false → Arms cmp entries left asked None
-        → IsIndexOf cmp left rest
+    pub index_removed_by : (asked : K) → cmp asked key ≡ Equal → before asked ≡ Some due
+        → Puts cmp dues rest due key false → Arms cmp before after asked None
+        → IsIndexOf cmp after rest
     index_removed_by asked equal armed takes arms =
-        index_removed (moment_tied entries asked key (ap is_eq equal) ∙ armed) takes
-        (λ q. arms q ∙ ap (λ o. cond (is_eq o) None (moment cmp entries q))
+        index_removed (moment_tied before dues index asked key (ap is_eq equal) ∙ armed) takes
+        (λ q. arms q ∙ ap (λ o. cond (is_eq o) None (before q))
         (total.congr asked key q equal))
 
   -- ---- the first of the index
-  module _ (entries : List (K × ℕ)) (dues : List (ℕ × K)) (index : IsIndexOf cmp entries dues) where
+  module _ (moments : K → Option ℕ) (dues : List (ℕ × K))
+      (index : IsIndexOf cmp moments dues) where
     -- a pair in the index is an armed key at its moment
     pub armed_at : (due : ℕ) (key : K) → is_due_at cmp dues due key ≡ true
-        → moment cmp entries key ≡ Some due
-    armed_at due key there = moment_from due (moment cmp entries key) (sym (index due key) ∙ there)
+        → moments key ≡ Some due
+    armed_at due key there = moment_from due (moments key) (sym (index due key) ∙ there)
 
-    pub there_at : (due : ℕ) (key : K) → moment cmp entries key ≡ Some due
+    pub there_at : (due : ℕ) (key : K) → moments key ≡ Some due
         → is_due_at cmp dues due key ≡ true
     there_at due key armed = index due key ∙ ap (is_moment due) armed ∙ eq-eqb due due refl
 
 -- ---- the order of the index
 
-at_most : (a b : ℕ) (o : Ordering) → is_gt (ordering_then (nat_cmp a b) o) ≡ false → a ≤ b
+pub at_most : (a b : ℕ) (o : Ordering) → is_gt (ordering_then (nat_cmp a b) o) ≡ false → a ≤ b
 at_most a b o below =
     by_bool (nat_lt a b)
     (λ lt. omega (arith, ltb-true a b lt))
@@ -216,22 +227,22 @@ at_most a b o below =
 
 module _ {K : Type 0} {cmp : K → K → Ordering} (total : IsTotalOrder cmp) where
   -- the first of the index has the earliest moment
-  pub earliest : (entries : List (K × ℕ)) (dues : List (ℕ × K)) → IsIndexOf cmp entries dues
+  pub earliest : (entries : List (K × ℕ)) (dues : List (ℕ × K)) → IsIndexOf cmp (moment cmp entries) dues
       → IsStrictlySortedBy cmp (keys_of entries) → (first : ℕ × K)
       → is_due_at cmp dues first.0 first.1 ≡ true
       → ((p : ℕ × K) → is_due_at cmp dues p.0 p.1 ≡ true → is_gt (due_cmp cmp first p) ≡ false)
       → reduce min (values_of entries) ≡ Some first.0
   earliest [] dues index sorted first there least =
       let armed : moment cmp [] first.1 ≡ Some first.0 =
-      armed_at total [] dues index first.0 first.1 there in cc
+      armed_at total (moment cmp []) dues index first.0 first.1 there in cc
   earliest (e ∷ es) dues index sorted first there least =
       let lowest : ℕ = fold min e.1 (values_of es) in
       let found : (q : K) × (moment cmp (e ∷ es) q ≡ Some lowest) =
       of_a_key total (e ∷ es) sorted in
       let low : first.0 ≤ lowest = at_most first.0 lowest (cmp first.1 found.0)
-      (least (lowest, found.0) (there_at total (e ∷ es) dues index lowest found.0 found.1)) in
+      (least (lowest, found.0) (there_at total (moment cmp (e ∷ es)) dues index lowest found.0 found.1)) in
       let armed : moment cmp (e ∷ es) first.1 ≡ Some first.0 =
-      armed_at total (e ∷ es) dues index first.0 first.1 there in
+      armed_at total (moment cmp (e ∷ es)) dues index first.0 first.1 there in
       let high : lowest ≤ first.0 = subst
       (λ (o : Option ℕ). IfSome o (λ other. lowest ≤ other)) armed
       (none_before cmp (e ∷ es) first.1) in
@@ -239,13 +250,13 @@ module _ {K : Type 0} {cmp : K → K → Ordering} (total : IsTotalOrder cmp) wh
       ap (λ (m : ℕ). Some m) same
 
   -- an empty index is that of no entries
-  pub none_earliest : (entries : List (K × ℕ)) (dues : List (ℕ × K)) → IsIndexOf cmp entries dues
+  pub none_earliest : (entries : List (K × ℕ)) (dues : List (ℕ × K)) → IsIndexOf cmp (moment cmp entries) dues
       → length dues ≡ 0 → reduce min (values_of entries) ≡ None
   none_earliest [] dues index empty = refl
   none_earliest (e ∷ es) [] index empty =
       let armed : moment cmp (e ∷ es) e.0 ≡ Some e.1 =
       ap (λ b. cond b (Some e.1) (moment cmp es e.0)) (ap is_eq (tied_itself total e.0)) in
-      absurd (false≢true (there_at total (e ∷ es) [] index e.1 e.0 armed))
+      absurd (false≢true (there_at total (moment cmp (e ∷ es)) [] index e.1 e.0 armed))
   none_earliest (e ∷ es) (d ∷ ds) index empty = absurd (omega arith)
 
 -- ---- what is due stands in front

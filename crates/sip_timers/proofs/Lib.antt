@@ -3,3 +3,4 @@ pub mod Moments
 pub mod Dues
 pub mod Taking
 pub mod Sorts
+pub mod Schedules

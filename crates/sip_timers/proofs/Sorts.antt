@@ -93,14 +93,14 @@ module _ {K : Type 0} {cmp : K → K → Ordering} (total : IsTotalOrder cmp) wh
       (sorted_tail cmp y ys rise_too) ys_in xs_in)
 
   -- a sort of keys that differ rises
-  rises_sorted : (xs ys : List K) → IsStrictlySortedBy cmp xs → IsPermutation xs ys
+  pub rises_if_distinct : (xs ys : List K) → IsDistinct (eq_by_cmp cmp) xs → IsPermutation xs ys
       → IsSorted cmp ys → IsStrictlySortedBy cmp ys
   unfolding IsStrictlySortedBy
-  rises_sorted xs [] rises same sorted = tt
-  rises_sorted xs (y ∷ ys) rises same sorted =
+  rises_if_distinct xs [] apart_before same sorted = tt
+  rises_if_distinct xs (y ∷ ys) apart_before same sorted =
       let differ : IsDistinct (eq_by_cmp cmp) (y ∷ ys) =
       IsDistinct-IsPermutation (eq_by_cmp cmp) (eq_by_cmp_equiv total).symm xs (y ∷ ys) same
-      (IsDistinct-from_sorted cmp xs rises) in
+      apart_before in
       sorted_from_all_adjacent total (y ∷ ys) y (λ k below.
       let a : K = get_or (y ∷ ys) k y in
       let b : K = get_or (y ∷ ys) (k + 1) y in
@@ -128,4 +128,4 @@ module _ {K : Type 0} {cmp : K → K → Ordering} (total : IsTotalOrder cmp) wh
       by_recursion (λ z. Among z sorted) all
       (All-permutation (λ z. Among z sorted) sorted all (IsPermutation-sym all sorted same)
       (from_recursion (λ z. Among z sorted) sorted (all_among sorted))) in
-      same_elements all sorted rises (rises_sorted all sorted rises same is_sorted) ys_in xs_in
+      same_elements all sorted rises (rises_if_distinct all sorted (IsDistinct-from_sorted cmp all rises) same is_sorted) ys_in xs_in

@@ -82,7 +82,7 @@ none_left {K} now (e ∷ es) every =
 -- the keys taken out so far, and what is left of the entries and of the index
 pub record Taking {K : Type 0} (cmp : K → K → Ordering) (now : ℕ) (all : List (K × ℕ))
     (taken count : ℕ) (keys : List K) (entries : List (K × ℕ)) (dues : List (ℕ × K)) : Type 0 where
-  pub index : IsIndexOf cmp entries dues
+  pub index : IsIndexOf cmp (moment cmp entries) dues
   pub ordered : IsStrictlySortedBy cmp (keys_of entries)
   pub dues_ordered : IsStrictlySortedBy (due_cmp cmp) dues
   pub left : taken + due_count now dues ≡ count
@@ -91,7 +91,7 @@ pub record Taking {K : Type 0} (cmp : K → K → Ordering) (now : ℕ) (all : L
 
 module _ {K : Type 0} {cmp : K → K → Ordering} (total : IsTotalOrder cmp) (now : ℕ)
     (all : List (K × ℕ)) where
-  pub taking_at_first : (dues : List (ℕ × K)) → IsIndexOf cmp all dues
+  pub taking_at_first : (dues : List (ℕ × K)) → IsIndexOf cmp (moment cmp all) dues
       → IsStrictlySortedBy cmp (keys_of all) → IsStrictlySortedBy (due_cmp cmp) dues → (count : ℕ)
       → count ≡ due_count now dues → Taking cmp now all 0 count [] all dues
   taking_at_first dues index ordered dues_ordered count counted = record {
@@ -106,7 +106,7 @@ module _ {K : Type 0} {cmp : K → K → Ordering} (total : IsTotalOrder cmp) (n
   pub taking_next : (taken count : ℕ) (keys : List K) (entries : List (K × ℕ)) (dues : List (ℕ × K))
       → Taking cmp now all taken count keys entries dues → taken < count
       → (key : K) (fewer : List (K × ℕ)) (rest : List (ℕ × K))
-      → TakesFirst cmp entries dues key fewer rest → IsIndexOf cmp fewer rest
+      → TakesFirst cmp entries dues key fewer rest → IsIndexOf cmp (moment cmp fewer) rest
       → IsStrictlySortedBy cmp (keys_of fewer)
       → (more : List K) → more ≡ keys ++ key ∷ []
       → Taking cmp now all (taken + 1) count more fewer rest
@@ -147,7 +147,7 @@ module _ {K : Type 0} {cmp : K → K → Ordering} (total : IsTotalOrder cmp) (n
       lookup_from_place (eq_by_cmp_equiv total) entries i e.0 e.1
       (IsDistinct-from_sorted cmp (keys_of entries) so_far.ordered) at in
       none_due cmp now dues so_far.dues_ordered none e.1 e.0
-      (there_at total entries dues so_far.index e.1 e.0 armed))
+      (there_at total (moment cmp entries) dues so_far.index e.1 e.0 armed))
 
   pub taking_left : (taken count : ℕ) (keys : List K) (entries : List (K × ℕ)) (dues : List (ℕ × K))
       → Taking cmp now all taken count keys entries dues → count ≤ taken → entries ≡ later now all

@@ -1,5 +1,5 @@
 -- The index of a timer queue: each armed key beside its moment, in any order.
-use Rattle.std.specs.Prelude.{◌≡◌, ℕ, Bool, false, List, ◌∷◌, Option, None, Some, ◌==◌}
+use Rattle.std.specs.Prelude.{◌≡◌, ℕ, Bool, false, List, ◌∷◌, Option, None, Some, ◌==◌, cond}
 use Rattle.std.specs.Ordering.{is_eq, ordering_then, nat_cmp}
 use Rattle.std.specs.BTreeMap.{is_at}
 use Rattle.std.specs.Map.{lookup_key, remove_entry}
@@ -22,10 +22,15 @@ abbrev pub is_moment : ℕ → Option ℕ → Bool
 is_moment at None = false
 is_moment at (Some due) = at == due
 
--- the index has each armed key at its moment, and nothing else
-abbrev pub IsIndexOf : {K : Type 0} → (K → K → Ordering) → List (K × ℕ) → List (ℕ × K) → Type 0
-IsIndexOf {K} cmp entries dues =
-    (at : ℕ) (key : K) → is_due_at cmp dues at key ≡ is_moment at (moment cmp entries key)
+-- the index has each key that has a moment at it, and nothing else
+abbrev pub IsIndexOf : {K : Type 0} → (K → K → Ordering) → (K → Option ℕ) → List (ℕ × K) → Type 0
+IsIndexOf {K} cmp moments dues =
+    (at : ℕ) (key : K) → is_due_at cmp dues at key ≡ is_moment at (moments key)
+
+-- the moments with that of one key changed
+abbrev pub with_moment : {K : Type 0} → (K → K → Ordering) → (K → Option ℕ) → K → Option ℕ
+    → K → Option ℕ
+with_moment cmp moments key moment q = cond (is_at (cmp key) q) moment (moments q)
 
 -- the first of the index leaves it and the queue, which gives its own key
 abbrev pub TakesFirst : {K : Type 0} → (K → K → Ordering) → List (K × ℕ) → List (ℕ × K) → K

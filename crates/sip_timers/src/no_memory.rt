@@ -31,3 +31,9 @@ impl<T: Drop> From<AllocFailed<T>> for NoMemory {
         NoMemory
     }
 }
+
+impl From<NoMemory> for AllocError {
+    fn from(_error: NoMemory) -> AllocError {
+        AllocError
+    }
+}

@@ -28,13 +28,14 @@ impl<K: Ord + Clone> Model for Queue<K> {
     ghost use Rattle.std.specs.Prelude.{ℕ, List};
     ghost use Rattle.std.specs.BTreeMap.{IsOrdered};
     ghost use Rattle.sip_timers.specs.Index.{IsIndexOf};
+    ghost use Rattle.sip_timers.specs.Queue.{moment};
 
     ghost Value = { List (K × ℕ) };
 
     ghost view = { λ q. q.moments.entries };
 
     ghost invariant = { λ q. IsOrdered K.cmp q.moments
-        × IsIndexOf K.cmp q.moments.entries q.dues.keys };
+        × IsIndexOf K.cmp (moment K.cmp q.moments.entries) q.dues.keys };
 }
 
 impl<K: Ord + Clone + Drop> Queue<K> {
@@ -182,8 +183,8 @@ impl<K: Ord + Clone + Drop> Queue<K> {
     }
 }
 
-// How many keys are due at `now` or were before. It looks at these and at the next.
-fn count_due<K: Ord>(dues: &BTreeSet<(u64, K)>, now: u64) -> usize
+/// How many keys are due at `now` or were before. It looks at these and at the next.
+pub(crate) fn count_due<K: Ord>(dues: &BTreeSet<(u64, K)>, now: u64) -> usize
     ensures count { result ≡ length (take_while (λ due. nat_le due.0 now) dues.now.keys) }
     ensures ordered { IsStrictlySortedBy (due_cmp K.cmp) dues.now.keys }
 {
@@ -192,11 +193,11 @@ fn count_due<K: Ord>(dues: &BTreeSet<(u64, K)>, now: u64) -> usize
 
 // Takes out the key that is due first.
 fn take_first<K: Ord + Drop>(moments: &mut BTreeMap<K, u64>, dues: &mut BTreeSet<(u64, K)>) -> K
-    requires index { IsIndexOf K.cmp moments.old.entries dues.old.keys }
+    requires index { IsIndexOf K.cmp (moment K.cmp moments.old.entries) dues.old.keys }
     requires some { 0 < length dues.old.keys }
     ensures first { TakesFirst K.cmp moments.old.entries dues.old.keys
         result moments.new.entries dues.new.keys }
-    ensures index { IsIndexOf K.cmp moments.new.entries dues.new.keys }
+    ensures index { IsIndexOf K.cmp (moment K.cmp moments.new.entries) dues.new.keys }
     ensures ordered { IsOrdered K.cmp moments.new }
 {
     let Some((_, first)) = dues.pop_first() else {

@@ -15,7 +15,7 @@ use Rattle.sip_message.specs.declared.start_line.StartLine.TheVariants as start
 use Rattle.sip_model.specs.Machine.{outputs_from, Timed}
 use Rattle.sip_model.proofs.History.{state_after-push}
 use Rattle.sip_transactions.specs.declared.input.Input.{Input}
-use Rattle.sip_transactions.specs.declared.input.Input.TheVariants.{Tick, Receive, Start, Answer, Failed}
+use Rattle.sip_transactions.specs.declared.input.Input.TheVariants.{Receive, Start, Answer, Failed}
 use Rattle.sip_transactions.specs.declared.life.Life.{Life}
 use Rattle.sip_transactions.specs.declared.output.Out.{Out}
 use Rattle.sip_transactions.specs.declared.step.Step.{Step}
@@ -94,7 +94,7 @@ unfolding life_after
 life_other id life step now bytes other =
     entered_other id step.next _ (ap (same_id id) (id-last_of bytes life) ∙ other)
 
-acted_other : (id : Id) (key : Key) (now : ℕ) (input : Input) (life : Life) (step : Step)
+acted_other : (id : Id) (key : Key) (now : ℕ) (input : Option Input) (life : Life) (step : Step)
     → same_id id life.id ≡ false → Other id (acted_if key now input (Some life) step)
 acted_other id key now input life step other = record {
   life = life_other id life step now _ other;
@@ -113,7 +113,7 @@ not_handed id key life up.Timeout arrived quiet = absurd (false≢true quiet)
 not_handed id key life up.Failed arrived quiet = absurd (false≢true quiet)
 not_handed id key life up.NoTransaction arrived quiet = refl
 
-response_other : (id : Id) (key : Key) (now : ℕ) (input : Input) (life : Life) (step : Step)
+response_other : (id : Id) (key : Key) (now : ℕ) (input : Option Input) (life : Life) (step : Step)
     → (is_ended step.next && not (is_message step.handed || is_report step.handed)) ≡ true
     → Other id (acted_if key now input (Some life) step)
 response_other id key now input life step quiet = record {
@@ -129,26 +129,26 @@ receive_other : (id : Id) (key : Key) (now : ℕ) (i : Id) (message : Message) (
     (line : StartLine) (step : Step) (life : Life) → life.id ≡ i → message.start ≡ line
     → OtherName id (arrival_id line i)
     → response_needs_life None (arrival_of line message.cseq.method) step ≡ true
-    → Other id (acted_if key now (Receive i message reply_to) (Some life) step)
+    → Other id (acted_if key now (Some (Receive i message reply_to)) (Some life) step)
 receive_other id key now i message reply_to (start.Request uri) step life named is other passed =
-    acted_other id key now (Receive i message reply_to) life step (ap (same_id id) named ∙ other)
+    acted_other id key now (Some (Receive i message reply_to)) life step (ap (same_id id) named ∙ other)
 receive_other id key now i message reply_to
     (start.Response status reason) step life named is other passed =
-    response_other id key now (Receive i message reply_to) life step passed
+    response_other id key now (Some (Receive i message reply_to)) life step passed
 
-begun_other : (id : Id) (key : Key) (now : ℕ) (input : Input) (step : Step) (trigger : Trigger)
+begun_other : (id : Id) (key : Key) (now : ℕ) (input : Option Input) (step : Step) (trigger : Trigger)
     → trigger_of None now input ≡ Some trigger → response_needs_life None trigger step ≡ true
     → OtherName id (naming_id input)
     → Other id (acted_if key now input (begun (role_of key) input) step)
 unfolding begun
-begun_other id key now Tick step trigger triggered passed other = record { life = tt; said = refl }
-begun_other id key now (Answer i message) step trigger triggered passed other =
+begun_other id key now None step trigger triggered passed other = record { life = tt; said = refl }
+begun_other id key now (Some (Answer i message)) step trigger triggered passed other =
     record { life = tt; said = refl }
-begun_other id key now (Failed i) step trigger triggered passed other =
+begun_other id key now (Some (Failed i)) step trigger triggered passed other =
     record { life = tt; said = refl }
-begun_other id key now (Start i call_id message to) step trigger triggered passed other =
-    acted_other id key now (Start i call_id message to) _ step other
-begun_other id key now (Receive i message reply_to) step trigger triggered passed other =
+begun_other id key now (Some (Start i call_id message to)) step trigger triggered passed other =
+    acted_other id key now (Some (Start i call_id message to)) _ step other
+begun_other id key now (Some (Receive i message reply_to)) step trigger triggered passed other =
     let same : trigger ≡ arrival_of message.start message.cseq.method = cc in
     receive_other id key now i message reply_to message.start step _ refl refl other
     (subst (λ t. response_needs_life None t step ≡ true) same passed)
@@ -211,24 +211,24 @@ named_apart id (timed ∷ inputs) all =
 receive_names : (key : Key) (now : ℕ) (i : Id) (message : Message) (reply_to : Addr)
     (line : StartLine) (step : Step) (life : Life)
     → response_needs_life None (arrival_of line message.cseq.method) step ≡ true
-    → IsSome (acted_if key now (Receive i message reply_to) (Some life) step).0
+    → IsSome (acted_if key now (Some (Receive i message reply_to)) (Some life) step).0
     → arrival_id line i ≡ Some i
 receive_names key now i message reply_to (start.Request uri) step life passed goes_on = refl
 receive_names key now i message reply_to (start.Response status reason) step life passed goes_on =
     absurd (false≢true (sym (ap is_some
     (life_after-ended life step now _ (and-left (is_ended step.next) _ passed))) ∙ goes_on))
 
-begun_names : (key : Key) (now : ℕ) (input : Input) (step : Step) (trigger : Trigger)
+begun_names : (key : Key) (now : ℕ) (input : Option Input) (step : Step) (trigger : Trigger)
     → trigger_of None now input ≡ Some trigger → response_needs_life None trigger step ≡ true
     → IsSome (acted_if key now input (begun (role_of key) input) step).0
     → naming_id input ≡ id_of input
 unfolding begun
-begun_names key now Tick step trigger triggered passed goes_on = refl
-begun_names key now (Answer i message) step trigger triggered passed goes_on =
+begun_names key now None step trigger triggered passed goes_on = refl
+begun_names key now (Some (Answer i message)) step trigger triggered passed goes_on =
     absurd (false≢true goes_on)
-begun_names key now (Failed i) step trigger triggered passed goes_on = absurd (false≢true goes_on)
-begun_names key now (Start i call_id message to) step trigger triggered passed goes_on = refl
-begun_names key now (Receive i message reply_to) step trigger triggered passed goes_on =
+begun_names key now (Some (Failed i)) step trigger triggered passed goes_on = absurd (false≢true goes_on)
+begun_names key now (Some (Start i call_id message to)) step trigger triggered passed goes_on = refl
+begun_names key now (Some (Receive i message reply_to)) step trigger triggered passed goes_on =
     let same : trigger ≡ arrival_of message.start message.cseq.method = cc in
     receive_names key now i message reply_to message.start step _
     (subst (λ t. response_needs_life None t step ≡ true) same passed) goes_on

@@ -12,7 +12,7 @@ use Rattle.sip_transactions.specs.declared.life.Life.{Life}
 use Rattle.sip_transactions.specs.declared.output.Out.TheVariants.{Send}
 use Rattle.sip_transactions.specs.declared.input.Input.TheVariants as input
 use Rattle.sip_transactions.specs.declared.input.Input.{Input}
-use Rattle.sip_model.specs.Machine.{Timed}
+use Rattle.sip_model.specs.Machine.{Timed, tick_at}
 use Rattle.sip_transactions.specs.declared.state.Role.{Role}
 use Rattle.sip_transactions.specs.declared.state.Role.TheVariants.{InviteClient, Client, InviteServer, Server}
 use Rattle.sip_transactions.specs.declared.state.State.{State}
@@ -29,7 +29,6 @@ use Rattle.sip_transactions.specs.declared.trigger.Trigger.TheVariants as on
 use Rattle.sip_transactions.specs.Input.{answer_of, is_method, role_of, trigger_of}
 use Rattle.sip_transactions.specs.Laws.{IsServer}
 use Rattle.sip_transactions.specs.Life.{stepped, stepped_by, step_for, acted, life_after}
-use Rattle.sip_transactions.specs.Machine.{tick_at}
 use Rattle.sip_transactions.specs.Output.{outputs_of, made_of, handed_out}
 use Rattle.sip_transactions.specs.Rows.{row_of, rows_of}
 use Rattle.sip_transactions.specs.ServerLaws.{is_answering, is_open, is_final, answering, AnsweredAgain, EndsAfterItsAnswer, FailedSendKeeps}
@@ -86,7 +85,7 @@ again_row Server server Confirmed answering = absurd (false≢true answering)
 
 acted_again : (key : Key) (life : Life) (bytes : List ℕ) → life.last ≡ Some bytes
     → (id : Id) (message : Message) (reply_to : Addr) (now : ℕ)
-    → acted key now (input.Receive id message reply_to) life again
+    → acted key now (Some (input.Receive id message reply_to)) life again
     ≡ (Some life, Send key life.to bytes ∷ [])
 unfolding again life_after outputs_of made_of handed_out
 acted_again key life bytes last id message reply_to now =
@@ -123,7 +122,7 @@ failed_row Server server Accepted = inr refl
 failed_row Server server Confirmed = inr refl
 
 acted_failed : (key : Key) (life : Life) (id : Id) (now : ℕ)
-    → (acted key now (input.Failed id) life keeps).0 ≡ Some life
+    → (acted key now (Some (input.Failed id)) life keeps).0 ≡ Some life
 unfolding keeps life_after
 acted_failed key life id now = refl
 
@@ -180,7 +179,7 @@ answered now response life = record life {
 }
 
 acted_answer : (key : Key) (life : Life) (id : Id) (response : Message) (now : ℕ)
-    → (acted key now (input.Answer id response) life answers).0 ≡ Some (answered now response life)
+    → (acted key now (Some (input.Answer id response)) life answers).0 ≡ Some (answered now response life)
 unfolding answers answered life_after made_of
 acted_answer key life id response now = refl
 
@@ -204,7 +203,7 @@ unfolding ends
 ends_row = refl
 
 acted_end : (key : Key) (life : Life) (moment : ℕ)
-    → (acted key moment input.Tick life ends).0 ≡ None
+    → (acted key moment None life ends).0 ≡ None
 unfolding ends life_after
 acted_end key life moment = refl
 
@@ -218,7 +217,7 @@ by_nothing key life timed none =
 
 due_at : (now moment : ℕ) (response : Message) (life : Life) (b : Bool)
     → nat_le (now + LIFETIME) moment ≡ b
-    → trigger_of (Some (answered now response life)) moment input.Tick
+    → trigger_of (Some (answered now response life)) moment None
     ≡ cond b (Some on.TimeoutDue) None
 unfolding answered
 due_at now moment response life b is =

@@ -19,10 +19,10 @@ use Rattle.sip_message.specs.declared.start_line.StartLine.TheVariants as start
 use Rattle.sip_message.specs.HopByHop.{ack_of}
 use Rattle.sip_message.specs.Message.{is_request_message, is_request_line}
 use Rattle.sip_message.specs.Written.{written, head_text, start_text, identity_text, routes_text, extensions_text, content_text, via_line, number_line}
-use Rattle.sip_model.specs.Machine.{outputs_from, IsWithinLife, Timed}
+use Rattle.sip_model.specs.Machine.{outputs_from, IsWithinLife, Timed, given_at}
 use Rattle.sip_model.proofs.History.{state_after-push}
 use Rattle.sip_transactions.specs.declared.input.Input.{Input}
-use Rattle.sip_transactions.specs.declared.input.Input.TheVariants.{Tick, Receive, Start, Answer, Failed}
+use Rattle.sip_transactions.specs.declared.input.Input.TheVariants.{Receive, Start, Answer, Failed}
 use Rattle.sip_transactions.specs.declared.life.Life.{Life}
 use Rattle.sip_transactions.specs.declared.output.Out.{Out}
 use Rattle.sip_transactions.specs.declared.state.Role.{Role}
@@ -446,32 +446,32 @@ answer_no_repeat (start.Request uri) trigger is repeat = cc
 answer_no_repeat (start.Response status reason) trigger is repeat =
     let same : on.Answer (class_of status) ≡ trigger = cc in false≢true (ap is_repeat same ∙ repeat)
 
-repeat_due : (life : Life) (now : ℕ) (input : Input) (trigger : Trigger)
+repeat_due : (life : Life) (now : ℕ) (input : Option Input) (trigger : Trigger)
     → trigger_of (Some life) now input ≡ Some trigger → is_repeat trigger ≡ true
     → (is_due now life.timers.repeat ≡ true) × (is_due now life.timers.ending ≡ false)
-repeat_due life now Tick trigger is repeat =
+repeat_due life now None trigger is repeat =
     tick_repeat (is_due now life.timers.ending) (is_due now life.timers.repeat) trigger is repeat
-repeat_due life now (Receive id message reply_to) trigger is repeat =
+repeat_due life now (Some (Receive id message reply_to)) trigger is repeat =
     let same : arrival_of message.start message.cseq.method ≡ trigger = cc in
     absurd (false≢true (sym (arrival_no_repeat message.start message.cseq.method)
     ∙ ap is_repeat same ∙ repeat))
-repeat_due life now (Start id call_id message to) trigger is repeat =
+repeat_due life now (Some (Start id call_id message to)) trigger is repeat =
     let same : on.Start ≡ trigger = cc in absurd (false≢true (ap is_repeat same ∙ repeat))
-repeat_due life now (Answer id message) trigger is repeat =
+repeat_due life now (Some (Answer id message)) trigger is repeat =
     absurd (answer_no_repeat message.start trigger is repeat)
-repeat_due life now (Failed id) trigger is repeat =
+repeat_due life now (Some (Failed id)) trigger is repeat =
     let same : on.Failed ≡ trigger = cc in absurd (false≢true (ap is_repeat same ∙ repeat))
 
-response_message : (life : Life) (now : ℕ) (input : Input) (trigger : Trigger)
+response_message : (life : Life) (now : ℕ) (input : Option Input) (trigger : Trigger)
     → trigger_of (Some life) now input ≡ Some trigger → comes_as_response trigger ≡ true
     → IsSome (message_in input)
-response_message life now Tick trigger is response =
+response_message life now None trigger is response =
     absurd (tick_response (is_due now life.timers.ending)
     (is_due now life.timers.repeat) trigger is response)
-response_message life now (Receive id message reply_to) trigger is response = refl
-response_message life now (Start id call_id message to) trigger is response = refl
-response_message life now (Answer id message) trigger is response = refl
-response_message life now (Failed id) trigger is response = let same : on.Failed ≡ trigger = cc in
+response_message life now (Some (Receive id message reply_to)) trigger is response = refl
+response_message life now (Some (Start id call_id message to)) trigger is response = refl
+response_message life now (Some (Answer id message)) trigger is response = refl
+response_message life now (Some (Failed id)) trigger is response = let same : on.Failed ≡ trigger = cc in
     absurd (false≢true (ap comes_as_response same ∙ response))
 
 -- an ACK that is made isn't the INVITE
@@ -526,7 +526,7 @@ module _ (role : Role) (client : is_client role ≡ true) (key : Key) (text : Li
         fit = record { paced = f.paced; apart = fit.apart; keeps = fit.keeps };
       }
 
-  row_few : (life : Life) (now : ℕ) (input : Input) (trigger : Trigger)
+  row_few : (life : Life) (now : ℕ) (input : Option Input) (trigger : Trigger)
       → trigger_of (Some life) now input ≡ Some trigger → Fit role text life
       → (next : Next) (handed : Handed) (sent : Sent) (due : Due)
       → sends_well role life.state trigger next sent due ≡ true
@@ -637,7 +637,8 @@ module _ (role : Role) (client : is_client role ≡ true) (key : Key) (text : Li
   start_few : (now : ℕ) (id : Id) (call_id : List ℕ) (request : Message) (to : Addr) (next : Next)
       (handed : Handed) (sent : Sent) (due : Due) → starts_well role on.Start next sent due ≡ true
       → Few role text (1 + most_repeats role)
-      (acted_if key now (Start id call_id request to) (begun role (Start id call_id request to))
+      (acted_if key now (Some (Start id call_id request to))
+      (begun role (Some (Start id call_id request to)))
       (record { next = next; handed = handed; sent = sent; due = due }))
   unfolding begun life_after made_of FitAfter Paced
   start_few now id call_id request to Same handed sent due ok = absurd (false≢true ok)
@@ -708,7 +709,7 @@ few_sends branch method before now id call_id request to rest life line same =
     let text = written request in
     let invite : keeps_request role ≡ true → first_of text ≡ Some 73 =
     λ keeping. request_first request line (same ∙ invite_method branch method keeping) in
-    let first : Timed Input = record { moment = now; input = Start id call_id request to } in
+    let first = given_at now (Start id call_id request to) in
     let one : Few role text (1 + most_repeats role) (stepped k None first) =
     by_step (Few role text (1 + most_repeats role)) k None first
     (record { few = omega arith; fit = tt })

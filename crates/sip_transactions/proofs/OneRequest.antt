@@ -11,7 +11,7 @@ use Rattle.sip_message.specs.declared.start_line.StartLine.TheVariants as start
 use Rattle.sip_model.specs.Machine.{state_after, outputs_from, IsWithinLife, Timed}
 use Rattle.sip_model.proofs.History.{state_after-push}
 use Rattle.sip_transactions.specs.declared.input.Input.{Input}
-use Rattle.sip_transactions.specs.declared.input.Input.TheVariants.{Tick, Receive, Start, Answer, Failed}
+use Rattle.sip_transactions.specs.declared.input.Input.TheVariants.{Receive, Start, Answer, Failed}
 use Rattle.sip_transactions.specs.declared.life.Life.{Life}
 use Rattle.sip_transactions.specs.declared.output.Kind.TheVariants as kind
 use Rattle.sip_transactions.specs.declared.step.Step.{Step}
@@ -78,23 +78,23 @@ begun_by_request life step now bytes trigger passed goes_on =
     ]
 
 -- the first input of a life
-begins_once : (key : Key) (now : ℕ) (input : Input) (step : Step) (trigger : Trigger)
+begins_once : (key : Key) (now : ℕ) (input : Option Input) (step : Step) (trigger : Trigger)
     → trigger_of None now input ≡ Some trigger
     → (is_ended step.next || (is_message step.handed && is_request trigger)) ≡ true
     → IsSome (acted_if key now input (begun (role_of key) input) step).0
     → requests_in (acted_if key now input (begun (role_of key) input) step).1 ≡ 1
 unfolding begun
-begins_once key now Tick step trigger triggered passed goes_on = absurd (false≢true goes_on)
-begins_once key now (Answer id message) step trigger triggered passed goes_on =
+begins_once key now None step trigger triggered passed goes_on = absurd (false≢true goes_on)
+begins_once key now (Some (Answer id message)) step trigger triggered passed goes_on =
     absurd (false≢true goes_on)
-begins_once key now (Failed id) step trigger triggered passed goes_on = absurd (false≢true goes_on)
-begins_once key now (Start id call_id message to) step trigger triggered passed goes_on =
+begins_once key now (Some (Failed id)) step trigger triggered passed goes_on = absurd (false≢true goes_on)
+begins_once key now (Some (Start id call_id message to)) step trigger triggered passed goes_on =
     let same : on.Start ≡ trigger = cc in
     let request : (is_message step.handed && is_request trigger) ≡ true =
     begun_by_request _ step now _ trigger passed goes_on in
     absurd (false≢true (ap is_request same
     ∙ and-right (is_message step.handed) (is_request trigger) request))
-begins_once key now (Receive id message reply_to) step trigger triggered passed goes_on =
+begins_once key now (Some (Receive id message reply_to)) step trigger triggered passed goes_on =
     let same : arrival_of message.start message.cseq.method ≡ trigger = cc in
     let request : (is_message step.handed && is_request trigger) ≡ true =
     begun_by_request _ step now _ trigger passed goes_on in
@@ -128,7 +128,7 @@ later_receive key life message reply_to (start.Request uri) is other =
     (λ plain. absurd (false≢true (sym (ap (λ b. not (is_request (cond b on.Ack on.Request))) plain)
     ∙ other)))
 
-pub later_once : (key : Key) (life : Life) (handed : Handed) (now : ℕ) (input : Input)
+pub later_once : (key : Key) (life : Life) (handed : Handed) (now : ℕ) (input : Option Input)
     (trigger : Trigger) → trigger_of (Some life) now input ≡ Some trigger
     → not (is_message handed && is_request trigger) ≡ true
     → requests_in (option_to_list (handed_out key life handed (arrived_in input))) ≡ 0
@@ -137,11 +137,11 @@ later_once key life up.Nothing now input trigger triggered passed = refl
 later_once key life up.Timeout now input trigger triggered passed = refl
 later_once key life up.Failed now input trigger triggered passed = refl
 later_once key life up.NoTransaction now input trigger triggered passed = refl
-later_once key life up.Message now Tick trigger triggered passed = refl
-later_once key life up.Message now (Start id call_id message to) trigger triggered passed = refl
-later_once key life up.Message now (Answer id message) trigger triggered passed = refl
-later_once key life up.Message now (Failed id) trigger triggered passed = refl
-later_once key life up.Message now (Receive id message reply_to) trigger triggered passed =
+later_once key life up.Message now None trigger triggered passed = refl
+later_once key life up.Message now (Some (Start id call_id message to)) trigger triggered passed = refl
+later_once key life up.Message now (Some (Answer id message)) trigger triggered passed = refl
+later_once key life up.Message now (Some (Failed id)) trigger triggered passed = refl
+later_once key life up.Message now (Some (Receive id message reply_to)) trigger triggered passed =
     let same : arrival_of message.start message.cseq.method ≡ trigger = cc in
     later_receive key life message reply_to message.start refl
     (ap (λ t. not (is_request t)) same ∙ passed)

@@ -1,12 +1,12 @@
 -- Where nothing is due of a life, a tick does nothing.
 use Rattle.std.proofs.Common.{◌≡◌, ℕ, false, refl}
 use Rattle.std.specs.Prelude.{Option, None, Some}
-use Rattle.sip_model.specs.Machine.{IsIdle}
+use Rattle.sip_model.specs.Machine.{IsIdle, tick_at}
 use Rattle.sip_timers.specs.Queue.{is_due}
 use Rattle.sip_timers.proofs.DueFirst.{neither_due}
 use Rattle.sip_transactions.specs.Life.{stepped, step_for}
 use Rattle.sip_transactions.specs.Input.{due_of}
-use Rattle.sip_transactions.specs.Machine.{transaction_machine, tick_at, life_due}
+use Rattle.sip_transactions.specs.Machine.{transaction_machine, life_due}
 
 nothing_due : (now : ℕ) (ending repeat : Option ℕ) → is_due now ending ≡ false
     → is_due now repeat ≡ false → due_of now ending repeat ≡ None

@@ -14,7 +14,7 @@ use Rattle.sip_transactions.specs.declared.trigger.Class.TheVariants.{Trying, Pr
 use Rattle.sip_transactions.specs.declared.trigger.Trigger.{Trigger}
 use Rattle.sip_transactions.specs.declared.trigger.Trigger.TheVariants as on
 use Rattle.sip_transactions.specs.declared.input.Input.{Input}
-use Rattle.sip_transactions.specs.declared.input.Input.TheVariants.{Tick, Receive, Start, Answer, Failed}
+use Rattle.sip_transactions.specs.declared.input.Input.TheVariants.{Receive, Start, Answer, Failed}
 use Rattle.sip_transactions.specs.declared.life.Life.{Life}
 use Rattle.sip_timers.specs.Queue.{is_due}
 
@@ -35,20 +35,20 @@ class_of code = if code == 100 then Trying else if nat_lt code 200 then Provisio
     else if nat_lt code 300 then Success else Failure
 
 -- the message that came or that the user gave
-abbrev pub message_in : Input → Option Message
-message_in Tick = None
-message_in (Receive id message reply_to) = Some message
-message_in (Start id call_id message to) = Some message
-message_in (Answer id message) = Some message
-message_in (Failed id) = None
+abbrev pub message_in : Option Input → Option Message
+message_in None = None
+message_in (Some (Receive id message reply_to)) = Some message
+message_in (Some (Start id call_id message to)) = Some message
+message_in (Some (Answer id message)) = Some message
+message_in (Some (Failed id)) = None
 
 -- the message that came, and where a response to it goes
-abbrev pub arrived_in : Input → Option (Message × Addr)
-arrived_in Tick = None
-arrived_in (Receive id message reply_to) = Some (message, reply_to)
-arrived_in (Start id call_id message to) = None
-arrived_in (Answer id message) = None
-arrived_in (Failed id) = None
+abbrev pub arrived_in : Option Input → Option (Message × Addr)
+arrived_in None = None
+arrived_in (Some (Receive id message reply_to)) = Some (message, reply_to)
+arrived_in (Some (Start id call_id message to)) = None
+arrived_in (Some (Answer id message)) = None
+arrived_in (Some (Failed id)) = None
 
 -- a message that came, by its start line and its method
 abbrev pub arrival_of : StartLine → List ℕ → Trigger
@@ -72,10 +72,10 @@ tick_of now None = None
 tick_of now (Some life) = due_of now life.timers.ending life.timers.repeat
 
 -- what an input at a moment is to a transaction
-abbrev pub trigger_of : Option Life → ℕ → Input → Option Trigger
-trigger_of held now Tick = tick_of now held
-trigger_of held now (Receive id message reply_to) =
+abbrev pub trigger_of : Option Life → ℕ → Option Input → Option Trigger
+trigger_of held now None = tick_of now held
+trigger_of held now (Some (Receive id message reply_to)) =
     Some (arrival_of message.start message.cseq.method)
-trigger_of held now (Start id call_id message to) = Some on.Start
-trigger_of held now (Answer id message) = answer_of message.start
-trigger_of held now (Failed id) = Some on.Failed
+trigger_of held now (Some (Start id call_id message to)) = Some on.Start
+trigger_of held now (Some (Answer id message)) = answer_of message.start
+trigger_of held now (Some (Failed id)) = Some on.Failed

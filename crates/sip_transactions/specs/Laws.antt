@@ -11,10 +11,10 @@ use Rattle.sip_message.specs.declared.addr.Addr.{Addr}
 use Rattle.sip_message.specs.declared.message.Message.{Message}
 use Rattle.sip_message.specs.Message.{is_request_message}
 use Rattle.sip_message.specs.Written.{written}
-use Rattle.sip_model.specs.Machine.{adds, state_after, outputs_from, IsLife, Timed}
+use Rattle.sip_model.specs.Machine.{adds, state_after, outputs_from, IsLife, Timed, given_at}
 use Rattle.sip_transactions.specs.declared.input.Command.{Command}
 use Rattle.sip_transactions.specs.declared.input.Input.{Input}
-use Rattle.sip_transactions.specs.declared.input.Input.TheVariants.{Tick, Receive, Start, Answer, Failed}
+use Rattle.sip_transactions.specs.declared.input.Input.TheVariants.{Receive, Start, Answer, Failed}
 use Rattle.sip_transactions.specs.declared.life.Life.{Life}
 use Rattle.sip_transactions.specs.declared.output.Kind.{Kind}
 use Rattle.sip_transactions.specs.declared.output.Kind.TheVariants as kind
@@ -76,24 +76,24 @@ OneRequestUp = (key : Key) → IsServer key
     (state_after transaction_machine key (before ++ first ∷ [])) rest) ≡ 0)
 
 -- the id of an input, where it has one
-abbrev pub id_of : Input → Option Id
-id_of Tick = None
-id_of (Receive id message reply_to) = Some id
-id_of (Start id call_id message to) = Some id
-id_of (Answer id message) = Some id
-id_of (Failed id) = Some id
+abbrev pub id_of : Option Input → Option Id
+id_of None = None
+id_of (Some (Receive id message reply_to)) = Some id
+id_of (Some (Start id call_id message to)) = Some id
+id_of (Some (Answer id message)) = Some id
+id_of (Some (Failed id)) = Some id
 
 -- the id of a request that came, ACKs among them, or of a start
 abbrev pub arrival_id : StartLine → Id → Option Id
 arrival_id (start.Request uri) id = Some id
 arrival_id (start.Response status reason) id = None
 
-abbrev pub naming_id : Input → Option Id
-naming_id Tick = None
-naming_id (Receive id message reply_to) = arrival_id message.start id
-naming_id (Start id call_id message to) = Some id
-naming_id (Answer id message) = None
-naming_id (Failed id) = None
+abbrev pub naming_id : Option Input → Option Id
+naming_id None = None
+naming_id (Some (Receive id message reply_to)) = arrival_id message.start id
+naming_id (Some (Start id call_id message to)) = Some id
+naming_id (Some (Answer id message)) = None
+naming_id (Some (Failed id)) = None
 
 abbrev pub same_id : Id → Id → Bool
 same_id a b = (a.round == b.round) && (a.place == b.place)
@@ -141,8 +141,8 @@ abbrev pub FewSends : Type 0
 FewSends = (branch method : List ℕ) (before : List (Timed Input)) (now : ℕ) (id : Id)
     (call_id : List ℕ) (request : Message) (to : Addr) (rest : List (Timed Input))
     → IsLife transaction_machine (key.Client branch method) before
-    (record { moment = now; input = Start id call_id request to }) rest
+    (given_at now (Start id call_id request to)) rest
     → is_request_message request ≡ true → request.cseq.method ≡ method
     → sends_of (written request) (outputs_from transaction_machine (key.Client branch method) None
-    ((record { moment = now; input = Start id call_id request to }) ∷ rest))
+    ((given_at now (Start id call_id request to)) ∷ rest))
     ≤ 1 + most_repeats (role_of (key.Client branch method))

@@ -8,7 +8,7 @@ use Rattle.sip_transactions.specs.declared.state.Role.{Role}
 use Rattle.sip_transactions.specs.declared.state.Role.TheVariants.{InviteClient, Client, InviteServer, Server}
 use Rattle.sip_transactions.specs.declared.state.State.TheVariants.{Trying}
 use Rattle.sip_transactions.specs.declared.input.Input.{Input}
-use Rattle.sip_transactions.specs.declared.input.Input.TheVariants.{Tick, Receive, Start, Answer, Failed}
+use Rattle.sip_transactions.specs.declared.input.Input.TheVariants.{Receive, Start, Answer, Failed}
 use Rattle.sip_model.specs.Machine.{Timed}
 use Rattle.sip_transactions.specs.declared.life.Life.{Life}
 use Rattle.sip_transactions.specs.declared.output.Out.{Out}
@@ -22,7 +22,7 @@ use Rattle.sip_transactions.specs.Input.{role_of, trigger_of, message_in, arrive
 use Rattle.sip_transactions.specs.Output.{outputs_of, made_bytes}
 
 -- what the row for an input does, if there is one
-unfoldable pub step_for : Key → Option Life → ℕ → Input → Option Step
+unfoldable pub step_for : Key → Option Life → ℕ → Option Input → Option Step
 step_for key held now input =
     let rows = rows_of (role_of key) in
     let state = option_map (λ life. life.state) held in
@@ -48,16 +48,16 @@ life_by id call_id to request = record {
 }
 
 -- the life that an input begins, with the id and the Call-ID of that input
-unfoldable pub begun : Role → Input → Option Life
-begun role (Receive id message reply_to) = Some (life_by id message.call_id reply_to None)
-begun role (Start id call_id message to) =
+unfoldable pub begun : Role → Option Input → Option Life
+begun role (Some (Receive id message reply_to)) = Some (life_by id message.call_id reply_to None)
+begun role (Some (Start id call_id message to)) =
     Some (life_by id call_id to (if keeps_request role then Some message else None))
-begun role Tick = None
-begun role (Answer id message) = None
-begun role (Failed id) = None
+begun role None = None
+begun role (Some (Answer id message)) = None
+begun role (Some (Failed id)) = None
 
 -- the life that an input belongs to: the one that is held, or the one that it begins
-abbrev pub life_of : Role → Option Life → Input → Option Life
+abbrev pub life_of : Role → Option Life → Option Input → Option Life
 life_of role None input = begun role input
 life_of role (Some life) input = Some life
 
@@ -81,7 +81,7 @@ unfoldable pub life_after : Life → Step → ℕ → Option (List ℕ) → Opti
 life_after life step now made = entered step.next (armed step.due now (last_of made life))
 
 -- a row at a life: what is held after it, and what it says
-abbrev pub acted : Key → ℕ → Input → Life → Step → Option Life × List Out
+abbrev pub acted : Key → ℕ → Option Input → Life → Step → Option Life × List Out
 acted key now input life step =
     let made = made_bytes life.request step.sent (message_in input) in
     (life_after life step now made, outputs_of key life step made (arrived_in input))
@@ -89,14 +89,14 @@ acted key now input life step =
 -- the same at a message that comes where no life is held
 abbrev pub acted_at_arrival : Key → ℕ → Id → Message → Addr → Step → Option Life × List Out
 acted_at_arrival key now id message reply_to step =
-    acted key now (Receive id message reply_to) (life_by id message.call_id reply_to None) step
+    acted key now (Some (Receive id message reply_to)) (life_by id message.call_id reply_to None) step
 
-abbrev pub acted_if : Key → ℕ → Input → Option Life → Step → Option Life × List Out
+abbrev pub acted_if : Key → ℕ → Option Input → Option Life → Step → Option Life × List Out
 acted_if key now input None step = (None, [])
 acted_if key now input (Some life) step = acted key now input life step
 
 -- an input: where no row fits, nothing changes and nothing is said
-abbrev pub stepped_by : Key → Option Life → ℕ → Input → Option Step → Option Life × List Out
+abbrev pub stepped_by : Key → Option Life → ℕ → Option Input → Option Step → Option Life × List Out
 stepped_by key held now input None = (held, [])
 stepped_by key held now input (Some step) =
     acted_if key now input (life_of (role_of key) held input) step

@@ -1,20 +1,15 @@
 -- The machine of all transactions: each key's state is its life.
 use Rattle.std.specs.Prelude.{ℕ, Option}
 use Rattle.sip_message.specs.declared.key.Key.{Key}
-use Rattle.sip_transactions.specs.declared.input.Input.TheVariants.{Tick}
 use Rattle.sip_transactions.specs.declared.life.Life.{Life}
 use Rattle.sip_transactions.specs.declared.output.Out.{Out}
 use Rattle.sip_transactions.specs.Life.{stepped}
 use Rattle.sip_transactions.specs.Timers.{first_due}
 use Rattle.sip_transactions.specs.declared.input.Input.{Input}
-use Rattle.sip_model.specs.Machine.{Machine, Timed, ticks_of}
+use Rattle.sip_model.specs.Machine.{Machine, Timed}
 
 abbrev pub transaction_machine : Machine Key Life (Timed Input) Out
 transaction_machine = record { step = λ key held timed. stepped key held timed }
-
--- an input that is the passing of time
-abbrev pub tick_at : ℕ → Timed Input
-tick_at = ticks_of Tick
 
 -- the moment at which something is due of a life
 abbrev pub life_due : Life → Option ℕ

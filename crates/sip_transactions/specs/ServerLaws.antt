@@ -19,7 +19,7 @@ use Rattle.sip_transactions.specs.declared.trigger.Trigger.TheVariants as on
 use Rattle.sip_transactions.specs.Input.{answer_of, arrival_of, role_of}
 use Rattle.sip_transactions.specs.Laws.{IsServer}
 use Rattle.sip_transactions.specs.Life.{stepped}
-use Rattle.sip_transactions.specs.Machine.{tick_at}
+use Rattle.sip_model.specs.Machine.{tick_at}
 use Rattle.sip_transactions.specs.Shard.{failure, receipt}
 
 -- a response was sent, and the server waits for nothing but repeats of its request and its end
@@ -67,7 +67,7 @@ is_final (Some (on.Answer class.Failure)) = true
 
 -- the user's answer, as an input
 abbrev pub answering : Id → Message → ℕ → Timed Input
-answering id response now = record { moment = now; input = input.Answer id response }
+answering id response now = record { moment = now; input = Some (input.Answer id response) }
 
 -- A life of the server of another request than INVITE ends at the first tick from 64*T1 after its
 -- final answer, and no tick before that changes it (RFC 3261, section 17.2.2).

@@ -1,6 +1,6 @@
 //! What comes to a transaction.
 
-ghost use Rattle.std.specs.Prelude.{◌≡◌};
+ghost use Rattle.std.specs.Prelude.{◌≡◌, Some};
 
 use sip_message::{Addr, CallId, Id, Key, Message};
 use sip_text::Boxed;
@@ -65,8 +65,6 @@ impl Drop for Command {
 /// One input of one transaction.
 #[derive(Drop)]
 pub enum Input {
-    /// Time has gone on.
-    Tick,
     /// A message came. A response to it goes to `reply_to`.
     Receive {
         id: Id,
@@ -97,19 +95,19 @@ impl Input {
 
     /// The message that came or that the user gave, if there is one.
     pub(crate) fn message(&self) -> Option<&Message>
-        ensures { option_copied result ≡ message_in self.now }
+        ensures { option_copied result ≡ message_in (Some self.now) }
     {
         match self {
             Input::Receive { message, .. }
             | Input::Start { message, .. }
             | Input::Answer { message, .. } => Some(message.get()),
-            Input::Tick | Input::Failed { .. } => None,
+            Input::Failed { .. } => None,
         }
     }
 
     /// The message that came, if one did, and where a response to it goes.
     pub(crate) fn into_arrived(self) -> Option<(Boxed<Message>, Addr)>
-        ensures { result ≡ arrived_in self }
+        ensures { result ≡ arrived_in (Some self) }
     {
         match self {
             Input::Receive {
@@ -117,7 +115,7 @@ impl Input {
                 reply_to,
                 ..
             } => Some((message, reply_to)),
-            Input::Tick | Input::Start { .. } | Input::Answer { .. } | Input::Failed { .. } => None,
+            Input::Start { .. } | Input::Answer { .. } | Input::Failed { .. } => None,
         }
     }
 }

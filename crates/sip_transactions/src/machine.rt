@@ -1,6 +1,7 @@
 //! One input of one transaction.
 
 ghost use Rattle.std.specs.Prelude.{◌≡◌, ℕ, ◌≤◌, ◌^◌, IfOk, IfSome, Some, None, if◌then◌else◌};
+ghost use Rattle.std.specs.Option.{option_copied};
 ghost use Rattle.sip_transactions.specs.Input.{role_of};
 ghost use Rattle.sip_transactions.specs.Life.{step_for, begun, keeps_request, life_after, acted, acted_if, acted_at_arrival};
 ghost use Rattle.sip_transactions.specs.Timers.{IsTimely};
@@ -37,14 +38,16 @@ fn role_of(key: &Key) -> Role
     }
 }
 
-// What the row for an input does, if there is one.
+// What the row for an input, or for a tick, does, if there is one.
 #[tactic(auto, unfolding(crate::specs::Life::step_for))]
-fn step_for(key: &Key, held: &Option<Life>, now: u64, input: &Input) -> Option<Step>
-    ensures value { result ≡ step_for key.now held.now now input.now }
-    ensures timely { IfSome result (λ step. RepeatsInTime step.due now held.now) }
+fn step_for(key: &Key, held: Option<&Life>, now: u64, input: Option<&Input>) -> Option<Step>
+    ensures value { result ≡ step_for key.now (option_copied held.entry) now
+        (option_copied input.entry) }
+    ensures timely { IfSome result
+        (λ step. RepeatsInTime step.due now (option_copied held.entry)) }
 {
     let trigger = trigger_of(held, now, input)?;
-    step_of(role_of(key), held.as_ref().map(|life| life.state), trigger)
+    step_of(role_of(key), held.map(|life| life.state), trigger)
 }
 
 // A row at a life that made a message of these bytes.
@@ -80,8 +83,9 @@ fn go_on(
 ) -> Result<After, AllocError>
     requires bound { now ≤ 2 ^ 62 }
     requires timely { IsTimely step.due now life.timers }
-    ensures next { IfOk result (λ after. after.0 ≡ (acted key.now now input life step).0) }
-    ensures adds { IfOk result (λ after. after.1.items ≡ (acted key.now now input life step).1) }
+    ensures next { IfOk result (λ after. after.0 ≡ (acted key.now now (Some input) life step).0) }
+    ensures adds { IfOk result (λ after. after.1.items
+        ≡ (acted key.now now (Some input) life step).1) }
 {
     let made = made_bytes(alloc, life.request(), step.sent, input.message())?;
     act(alloc, key, now, life, step, made, input.into_arrived())
@@ -92,10 +96,10 @@ fn go_on(
 fn begin(alloc: Global, key: &Key, now: u64, input: Input, step: Step) -> Result<After, AllocError>
     requires bound { now ≤ 2 ^ 62 }
     requires timely { RepeatsInTime step.due now None }
-    ensures next { let life = begun (role_of key.now) input in
-        IfOk result (λ after. after.0 ≡ (acted_if key.now now input life step).0) }
-    ensures adds { let life = begun (role_of key.now) input in
-        IfOk result (λ after. after.1.items ≡ (acted_if key.now now input life step).1) }
+    ensures next { let life = begun (role_of key.now) (Some input) in
+        IfOk result (λ after. after.0 ≡ (acted_if key.now now (Some input) life step).0) }
+    ensures adds { let life = begun (role_of key.now) (Some input) in
+        IfOk result (λ after. after.1.items ≡ (acted_if key.now now (Some input) life step).1) }
 {
     match input {
         Input::Receive {
@@ -123,7 +127,7 @@ fn begin(alloc: Global, key: &Key, now: u64, input: Input, step: Step) -> Result
                 None,
             )
         }
-        Input::Tick | Input::Answer { .. } | Input::Failed { .. } => Ok((None, Vec::new(alloc))),
+        Input::Answer { .. } | Input::Failed { .. } => Ok((None, Vec::new(alloc))),
     }
 }
 
@@ -207,8 +211,7 @@ pub struct Transactions;
 
 impl StateMachine for Transactions {
     ghost use Rattle.std.specs.Prelude.{◌^◌};
-    ghost use Rattle.sip_model.specs.Machine.{given_at};
-    ghost use Rattle.sip_transactions.specs.declared.input.Input.TheVariants.{Tick};
+    ghost use Rattle.sip_model.specs.Machine.{given_at, tick_at};
     ghost use Rattle.sip_transactions.specs.Keys.{exact_keys};
     ghost use Rattle.sip_transactions.specs.Machine.{transaction_machine, life_due};
     ghost use Rattle.sip_transactions.specs.Idle.{ticks_are_idle};
@@ -224,13 +227,7 @@ impl StateMachine for Transactions {
 
     ghost machine = { λ _. transaction_machine };
 
-    ghost tick = { Tick };
-
     ghost due = { life_due };
-
-    fn tick_input(&self) -> Input {
-        Input::Tick
-    }
 
     fn due_of(&self, state: &Life) -> Option<u64> {
         state.timers.first_due()
@@ -251,13 +248,34 @@ impl StateMachine for Transactions {
         ensures adds { IfOk result (λ after. after.1.items
             ≡ (stepped key.now state (given_at moment input)).1) }
     {
-        let Some(step) = step_for(key, &state, moment, &input) else {
+        let Some(step) = step_for(key, state.as_ref(), moment, Some(&input)) else {
             return Ok((state, Vec::new(alloc)));
         };
         match state {
             None => begin(alloc, key, moment, input, step),
             Some(life) => go_on(alloc, key, moment, input, life, step),
         }
+    }
+
+    #[tactic(auto, unfolding(crate::specs::Life::stepped))]
+    fn tick(
+        &self,
+        alloc: Global,
+        key: &Key,
+        state: Life,
+        moment: u64,
+    ) -> Result<(Option<Life>, Vec<Out>), AllocError>
+        requires { moment ≤ 2 ^ 62 }
+        ensures next { IfOk result (λ after. after.0
+            ≡ (stepped key.now (Some state) (tick_at moment)).0) }
+        ensures adds { IfOk result (λ after. after.1.items
+            ≡ (stepped key.now (Some state) (tick_at moment)).1) }
+    {
+        let Some(step) = step_for(key, Some(&state), moment, None) else {
+            return Ok((Some(state), Vec::new(alloc)));
+        };
+        let made = made_bytes(alloc, state.request(), step.sent, None)?;
+        act(alloc, key, moment, state, step, made, None)
     }
 
     ghost exact = { exact_keys };

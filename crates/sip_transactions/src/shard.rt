@@ -5,7 +5,8 @@ ghost use Rattle.sip_model.specs.Table.{state_at, entries_of, Covers, StepsKey, 
 ghost use Rattle.sip_model.specs.History.{AddsInput, AddsInputs};
 ghost use Rattle.sip_message.specs.Key.{key_cmp};
 ghost use Rattle.sip_message.specs.MessageKey.{key_of_message};
-ghost use Rattle.sip_transactions.specs.Machine.{transaction_machine, tick_at};
+ghost use Rattle.sip_transactions.specs.Machine.{transaction_machine};
+ghost use Rattle.sip_model.specs.Machine.{tick_at};
 
 use crate::input::{Command, Input};
 use crate::life::Life;

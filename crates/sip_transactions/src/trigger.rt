@@ -1,6 +1,7 @@
 //! What an input is to a transaction.
 
 ghost use Rattle.std.specs.Prelude.{◌≡◌, codes, IfSome};
+ghost use Rattle.std.specs.Option.{option_copied};
 ghost use Rattle.sip_transactions.specs.Repeats.{RepeatIsDue};
 ghost use Rattle.sip_transactions.specs.Input.{class_of, trigger_of, arrival_of, answer_of, tick_of, is_method};
 
@@ -54,17 +55,18 @@ pub fn class_of(status: StatusCode) -> Class
     }
 }
 
-/// What an input at a moment is to a transaction.
-pub fn trigger_of(held: &Option<Life>, now: u64, input: &Input) -> Option<Trigger>
-    ensures value { result ≡ trigger_of held.now now input.now }
-    ensures repeat { IfSome result (λ trigger. RepeatIsDue trigger now held.now) }
+/// What an input at a moment is to a transaction, or a tick, where there is no input.
+pub fn trigger_of(held: Option<&Life>, now: u64, input: Option<&Input>) -> Option<Trigger>
+    ensures value { result ≡ trigger_of (option_copied held.entry) now (option_copied input.entry) }
+    ensures repeat { IfSome result
+        (λ trigger. RepeatIsDue trigger now (option_copied held.entry)) }
 {
     match input {
-        Input::Tick => tick_of(now, held),
-        Input::Receive { message, .. } => Some(arrival_of(message.get())),
-        Input::Start { .. } => Some(Trigger::Start),
-        Input::Answer { message, .. } => answer_of(message.get()),
-        Input::Failed { .. } => Some(Trigger::Failed),
+        None => tick_of(now, held),
+        Some(Input::Receive { message, .. }) => Some(arrival_of(message.get())),
+        Some(Input::Start { .. }) => Some(Trigger::Start),
+        Some(Input::Answer { message, .. }) => answer_of(message.get()),
+        Some(Input::Failed { .. }) => Some(Trigger::Failed),
     }
 }
 
@@ -94,9 +96,10 @@ fn answer_of(message: &Message) -> Option<Trigger>
     }
 }
 
-fn tick_of(now: u64, held: &Option<Life>) -> Option<Trigger>
-    ensures value { result ≡ tick_of now held.now }
-    ensures repeat { IfSome result (λ trigger. RepeatIsDue trigger now held.now) }
+fn tick_of(now: u64, held: Option<&Life>) -> Option<Trigger>
+    ensures value { result ≡ tick_of now (option_copied held.entry) }
+    ensures repeat { IfSome result
+        (λ trigger. RepeatIsDue trigger now (option_copied held.entry)) }
 {
     match held {
         None => None,

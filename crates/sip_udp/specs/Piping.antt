@@ -1,6 +1,6 @@
 -- What a line of the pipe says.
 use Rattle.std.specs.Prelude.{◌≡◌, ℕ, List}
-use Rattle.sip_served.specs.declared.command.UserCommand.{UserCommand}
+use Rattle.sip_common.specs.declared.command.UserCommand.{UserCommand}
 use Rattle.sip_files.specs.Written.{SpellsCommand}
 use Rattle.sip_udp.specs.declared.pipe.PipeLine.{PipeLine}
 use Rattle.sip_udp.specs.declared.pipe.PipeLine.TheVariants as line

@@ -4,7 +4,7 @@ use Rattle.sip_message.specs.declared.id.Id.{Id}
 use Rattle.sip_message.specs.declared.key.Key.{Key}
 use Rattle.sip_model.specs.declared.item.Item.{Item}
 use Rattle.sip_transactions.specs.declared.input.Input.{Input}
-use Rattle.sip_round.specs.declared.arrival.Arrival.{Arrival}
+use Rattle.sip_round.specs.Arrivals.{Arrival}
 use Rattle.sip_round.specs.declared.waiting.Waiting.{Waiting}
 use Rattle.sip_round.specs.Parts.{cut_by}
 use Rattle.sip_round.specs.Phases.{transaction_items}

@@ -2,7 +2,7 @@
 -- before.
 use Rattle.std.specs.Prelude.{◌≡◌, ℕ, zero, List, [], ◌∷◌, ◌++◌, length}
 use Rattle.std.specs.List.{flat_map}
-use Rattle.sip_model.specs.Machine.{Timed}
+use Rattle.sip_model.specs.Machine.{Timed, tick_at}
 use Rattle.sip_message.specs.declared.id.Id.{Id}
 use Rattle.sip_message.specs.declared.key.Key.{Key}
 use Rattle.sip_message.specs.Key.{key_cmp}
@@ -12,14 +12,13 @@ use Rattle.sip_model.specs.Table.{Held}
 use Rattle.sip_transactions.specs.declared.input.Command.{Command}
 use Rattle.sip_transactions.specs.declared.input.Input.{Input}
 use Rattle.sip_transactions.specs.declared.life.Life.{Life}
-use Rattle.sip_transactions.specs.Machine.{transaction_machine, tick_at}
-use Rattle.sip_served.specs.declared.item.Item.{Item}
+use Rattle.sip_transactions.specs.Machine.{transaction_machine}
+use Rattle.sip_common.specs.declared.item.Item.{Item}
 use Rattle.sip_calls.specs.declared.call.Call.{Call}
 use Rattle.sip_calls.specs.declared.calls.Calls.{Calls}
-use Rattle.sip_calls.specs.declared.calls.CallInput.{CallInput}
-use Rattle.sip_calls.specs.Call.{call_machine, tick_input}
+use Rattle.sip_calls.specs.Call.{call_machine, CallItem}
 use Rattle.sip_calls.specs.CallShard.{call_cmp}
-use Rattle.sip_round.specs.declared.arrival.Arrival.{Arrival}
+use Rattle.sip_round.specs.Arrivals.{Arrival}
 use Rattle.sip_round.specs.declared.output.Output.{Output}
 use Rattle.sip_round.specs.declared.config.Config.{Config}
 use Rattle.sip_round.specs.declared.round.Round.{Round}
@@ -52,18 +51,18 @@ module _ (owner : Key → ℕ) (old new : List (Held Key Life)) where
         (all_said (said_by_transactions past (third_phase now commands)))
 
 module _ (shared : Calls) (owner : List ℕ → ℕ) (old new : List (Held (List ℕ) Call)) where
-  abbrev pub HoldAll : List (Held (List ℕ) Call) → List (Phase (List ℕ) (Timed CallInput)) → Type 0
-  HoldAll tables past = HoldFrom call_cmp (call_machine shared) tick_input owner zero tables past
+  abbrev pub HoldAll : List (Held (List ℕ) Call) → List (Phase (List ℕ) (Timed CallItem)) → Type 0
+  HoldAll tables past = HoldFrom call_cmp (call_machine shared) tick_at owner zero tables past
 
   pub record LedSecond (now : ℕ) (items : List (Id × Item)) (before outputs : List Output)
       (commands : List (Id × Command)) : Type 0 where
     pub count : length new ≡ length old
-    pub stands : (past : List (Phase (List ℕ) (Timed CallInput))) → HoldAll old past
+    pub stands : (past : List (Phase (List ℕ) (Timed CallItem))) → HoldAll old past
         → HoldAll new (past ++ second_phase now items ∷ [])
-    pub shown : (past : List (Phase (List ℕ) (Timed CallInput))) → HoldAll old past
+    pub shown : (past : List (Phase (List ℕ) (Timed CallItem))) → HoldAll old past
         → outputs ≡ before ++ flat_map shown_of
         (all_said (said_by_calls shared past (second_phase now items)))
-    pub commanded : (past : List (Phase (List ℕ) (Timed CallInput))) → HoldAll old past
+    pub commanded : (past : List (Phase (List ℕ) (Timed CallItem))) → HoldAll old past
         → commands ≡ flat_map command_of
         (all_said (said_by_calls shared past (second_phase now items)))
 

@@ -1,13 +1,13 @@
--- Steps of the first phase: what waits for the answers of the transactions, and how these are woven
+-- Steps of the first phase: what waits for the answers of the transactions, and how these are by_event
 -- in.
 use Rattle.std.specs.Prelude.{ℕ, List, [], ◌∷◌, map}
 use Rattle.sip_message.specs.declared.id.Id.{Id}
 use Rattle.sip_transactions.specs.declared.output.Out.{Out}
 use Rattle.sip_transactions.specs.declared.output.Out.TheVariants as out
-use Rattle.sip_served.specs.declared.item.Item.{Item}
-use Rattle.sip_served.specs.declared.item.Item.TheVariants as item
-use Rattle.sip_round.specs.declared.arrival.Arrival.{Arrival}
-use Rattle.sip_round.specs.declared.arrival.Arrival.TheVariants as arrival
+use Rattle.sip_common.specs.declared.item.Item.{Item}
+use Rattle.sip_common.specs.declared.item.Item.TheVariants as item
+use Rattle.sip_round.specs.Arrivals.{Arrival}
+use Rattle.sip_round.specs.Arrivals as arrival
 use Rattle.sip_round.specs.declared.waiting.Waiting.{Waiting}
 use Rattle.sip_round.specs.declared.waiting.Waiting.TheVariants as waiting
 
@@ -39,8 +39,8 @@ items_waiting id (waiting.Dropped why) = []
 items_waiting id (waiting.User command) = (id, item.User command) ∷ []
 
 -- for each id what comes of it, and the user's command
-abbrev pub woven : List (Id × Waiting) → List (ℕ × List Out)
+abbrev pub by_event : List (Id × Waiting) → List (ℕ × List Out)
     → List (Id × List Out × List (Id × Item))
-woven [] said = []
-woven (w ∷ ws) said =
-    (w.0, outs_next w.0 w.1 said, items_waiting w.0 w.1) ∷ woven ws (said_rest w.1 said)
+by_event [] said = []
+by_event (w ∷ ws) said =
+    (w.0, outs_next w.0 w.1 said, items_waiting w.0 w.1) ∷ by_event ws (said_rest w.1 said)

@@ -3,10 +3,9 @@ use Rattle.std.specs.Prelude.{Option, None, Some, unwrap_or, if◌then◌else◌
 use Rattle.std.specs.Map.{lookup, set_value}
 use Rattle.std.proofs.lemmas.Map.Steps.{set_value_same}
 use Rattle.indexmap.specs.IndexMap.{insert_entry}
-use Rattle.sip_served.specs.declared.held_dialog.DialogName.{DialogName}
-use Rattle.sip_served.specs.declared.held_dialog.HeldDialog.{HeldDialog}
-use Rattle.sip_served.specs.Dialogs.{dialog_at, is_named}
-use Rattle.sip_served.specs.State.{Dialogs}
+use Rattle.sip_common.specs.declared.held_dialog.DialogName.{DialogName}
+use Rattle.sip_common.specs.declared.held_dialog.HeldDialog.{HeldDialog}
+use Rattle.sip_common.specs.Dialogs.{dialog_at, is_named, Dialogs}
 use Rattle.sip_clients.specs.Replied.{after_dialog, finished, replied_in, with_dialog}
 use Rattle.sip_clients.specs.Reply.{is_last}
 use Rattle.sip_clients.proofs.Results.{if_ok}

@@ -3,7 +3,7 @@ use Rattle.std.proofs.lemmas.List.{map-append}
 use Rattle.std.specs.BTreeMap.{get}
 use Rattle.std.specs.Vec.Iter.{into_iter_items}
 use Rattle.sip_model.specs.Phase.{timed_item, timed_items}
-use Rattle.sip_model.specs.Told.{groups}
+use Rattle.sip_model.specs.Groups.{groups}
 use Rattle.sip_model.proofs.ItemsLeft.{ItemsLeft, items_left_more}
 use Rattle.sip_model.proofs.items.deal_items.Goals as goal
 
@@ -27,5 +27,5 @@ loop-place-preserved g c =
     (get cmp c.loop-place.states) (get cmp c.step_key.new.states) c.loop-place.dues
     c.step_key.new.dues
     (groups c.loop-place.told.items) c.in_ok-outputs.outputs.items left
-    c.in_ok-outputs.ensures.states c.in_ok-outputs.ensures.dues c.in_ok-outputs.ensures.added in
+    c.in_ok-outputs.ensures.states c.in_ok-outputs.ensures.armed c.in_ok-outputs.ensures.added in
     rw (c.in_ok-push.ensures.items, map-append) more

@@ -1,7 +1,7 @@
 use Rattle.std.specs.BTreeMap.{get}
 use Rattle.std.specs.Vec.Iter.{into_iter_items}
 use Rattle.sip_model.specs.Phase.{timed_items}
-use Rattle.sip_model.specs.Told.{groups}
+use Rattle.sip_model.specs.Groups.{groups}
 use Rattle.sip_model.proofs.ItemsLeft.{ItemsLeft}
 use Rattle.sip_model.proofs.items.deal_items.Given as goal
 

@@ -1,4 +1,4 @@
-use Rattle.sip_model.specs.Machine.{ticks_of}
+use Rattle.sip_model.specs.Machine.{tick_at}
 use Rattle.sip_model.proofs.Alone.{in_order, said_alone}
 use Rattle.sip_model.proofs.Apart.{owned_states, works_apart}
 use Rattle.sip_model.proofs.Shards.{tell_all}
@@ -8,33 +8,33 @@ pub returns-clause-each_key_alone : goal.returns-clause-each_key_alone
 returns-clause-each_key_alone g c = λ before phases key.
     said_alone g.met.M.Key.Ord.total g.met.M.StateMachine.exact
     (g.M.StateMachine.machine c.args._machine.now) g.M.StateMachine.due
-    (ticks_of g.M.StateMachine.tick)
+    tick_at
     (g.met.M.StateMachine.idle c.args._machine.now) key before phases
 
 pub returns-clause-shards_work_apart : goal.returns-clause-shards_work_apart
 returns-clause-shards_work_apart g c =
     works_apart g.met.M.Key.Ord.total g.met.M.StateMachine.exact
     (g.M.StateMachine.machine c.args._machine.now) g.M.StateMachine.due
-    (ticks_of g.M.StateMachine.tick)
+    tick_at
     (g.met.M.StateMachine.idle c.args._machine.now)
 
 pub returns-clause-told_in_order : goal.returns-clause-told_in_order
 returns-clause-told_in_order g c =
     in_order g.met.M.Key.Ord.total g.met.M.StateMachine.exact
     (g.M.StateMachine.machine c.args._machine.now) g.M.StateMachine.due
-    (ticks_of g.M.StateMachine.tick)
+    tick_at
     (g.met.M.StateMachine.idle c.args._machine.now)
 
 pub returns-clause-shards_tell_all : goal.returns-clause-shards_tell_all
 returns-clause-shards_tell_all g c = λ owner phases phase all.
     tell_all g.met.M.Key.Ord.total g.met.M.StateMachine.exact
     (g.M.StateMachine.machine c.args._machine.now) g.M.StateMachine.due
-    (ticks_of g.M.StateMachine.tick)
+    tick_at
     (g.met.M.StateMachine.idle c.args._machine.now) owner phase all phases
 
 pub returns-clause-shards_hold_apart : goal.returns-clause-shards_hold_apart
 returns-clause-shards_hold_apart g c =
     owned_states g.met.M.Key.Ord.total g.met.M.StateMachine.exact
     (g.M.StateMachine.machine c.args._machine.now) g.M.StateMachine.due
-    (ticks_of g.M.StateMachine.tick)
+    tick_at
     (g.met.M.StateMachine.idle c.args._machine.now)

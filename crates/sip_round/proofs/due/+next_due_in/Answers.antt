@@ -1,12 +1,12 @@
 use Rattle.std.proofs.Common.{◌≡◌, ℕ, true, false, ap, sym, subst, ◌∙◌}
 use Rattle.std.specs.List.{AllByRecursion}
 use Rattle.std.specs.Prelude.{IfSome, IsSome, drop}
-use Rattle.sip_model.specs.Machine.{ticks_of}
 use Rattle.sip_timers.specs.Queue.{is_due}
-use Rattle.sip_round.specs.Steps.Dealt.{IsIdle}
+use Rattle.sip_round.specs.Steps.AllShards.{IsIdle}
 use Rattle.sip_round.specs.Steps.Dues.{IsDueIn}
 use Rattle.sip_round.proofs.NextDue.{due_in_first, due_in_rest, first_and_rest, in_any, neither_due, of_either, rest_is, with_first}
 use Rattle.sip_round.proofs.due.+next_due_in.Goals as goal
+use Rattle.sip_model.specs.Machine.{tick_at}
 
 pub returns-in-len1-up-clause-before : goal.returns-in-len1-up-clause-before
 returns-in-len1-up-clause-before g n c = λ sound now ticks before.
@@ -19,10 +19,10 @@ returns-in-len1-up-clause-before g n c = λ sound now ticks before.
     λ with_tick. neither_due now c.next_due.result c.next_due_in.result
     (ap (is_due now) (sym c.earlier.ensures) ∙ before with_tick) in
     with_first (IsIdle g.M.Key.Ord.cmp (g.M.StateMachine.machine c.args.machine.now)
-    (ticks_of g.M.StateMachine.tick) now ticks) tables c.table-item.result _ some c.table-item.is
+    tick_at now ticks) tables c.table-item.result _ some c.table-item.is
     (c.next_due.ensures.before parts.0 now ticks (λ with_tick. (neither with_tick).0))
     (subst (AllByRecursion (IsIdle g.M.Key.Ord.cmp (g.M.StateMachine.machine c.args.machine.now)
-    (ticks_of g.M.StateMachine.tick) now ticks)) (rest_is tables)
+    tick_at now ticks)) (rest_is tables)
     (c.next_due_in.ensures.before
     (subst (AllByRecursion (λ table. IsSome table)) (sym (rest_is tables)) parts.1) now ticks
     (λ with_tick. (neither with_tick).1)))

@@ -1,7 +1,6 @@
 use Rattle.std.proofs.Common.{◌++◌, ap, sym, ◌∙◌, refl, length, arith}
 use Rattle.std.specs.Vec.Iter.{into_iter_items}
-use Rattle.sip_served.specs.Command.{call_of_item}
-use Rattle.sip_calls.specs.declared.calls.CallInput.TheVariants.{Item as AnItem}
+use Rattle.sip_common.specs.Command.{call_of_item}
 use Rattle.sip_round.specs.Phases.{call_items}
 use Rattle.sip_round.proofs.Numbered.{piled, same_item}
 use Rattle.sip_round.proofs.inputs.call_items.Goals as goal
@@ -14,7 +13,7 @@ loop-id-preserved c =
     (record {
       place = length made;
       key = call_of_item c.in-Some.item;
-      input = AnItem c.in-Some.id c.in-Some.item;
+      input = (c.in-Some.id, c.in-Some.item);
     })
     (λ n. call_items n left) c.in_ok-push.ensures.items
     (same_item _ (length made) _ (call_of_item c.in-Some.item) _ _

@@ -1,7 +1,7 @@
 use Rattle.std.proofs.Common.{◌≡◌, ◌++◌}
 use Rattle.std.specs.List.{flat_map}
 use Rattle.std.specs.Vec.Iter.{into_iter_items}
-use Rattle.sip_model.specs.Told.{groups}
+use Rattle.sip_model.specs.Groups.{groups}
 use Rattle.sip_round.specs.Outputs.{shown_of, command_of}
 use Rattle.sip_round.proofs.outs.part_calls.Given as goal
 

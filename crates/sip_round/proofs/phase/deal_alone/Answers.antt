@@ -1,9 +1,9 @@
 use Rattle.std.proofs.Common.{◌≡◌, [], ◌∷◌, map, length, ◌∙◌, ap, arith}
 use Rattle.std.proofs.lemmas.List.{map-append, length-map}
-use Rattle.sip_model.specs.Machine.{ticks_of}
-use Rattle.sip_model.specs.Told.{groups}
+use Rattle.sip_model.specs.Groups.{groups}
 use Rattle.sip_round.proofs.Alone.{deals_last}
 use Rattle.sip_round.proofs.phase.deal_alone.Goals as goal
+use Rattle.sip_model.specs.Machine.{tick_at}
 
 pub returns : goal.returns
 returns g c =
@@ -22,7 +22,7 @@ returns g c =
       length-map parts_left.items (λ part. part.items),
     ) in
     deals_last g.M.Key.Ord.cmp (g.M.StateMachine.machine c.args.machine)
-    (ticks_of g.M.StateMachine.tick) c.args.now c.args.ticks c.in-Some-Some.table c.deal.new.self
+    tick_at c.args.now c.args.ticks c.in-Some-Some.table c.deal.new.self
     c.in-Some-Some.items.items (groups c.in-Ok.replies.ticks.items)
     (groups c.in-Ok.replies.items.items) c.in-Ok.ensures.phases c.args.tables.items left.items
     c.push.new.self.items (map (λ part. part.items) c.args.parts.items)

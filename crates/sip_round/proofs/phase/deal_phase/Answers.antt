@@ -3,19 +3,19 @@ use Rattle.std.specs.Prelude.{IfOk}
 use Rattle.std.specs.List.{AllByRecursion}
 use Rattle.std.specs.List.Sorted.{IsStrictlySortedBy}
 use Rattle.std.specs.Ordering.{nat_cmp}
-use Rattle.sip_model.specs.Machine.{ticks_of}
-use Rattle.sip_model.specs.Told.{groups}
+use Rattle.sip_model.specs.Groups.{groups}
 use Rattle.sip_model.specs.Phase.{AddsPhase, phase_at, timed_items}
-use Rattle.sip_round.specs.Steps.Dealt.{DealsAll, IsIdle}
+use Rattle.sip_round.specs.Steps.AllShards.{DealsAll, IsIdle}
 use Rattle.sip_round.proofs.IdleShards.{empty_parts, idle_shards}
 use Rattle.sip_round.proofs.Numbered.{parts_timed, places_timed}
 use Rattle.sip_round.proofs.Together.{deals_all}
 use Rattle.sip_round.proofs.phase.deal_phase.Goals as goal
+use Rattle.sip_model.specs.Machine.{tick_at}
 
 pub returns : goal.returns
 returns g c = λ owner items within parts rising.
     let cmp = g.M.Key.Ord.cmp in
-    let tick = ticks_of g.M.StateMachine.tick in
+    let tick = tick_at in
     deals_all cmp (g.M.StateMachine.machine c.args.machine) tick owner
     (phase_at c.args.now c.args.ticks items)
     (λ piece done. IfOk done (λ dealt.
@@ -65,7 +65,7 @@ pub returns-then-are_idle : goal.returns-then-are_idle
 returns-then-are_idle g c = λ owner items within parts rising.
     let cmp = g.M.Key.Ord.cmp in
     let machine = g.M.StateMachine.machine c.args.machine in
-    let tick = ticks_of g.M.StateMachine.tick in
+    let tick = tick_at in
     let tables = c.args.tables.items in
     let none = subst (λ ps. AllByRecursion (λ part. part.items ≡ []) ps) c.deref.ensures.value
     (c.have_no_items.ensures c.if-have_no_items.true) in

@@ -2,18 +2,18 @@ use Rattle.std.proofs.Common.{◌≡◌, [], ◌∷◌, sym, ◌∙◌, subst, a
 use Rattle.std.proofs.lemmas.List.{nil_from_length}
 use Rattle.std.specs.Vec.Iter.{into_iter_items}
 use Rattle.std.specs.Option.{option_or}
-use Rattle.sip_model.specs.Machine.{ticks_of}
 use Rattle.sip_model.specs.Table.{state_at}
 use Rattle.sip_round.specs.Parts.{owner_of}
 use Rattle.sip_round.specs.Steps.Transfer.{AreOwners, held_by_owner}
 use Rattle.sip_round.proofs.Transferred.{TransferLeft, all_moved, nothing_moved, one_moved}
 use Rattle.sip_round.proofs.transfer.transfer.Goals as goal
+use Rattle.sip_model.specs.Machine.{tick_at}
 
 pub loop-table-init : goal.loop-table-init
 loop-table-init g c =
     let cmp = g.M.Key.Ord.cmp in
     let machine = g.M.StateMachine.machine c.args.machine.now in
-    let tick = ticks_of g.M.StateMachine.tick in
+    let tick = tick_at in
     let others = c.args.others.items in
     let owner = owner_of (g.C.Cut.shard_of c.args.cut.now) g.M.Key.Named.name (length others) in
     subst (λ rest. TransferLeft cmp machine tick owner
@@ -28,7 +28,7 @@ pub loop-table-preserved : goal.loop-table-preserved
 loop-table-preserved g c =
     let cmp = g.M.Key.Ord.cmp in
     let machine = g.M.StateMachine.machine c.args.machine.now in
-    let tick = ticks_of g.M.StateMachine.tick in
+    let tick = tick_at in
     let shards = length c.args.others.items in
     let owner = owner_of (g.C.Cut.shard_of c.args.cut.now) g.M.Key.Named.name in
     let moved = c.loop-table.moved in
@@ -55,7 +55,7 @@ pub returns-clause-holds : goal.returns-clause-holds
 returns-clause-holds g c = λ old_owner phases within holds.
     let cmp = g.M.Key.Ord.cmp in
     let machine = g.M.StateMachine.machine c.args.machine.now in
-    let tick = ticks_of g.M.StateMachine.tick in
+    let tick = tick_at in
     let shards = length c.args.others.items in
     let owner = owner_of (g.C.Cut.shard_of c.args.cut.now) g.M.Key.Named.name shards in
     let left = c.loop-table.table-iterator in

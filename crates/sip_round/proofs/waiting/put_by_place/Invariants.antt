@@ -1,18 +1,18 @@
 use Rattle.std.proofs.Common.{◌≡◌, ◌++◌}
 use Rattle.std.specs.List.{flat_map}
 use Rattle.std.specs.Vec.Iter.{into_iter_items}
-use Rattle.sip_model.specs.Told.{groups}
+use Rattle.sip_model.specs.Groups.{groups}
 use Rattle.sip_round.specs.Outputs.{raised_of, sent_of}
-use Rattle.sip_round.specs.Steps.Waiting.{woven}
+use Rattle.sip_round.specs.Steps.Waiting.{by_event}
 use Rattle.sip_round.proofs.waiting.put_by_place.Given as goal
 
 abbrev pub invariant-loop-id : goal.invariant-loop-id
 invariant-loop-id l =
     (l.outputs.items ++ flat_map (λ w. flat_map sent_of w.1)
-    (woven (into_iter_items l.id-iterator) (groups (into_iter_items l.said)))
+    (by_event (into_iter_items l.id-iterator) (groups (into_iter_items l.said)))
     ≡ l.fn.outputs.items ++ flat_map (λ w. flat_map sent_of w.1)
-    (woven l.fn.waiting.items (groups l.fn.said.items)))
+    (by_event l.fn.waiting.items (groups l.fn.said.items)))
     × (l.items.items ++ flat_map (λ w. flat_map (raised_of w.0) w.1 ++ w.2)
-    (woven (into_iter_items l.id-iterator) (groups (into_iter_items l.said)))
+    (by_event (into_iter_items l.id-iterator) (groups (into_iter_items l.said)))
     ≡ l.fn.items.items ++ flat_map (λ w. flat_map (raised_of w.0) w.1 ++ w.2)
-    (woven l.fn.waiting.items (groups l.fn.said.items)))
+    (by_event l.fn.waiting.items (groups l.fn.said.items)))

@@ -19,14 +19,11 @@ loop-event-preserved c =
     c.loop-event-test.true c.event-item.is in (
       ap (λ n. n + 1) c.loop-event.invariant.0,
       further transaction_items (id, arrival) (transaction_item id arrival) c.loop-event.items.items
-          c.put_input.new.items.items (transaction_items all) next refl
-          (c.in_ok-left.ensures.items
-          ∙ ap (λ a. c.loop-event.items.items ++ transaction_item id a) c.in_ok-arrival.ensures)
-          c.loop-event.invariant.1,
+          c.set_out_event.new.items.items (transaction_items all) next refl
+          c.in_ok-left.ensures.items c.loop-event.invariant.1,
       further all_waiting (id, arrival) ((id, waiting_of arrival) ∷ []) c.loop-event.waiting.items
           c.push.new.self.items (all_waiting all) next refl
           (c.in_ok-push.ensures.items
-          ∙ ap (λ w. c.loop-event.waiting.items ++ (id, w) ∷ []) (c.in_ok-left.ensures.left
-          ∙ ap waiting_of c.in_ok-arrival.ensures))
+          ∙ ap (λ w. c.loop-event.waiting.items ++ (id, w) ∷ []) c.in_ok-left.ensures.left)
           c.loop-event.invariant.2,
     )

@@ -1,6 +1,6 @@
 use Rattle.std.proofs.Common.{ℕ, List, filter, ap, ◌∙◌}
 use Rattle.sip_served.specs.Arrival.{unsupported, with_header}
-use Rattle.sip_served.specs.Requests.{is_unknown_option}
+use Rattle.sip_common.specs.Requests.{is_unknown_option}
 use Rattle.sip_served.proofs.outputs.bad_extension_response.Goals as goal
 
 pub returns : goal.returns

@@ -1,7 +1,7 @@
 use Rattle.std.proofs.Common.{ap, ◌∙◌}
 use Rattle.indexmap.specs.IndexMap.{insert_entry}
-use Rattle.sip_served.specs.Dialogs.{is_named}
-use Rattle.sip_served.specs.Requests.{dialog_name}
+use Rattle.sip_common.specs.Dialogs.{is_named}
+use Rattle.sip_common.specs.Requests.{dialog_name}
 use Rattle.sip_served.specs.Respond.{made_dialog}
 use Rattle.sip_served.proofs.respond.make_dialog.Goals as goal
 

@@ -1,6 +1,6 @@
 use Rattle.std.proofs.Common.{◌≡◌, ◌++◌, map, take}
 use Rattle.sip_transactions.specs.declared.input.Command.TheVariants.{Answer}
-use Rattle.sip_served.specs.declared.item.CallOut.TheVariants.{Command}
+use Rattle.sip_common.specs.declared.item.CallOut.TheVariants.{Command}
 use Rattle.sip_served.specs.Provisionals.{of_numbers}
 use Rattle.sip_served.proofs.tick.send_again.Given as goal
 

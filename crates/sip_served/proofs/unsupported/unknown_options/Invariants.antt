@@ -1,5 +1,5 @@
 use Rattle.std.proofs.Common.{take, filter}
-use Rattle.sip_served.specs.Requests.{is_unknown_option}
+use Rattle.sip_common.specs.Requests.{is_unknown_option}
 use Rattle.sip_served.proofs.Joined.{SoFar}
 use Rattle.sip_served.proofs.unsupported.unknown_options.Given as goal
 

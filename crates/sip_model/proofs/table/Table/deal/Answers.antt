@@ -1,8 +1,8 @@
 use Rattle.std.proofs.Common.{◌≡◌, rules, sym, subst, Some}
-use Rattle.sip_model.specs.Machine.{ticks_of}
+use Rattle.sip_model.specs.Machine.{tick_at}
 use Rattle.sip_model.specs.Phase.{DealsPhase, phase_at}
 use Rattle.sip_model.specs.Table.{Held}
-use Rattle.sip_model.specs.Told.{groups}
+use Rattle.sip_model.specs.Groups.{groups}
 use Rattle.sip_model.proofs.Phases.{deals_phase, adds_phase}
 use Rattle.sip_model.proofs.table.Table.deal.Goals as goal
 
@@ -10,18 +10,17 @@ pub returns-clause-step : goal.returns-clause-step
 returns-clause-step g c =
     let cmp = g.M.Key.Ord.cmp in
     let machine = g.M.StateMachine.machine c.args.machine.now in
-    let tick = ticks_of g.M.StateMachine.tick in
-    let same : c.args.self.now ≡ Some c.apart-states.result.0.entries = search rules in
+    let same : c.args.self.now ≡ Some c.into_parts-states.result.0.entries = search rules in
     let phase = phase_at c.args.now c.args.ticks c.args.items.items in
-    let step : DealsPhase cmp machine tick (Some c.apart-states.result.0.entries)
+    let step : DealsPhase cmp machine tick_at (Some c.into_parts-states.result.0.entries)
     (Some c.deal_items.new.states.entries) phase (groups c.in_ok-ticks.ticks.items)
     (groups c.in_ok-items.items.items) =
-    deals_phase cmp machine tick c.apart-states.result.0.entries c.tick_if.new.states.entries
+    deals_phase cmp machine tick_at c.into_parts-states.result.0.entries c.tick_if.new.states.entries
     c.deal_items.new.states.entries phase (groups c.in_ok-ticks.ticks.items)
     (groups c.in_ok-items.items.items)
     c.in_ok-ticks.ensures.states c.in_ok-items.ensures.states c.in_ok-ticks.ensures.told
     c.in_ok-items.ensures.told in
-    subst (λ (old : Held _ _). DealsPhase cmp machine tick old
+    subst (λ (old : Held _ _). DealsPhase cmp machine tick_at old
     (Some c.deal_items.new.states.entries) phase (groups c.in_ok-ticks.ticks.items)
     (groups c.in_ok-items.items.items)) (sym same) step
 
@@ -29,5 +28,5 @@ pub returns-clause-phases : goal.returns-clause-phases
 returns-clause-phases g c =
     adds_phase g.met.M.Key.Ord.total g.met.M.StateMachine.exact
     (g.M.StateMachine.machine c.args.machine.now) g.M.StateMachine.due
-    (ticks_of g.M.StateMachine.tick)
+    tick_at
     (g.met.M.StateMachine.idle c.args.machine.now) _ _ _ _ _ (returns-clause-step g c)

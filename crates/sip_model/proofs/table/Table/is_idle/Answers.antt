@@ -1,5 +1,5 @@
 use Rattle.std.proofs.Common.{◌≡◌, Some, [], rules, subst, sym}
-use Rattle.sip_model.specs.Machine.{ticks_of}
+use Rattle.sip_model.specs.Machine.{tick_at}
 use Rattle.sip_model.specs.Phase.{AddsPhase, phase_at}
 use Rattle.sip_model.specs.Table.{Held}
 use Rattle.sip_model.proofs.IdlePhase.{idle_phase}
@@ -12,15 +12,14 @@ returns-in-Some g c = record {
       let cmp = g.M.Key.Ord.cmp in
       let machine = g.M.StateMachine.machine c.args._machine.now in
       let due = g.M.StateMachine.due in
-      let tick = ticks_of g.M.StateMachine.tick in
       let idle = g.met.M.StateMachine.idle c.args._machine.now in
       let entries = c.in-Some.live in
       let same : c.args.self.now ≡ Some entries = search rules in
-      let adds : AddsPhase cmp machine tick (Some entries) (Some entries)
+      let adds : AddsPhase cmp machine tick_at (Some entries) (Some entries)
       (phase_at c.args.now c.args.ticks []) [] [] =
-      adds_phase g.met.M.Key.Ord.total g.met.M.StateMachine.exact machine due tick idle _ _ _ _ _
-      (idle_phase cmp machine due tick idle entries c.args.now c.args.ticks
+      adds_phase g.met.M.Key.Ord.total g.met.M.StateMachine.exact machine due tick_at idle _ _ _ _ _
+      (idle_phase cmp machine due tick_at idle entries c.args.now c.args.ticks
       (c.is_calm.ensures calm)) in
-      subst (λ (held : Held _ _). AddsPhase cmp machine tick held held
+      subst (λ (held : Held _ _). AddsPhase cmp machine tick_at held held
       (phase_at c.args.now c.args.ticks []) [] []) (sym same) adds;
 }

@@ -1,5 +1,5 @@
 use Rattle.std.proofs.Common.{◌≡◌, rules, refl, sym, subst, Some}
-use Rattle.sip_model.specs.Machine.{given_at}
+use Rattle.sip_model.specs.Machine.{tick_at}
 use Rattle.sip_model.specs.Table.{Held, StepsAll, state_at}
 use Rattle.sip_model.proofs.History.{adds_inputs}
 use Rattle.sip_model.proofs.Tick.{joined_told}
@@ -9,20 +9,19 @@ pub returns-clause-step : goal.returns-clause-step
 returns-clause-step g c =
     let cmp = g.M.Key.Ord.cmp in
     let machine = g.M.StateMachine.machine c.args.machine.now in
-    let input = given_at c.args.now g.M.StateMachine.tick in
-    let same : c.args.self.now ≡ Some c.apart-states.result.0.entries = search rules in
-    let step : StepsAll cmp machine (Some c.apart-states.result.0.entries)
-    (Some c.tick_due.new.states.entries) input c.in_ok-outputs.outputs.items = record {
+    let same : c.args.self.now ≡ Some c.into_parts-states.result.0.entries = search rules in
+    let step : StepsAll cmp machine (Some c.into_parts-states.result.0.entries)
+    (Some c.tick_due.new.states.entries) (tick_at c.args.now) c.in_ok-outputs.outputs.items = record {
       sound = refl;
       states = c.in_ok-told.ensures.states;
       added = λ keys covers. joined_told machine
-          (state_at cmp (Some c.apart-states.result.0.entries)) input keys c.in_ok-told.told.items
+          (state_at cmp (Some c.into_parts-states.result.0.entries)) (tick_at c.args.now) keys c.in_ok-told.told.items
           c.in_ok-outputs.outputs.items
           (c.in_ok-told.ensures.told keys (record { ordered = covers.ordered; each = covers.each }))
           c.in_ok-outputs.ensures;
     } in
     subst (λ (old : Held _ _). StepsAll cmp machine old
-    (Some c.tick_due.new.states.entries) input c.in_ok-outputs.outputs.items) (sym same) step
+    (Some c.tick_due.new.states.entries) (tick_at c.args.now) c.in_ok-outputs.outputs.items) (sym same) step
 
 pub returns-clause-histories : goal.returns-clause-histories
 returns-clause-histories g c = adds_inputs _ _ _ _ (returns-clause-step g c)

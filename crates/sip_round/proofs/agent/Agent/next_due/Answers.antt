@@ -2,12 +2,13 @@ use Rattle.std.proofs.Common.{◌≡◌, false, true, ap, sym, subst, ◌∙◌}
 use Rattle.std.specs.Prelude.{Some}
 use Rattle.std.proofs.lemmas.Bool.{false≢true}
 use Rattle.std.specs.List.{AllByRecursion}
-use Rattle.sip_calls.specs.Call.{call_machine, tick_input}
+use Rattle.sip_calls.specs.Call.{call_machine}
 use Rattle.sip_calls.specs.CallShard.{call_cmp}
 use Rattle.sip_model.specs.Shards.{ShardsTellAll}
-use Rattle.sip_round.specs.Steps.Dealt.{IsIdle}
+use Rattle.sip_round.specs.Steps.AllShards.{IsIdle}
 use Rattle.sip_round.proofs.NextDue.{calls_sound, due_of_either, in_any, lives_sound, quiet}
 use Rattle.sip_round.proofs.agent.Agent.next_due.Goals as goal
+use Rattle.sip_model.specs.Machine.{tick_at}
 
 pub returns-in-Some-clause-before : goal.returns-in-Some-clause-before
 returns-in-Some-clause-before g c = λ config rounds stands moment before.
@@ -27,12 +28,12 @@ returns-in-Some-clause-before g c = λ config rounds stands moment before.
     quiet shard_of (λ name n cut some. g.met.C.Cut.within cut name n some) agent shards sound
     are config rounds stands
     c.laws_of_phases.ensures.told_in_order c.laws_of_phases.ensures.shards_tell_all
-    (subst (λ shared. ShardsTellAll call_cmp (call_machine shared) tick_input) same
+    (subst (λ shared. ShardsTellAll call_cmp (call_machine shared) tick_at) same
     c.laws_of_phases-2.ensures.shards_tell_all) moment
     (c.next_due.ensures.transactions lives moment true (λ with_tick. before))
     (c.next_due.ensures.transactions lives moment false
     (λ without. absurd (false≢true without)))
-    (subst (λ shared. AllByRecursion (IsIdle call_cmp (call_machine shared) tick_input moment true)
+    (subst (λ shared. AllByRecursion (IsIdle call_cmp (call_machine shared) tick_at moment true)
     shards.calls) same (c.next_due.ensures.calls calls moment true (λ with_tick. before)))
 
 pub returns-in-Some-clause-due : goal.returns-in-Some-clause-due

@@ -1,12 +1,12 @@
 use Rattle.std.proofs.Common.{length, arith}
 use Rattle.sip_message.specs.Key.{branch_in}
-use Rattle.sip_model.specs.Told.{groups}
+use Rattle.sip_model.specs.Groups.{groups}
 use Rattle.sip_round.specs.Parts.{owner_of}
 use Rattle.sip_round.specs.Phases.{transaction_items}
 use Rattle.sip_round.proofs.Climbing.{climbs_in_order}
 use Rattle.sip_round.proofs.Leading.{led_first}
 use Rattle.sip_round.proofs.Numbered.{parts_counted}
-use Rattle.sip_round.proofs.Weaving.{items_climb}
+use Rattle.sip_round.proofs.ByEvent.{items_climb}
 use Rattle.sip_round.proofs.phases.PhaseRunner.first_phase.Goals as goal
 
 pub deal_phase-requires-clause-count : goal.deal_phase-requires-clause-count

@@ -1,6 +1,6 @@
 use Rattle.std.proofs.Common.{◌≡◌, map, ◌∙◌, ap, subst, length, arith}
 use Rattle.sip_message.specs.Key.{branch_in}
-use Rattle.sip_model.specs.Told.{groups}
+use Rattle.sip_model.specs.Groups.{groups}
 use Rattle.sip_round.specs.Parts.{cut_by, owner_of}
 use Rattle.sip_round.specs.Phases.{command_items}
 use Rattle.sip_round.proofs.Climbing.{climbs_in_order}

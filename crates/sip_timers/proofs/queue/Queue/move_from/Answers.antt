@@ -14,7 +14,8 @@ invariant_of-self-2 g c =
     subst (λ k. Puts cmp c.self.inside.dues.keys c.insert.new.self.keys c.args.due k true) same
     c.in_ok-insert.ensures.updates.0 in (
       c.in_ok-insert-2.ensures.ordered,
-      index_moved g.met.K.Ord.total c.self.inside.moments.entries c.insert-2.new.self.entries
+      index_moved g.met.K.Ord.total (moment g.K.Ord.cmp c.self.inside.moments.entries)
+          (moment g.K.Ord.cmp c.insert-2.new.self.entries)
           c.self.inside.dues.keys c.remove.new.self.keys c.args.key c.args.due c.self.invariant.1
           c.insert.new.self.keys c.args.former
           armed c.requires.other puts c.remove.ensures.updates.0 c.in_ok-insert-2.ensures.updates.0,

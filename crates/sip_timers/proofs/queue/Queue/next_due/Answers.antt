@@ -2,6 +2,7 @@ use Rattle.std.proofs.Common.{◌≡◌, min, length, Some, None, ◌∙◌, sym
 use Rattle.std.specs.List.{reduce}
 use Rattle.std.specs.List.Sorted.{IsStrictlySortedBy}
 use Rattle.std.specs.Map.{keys_of, values_of}
+use Rattle.sip_timers.specs.Queue.{moment}
 use Rattle.sip_timers.specs.Index.{IsIndexOf}
 use Rattle.sip_timers.proofs.Moments.{none_before, of_a_key, none_armed}
 use Rattle.sip_timers.proofs.Dues.{earliest, none_earliest, empty_from_none}
@@ -9,7 +10,8 @@ use Rattle.sip_timers.proofs.queue.Queue.next_due.Goals as goal
 
 pub returns-in_err-first-clause-earliest : goal.returns-in_err-first-clause-earliest
 returns-in_err-first-clause-earliest g c =
-    let index : IsIndexOf g.K.Ord.cmp c.args.self.now c.self.inside.dues.keys =
+    let index : IsIndexOf g.K.Ord.cmp (moment g.K.Ord.cmp c.args.self.now)
+    c.self.inside.dues.keys =
     rw (← c.self.view_is) c.self.invariant.1 in
     let none : reduce min (values_of c.args.self.now) ≡ None =
     none_earliest g.met.K.Ord.total c.args.self.now c.self.inside.dues.keys index
@@ -24,7 +26,8 @@ returns-in_err-first-clause-none_armed g c =
 
 pub returns-clause-earliest : goal.returns-clause-earliest
 returns-clause-earliest g c =
-    let index : IsIndexOf g.K.Ord.cmp c.args.self.now c.self.inside.dues.keys =
+    let index : IsIndexOf g.K.Ord.cmp (moment g.K.Ord.cmp c.args.self.now)
+    c.self.inside.dues.keys =
     rw (← c.self.view_is) c.self.invariant.1 in
     let sorted : IsStrictlySortedBy g.K.Ord.cmp (keys_of c.args.self.now) =
     rw (← c.self.view_is) c.self.invariant.0 in

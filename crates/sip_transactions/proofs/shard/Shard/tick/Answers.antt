@@ -2,7 +2,8 @@ use Rattle.std.proofs.Common.{IfOk, subst}
 use Rattle.sip_message.specs.Key.{key_cmp}
 use Rattle.sip_model.specs.History.{AddsInputs}
 use Rattle.sip_model.specs.Table.{StepsAll}
-use Rattle.sip_transactions.specs.Machine.{transaction_machine, tick_at}
+use Rattle.sip_transactions.specs.Machine.{transaction_machine}
+use Rattle.sip_model.specs.Machine.{tick_at}
 use Rattle.sip_transactions.proofs.shard.Shard.tick.Goals as goal
 
 pub returns-clause-step : goal.returns-clause-step

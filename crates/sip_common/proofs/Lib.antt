@@ -1,0 +1,8 @@
+pub mod Dues
+pub mod Each
+pub mod Entries
+pub mod Heard
+pub mod Keeps
+pub mod OwnDialogs
+pub mod Shown
+pub mod Starts

@@ -1,0 +1,100 @@
+-- What happens to the dialogs of a Call-ID keeps them of it, and tells what is of it.
+use Rattle.std.proofs.Common.{◌≡◌, ℕ, List, [], ◌∷◌, not, refl, ◌∙◌}
+use Rattle.std.specs.Prelude.{Option, None, Some, IfSome, filter}
+use Rattle.std.specs.Map.{values_of}
+use Rattle.std.specs.Option.{is_some, option_map_or}
+use Rattle.sip_model.proofs.Ordered.{by_bool}
+use Rattle.sip_message.specs.declared.id.Id.{Id}
+use Rattle.sip_message.specs.declared.message.Message.{Message}
+use Rattle.sip_dialog.specs.declared.dialog.Dialog.{Dialog}
+use Rattle.sip_dialog.specs.declared.dialog.Side.{Side}
+use Rattle.sip_dialog.specs.declared.dialog.Side.TheVariants.{Caller, Callee}
+use Rattle.sip_dialog.specs.Fault.{ended_fault}
+use Rattle.sip_dialog.specs.Opening.{contact_uri}
+use Rattle.sip_dialog.specs.Step.{confirmed_at}
+use Rattle.sip_common.specs.declared.held_dialog.DialogName.{DialogName}
+use Rattle.sip_common.specs.declared.held_dialog.HeldDialog.{HeldDialog}
+use Rattle.sip_common.specs.declared.item.CallOut.{CallOut}
+use Rattle.sip_common.specs.Dialogs.{Dialogs, confirmed, dialog_at, dialog_changed, early_ended, ended_at, ended_notice, is_early_of, is_named, numbered, refreshed, retargeted, takes, visited}
+use Rattle.sip_common.specs.OwnCall.{AreDialogsOf, AreNoticesOf, IsDialogOf, IsNoticeOf}
+use Rattle.sip_common.specs.Requests.{is_invite}
+use Rattle.sip_common.proofs.Each as each
+
+-- ---- one dialog
+
+numbered_keeps : (number : ℕ) (held : HeldDialog)
+    → (numbered number held).dialog.call_id ≡ held.dialog.call_id
+numbered_keeps number held = by_bool (takes held number) (λ e. rw e refl) (λ e. rw e refl)
+
+pub retargeted_keeps : (o : Option (List ℕ)) (held : HeldDialog)
+    → (retargeted o held).dialog.call_id ≡ held.dialog.call_id
+retargeted_keeps None held = refl
+retargeted_keeps (Some uri) held =
+    by_bool (is_some (ended_fault held.dialog)) (λ e. rw e refl) (λ e. rw e refl)
+
+refreshed_keeps : (request : Message) (held : HeldDialog)
+    → (refreshed request held).dialog.call_id ≡ held.dialog.call_id
+refreshed_keeps request held =
+    by_bool (is_invite request) (λ e. rw e (retargeted_keeps (contact_uri request) held))
+    (λ e. rw e refl)
+
+pub visited_keeps : (request : Message) (held : HeldDialog)
+    → (visited request held).dialog.call_id ≡ held.dialog.call_id
+visited_keeps request held =
+    refreshed_keeps request (numbered request.cseq.number held)
+    ∙ numbered_keeps request.cseq.number held
+
+confirmed_so : (side : Side) (dialog : Dialog) (response : Message)
+    → (confirmed_at side dialog response).call_id ≡ dialog.call_id
+confirmed_so Callee dialog response = refl
+confirmed_so Caller dialog response = refl
+
+pub confirmed_keeps : (response : Message) (held : HeldDialog)
+    → (confirmed response held).dialog.call_id ≡ held.dialog.call_id
+confirmed_keeps response held =
+    by_bool (is_some (ended_fault held.dialog)) (λ e. rw e refl)
+    (λ e. rw e (confirmed_so held.dialog.side held.dialog response))
+
+-- ---- all dialogs
+
+module _ (call_id : List ℕ) where
+  -- the dialog of a name, changed so that it keeps its Call-ID
+  pub changed_dialog : (name : DialogName) (change : HeldDialog → HeldDialog)
+      → ((held : HeldDialog) → (change held).dialog.call_id ≡ held.dialog.call_id)
+      → (dialogs : Dialogs) → AreDialogsOf call_id dialogs
+      → AreDialogsOf call_id (dialog_changed name change dialogs)
+  changed_dialog name change same dialogs all =
+      each.each_changed (IsDialogOf call_id) (is_named name) change
+      (λ held is. same held ∙ is) dialogs all
+
+  pub dialog_own : (name : DialogName) (dialogs : Dialogs) → AreDialogsOf call_id dialogs
+      → IfSome (dialog_at name dialogs) (IsDialogOf call_id)
+  dialog_own name dialogs all = each.found_one (IsDialogOf call_id) (is_named name) dialogs all
+
+  -- the dialogs, and what is told
+  abbrev pub AreEndedOf : Dialogs × List CallOut → Type 0
+  AreEndedOf done = AreDialogsOf call_id done.0 × AreNoticesOf call_id done.1
+
+  notice_own : (found : Option HeldDialog) → IfSome found (IsDialogOf call_id)
+      → AreNoticesOf call_id (option_map_or (λ held. ended_notice held ∷ []) found [])
+  notice_own None own = tt
+  notice_own (Some held) own = (own, tt)
+
+  -- the dialog of a name ends
+  pub ended_own : (name : DialogName) (dialogs : Dialogs) → AreDialogsOf call_id dialogs
+      → AreEndedOf (ended_at name dialogs)
+  ended_own name dialogs all = (
+    each.each_but_one (IsDialogOf call_id) (is_named name) dialogs all,
+    notice_own (dialog_at name dialogs) (dialog_own name dialogs all),
+  )
+
+  -- the early dialogs of an INVITE end
+  pub early_own : (invite : Id) (dialogs : Dialogs) → AreDialogsOf call_id dialogs
+      → AreEndedOf (early_ended invite dialogs)
+  early_own invite dialogs all = (
+    each.each_left (IsDialogOf call_id) (λ entry. not (is_early_of invite entry.1)) dialogs all,
+    each.mapped (IsDialogOf call_id) (IsNoticeOf call_id) ended_notice (λ held is. is)
+        (filter (is_early_of invite) (values_of dialogs))
+        (each.filtered (IsDialogOf call_id) (is_early_of invite) (values_of dialogs)
+        (each.each_of_values (IsDialogOf call_id) dialogs all)),
+  )

@@ -1,0 +1,59 @@
+-- The transactions of clients that outputs start; the ends of dialogs start none.
+use Rattle.std.proofs.Common.{◌≡◌, List, [], ◌∷◌, ◌++◌, map, refl, ◌∙◌}
+use Rattle.std.specs.Prelude.{Option, None, Some, filter, filter_map}
+use Rattle.std.specs.List.{cons_option, flat_map}
+use Rattle.std.specs.Map.{values_of}
+use Rattle.std.specs.Option.{option_map_or}
+use Rattle.std.proofs.lemmas.List.Elements.{filter_map-append}
+use Rattle.sip_message.specs.declared.id.Id.{Id}
+use Rattle.sip_message.specs.declared.key.Key.{Key}
+use Rattle.sip_transactions.specs.declared.input.Command.{Command as Order}
+use Rattle.sip_transactions.specs.declared.input.Command.TheVariants as order
+use Rattle.sip_common.specs.declared.held_dialog.DialogName.{DialogName}
+use Rattle.sip_common.specs.declared.held_dialog.HeldDialog.{HeldDialog}
+use Rattle.sip_common.specs.declared.item.CallOut.{CallOut}
+use Rattle.sip_common.specs.declared.item.CallOut.TheVariants as out
+use Rattle.sip_common.specs.Dialogs.{Dialogs, dialog_at, early_ended, ended_at, ended_notice, is_early_of}
+
+-- a transaction of a client that is started, by its id and its key
+abbrev pub start_of : Id → Order → Option (Id × Key)
+start_of id (order.Start key call_id message to) = Some (id, key)
+start_of id (order.Answer key message) = None
+
+abbrev pub start_in : CallOut → Option (Id × Key)
+start_in (out.Notice notice) = None
+start_in (out.Command id command) = start_of id command
+start_in (out.Direct to bytes) = None
+
+abbrev pub starts : List CallOut → List (Id × Key)
+starts outs = filter_map start_in outs
+
+-- ---- lists of outputs
+
+pub none_of_both : (xs ys : List CallOut) → starts xs ≡ [] → starts ys ≡ [] → starts (xs ++ ys) ≡ []
+none_of_both xs ys no_x no_y = filter_map-append start_in xs ys ∙ (λ i. no_x i ++ no_y i)
+
+pub none_of_map : {X : Type 0} (f : X → CallOut) → ((x : X) → start_in (f x) ≡ None) → (xs : List X)
+    → starts (map f xs) ≡ []
+none_of_map f none [] = refl
+none_of_map f none (x ∷ xs) = (λ i. option_rest (none x i)) ∙ none_of_map f none xs
+  where
+    option_rest : Option (Id × Key) → List (Id × Key)
+    option_rest o = cons_option o (starts (map f xs))
+
+pub none_of_all : {X : Type 0} (f : X → List CallOut) → ((x : X) → starts (f x) ≡ [])
+    → (xs : List X) → starts (flat_map f xs) ≡ []
+none_of_all f none [] = refl
+none_of_all f none (x ∷ xs) = none_of_both (f x) (flat_map f xs) (none x) (none_of_all f none xs)
+
+pub early_starts : (invite : Id) (dialogs : Dialogs) → starts (early_ended invite dialogs).1 ≡ []
+early_starts invite dialogs =
+    none_of_map ended_notice (λ held. refl) (filter (is_early_of invite) (values_of dialogs))
+
+pub ended_starts : (name : DialogName) (dialogs : Dialogs) → starts (ended_at name dialogs).1 ≡ []
+ended_starts name dialogs = by_dialog (dialog_at name dialogs)
+  where
+    by_dialog : (o : Option HeldDialog)
+        → starts (option_map_or (λ held. ended_notice held ∷ []) o []) ≡ []
+    by_dialog None = refl
+    by_dialog (Some held) = refl

@@ -1,0 +1,6 @@
+-- When an id is another.
+use Rattle.std.specs.Prelude.{Bool, ◌&&◌, ◌==◌}
+use Rattle.sip_message.specs.declared.id.Id.{Id}
+
+abbrev pub is_id : Id → Id → Bool
+is_id one other = (one.round == other.round) && (one.place == other.place)

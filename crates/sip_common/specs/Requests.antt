@@ -1,0 +1,65 @@
+-- What a request says (RFC 3261, sections 7.3.1, 8.1.1 and 12; RFC 3262, section 3). Tags and
+-- options are compared without case, methods byte by byte.
+use Rattle.std.specs.Prelude.{ℕ, Bool, not, ◌&&◌, ◌||◌, ◌==◌, nat_lt, nat_le, List, length, codes, if◌then◌else◌}
+use Rattle.std.specs.List.{list_any}
+use Rattle.std.specs.Str.{bytes_eq, str_eq_ignore_ascii_case, str_to_ascii_lowercase}
+use Rattle.sip_message.specs.declared.message.Message.{Message}
+use Rattle.sip_message.specs.Party.{tag_of}
+use Rattle.sip_common.specs.declared.held_dialog.DialogName.{DialogName}
+
+abbrev pub is_method : List ℕ → Message → Bool
+is_method method request = bytes_eq request.cseq.method method
+
+abbrev pub is_invite : Message → Bool
+is_invite request = is_method (codes "INVITE") request
+
+abbrev pub is_bye : Message → Bool
+is_bye request = is_method (codes "BYE") request
+
+abbrev pub is_cancel : Message → Bool
+is_cancel request = is_method (codes "CANCEL") request
+
+abbrev pub is_prack : Message → Bool
+is_prack request = is_method (codes "PRACK") request
+
+-- it has a To tag: it was sent inside a dialog
+abbrev pub is_inside : Message → Bool
+is_inside request = not (length (tag_of request.to) == 0)
+
+-- the option of reliable provisional responses
+abbrev pub is_100rel : List ℕ → Bool
+is_100rel option = str_eq_ignore_ascii_case option (codes "100rel")
+
+abbrev pub requires_100rel : Message → Bool
+requires_100rel request = list_any is_100rel request.require
+
+abbrev pub supports_100rel : Message → Bool
+supports_100rel request = list_any is_100rel request.supported || requires_100rel request
+
+-- an option that the agent doesn't know
+abbrev pub is_unknown_option : List ℕ → Bool
+is_unknown_option option = not (is_100rel option)
+
+-- the tag that the answers to a request carry in To: its own, or where it has none the one made for
+-- it (RFC 3261, section 8.2.6.2)
+abbrev pub local_tag_of : Message → List ℕ → List ℕ
+local_tag_of request made = if length (tag_of request.to) == 0 then made else tag_of request.to
+
+-- the name of a dialog of these tags
+abbrev pub name_of_tags : List ℕ → List ℕ → DialogName
+name_of_tags local remote =
+    record { local = str_to_ascii_lowercase local; remote = str_to_ascii_lowercase remote }
+
+-- the name of the dialog that a request is in, or that its answer makes
+abbrev pub dialog_name : Message → List ℕ → DialogName
+dialog_name request made = name_of_tags (local_tag_of request made) (tag_of request.from)
+
+-- classes of status codes; 101 to 199 are the provisional ones that a user gives
+abbrev pub is_provisional : ℕ → Bool
+is_provisional status = nat_lt status 200
+
+abbrev pub is_success : ℕ → Bool
+is_success status = nat_le 200 status && nat_lt status 300
+
+abbrev pub is_final : ℕ → Bool
+is_final status = nat_le 200 status

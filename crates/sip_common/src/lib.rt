@@ -1,0 +1,24 @@
+//! What both sides of a call have in common: what a call is given and gives, the dialogs that it
+//! holds, and what a request or a response says.
+#![tactic(auto)]
+
+mod command;
+mod debt;
+pub mod dialogs;
+mod held_dialog;
+mod item;
+mod notice;
+pub mod outputs;
+mod refusal;
+pub mod request;
+
+pub use command::{
+    Cancel, DialogBody, DialogRequest, Invite, Plain, ProvisionalSupport, Reliability, Respond,
+    UserCommand,
+};
+pub use debt::Debt;
+pub use dialogs::Dialogs;
+pub use held_dialog::{DialogLife, DialogName, HeldDialog};
+pub use item::{CallOut, Item};
+pub use notice::Notice;
+pub use refusal::Refusal;

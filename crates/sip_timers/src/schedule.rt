@@ -1,0 +1,124 @@
+//! The moments at which keys are due, where whoever holds a key knows its moment.
+
+ghost use Rattle.std.specs.Prelude.{◌≡◌, ℕ, ◌≤◌, [], Option, Some, None, OnOk, OnErr, IfOk, IfSome, IfNone};
+ghost use Rattle.std.specs.List.{list_any};
+ghost use Rattle.std.specs.BTreeMap.{is_at};
+ghost use Rattle.std.specs.List.Sorted.{IsStrictlySortedBy};
+ghost use Rattle.sip_timers.specs.Queue.{is_due, if_later};
+ghost use Rattle.sip_timers.specs.Index.{IsIndexOf, with_moment};
+
+use crate::NoMemory;
+use crate::queue::count_due;
+use std::alloc::Global;
+use std::collections::BTreeSet;
+use std::marker::Model;
+
+/// Keys by the moments, in milliseconds, at which they are due, each key at most once.
+///
+/// It doesn't look for the moment of a key: whoever moves a key or takes it out says at which it
+/// is. Contracts see the list of moments beside keys, and speak of any moments of keys of which
+/// that is the index.
+#[derive(Drop)]
+pub struct Schedule<K: Ord> {
+    alloc: Global,
+    dues: BTreeSet<(u64, K)>,
+}
+
+impl<K: Ord> Model for Schedule<K> {
+    ghost use Rattle.std.specs.Prelude.{ℕ, List};
+
+    ghost Value = { List (ℕ × K) };
+
+    ghost view = { λ s. s.dues.keys };
+}
+
+impl<K: Ord + Drop> Schedule<K> {
+    /// An empty schedule. It takes no memory.
+    pub fn new(alloc: Global) -> Schedule<K>
+        ensures { result ≡ [] }
+    {
+        Schedule {
+            alloc,
+            dues: BTreeSet::new(alloc),
+        }
+    }
+
+    /// The earliest moment at which a key is due. It takes no memory.
+    pub fn next_due(&self) -> Option<u64>
+        ensures none_before { (moments : K → Option ℕ) → IsIndexOf K.cmp moments self.now
+            → IfSome result (λ due. (q : K) → IfSome (moments q) (λ other. due ≤ other)) }
+        ensures of_a_key { (moments : K → Option ℕ) → IsIndexOf K.cmp moments self.now
+            → IfSome result (λ due. (q : K) × (moments q ≡ Some due)) }
+        ensures none_due { (moments : K → Option ℕ) → IsIndexOf K.cmp moments self.now
+            → IfNone result ((q : K) → moments q ≡ None) }
+    {
+        Some(self.dues.first()?.0)
+    }
+
+    /// Makes a key due that wasn't.
+    ///
+    /// # Errors
+    ///
+    /// `NoMemory`, and then the schedule is as it was.
+    pub fn arm(&mut self, key: K, due: u64) -> Result<(), NoMemory>
+        ensures ok { OnOk result ((moments : K → Option ℕ) → IsIndexOf K.cmp moments self.old
+            → moments key ≡ None
+            → IsIndexOf K.cmp (with_moment K.cmp moments key (Some due)) self.new) }
+        ensures err { OnErr result (self.new ≡ self.old) }
+    {
+        self.dues.insert((due, key))?;
+        Ok(())
+    }
+
+    /// Makes a key due at another moment than `former`, at which it is.
+    ///
+    /// # Errors
+    ///
+    /// `NoMemory`, and then the key is due no longer.
+    pub fn rearm(&mut self, key: K, former: u64, due: u64) -> Result<(), NoMemory>
+        ensures { OnOk result ((moments : K → Option ℕ) → IsIndexOf K.cmp moments self.old
+            → moments key ≡ Some former
+            → IsIndexOf K.cmp (with_moment K.cmp moments key (Some due)) self.new) }
+    {
+        let place = (former, key);
+        self.dues.remove(&place);
+        self.dues.insert((due, place.1))?;
+        Ok(())
+    }
+
+    /// Takes out a key, which is due at this moment. It takes no memory.
+    pub fn disarm(&mut self, key: K, due: u64)
+        ensures { (moments : K → Option ℕ) → IsIndexOf K.cmp moments self.old
+            → moments key ≡ Some due
+            → IsIndexOf K.cmp (with_moment K.cmp moments key None) self.new }
+    {
+        self.dues.remove(&(due, key));
+    }
+
+    /// Takes out all keys that are due at `now` or were before, and gives them in their order.
+    ///
+    /// # Errors
+    ///
+    /// `NoMemory`, and then the schedule is as it was.
+    pub fn take_due(&mut self, now: u64) -> Result<Vec<K>, NoMemory>
+        ensures in_order { (moments : K → Option ℕ) → IsIndexOf K.cmp moments self.old
+            → IfOk result (λ keys. IsStrictlySortedBy K.cmp keys.items) }
+        ensures given { (moments : K → Option ℕ) → IsIndexOf K.cmp moments self.old
+            → IfOk result (λ keys. (q : K)
+            → list_any (is_at (K.cmp q)) keys.items ≡ is_due now (moments q)) }
+        ensures left { (moments : K → Option ℕ) → IsIndexOf K.cmp moments self.old
+            → OnOk result (IsIndexOf K.cmp (λ q. if_later now (moments q)) self.new) }
+        ensures err { OnErr result (self.new ≡ self.old) }
+    {
+        let count = count_due(&self.dues, now);
+        let mut keys = Vec::with_capacity(self.alloc, count)?;
+        for _ in 0..count {
+            let Some((_, key)) = self.dues.pop_first() else {
+                unreachable!()
+            };
+            keys.push_reserved(key);
+        }
+        keys.sort_unstable();
+        Ok(keys)
+    }
+}
