@@ -1,4 +1,5 @@
 pub mod Ends
 pub mod OwnUri
+pub mod ReadLines
 pub mod Sendings
 pub mod Told

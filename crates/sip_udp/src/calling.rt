@@ -40,16 +40,18 @@ struct Up {
     due: u64,
 }
 
-/// Sends an INVITE and ends each dialog that a 2xx to it confirms by a BYE, the first one as late as
-/// its plan says. Where that 2xx has a body, its ACK waits for the user, who gives it, without a
-/// body, before the BYE. BYE and OPTIONS of the peer are answered with 200, every other request with
-/// 501. One second before the last turn a call that isn't answered is cancelled and one that is up
-/// is ended, where it is to be.
+/// Sends an INVITE and ends each dialog that a 2xx to it confirms by a BYE, the first one as late
+/// as its plan says. Where that 2xx has a body and the INVITE had none, its ACK waits for the user,
+/// who gives it, without a body, before the BYE. BYE and OPTIONS of the peer are answered with 200,
+/// every other request with 501. One second before the last turn a call that isn't answered is
+/// cancelled and one that is up is ended, where it is to be.
 #[derive(Drop)]
 pub(crate) struct Calling {
     // Until it was sent.
     invite: Option<Invite>,
     call_id: CallId,
+    // Whether the INVITE has a body: an offer, to which a body of its 2xx is the answer.
+    has_offer: bool,
     hold: Option<u32>,
     leaves: bool,
     must_answer: bool,
@@ -65,6 +67,7 @@ impl Calling {
         let invite = plan.invite(from)?;
         Ok(Calling {
             call_id: invite.call_id.clone()?,
+            has_offer: !invite.body.is_empty(),
             invite: Some(invite),
             hold,
             leaves,
@@ -91,7 +94,7 @@ impl Calling {
         }
         let former = self.stage;
         self.stage = Stage::Answered;
-        if !body.is_empty() {
+        if !body.is_empty() && !self.has_offer {
             events.push(ack(alloc, &self.call_id, local_tag, remote_tag)?)?;
         }
         match self.hold {

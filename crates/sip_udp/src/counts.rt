@@ -1,5 +1,6 @@
 //! What a run counts.
 
+use crate::sent::Sent;
 use sip_message::Addr;
 use sip_round::{Event, Output, Round};
 use sip_served::{Notice, UserCommand};
@@ -15,6 +16,8 @@ pub(crate) struct Counts {
     datagrams: u64,
     dropped: Vec<Dropped>,
     sent: u64,
+    again: u64,
+    before: Sent,
     invites: u64,
     most_held: u128,
     /// Datagrams for which the line of the listener had no room.
@@ -36,6 +39,8 @@ impl Counts {
             datagrams: 0,
             dropped: Vec::new(alloc),
             sent: 0,
+            again: 0,
+            before: Sent::new(alloc),
             invites: 0,
             most_held: 0,
             lost: 0,
@@ -59,7 +64,7 @@ impl Counts {
             self.add_event(event);
         }
         for output in outputs {
-            self.add_output(output)?;
+            self.add_output(round.moment, output)?;
         }
         Ok(())
     }
@@ -74,9 +79,14 @@ impl Counts {
         }
     }
 
-    fn add_output(&mut self, output: &Output) -> Result<(), AllocError> {
+    fn add_output(&mut self, now: u64, output: &Output) -> Result<(), AllocError> {
         match output {
-            Output::Send { .. } => self.sent = self.sent.saturating_add(1),
+            Output::Send { key, to, bytes } => {
+                self.sent = self.sent.saturating_add(1);
+                if self.before.add(now, key.as_ref(), *to, bytes.as_slice())? {
+                    self.again = self.again.saturating_add(1);
+                }
+            }
             Output::Dropped { reason, .. } => self.add_dropped(*reason)?,
             Output::Notice(Notice::Request { method, .. }) => {
                 if method.as_slice() == b"INVITE".as_slice() {
@@ -115,12 +125,14 @@ impl fmt::Display for Counts {
             write!(f, ", {count} dropped as {reason}")?;
         }
         let sent = self.sent;
+        let again = self.again;
         let invites = self.invites;
         let most_held = self.most_held;
         let lost = self.lost;
         write!(
             f,
-            ", {sent} sent, {invites} INVITEs, {most_held} held at most, {lost} lost"
+            ", {sent} sent, {again} of them again, {invites} INVITEs, {most_held} held at most, \
+            {lost} lost"
         )
     }
 }

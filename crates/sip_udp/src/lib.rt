@@ -4,6 +4,7 @@
 
 mod answer;
 mod answering;
+mod bell;
 mod call_plan;
 mod calling;
 mod counts;
@@ -19,6 +20,7 @@ mod pipe;
 mod piped;
 mod record;
 mod sending;
+mod sent;
 mod talk;
 mod turns;
 mod user;

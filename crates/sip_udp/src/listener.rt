@@ -3,6 +3,7 @@
 ghost use Rattle.std.specs.Prelude.{◌≡◌, IfSome};
 ghost use Rattle.sip_desk.specs.Lines.{IsEndOfLine, SameLine};
 
+use crate::bell::Bell;
 use crate::fault::UaFault;
 use crate::inlet::{Inlet, Received};
 use sip_desk::{Ended, Poster};
@@ -23,15 +24,36 @@ pub struct Flags {
     pub stop: AtomicBool,
     /// The listener has ended.
     pub ended: AtomicBool,
+    // It is rung when the listener has posted something or ended.
+    bell: Option<Arc<Bell>>,
 }
 
 impl Flags {
     /// Neither.
     pub fn new() -> Flags {
+        Flags::with_bell(None)
+    }
+
+    /// Neither; at this bell the turns wait.
+    pub(crate) fn with_bell(bell: Option<Arc<Bell>>) -> Flags {
         Flags {
             stop: AtomicBool::new(false),
             ended: AtomicBool::new(false),
+            bell,
         }
+    }
+
+    /// Wakes the turns.
+    pub(crate) fn ring(&self) {
+        if let Some(bell) = &self.bell {
+            bell.ring();
+        }
+    }
+
+    /// Says that the listener has ended.
+    pub(crate) fn end(&self) {
+        self.ended.store(true, Ordering::SeqCst);
+        self.ring();
     }
 }
 
@@ -58,17 +80,10 @@ pub fn hear<I: Inlet + Drop>(
     ensures { IfSome result.end (λ end. IsEndOfLine line end) }
 {
     let mut lost = 0;
-    let posted = post_all(
-        alloc,
-        &mut inlet,
-        &mut buffer,
-        &mut line,
-        &flags.stop,
-        &mut lost,
-    );
+    let posted = post_all(alloc, &mut inlet, &mut buffer, &mut line, &flags, &mut lost);
     let fault = posted.err();
     let end = line.finish().ok();
-    flags.ended.store(true, Ordering::SeqCst);
+    flags.end();
     Heard { end, fault, lost }
 }
 
@@ -78,14 +93,14 @@ fn post_all<I: Inlet>(
     inlet: &mut I,
     buffer: &mut [u8],
     line: &mut Poster<Event>,
-    stop: &AtomicBool,
+    flags: &Flags,
     lost: &mut u64,
 ) -> Result<(), UaFault>
     ensures { SameLine line.old line.new }
 {
     let mut failed = 0;
     for _ in 0..u64::MAX {
-        if stop.load(Ordering::SeqCst) {
+        if flags.stop.load(Ordering::SeqCst) {
             break;
         }
         match inlet.receive(buffer) {
@@ -93,6 +108,7 @@ fn post_all<I: Inlet>(
                 if !post(alloc, line, from, &buffer[..length])? {
                     *lost = lost.saturating_add(1);
                 }
+                flags.ring();
                 failed = 0;
             }
             Received::Nothing => failed = 0,

@@ -2,7 +2,7 @@
 //! posted.
 
 ghost use Rattle.std.specs.Prelude.{IfOk};
-ghost use Rattle.sip_udp.specs.Piping.{Says};
+ghost use Rattle.sip_udp.specs.Piping.{Says, SaysRead};
 
 use crate::fault::UaFault;
 use crate::listener::Flags;
@@ -36,8 +36,8 @@ pub fn feed<I: BufRead + Drop>(
     mut line: Poster<PipeLine>,
     flags: Arc<Flags>,
 ) -> Result<(), UaFault> {
-    let end = post_lines(alloc, &mut input, &mut line, &flags.stop);
-    flags.ended.store(true, Ordering::SeqCst);
+    let end = post_lines(alloc, &mut input, &mut line, &flags);
+    flags.end();
     end
 }
 
@@ -45,7 +45,7 @@ fn post_lines<I: BufRead>(
     alloc: Global,
     input: &mut I,
     line: &mut Poster<PipeLine>,
-    stop: &AtomicBool,
+    flags: &Flags,
 ) -> Result<(), UaFault> {
     for number in 1..u64::MAX {
         let mut text = Vec::new(alloc);
@@ -55,15 +55,18 @@ fn post_lines<I: BufRead>(
             Err(_) => return Err(UaFault::Input),
         }
         let said = said_by(alloc, number, &text)?;
-        if !post_in_time(line, said, stop) {
+        if !post_in_time(line, said, &flags.stop) {
             break;
         }
+        flags.ring();
     }
     Ok(())
 }
 
-// What a line says, with its end; one that has none says nothing.
-fn said_by(alloc: Global, number: u64, text: &[u8]) -> Result<PipeLine, AllocError> {
+// What a line says, with its end; one that has none is no command.
+fn said_by(alloc: Global, number: u64, text: &[u8]) -> Result<PipeLine, AllocError>
+    ensures { IfOk result (SaysRead number text.now) }
+{
     match text.strip_suffix(b"\n".as_slice()) {
         Some(line) => line_says(alloc, number, line),
         None => Ok(PipeLine::NoCommand(number)),

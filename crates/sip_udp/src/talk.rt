@@ -4,6 +4,7 @@ ghost use Rattle.std.specs.Prelude.{◌≡◌, IfOk, IfSome, OnOk};
 ghost use Rattle.sip_desk.specs.Lines.{IsEndOfLine, IsPosterOf, IsEndOf, all_posted, taken};
 
 use crate::answering::Answering;
+use crate::bell::Bell;
 use crate::call_plan::CallPlan;
 use crate::calling::Calling;
 use crate::endpoint::Endpoint;
@@ -20,7 +21,7 @@ use sip_round::Event;
 use sip_text::Text;
 use std::alloc::{AllocError, Global};
 use std::io::{self, BufRead, Write};
-use std::net::UdpSocket;
+use std::net::{Net, UdpSocket};
 use std::snapshot::Snapshot;
 use std::sync::Arc;
 use std::sync::atomic::Ordering;
@@ -70,7 +71,8 @@ pub fn listen_at<R: Threads + Clock + Sync, F: Write + Drop, W: Write, E: Write>
     errors: &mut E,
 ) -> Result<(), UaFault> {
     let user = Answering::new(alloc, plan);
-    talk(rt, alloc, endpoint, user, u64::from(turns), notices, errors)
+    let turns = u64::from(turns);
+    talk(rt, alloc, endpoint, user, None, turns, notices, errors)
 }
 
 /// Calls a URI at an address, ends each dialog that a 2xx confirms, and takes so many turns of 10
@@ -114,7 +116,8 @@ pub fn call_from<R: Threads + Clock + Sync, F: Write + Drop, W: Write, E: Write>
 ) -> Result<(), UaFault> {
     let from = own_uri(alloc, endpoint.config.local)?;
     let user = Calling::new(plan, from)?;
-    talk(rt, alloc, endpoint, user, u64::from(turns), notices, errors)
+    let turns = u64::from(turns);
+    talk(rt, alloc, endpoint, user, None, turns, notices, errors)
 }
 
 /// Does what the lines of the input ask for, each the command of an event file, and writes each
@@ -126,7 +129,7 @@ pub fn call_from<R: Threads + Clock + Sync, F: Write + Drop, W: Write, E: Write>
 ///
 /// The first fault; the input may not have ended then.
 pub fn agent<
-    R: Threads + Clock + Sync,
+    R: Threads + Clock + Net + Sync,
     F: Write + Drop,
     I: BufRead + Send + Drop + 'static,
     W: Write,
@@ -141,15 +144,15 @@ pub fn agent<
     errors: &mut E,
 ) -> Result<(), UaFault> {
     let (pipe, line) = one_line(alloc)?;
-    let Ok(flags) = Arc::new(alloc, Flags::new()) else {
-        return Err(UaFault::NoMemory);
-    };
+    let bell = bell_of(rt, alloc)?;
+    let flags = flags_with(alloc, Some(bell.clone()?))?;
     let their_flags = flags.clone()?;
     let user = Piped::new(pipe, flags.clone()?, linger);
     let Ok(feeder) = thread::spawn(rt, move || feed(alloc, input, line, their_flags)) else {
         return Err(UaFault::Socket);
     };
-    let end = talk(rt, alloc, endpoint, user, u64::MAX, notices, errors);
+    let bell = Some(bell);
+    let end = talk(rt, alloc, endpoint, user, bell, u64::MAX, notices, errors);
     flags.stop.store(true, Ordering::SeqCst);
     end?;
     feeder.join(rt)
@@ -171,12 +174,30 @@ impl Promise<Heard> for OfLine {
     ghost kept_by = { λ promise heard. IfSome heard.end (λ end. IsEndOfLine promise.0.value end) };
 }
 
+fn bell_of<N: Net>(rt: &N, alloc: Global) -> Result<Arc<Bell>, UaFault> {
+    let Ok(bell) = Bell::new(rt) else {
+        return Err(UaFault::Socket);
+    };
+    match Arc::new(alloc, bell) {
+        Ok(bell) => Ok(bell),
+        Err(_) => Err(UaFault::NoMemory),
+    }
+}
+
+fn flags_with(alloc: Global, bell: Option<Arc<Bell>>) -> Result<Arc<Flags>, UaFault> {
+    match Arc::new(alloc, Flags::with_bell(bell)) {
+        Ok(flags) => Ok(flags),
+        Err(_) => Err(UaFault::NoMemory),
+    }
+}
+
 // Starts the listener, takes the turns, and joins and settles the listener.
 fn talk<R: Threads + Clock + Sync, U: User, F: Write + Drop, W: Write, E: Write>(
     rt: &R,
     alloc: Global,
     endpoint: Endpoint<F>,
     user: U,
+    bell: Option<Arc<Bell>>,
     turns: u64,
     notices: &mut W,
     errors: &mut E,
@@ -191,12 +212,12 @@ fn talk<R: Threads + Clock + Sync, U: User, F: Write + Drop, W: Write, E: Write>
     let Ok(theirs) = listening(&socket) else {
         return Err(UaFault::Socket);
     };
-    let mut own = Turns::new(rt, alloc, config, division, record, user, errors)?;
+    let flags = flags_with(alloc, bell.clone()?)?;
+    let mut own = Turns::new(
+        rt, alloc, config, division, record, is_counted, user, bell, errors,
+    )?;
     let (mut desk, line) = one_line(alloc)?;
     let buffer = vec![in alloc; 0u8; BUFFER]?;
-    let Ok(flags) = Arc::new(alloc, Flags::new()) else {
-        return Err(UaFault::NoMemory);
-    };
     let their_flags = flags.clone()?;
     let of_line = OfLine(Snapshot::of(&line));
     let Ok(listener) = thread::spawn_with(rt, of_line, move || {
@@ -216,9 +237,7 @@ fn talk<R: Threads + Clock + Sync, U: User, F: Write + Drop, W: Write, E: Write>
     );
     flags.stop.store(true, Ordering::SeqCst);
     let heard = listener.join(rt);
-    if is_counted {
-        own.tell_counts(heard.lost, errors);
-    }
+    own.tell_counts(heard.lost, errors);
     end?;
     settle(&mut desk, heard)?;
     own.verdict()

@@ -2,6 +2,7 @@
 
 ghost use Rattle.sip_desk.specs.Lines.{KeepsLines};
 
+use crate::bell::Bell;
 use crate::counts::Counts;
 use crate::division::Division;
 use crate::fault::{UaFault, refused_round};
@@ -17,6 +18,7 @@ use sip_text::Series;
 use std::alloc::{AllocError, Global};
 use std::io::Write;
 use std::mem;
+use std::sync::Arc;
 use std::sync::atomic::{AtomicBool, Ordering};
 use std::thread::{self, Threads};
 use std::time::{Clock, Duration, Instant};
@@ -24,7 +26,7 @@ use std::time::{Clock, Duration, Instant};
 /// How many events the line of the listener has room for.
 pub(crate) const LINE_CAPACITY: usize = 1024;
 
-/// How long a turn sleeps at its end, in ms, or waits at most for an event.
+/// How long a turn sleeps at its end, in ms, or waits at its bell at most.
 const PAUSE: u64 = 10;
 
 /// The gate of the agent: it holds no piece of work up.
@@ -40,9 +42,12 @@ pub(crate) struct Turns<U, F> {
     alloc: Global,
     agent: Agent<Spread>,
     user: U,
+    // Where the turns of an eager user wait for the first event.
+    bell: Option<Arc<Bell>>,
     division: Division,
     record: Record<F>,
-    counts: Counts,
+    // Where it is told at the end what was counted.
+    counts: Option<Counts>,
     start: Instant,
     // The moment of the last round, in ms since the start, and the number of the next.
     moment: u64,
@@ -59,7 +64,9 @@ impl<U: User, F: Write + Drop> Turns<U, F> {
         config: Config,
         division: Division,
         record: Option<F>,
+        is_counted: bool,
         mut user: U,
+        bell: Option<Arc<Bell>>,
         errors: &mut E,
     ) -> Result<Turns<U, F>, UaFault> {
         let agent = Agent::new(alloc, config, division.shards, Spread)?;
@@ -74,9 +81,10 @@ impl<U: User, F: Write + Drop> Turns<U, F> {
             alloc,
             agent,
             user,
+            bell,
             division,
             record,
-            counts: Counts::new(alloc, config.local),
+            counts: is_counted.then(|| Counts::new(alloc, config.local)),
             start,
             moment: 0,
             number: config.first,
@@ -102,13 +110,14 @@ impl<U: User, F: Write + Drop> Turns<U, F> {
                 break;
             }
             self.gather(rt, turns_left, desk, errors)?;
-            if self.user.is_over(self.moment_now(rt)?, self.has_work()) {
+            let now = self.moment_now(rt)?;
+            if self.user.is_over(now, self.holds()) {
                 break;
             }
-            if self.has_work() || !self.user.is_eager() {
+            if self.is_due(now) {
                 self.turn(rt, outlet, notices, errors)?;
             }
-            self.pause(rt, turns_left, desk, errors)?;
+            self.pause(rt)?;
         }
         Ok(())
     }
@@ -126,11 +135,12 @@ impl<U: User, F: Write + Drop> Turns<U, F> {
         }
     }
 
-    /// Tells what was counted, after the listener has lost so many datagrams.
+    /// Tells what was counted, where it is to, after the listener has lost so many datagrams.
     pub(crate) fn tell_counts<E: Write>(&mut self, lost: u64, errors: &mut E) {
-        self.counts.lost = lost;
-        let counts = &self.counts;
-        let _ = writeln!(errors, "ua: {counts}");
+        if let Some(counts) = &mut self.counts {
+            counts.lost = lost;
+            let _ = writeln!(errors, "ua: {counts}");
+        }
     }
 
     // What the user asks for by itself, and what was posted.
@@ -149,9 +159,18 @@ impl<U: User, F: Write + Drop> Turns<U, F> {
         self.collect(desk)
     }
 
-    // Whether something waits or is held, so that a round may change something.
-    fn has_work(&self) -> bool {
+    // Whether something waits or is held.
+    fn holds(&self) -> bool {
         !self.waiting.is_empty() || self.agent.live() != (0, 0)
+    }
+
+    // Whether a round is run now: an eager user's only where it may give or change something.
+    fn is_due(&self, now: u64) -> bool {
+        let has_cause = match self.agent.next_due() {
+            Some(due) if due <= now => true,
+            _ => !self.waiting.is_empty(),
+        };
+        has_cause || !self.user.is_eager()
     }
 
     // A round, whose outputs are sent and told.
@@ -169,28 +188,21 @@ impl<U: User, F: Write + Drop> Turns<U, F> {
         write_notices(self.alloc, notices, &outputs, self.user.is_eager())
     }
 
-    // Sleeps; an eager user's turn is over as soon as something waits.
-    fn pause<R: Clock, E: Write>(
-        &mut self,
-        rt: &R,
-        turns_left: u64,
-        desk: &mut Desk<Event>,
-        errors: &mut E,
-    ) -> Result<(), UaFault>
-        ensures { KeepsLines desk.old desk.new }
-    {
-        if !self.user.is_eager() {
+    // Sleeps, or waits at the bell for the first event, no longer than nothing is due.
+    fn pause<R: Clock>(&self, rt: &R) -> Result<(), UaFault> {
+        let Some(bell) = &self.bell else {
             thread::sleep(rt, Duration::from_millis(PAUSE));
             return Ok(());
+        };
+        if !self.waiting.is_empty() {
+            return Ok(());
         }
-        for _ in 0..PAUSE {
-            if !self.waiting.is_empty() {
-                break;
-            }
-            thread::sleep(rt, Duration::from_millis(1));
-            self.gather(rt, turns_left, desk, errors)?;
-        }
-        Ok(())
+        let left = match self.agent.next_due() {
+            Some(due) => due.saturating_sub(self.moment_now(rt)?).clamp(1, PAUSE),
+            None => PAUSE,
+        };
+        bell.wait(Duration::from_millis(left))
+            .map_err(|_| UaFault::Socket)
     }
 
     // Puts what was posted behind what waits, as far as the next round has room.
@@ -218,7 +230,9 @@ impl<U: User, F: Write + Drop> Turns<U, F> {
                 self.moment = moment;
                 self.number = self.number.saturating_add(1);
                 self.record.add(self.alloc, &round, errors)?;
-                self.counts.add(&round, &outputs, self.agent.live())?;
+                if let Some(counts) = &mut self.counts {
+                    counts.add(&round, &outputs, self.agent.live())?;
+                }
                 Ok(outputs)
             }
             Err(fault) => Err(refused_round(self.number, fault)),
