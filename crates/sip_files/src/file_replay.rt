@@ -103,9 +103,13 @@ pub fn replay<T: Threads + Sync, R: CountedRead, W: Write, C: Cut + Drop, G: Gat
     write_whole(writer, file.as_slice())
 }
 
-// All bytes of the reader, up to the limit of an event file. Each read gives at least one byte, the
-// end or an error.
-fn read_all<R: CountedRead>(alloc: Global, reader: &mut R) -> Result<Vec<u8>, ReplayFault>
+/// All bytes of the reader, up to the limit of an event file. Each read gives at least one byte, the
+/// end or an error.
+///
+/// # Errors
+///
+/// A read that failed, a text that is too long, and want of memory.
+pub fn read_all<R: CountedRead>(alloc: Global, reader: &mut R) -> Result<Vec<u8>, ReplayFault>
     ensures all { IfOk result (λ text.
         IfSome (R.remaining reader.old) (λ input. text.items ≡ input)) }
     ensures fault { IfErr result (λ fault. IfSome (R.remaining reader.old) (TellsReplay fault)) }
@@ -181,8 +185,12 @@ fn with_moments(
     Ok(made)
 }
 
-// Each write takes at least one byte, or the writer has failed.
-fn write_whole<W: Write>(writer: &mut W, bytes: &[u8]) -> Result<(), ReplayFault>
+/// Writes all of this, and flushes. Each write takes at least one byte, or the writer has failed.
+///
+/// # Errors
+///
+/// `Output`; a front of it may be written.
+pub fn write_whole<W: Write>(writer: &mut W, bytes: &[u8]) -> Result<(), ReplayFault>
     ensures all { OnOk result (Appends (W.contents writer.old) (W.contents writer.new) bytes.now) }
     ensures front { OnErr result ((front rest : List ℕ) × (bytes.now ≡ front ++ rest)
         × Appends (W.contents writer.old) (W.contents writer.new) front) }

@@ -24,5 +24,5 @@ pub use event_line::read_command_line;
 pub use events_fault::EventsFault;
 pub use events_file::{MAX_EVENTS, read_events};
 pub use events_writer::{write_head, write_round};
-pub use file_replay::{ReplayFault, replay};
+pub use file_replay::{ReplayFault, read_all, replay, write_whole};
 pub use outputs_file::{write_output, write_outputs};

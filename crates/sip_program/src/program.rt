@@ -4,7 +4,8 @@ ghost use Rattle.std.specs.Prelude.{◌≡◌, ◌≢◌, ◌⊎◌, ◌<◌, �
 ghost use Rattle.sip_files.specs.EventFile.{IsEventFile};
 ghost use Rattle.sip_files.specs.Replay.{TellsReplay, WritesAll, WritesFront};
 ghost use Rattle.sip_program.specs.Inputs.{HasRefusedRound, IsNoEventFile};
-ghost use Rattle.sip_program.specs.Words.{asks_replay};
+ghost use Rattle.sip_ladder.specs.Drawing.{DrawsAll};
+ghost use Rattle.sip_program.specs.Words.{asks_ladder, asks_replay};
 ghost use Rattle.sip_files.specs.declared.file_replay.ReplayFault.TheVariants as replay_fault;
 
 use crate::host::Host;
@@ -12,6 +13,7 @@ use crate::status::{finish, finish_talk, tell_words};
 use crate::talking::talk_by;
 use crate::words::{self, CutName, ReplayWords, parse, replay_words};
 use sip_files::{ReplayFault, replay};
+use sip_ladder::ladder;
 use sip_message::{First, Spread};
 use sip_round::Gate;
 use std::alloc::Global;
@@ -29,7 +31,8 @@ impl Gate for Open {
 /// All that the program does, from its words to its status; the words stand without the program's
 /// own name.
 ///
-/// `ua replay` reads an event file from `input` and writes its output file to `output`. `ua listen`
+/// `ua replay` reads an event file from `input` and writes its output file to `output`, and `ua
+/// ladder` writes its ladder there. `ua listen`
 /// and `ua call` read nothing there, and write the lines of their notices to `output`; so does
 /// `ua agent`, which reads commands from the pipe of `rt`. A fault is told on `errors`
 /// after `ua: `, and a fault of the words as `clap` tells it. A write to `errors` that fails is
@@ -56,7 +59,21 @@ pub fn ua<T: Threads + Host, S: AsStr, R: Read, W: Write, E: Write>(
     ensures front { IsTrue (asks_replay (map S.text words.now)) → result ≡ 4
         → (output.new ≡ output.old) ⊎ IfSome (R.remaining input.old)
         (WritesFront (W.contents output.old) (W.contents output.new)) }
-    ensures unread { IsFalse (asks_replay (map S.text words.now)) → input.new ≡ input.old }
+    ensures draws { IsFalse (asks_replay (map S.text words.now))
+        → IsTrue (asks_ladder (map S.text words.now)) → result ≡ 0
+        → IfSome (R.remaining input.old)
+        (DrawsAll (W.contents output.old) (W.contents output.new)) }
+    ensures undrawn { IsFalse (asks_replay (map S.text words.now))
+        → IsTrue (asks_ladder (map S.text words.now)) → result ≢ 0 → result ≢ 4
+        → output.new ≡ output.old }
+    ensures no_events_to_draw { IsFalse (asks_replay (map S.text words.now))
+        → IsTrue (asks_ladder (map S.text words.now)) → result ≡ 1
+        → IfSome (R.remaining input.old) IsNoEventFile }
+    ensures refused_to_draw { IsFalse (asks_replay (map S.text words.now))
+        → IsTrue (asks_ladder (map S.text words.now)) → result ≡ 3
+        → IfSome (R.remaining input.old) HasRefusedRound }
+    ensures unread { IsFalse (asks_replay (map S.text words.now))
+        → IsFalse (asks_ladder (map S.text words.now)) → input.new ≡ input.old }
     ensures bad_words { result ≡ 2 → output.new ≡ output.old }
 {
     let matches = match parse(alloc, words) {
@@ -66,6 +83,8 @@ pub fn ua<T: Threads + Host, S: AsStr, R: Read, W: Write, E: Write>(
     if words::asks_replay(words) {
         let words = replay_words(&matches);
         finish(replay_by(rt, alloc, words, input, output), errors)
+    } else if words::asks_ladder(words) {
+        finish(ladder(rt, alloc, input, output, &Open), errors)
     } else {
         let end = talk_by(rt, alloc, &matches, output, errors);
         finish_talk(end, errors)

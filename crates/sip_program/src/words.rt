@@ -20,6 +20,7 @@ const MAX_WORKERS: usize = 64;
 const EXAMPLES: &str = "\
 Examples:
   ua replay < call.events > call.outputs
+  ua ladder < call.events
   ua listen --local 127.0.0.1:5070 --turns 3000
   ua call --local 127.0.0.1:5080 --to 127.0.0.1:5070 --uri sip:b@127.0.0.1 --turns 200
   ua agent --local 127.0.0.1:5080 --record mine.events < commands
@@ -30,6 +31,11 @@ Status: 0 success, 1 no event file, 2 bad words, 3 a refused round, 4 a device t
 const REPLAY_EXAMPLE: &str = "\
 Example:
   ua replay --shards 8 --workers 4 < call.events > call.outputs";
+
+const LADDER_EXAMPLE: &str = "\
+Example:
+  ua agent --local 127.0.0.1:5080 --record mine.events < commands
+  ua ladder < mine.events";
 
 const LISTEN_EXAMPLE: &str = "\
 Example, and what it prints of a call:
@@ -129,6 +135,16 @@ pub(crate) fn asks_replay<S: AsStr>(words: &[S]) -> bool
     }
 }
 
+/// Whether the command that is asked for is `ladder`.
+pub(crate) fn asks_ladder<S: AsStr>(words: &[S]) -> bool
+    ensures { result ≡ spec.asks_ladder (map S.text words.now) }
+{
+    match words.first() {
+        Some(word) => word.as_str() == "ladder",
+        None => false,
+    }
+}
+
 /// The words as those of one of the commands.
 ///
 /// # Errors
@@ -137,14 +153,15 @@ pub(crate) fn asks_replay<S: AsStr>(words: &[S]) -> bool
 pub(crate) fn parse<'a, S: AsStr>(alloc: Global, words: &'a [S]) -> Result<ArgMatches<'a>, Error> {
     let command = Command::new(alloc, "ua")
         .about(
-            "A SIP user agent's core: it replays event files, and listens, calls and does what a \
-            pipe asks for over UDP",
+            "A SIP user agent's core: it replays event files and draws them, and listens, calls \
+            and does what a pipe asks for over UDP",
         )
         .after_help(EXAMPLES)
         .bin_name("ua")?
         .no_binary_name(true)
         .subcommand_required(true)
         .subcommand(replay_command(alloc)?)?
+        .subcommand(ladder_command(alloc)?)?
         .subcommand(listen_command(alloc)?)?
         .subcommand(call_command(alloc)?)?
         .subcommand(agent_command(alloc)?)?;
@@ -218,6 +235,17 @@ pub(crate) fn agent_words<'a>(matches: &ArgMatches<'a>) -> Option<AgentWords<'a>
         record: agent.get_str("record"),
         stats: agent.get_flag("stats"),
     })
+}
+
+fn ladder_command<'a>(alloc: Global) -> Result<Command<'a>, AllocError> {
+    let command = Command::new(alloc, "ladder")
+        .about(
+            "Reads an event file from standard input and draws its call flow, at most 100 \
+            characters wide: a column for each address, an arrow for each datagram, and a line for \
+            each command, notice and drop",
+        )
+        .after_help(LADDER_EXAMPLE);
+    Ok(command)
 }
 
 fn listen_command<'a>(alloc: Global) -> Result<Command<'a>, AllocError> {

@@ -1,0 +1,3 @@
+pub mod Drawn
+pub mod Places
+pub mod Shown

@@ -1,0 +1,34 @@
+-- What a ladder is: a head, and a row for each event and each output of the rounds, in order.
+use Rattle.std.specs.Prelude.{◌≡◌, ℕ, ◌≤◌, ◌^◌, List, ◌++◌, length, map, Option, None}
+use Rattle.std.specs.List.{flat_map}
+use Rattle.std.specs.Io.KnownBytes.{Appends}
+use Rattle.sip_files.specs.EventFile.{SpellsEvents}
+use Rattle.sip_round.specs.Answers.{answers, refused}
+use Rattle.sip_round.specs.declared.config.Config.{Config}
+use Rattle.sip_round.specs.declared.output.Output.{Output}
+use Rattle.sip_round.specs.declared.round.Round.{Round}
+use Rattle.sip_ladder.specs.Row.{row_line}
+use Rattle.sip_ladder.specs.Shapes.{shape, shapes}
+use Rattle.sip_ladder.specs.declared.columns.Columns.{Columns}
+use Rattle.sip_ladder.specs.declared.line.Line.{Line}
+
+pub record Draws (rounds : List Round) (outputs : List (List Output)) (text : List ℕ) : Type 0 where
+  pub head : List ℕ
+  pub columns : Columns
+  pub lines : List Line
+  pub shown : map shape lines ≡ shapes rounds outputs
+  pub spelled : text ≡ head ++ flat_map (row_line columns) lines
+
+-- the input is an event file, no round of it is refused, and this is the ladder of its rounds and
+-- of what they give
+pub record DrawsFile (input text : List ℕ) : Type 0 where
+  pub config : Config
+  pub rounds : List Round
+  pub spelled : SpellsEvents config rounds input
+  pub size : length input ≤ 2 ^ 26
+  pub unrefused : refused config rounds ≡ None
+  pub drawn : Draws rounds (answers config rounds) text
+
+-- the writer took a whole ladder of the input
+abbrev pub DrawsAll : Option (List ℕ) → Option (List ℕ) → List ℕ → Type 0
+DrawsAll old new input = (text : List ℕ) × DrawsFile input text × Appends old new text

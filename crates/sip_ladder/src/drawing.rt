@@ -1,0 +1,62 @@
+//! An event file in, its ladder out.
+
+ghost use Rattle.std.specs.Prelude.{◌≡◌, ◌≢◌, IfErr, IfOk, IfSome, OnOk};
+ghost use Rattle.sip_files.specs.Replay.{TellsReplay};
+ghost use Rattle.sip_files.specs.declared.file_replay.ReplayFault.TheVariants as replay_fault;
+ghost use Rattle.sip_ladder.specs.Drawing.{DrawsAll, DrawsFile};
+
+use crate::picture::draw;
+use sip_files::{CountedRead, ReplayFault, read_all, read_events, write_whole};
+use sip_message::Spread;
+use sip_round::{Gate, run};
+use std::alloc::Global;
+use std::io::Write;
+use std::thread::Threads;
+
+/// Reads an event file, runs its rounds as a replay does, and writes their ladder: a head, and a
+/// row of at most 100 characters for each event and each output, in order.
+///
+/// # Errors
+///
+/// Those of a replay. With every fault but `Output` nothing was written.
+pub fn ladder<T: Threads + Sync, R: CountedRead, W: Write, G: Gate>(
+    rt: &T,
+    alloc: Global,
+    reader: &mut R,
+    writer: &mut W,
+    gate: &G,
+) -> Result<(), ReplayFault>
+    ensures draws { OnOk result (IfSome (R.remaining reader.old)
+        (DrawsAll (W.contents writer.old) (W.contents writer.new))) }
+    ensures fault { IfErr result (λ fault. IfSome (R.remaining reader.old) (TellsReplay fault)) }
+    ensures unwritten { IfErr result
+        (λ fault. fault ≢ replay_fault.Output → writer.new ≡ writer.old) }
+{
+    let text = read_all(alloc, reader)?;
+    let picture = drawn(rt, alloc, &text, gate)?;
+    write_whole(writer, &picture)
+}
+
+// The ladder of an event file.
+fn drawn<T: Threads + Sync, G: Gate>(
+    rt: &T,
+    alloc: Global,
+    text: &[u8],
+    gate: &G,
+) -> Result<Vec<u8>, ReplayFault>
+    ensures draws { IfOk result (λ picture. DrawsFile text.now picture.items) }
+    ensures fault { IfErr result (λ fault. TellsReplay fault text.now) }
+    ensures unwritten { IfErr result (λ fault. fault ≢ replay_fault.Output) }
+{
+    let (config, events) = match read_events(alloc, text) {
+        Ok(read) => read,
+        Err(fault) => return Err(ReplayFault::Events(fault)),
+    };
+    let rounds = events.as_slice();
+    let answers = match run(rt, alloc, config, 1, 1, Spread, gate, rounds) {
+        Ok(answers) => answers,
+        Err((index, fault)) => return Err(ReplayFault::Round(index, fault)),
+    };
+    let picture = draw(alloc, config.local, rounds, &answers)?;
+    Ok(picture)
+}

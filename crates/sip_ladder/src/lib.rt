@@ -1,0 +1,14 @@
+//! Ladders: the call flow of an event file as a picture in text.
+#![tactic(auto)]
+
+mod before;
+mod columns;
+mod drawing;
+mod label;
+mod line;
+mod lines;
+mod picture;
+mod row;
+
+pub use drawing::ladder;
+pub use line::{Line, Way};
