@@ -8,7 +8,7 @@ use sip_text::Text;
 use sip_udp::{CallPlan, Endpoint, ListenPlan, agent, call_from, listen_at};
 use std::alloc::{AllocError, Global};
 use std::io::{self, BufRead, BufReader, PipeReader, PipeWriter, Read, Write};
-use std::net::{Ipv4Addr, SocketAddrV4, UdpSocket};
+use std::net::{Ipv4Addr, Net, SocketAddrV4, UdpSocket};
 use std::test::Fail;
 use std::thread::{self, Threads};
 use std::time::Clock;
@@ -307,7 +307,7 @@ struct PipedRun {
 }
 
 // An agent on a pipe, whose first tag is known.
-fn piped<R: Threads + Clock + Sync>(
+fn piped<R: Threads + Clock + Net + Sync>(
     rt: &R,
     alloc: Global,
     socket: UdpSocket,
@@ -366,5 +366,69 @@ fn an_agent_on_a_pipe_is_replayed_as_it_was(rt: HostRuntime) -> Result<(), Fail>
     let words = [" ended ", " y\n", " response ", " 487 ", "notice c2 ended "];
     assert!(rt; stand_in_order(&heard.told, &words)?);
     assert!(rt; run.errors.as_slice() == b"ua: line 2 is no command\n".as_slice());
+    Ok(())
+}
+
+// An INVITE with support for reliable provisional responses, and an OPTIONS.
+fn asked(alloc: Global, mut script: Script, to: Addr) -> Result<Heard, Fail> {
+    let uris = format!(in alloc; "sip:b@{to} sip:a@127.0.0.1 sip:b@{to}")?;
+    let invite = format!(in alloc; "invite c1 {to} {uris} supported -")?;
+    script.command(invite.as_str())?;
+    script.notice(alloc, " ended ")?;
+    let options = format!(in alloc; "plain c2 {to} OPTIONS {uris} -")?;
+    script.command(options.as_str())?;
+    script.notice(alloc, "notice c2 response ")?;
+    script.finish()
+}
+
+// The notices of a listener that answers reliably, and then that it is busy.
+fn busy<R: Threads + Clock + Sync>(
+    rt: &R,
+    alloc: Global,
+    socket: UdpSocket,
+    local: Addr,
+) -> Option<Vec<u8>> {
+    let mut notices = Vec::new(alloc);
+    let mut errors = Vec::new(alloc);
+    let mut plan = ListenPlan::usual(alloc);
+    plan.reliable = true;
+    plan.status = 486;
+    let endpoint = Endpoint::new(socket, local, [7; 32], None::<Vec<u8>>);
+    listen_at(rt, alloc, endpoint, plan, 200, &mut notices, &mut errors).ok()?;
+    Some(notices)
+}
+
+// The 183 is acknowledged before the 486 comes, and an OPTIONS is served.
+#[test]
+fn a_listener_answers_reliably_and_as_it_is_told(rt: HostRuntime) -> Result<(), Fail> {
+    let alloc = rt.alloc();
+    let (socket, local) = bound(&rt)?;
+    let (theirs, to) = bound(&rt)?;
+    let (commands, writer) = io::pipe(&rt)?;
+    let (reader, notices) = io::pipe(&rt)?;
+    let script = Script {
+        commands: writer,
+        notices: BufReader::new(alloc, reader)?,
+        socket: theirs.try_clone()?,
+        told: Vec::new(alloc),
+        came: Vec::new(alloc),
+    };
+    let (served, (run, heard)) = thread::join(
+        &rt,
+        || busy(&rt, alloc, theirs, to),
+        || {
+            thread::join(
+                &rt,
+                || piped(&rt, alloc, socket, local, commands, notices),
+                || asked(alloc, script, to),
+            )
+        },
+    );
+    let heard = heard?;
+    assert!(rt; run.is_some());
+    let words = [" 183 ", " 486 ", " ended ", "notice c2 response ", " 200 "];
+    assert!(rt; stand_in_order(&heard.told, &words)?);
+    let served = served.ok_or("a listener that ends")?;
+    assert!(rt; stand_in_order(&served, &[" INVITE ", "notice c1 prack ", " OPTIONS "])?);
     Ok(())
 }

@@ -2,9 +2,10 @@
 
 ghost use Rattle.std.specs.Prelude.{Some, ◌≤◌};
 
-use super::Flushed;
+use super::{Ended, Flushed, run_on};
 use sip_desk::{Desk, NoMemory, Poster, open};
 use sip_message::{Addr, CallId, Key, Token, Uri};
+use sip_program::Host;
 use sip_round::{Event, Output};
 use sip_text::{Series, Text};
 use sip_transactions::DropReason;
@@ -20,7 +21,7 @@ use std::sync::atomic::Ordering;
 use std::test::Fail;
 use std::thread::Threads;
 use std::time::{Clock, Duration};
-use std::{io, thread};
+use std::{fs, io, thread};
 
 const PEER: Addr = Addr {
     ip: [192, 0, 2, 9],
@@ -116,23 +117,33 @@ fn an_outlet_that_fails_each_of_its_sends(rt: HostRuntime) -> Result<(), Fail> {
     Ok(())
 }
 
-/// An inlet that fails so many times in a row, gives one datagram of no bytes, and then fails.
+/// An inlet that fails so many times in a row before each of these, and then only fails.
 #[derive(Drop)]
 struct Broken {
+    failures: u32,
     failures_left: u32,
-    gives: u32,
+    quiet_left: u32,
+    datagrams_left: u32,
 }
 
 impl Inlet for Broken {
     fn receive(&mut self, _buffer: &mut [u8]) -> Received {
-        if self.failures_left == 0 && self.gives > 0 {
-            self.gives -= 1;
+        if self.failures_left > 0 {
+            self.failures_left -= 1;
+            return Received::Failed;
+        }
+        self.failures_left = self.failures;
+        if self.quiet_left > 0 {
+            self.quiet_left -= 1;
+            return Received::Nothing;
+        }
+        if self.datagrams_left > 0 {
+            self.datagrams_left -= 1;
             return Received::Datagram {
                 from: PEER,
                 length: 0,
             };
         }
-        self.failures_left = self.failures_left.saturating_sub(1);
         Received::Failed
     }
 }
@@ -143,14 +154,20 @@ fn one_line(alloc: Global) -> Result<(Desk<Event>, Poster<Event>), NoMemory> {
     Ok((desk, line))
 }
 
-// How many datagrams come before the listener gives up, where so many receives fail before the
-// first.
-fn heard_after(rt: &impl Abort, alloc: Global, failures_left: u32) -> Result<usize, Fail> {
+// How many of two datagrams come before the listener gives up, where so many receives fail before
+// each of them and before each of so many quiet ones, which come first.
+fn heard_after(
+    rt: &impl Abort,
+    alloc: Global,
+    failures: u32,
+    quiet_left: u32,
+) -> Result<usize, Fail> {
     let (mut desk, line) = one_line(alloc)?;
-    let gives = 2;
     let inlet = Broken {
-        failures_left,
-        gives,
+        failures,
+        failures_left: failures,
+        quiet_left,
+        datagrams_left: 2,
     };
     let buffer = vec![in alloc; 0u8; 8]?;
     let flags = Arc::new(alloc, Flags::new())?;
@@ -163,9 +180,10 @@ fn heard_after(rt: &impl Abort, alloc: Global, failures_left: u32) -> Result<usi
 
 #[test]
 fn a_listener_gives_up_after_a_hundred_failures_in_a_row(rt: HostRuntime) -> Result<(), Fail> {
-    assert!(rt; heard_after(&rt, rt.alloc(), 0)? == 2);
-    assert!(rt; heard_after(&rt, rt.alloc(), 99)? == 2);
-    assert!(rt; heard_after(&rt, rt.alloc(), 100)? == 0);
+    for (failures, quiet, datagrams) in [(0, 0, 2), (99, 0, 2), (99, 3, 2), (100, 0, 0)] {
+        let heard = heard_after(&rt, rt.alloc(), failures, quiet)?;
+        assert!(rt; heard == datagrams, "{failures} before each");
+    }
     Ok(())
 }
 
@@ -372,5 +390,184 @@ fn a_listener_flushes_each_notice(rt: HostRuntime) -> Result<(), Fail> {
         assert!(rt; !notices.bytes.is_empty());
         assert!(rt; fails || notices.flushed == notices.bytes.len());
     }
+    Ok(())
+}
+
+// A socket of which no datagram comes in time is quiet, and hasn't failed.
+#[test]
+fn a_socket_without_a_datagram_is_quiet(rt: HostRuntime) -> Result<(), Fail> {
+    let (mut socket, _) = bound(&rt)?;
+    socket.set_read_timeout(Some(Duration::from_millis(1)))?;
+    let received = socket.receive(&mut [0; 8]);
+    assert!(rt; matches!(received, Received::Nothing));
+    Ok(())
+}
+
+// Sends so many datagrams, one each millisecond; a failure is passed over.
+fn blast<R: Clock>(rt: &R, socket: &UdpSocket, to: Addr, datagrams: u32) {
+    let address = SocketAddrV4::new(Ipv4Addr::from_octets(to.ip), to.port);
+    for _ in 0..datagrams {
+        let _ = socket.send_to(b"none".as_slice(), address);
+        thread::sleep(rt, Duration::from_millis(1));
+    }
+}
+
+// How a listener ends that takes so many turns.
+fn listening_end<R: Threads + Clock + Sync>(
+    rt: &R,
+    alloc: Global,
+    socket: UdpSocket,
+    local: Addr,
+    turns: u32,
+) -> Result<(), UaFault> {
+    let mut notices = Vec::new(alloc);
+    listen(rt, alloc, socket, local, [7; 32], turns, &mut notices)
+}
+
+// What comes after the last turn is collected, so that the line is settled.
+#[test]
+fn a_listener_ends_well_while_datagrams_come(rt: HostRuntime) -> Result<(), Fail> {
+    let (theirs, to) = bound(&rt)?;
+    let (own, _) = bound(&rt)?;
+    let alloc = rt.alloc();
+    let (ended, _) = thread::join(
+        &rt,
+        || listening_end(&rt, alloc, theirs, to, 20),
+        || blast(&rt, &own, to, 1_000),
+    );
+    assert!(rt; ended == Ok(()));
+    Ok(())
+}
+
+// A socket that is connected to a port where nobody is fails at a receive after each of its sends.
+#[test]
+fn a_listener_whose_socket_fails_tells_so(rt: HostRuntime) -> Result<(), Fail> {
+    let (nobody, to) = bound(&rt)?;
+    drop(nobody);
+    let (socket, local) = bound(&rt)?;
+    socket.connect(SocketAddrV4::new(Ipv4Addr::LOCALHOST, to.port))?;
+    let own = socket.try_clone()?;
+    let alloc = rt.alloc();
+    let (ended, _) = thread::join(
+        &rt,
+        || listening_end(&rt, alloc, socket, local, 400),
+        || blast(&rt, &own, to, 2_000),
+    );
+    assert!(rt; ended == Err(UaFault::Socket));
+    Ok(())
+}
+
+// The program with these words, which stand with a space between each two.
+fn ua_with<T: Threads + Host>(rt: &T, alloc: Global, words: &str) -> Result<Ended, AllocError> {
+    let words: Vec<&str> = words.split(' ').collect(alloc)?;
+    Ok(run_on(rt, alloc, words.as_slice(), &mut b"".as_slice()))
+}
+
+// A send that fails reaches the agent, and a record that can't be written ends alone.
+#[test]
+fn a_call_that_cannot_be_sent_fails(rt: HostRuntime) -> Result<(), Fail> {
+    let words = "call --local 127.0.0.1:0 --to 255.255.255.255:5060 --uri sip:b@127.0.0.1 \
+        --turns 20 --must-answer --record /dev/full";
+    let ended = ua_with(&rt, rt.alloc(), words)?;
+    assert!(rt; ended.status == 6);
+    assert!(rt; ended.output.as_slice() == b"notice ua-call failed 0.1\n".as_slice());
+    let told = b"ua: record failed\nua: not answered\n".as_slice();
+    assert!(rt; ended.errors.as_slice() == told);
+    Ok(())
+}
+
+// What stands between two texts, the first of each.
+fn between<'a>(text: &'a [u8], before: &str, after: &str) -> Result<&'a str, Fail> {
+    let text = str::from_utf8(text).ok().ok_or("a text")?;
+    let (_, rest) = text.split_once(before).ok_or("what stands before it")?;
+    let (found, _) = rest.split_once(after).ok_or("what stands after it")?;
+    Ok(found)
+}
+
+// An INVITE that nobody answers is sent again, and so it is counted.
+#[test]
+fn what_is_sent_again_is_counted(rt: HostRuntime) -> Result<(), Fail> {
+    let alloc = rt.alloc();
+    let (_silent, to) = bound(&rt)?;
+    let words = format!(in alloc;
+        "call --local 127.0.0.1:0 --to {to} --uri sip:b@127.0.0.1 \
+        --turns 80 --stats"
+    )?;
+    let ended = ua_with(&rt, alloc, words.as_str())?;
+    assert!(rt; ended.status == 0);
+    let sent = between(&ended.errors, " read, ", " sent, ")?;
+    let again = between(&ended.errors, " sent, ", " of them again, 1 INVITEs, ")?;
+    let sent = sent.parse::<u32>().ok().ok_or("a number")?;
+    let again = again.parse::<u32>().ok().ok_or("a number")?;
+    assert!(rt; again > 0);
+    assert!(rt; sent.checked_sub(1) == Some(again));
+    Ok(())
+}
+
+/// What a 2xx carries.
+const BODY: &[u8] = b"v=0\r\n";
+
+// The moment of the round that the first datagram with these words was in.
+fn moment_of(record: &[u8], words: &str) -> Result<u64, Fail> {
+    let text = str::from_utf8(record).ok().ok_or("a text")?;
+    let mut moment = 0;
+    for line in text.lines() {
+        if let Some(digits) = line.strip_prefix("round ") {
+            moment = digits.parse::<u64>().ok().ok_or("a number")?;
+        }
+        if line.starts_with("datagram ") && line.contains(words) {
+            return Ok(moment);
+        }
+    }
+    Err(Fail::from("a datagram"))
+}
+
+// The listener rings and answers with a body; the caller acknowledges it, stays for a while, and
+// ends each dialog once. What is sent names the port that the socket got.
+#[test]
+fn a_call_is_as_the_words_of_both_say(rt: HostRuntime) -> Result<(), Fail> {
+    let alloc = rt.alloc();
+    let (socket, to) = bound(&rt)?;
+    drop(socket);
+    let body = format!(in alloc; "/tmp/ua-body-{}", to.port)?;
+    let record = format!(in alloc; "/tmp/ua-record-{}", to.port)?;
+    fs::write(&rt, body.as_str(), BODY)?;
+    let listen = format!(in alloc;
+        "listen --local {to} --turns 250 --ring 100 --reliable \
+        --body {body} --record {record} --stats"
+    )?;
+    let call = format!(in alloc;
+        "call --local 127.0.0.1:0 --to {to} --uri sip:b@127.0.0.1 \
+        --turns 240 --hold 300 --leave --must-answer --stats"
+    )?;
+    let (served, called) = thread::join(
+        &rt,
+        || ua_with(&rt, alloc, listen.as_str()),
+        || ua_with(&rt, alloc, call.as_str()),
+    );
+    let (served, called) = (served?, called?);
+    let events = fs::read(&rt, record.as_str())?;
+    fs::remove_file(&rt, body.as_str())?;
+    fs::remove_file(&rt, record.as_str())?;
+    assert!(rt; served.status == 0);
+    assert!(rt; called.status == 0);
+    let words = [
+        " 180 ",
+        " response 0.1 200 ",
+        " v=0\\r\\n\n",
+        " ended ",
+        " 200 ",
+    ];
+    assert!(rt; stand_in_order(&called.output, &words)?);
+    assert!(rt; !stand_in_order(&called.output, &[" refused "])?);
+    let words = [" INVITE ", "notice ua-call ack ", " BYE ", " ended "];
+    assert!(rt; stand_in_order(&served.output, &words)?);
+    assert!(rt; moment_of(&events, "BYE ")? >= moment_of(&events, "ACK ")? + 250);
+    let port = between(&called.errors, "ua: local 127.0.0.1:", ", ")?;
+    let via = format!(in alloc; "Via: SIP/2.0/UDP 127.0.0.1:{port};")?;
+    let contact = format!(in alloc; "Contact: <sip:127.0.0.1:{port}>")?;
+    assert!(rt; port != "0");
+    assert!(rt; stand_in_order(&events, &["INVITE ", via.as_str(), contact.as_str()])?);
+    assert!(rt; stand_in_order(&served.errors, &[", 1 INVITEs, ", " 0 lost\n"])?);
     Ok(())
 }
