@@ -562,12 +562,20 @@ fn a_call_is_as_the_words_of_both_say(rt: HostRuntime) -> Result<(), Fail> {
     assert!(rt; !stand_in_order(&called.output, &[" refused "])?);
     let words = [" INVITE ", "notice ua-call ack ", " BYE ", " ended "];
     assert!(rt; stand_in_order(&served.output, &words)?);
-    assert!(rt; moment_of(&events, "BYE ")? >= moment_of(&events, "ACK ")? + 250);
+    let acknowledged = moment_of(&events, "ACK ")?;
+    assert!(rt; moment_of(&events, "BYE ")? >= acknowledged.saturating_add(250));
     let port = between(&called.errors, "ua: local 127.0.0.1:", ", ")?;
-    let via = format!(in alloc; "Via: SIP/2.0/UDP 127.0.0.1:{port};")?;
-    let contact = format!(in alloc; "Contact: <sip:127.0.0.1:{port}>")?;
     assert!(rt; port != "0");
-    assert!(rt; stand_in_order(&events, &["INVITE ", via.as_str(), contact.as_str()])?);
+    let words = [
+        "INVITE ",
+        "Via: SIP/2.0/UDP 127.0.0.1:",
+        port,
+        ";branch=",
+        "Contact: <sip:127.0.0.1:",
+        port,
+        ">",
+    ];
+    assert!(rt; stand_in_order(&events, &words)?);
     assert!(rt; stand_in_order(&served.errors, &[", 1 INVITEs, ", " 0 lost\n"])?);
     Ok(())
 }
