@@ -41,6 +41,7 @@ Taken = Option Call × List CallOut
 abbrev pub kept_call : Call → Option Call
 kept_call call = if holds_any call then Some call else None
 
+-- the call, where anything is held of it, and what it gives
 abbrev pub kept : CallTaken → Taken
 kept taken = (kept_call taken.0, taken.1)
 
@@ -66,6 +67,8 @@ abbrev pub lost_taken : Call → Id → ANotice → Bool → CallTaken
 lost_taken call id notice timed_out =
     followed (call, Notice notice ∷ []) (λ call. by_clients call (lost id timed_out (side_of call)))
 
+-- what comes up from a transaction: a request and an ACK go to the server side, the others to the
+-- client side
 abbrev pub up_taken : Call → Event → AnUp → Kind → CallTaken
 up_taken call event up (kind.Request request reply_to) =
     by_server call (arrival_taken (call.served).state up.call_id
@@ -79,9 +82,11 @@ up_taken call event up kind.Failed = lost_taken call up.id (Failed up.call_id up
 
 -- ---- commands of the user
 
+-- the user is told that a command is refused
 abbrev pub refused : Event → List ℕ → Refusal → List CallOut
 refused event call_id refusal = Notice (Refused call_id (event.id).place refusal) ∷ []
 
+-- the client requests after it, and what it gives
 abbrev pub with_clients : Call → Clients × List CallOut → CallTaken
 with_clients call taken = (record call { clients = taken.0 }, taken.1)
 
@@ -117,6 +122,7 @@ abbrev pub first_item_taken : Call → Event → Item → CallTaken
 first_item_taken call event (Up up) = up_taken call event up up.kind
 first_item_taken call event (User command) = first_command_taken call event command
 
+-- an item: what comes up, or a command of the user
 abbrev pub item_taken : Call → Event → Item → CallTaken
 item_taken call event (Up up) = up_taken call event up up.kind
 item_taken call event (User command) = command_taken call event command

@@ -7,10 +7,10 @@ use Rattle.sip_model.specs.Machine.{IsIdle, tick_at}
 use Rattle.sip_model.proofs.Ordered.{by_bool}
 use Rattle.sip_timers.specs.Queue.{is_due}
 use Rattle.sip_served.specs.Tick as served
-use Rattle.sip_served.proofs.Calm.{quiet_before}
+use Rattle.sip_served.proofs.QuietBeforeDue.{quiet_before}
 use Rattle.sip_common.proofs.Dues.{earlier_due}
 use Rattle.sip_clients.specs.Tick as clients
-use Rattle.sip_clients.proofs.Calm.{clients_quiet_before}
+use Rattle.sip_clients.proofs.QuietBeforeDue.{clients_quiet_before}
 use Rattle.sip_calls.specs.declared.call.Call.{Call}
 use Rattle.sip_calls.specs.declared.calls.Calls.{Calls}
 use Rattle.sip_calls.specs.Call.{call_due, call_machine, kept_call}

@@ -27,6 +27,7 @@ number_up invite life id (kind.Response response) side =
     option_and_then (number_for invite life id response) (client_at id side.clients)
 number_up invite life id _ side = None
 
+-- the RSeq of the response that an input brings, where it is one of them
 abbrev pub number_in : AnInvite → DialogLife → Option CallItem → Side → Option ℕ
 number_in invite life (Some (event, Up up)) side = number_up invite life up.id up.kind side
 number_in invite life _ side = None
@@ -43,6 +44,7 @@ module _ (calls : Calls) (invite : AnInvite) (life : DialogLife) where
   abbrev pub done : Option Call → Timed CallItem → Option Call × List CallOut
   done call timed = call_step calls call timed.input timed.moment
 
+  -- the same, where the dialog's life still stands after the input
   abbrev pub number_of : Option Call → Timed CallItem → Option ℕ
   number_of call timed = in_life (lives (side_held (done call timed).0).dialogs life)
       (number_in invite life timed.input (side_held call))
@@ -63,6 +65,7 @@ module _ (calls : Calls) (invite : AnInvite) (life : DialogLife) where
   abbrev pub came : List (Timed CallItem) → List ℕ
   came inputs = came_from None inputs
 
+  -- the numbers of all responses that the user is told of
   abbrev pub shown : List (Timed CallItem) → List ℕ
   shown inputs = shown_from None inputs
 

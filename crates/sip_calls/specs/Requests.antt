@@ -4,7 +4,7 @@ use Rattle.sip_message.specs.declared.id.Id.{Id}
 use Rattle.sip_common.specs.declared.item.CallOut.{CallOut}
 use Rattle.sip_common.specs.declared.item.Item.TheVariants.{Up}
 use Rattle.sip_common.specs.Notices.{request_in}
-use Rattle.sip_served.specs.Shown.{is_request}
+use Rattle.sip_served.specs.ForUser.{is_request}
 use Rattle.sip_common.specs.Ids.{is_id}
 use Rattle.sip_calls.specs.declared.call.Call.{Call}
 use Rattle.sip_calls.specs.declared.calls.Calls.{Calls}

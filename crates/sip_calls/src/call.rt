@@ -138,11 +138,16 @@ impl Call {
     }
 
     /// The transaction of the request that the event `id` sent is lost.
-    pub(crate) fn lose(&mut self, id: Id, timed_out: bool) -> Result<Vec<CallOut>, AllocError>
+    pub(crate) fn fail_request(
+        &mut self,
+        id: Id,
+        timed_out: bool,
+    ) -> Result<Vec<CallOut>, AllocError>
         ensures { IfOk result (λ outs. (self.new, outs.items)
             ≡ spec.by_clients self.old (clients.lost id timed_out (spec.side_of self.old))) }
     {
-        self.clients.lose(self.served.dialogs(), id, timed_out)
+        self.clients
+            .fail_request(self.served.dialogs(), id, timed_out)
     }
 
     /// The user sends a request in a dialog.

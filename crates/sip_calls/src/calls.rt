@@ -185,8 +185,8 @@ fn take_up(alloc: Global, call: &mut Call, event: Event, up: Up) -> Result<Vec<C
         }
         Kind::Ack(ack) => call.acknowledge(call_id, ack.get()),
         Kind::Response(response) => call.response(event, id, call_id, response.into_inner()),
-        Kind::Timeout => lose(alloc, call, id, Notice::Timeout { call_id, id }, true),
-        Kind::Failed => lose(alloc, call, id, Notice::Failed { call_id, id }, false),
+        Kind::Timeout => fail_request(alloc, call, id, Notice::Timeout { call_id, id }, true),
+        Kind::Failed => fail_request(alloc, call, id, Notice::Failed { call_id, id }, false),
     }
 }
 
@@ -201,7 +201,7 @@ fn tag_of_answers(alloc: Global, event: Event, request: &Message) -> Result<Toke
 }
 
 // A transaction is lost: that is told, and then what ends with its request ends.
-fn lose(
+fn fail_request(
     alloc: Global,
     call: &mut Call,
     id: Id,
@@ -213,7 +213,7 @@ fn lose(
 {
     let mut outs = Vec::new(alloc);
     outs.push(CallOut::Notice(notice))?;
-    outs.append(&mut call.lose(id, timed_out)?)?;
+    outs.append(&mut call.fail_request(id, timed_out)?)?;
     Ok(outs)
 }
 

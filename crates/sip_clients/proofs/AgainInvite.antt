@@ -21,8 +21,8 @@ use Rattle.sip_common.specs.Ids.{is_id}
 use Rattle.sip_common.proofs.Entries as entries
 use Rattle.sip_common.proofs.Heard.{id_laws}
 use Rattle.sip_clients.specs.declared.answers.SentAck.{SentAck}
-use Rattle.sip_clients.specs.declared.client.Asks.{Asks}
-use Rattle.sip_clients.specs.declared.client.Asks.TheVariants.{First, Again, Inside, Plain}
+use Rattle.sip_clients.specs.declared.client.RequestKind.{RequestKind}
+use Rattle.sip_clients.specs.declared.client.RequestKind.TheVariants.{First, Again, Inside, Plain}
 use Rattle.sip_clients.specs.declared.cancel.CancelCase.{CancelCase}
 use Rattle.sip_clients.specs.declared.cancel.CancelCase.TheVariants as cancel
 use Rattle.sip_clients.specs.declared.client.Cancelling.{Cancelling}
@@ -30,8 +30,8 @@ use Rattle.sip_clients.specs.declared.client.Cancelling.TheVariants as state
 use Rattle.sip_clients.specs.declared.client.Client.{Client}
 use Rattle.sip_clients.specs.declared.debts.DebtKind.TheVariants as kind
 use Rattle.sip_clients.specs.declared.event.Event.{Event}
-use Rattle.sip_clients.specs.declared.outputs.Rest.{Rest}
-use Rattle.sip_clients.specs.declared.outputs.Rest.TheVariants.{Stays, Over, Starts}
+use Rattle.sip_clients.specs.declared.outputs.ClientChange.{ClientChange}
+use Rattle.sip_clients.specs.declared.outputs.ClientChange.TheVariants.{Stays, Over, Starts}
 use Rattle.sip_clients.specs.declared.service.Service.{Service}
 use Rattle.sip_clients.specs.declared.service.Service.TheVariants.{Sent, Waits, Refused}
 use Rattle.sip_clients.specs.Cancel.{asked, cancel_case, cancel_client, cancel_taken, cancellation, cancelled_as, cancelled_of, sent_beside}
@@ -52,7 +52,7 @@ AreApart clients = entries.Apart id_laws clients
 -- ---- the ear of an INVITE
 
 -- what was heard last for a request, where it is an INVITE in the life
-abbrev pub asks_ear : DialogLife → Asks → Option ℕ → Option (Option ℕ)
+abbrev pub asks_ear : DialogLife → RequestKind → Option ℕ → Option (Option ℕ)
 asks_ear life First heard = None
 asks_ear life (Again own) heard =
     if is_named life.name own.name && is_id own.born life.born then Some heard else None
@@ -61,10 +61,10 @@ asks_ear life Plain heard = None
 
 abbrev pub client_ear : DialogLife → Option Client → Option (Option ℕ)
 client_ear life None = None
-client_ear life (Some client) = asks_ear life client.asks client.heard
+client_ear life (Some client) = asks_ear life client.kind client.heard
 
-asks_fresh : (life : DialogLife) (asks : Asks) (heard : Option ℕ) → heard ≡ None
-    → (asks_ear life asks heard ≡ None) ⊎ (asks_ear life asks heard ≡ Some None)
+asks_fresh : (life : DialogLife) (kind : RequestKind) (heard : Option ℕ) → heard ≡ None
+    → (asks_ear life kind heard ≡ None) ⊎ (asks_ear life kind heard ≡ Some None)
 asks_fresh life First heard none = inl refl
 asks_fresh life (Again own) heard none =
     elim (is_named life.name own.name
@@ -111,7 +111,7 @@ listens_then Begins before middle after (Some number) shown hears (inr same) = r
     by_now (inr is) = inr (same ∙ is)
 
 -- a request that was just sent has heard nothing
-abbrev pub StartsUnheard : Rest → Type 0
+abbrev pub StartsUnheard : ClientChange → Type 0
 StartsUnheard Stays = Unit {0}
 StartsUnheard Over = Unit {0}
 StartsUnheard (Starts client) = client.heard ≡ None
@@ -220,7 +220,7 @@ module _ (life : DialogLife) (invite : Id) (event : Option Id) where
 
   put_found : (before : Option Client) (client : Client) → Begins → client.heard ≡ None
       → Found before (Some client)
-  put_found before client begins none = by_fresh (asks_fresh life client.asks client.heard none)
+  put_found before client begins none = by_fresh (asks_fresh life client.kind client.heard none)
     where
       by_fresh : ((client_ear life (Some client) ≡ None)
           ⊎ (client_ear life (Some client) ≡ Some None)) → Found before (Some client)
@@ -236,8 +236,8 @@ module _ (life : DialogLife) (invite : Id) (event : Option Id) where
         (made ∙ ap (λ x. Some x) (id_exact id invite same)) none);
   }
 
-  pub keeps_settled : (of : Event) (id : Id) (rest : Rest) → event ≡ Some of.id → StartsUnheard rest
-      → (clients : Clients) → AreApart clients → Keeps clients (settled of id rest clients).0
+  pub keeps_settled : (of : Event) (id : Id) (change : ClientChange) → event ≡ Some of.id → StartsUnheard change
+      → (clients : Clients) → AreApart clients → Keeps clients (settled of id change clients).0
   keeps_settled of id Stays made unheard clients apart = keeps_same clients apart
   keeps_settled of id Over made unheard clients apart = keeps_removed id clients apart
   keeps_settled of id (Starts client) made unheard clients apart =

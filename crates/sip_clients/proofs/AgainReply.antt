@@ -20,11 +20,11 @@ use Rattle.sip_common.specs.Requests.{is_final, is_inside, is_success}
 use Rattle.sip_common.specs.Ids.{is_id}
 use Rattle.sip_common.proofs.Entries as entries
 use Rattle.sip_common.proofs.Heard.{id_laws, name_laws}
-use Rattle.sip_clients.specs.declared.client.Asks.{Asks}
-use Rattle.sip_clients.specs.declared.client.Asks.TheVariants.{First, Again, Inside, Plain}
+use Rattle.sip_clients.specs.declared.client.RequestKind.{RequestKind}
+use Rattle.sip_clients.specs.declared.client.RequestKind.TheVariants.{First, Again, Inside, Plain}
 use Rattle.sip_clients.specs.declared.client.Client.{Client}
-use Rattle.sip_clients.specs.declared.outputs.Rest.{Rest}
-use Rattle.sip_clients.specs.declared.outputs.Rest.TheVariants.{Stays}
+use Rattle.sip_clients.specs.declared.outputs.ClientChange.{ClientChange}
+use Rattle.sip_clients.specs.declared.outputs.ClientChange.TheVariants.{Stays}
 use Rattle.sip_clients.specs.declared.reply.Reply.{Reply as Answer}
 use Rattle.sip_clients.specs.declared.reply.ReplyCase.{ReplyCase}
 use Rattle.sip_clients.specs.declared.reply.ReplyCase.TheVariants as reply
@@ -44,18 +44,18 @@ use Rattle.sip_clients.proofs.FirstReply.{Decided, Unheard, decided, number_by, 
 use Rattle.sip_clients.proofs.Hearing.{Listens, Silent}
 
 abbrev again : DialogLife → Client → Client
-again own client = record client { asks = Again own }
+again own client = record client { kind = Again own }
 
 -- ---- the request after a response
 
 asks_kept : (case : ReplyCase) (client : Client) (found : Option HeldDialog) (answer : Answer)
-    → ((by_case case client found answer).0).asks ≡ client.asks
+    → ((by_case case client found answer).0).kind ≡ client.kind
 asks_kept reply.Repeated client found answer = refl
 asks_kept reply.Accepted client found answer = refl
 asks_kept reply.Late client found answer = refl
-asks_kept (reply.Reliable number) client found answer = by_asks client.asks
+asks_kept (reply.Reliable number) client found answer = by_asks client.kind
   where
-    by_asks : (asks : Asks) → (heard_again asks number client).asks ≡ client.asks
+    by_asks : (kind : RequestKind) → (heard_again kind number client).kind ≡ client.kind
     by_asks First = refl
     by_asks (Again own) = refl
     by_asks (Inside own) = refl
@@ -74,18 +74,18 @@ heard_kept reply.Passed client found answer none = refl
 heard_kept reply.Early client found answer none = refl
 heard_kept reply.Told client found answer none = refl
 
-rest_unheard : (case : ReplyCase) (client : Client) (found : Option HeldDialog) (answer : Answer)
+change_unheard : (case : ReplyCase) (client : Client) (found : Option HeldDialog) (answer : Answer)
     → StartsUnheard (by_case case client found answer).3
 unfolding prack_owed
-rest_unheard reply.Repeated client found answer = tt
-rest_unheard reply.Accepted client found answer = tt
-rest_unheard reply.Late client found answer = tt
-rest_unheard (reply.Reliable number) client found answer =
+change_unheard reply.Repeated client found answer = tt
+change_unheard reply.Accepted client found answer = tt
+change_unheard reply.Late client found answer = tt
+change_unheard (reply.Reliable number) client found answer =
     said_unheard answer.event answer.call_id answer.name
     (prack_owed number client (opened client answer found) answer).1
-rest_unheard reply.Passed client found answer = tt
-rest_unheard reply.Early client found answer = tt
-rest_unheard reply.Told client found answer = tt
+change_unheard reply.Passed client found answer = tt
+change_unheard reply.Early client found answer = tt
+change_unheard reply.Told client found answer = tt
 
 -- the last response too keeps what the request asks, and starts none
 module _ (client : Client) (dialogs : Dialogs) (answer : Answer) where
@@ -96,18 +96,18 @@ module _ (client : Client) (dialogs : Dialogs) (answer : Answer) where
   taken_by last = cond {A = Replied} last (finished client dialogs answer)
       (after_dialog answer.name dialogs (replied_in client found_at answer))
 
-  asks_taken : ((reply_taken client dialogs answer).0).asks ≡ client.asks
-  asks_taken = elim (is_last client.asks answer.status) as (λ last.
-      ((taken_by last).0).asks ≡ client.asks) [
+  asks_taken : ((reply_taken client dialogs answer).0).kind ≡ client.kind
+  asks_taken = elim (is_last client.kind answer.status) as (λ last.
+      ((taken_by last).0).kind ≡ client.kind) [
         | true ↦ refl
         | false ↦ asks_kept (reply_case client found_at answer) client found_at answer
       ]
 
-  rest_taken : StartsUnheard (reply_taken client dialogs answer).3
-  rest_taken = elim (is_last client.asks answer.status) as (λ last.
+  change_taken : StartsUnheard (reply_taken client dialogs answer).3
+  change_taken = elim (is_last client.kind answer.status) as (λ last.
       StartsUnheard (taken_by last).3) [
         | true ↦ tt
-        | false ↦ rest_unheard (reply_case client found_at answer) client found_at answer
+        | false ↦ change_unheard (reply_case client found_at answer) client found_at answer
       ]
 
 -- ---- which case it is
@@ -195,15 +195,15 @@ module _ (life : DialogLife) (invite : Id) (event : Option Id) (answer : Answer)
 
   -- ---- what is left to do once the request is as it is after the response
 
-  module _ (clients : Clients) (left : AreApart clients) (dialogs : Dialogs) (rest : Rest)
-      (starts : StartsUnheard rest) (outs : List CallOut) where
-    settles : Keeps life invite event clients (settled answer.event answer.id rest clients).0
-    settles = keeps_settled life invite event answer.event answer.id rest made starts clients left
+  module _ (clients : Clients) (left : AreApart clients) (dialogs : Dialogs) (change : ClientChange)
+      (starts : StartsUnheard change) (outs : List CallOut) where
+    settles : Keeps life invite event clients (settled answer.event answer.id change clients).0
+    settles = keeps_settled life invite event answer.event answer.id change made starts clients left
 
     finish_silent : Silent (event ≡ Some invite) (ear side.clients) (ear clients)
-        → ResultOf dialogs (settled answer.event answer.id rest clients).0 None outs
+        → ResultOf dialogs (settled answer.event answer.id change clients).0 None outs
     finish_silent silent =
-        let after = (settled answer.event answer.id rest clients).0 in (
+        let after = (settled answer.event answer.id change clients).0 in (
           settles.apart,
           no_number (event ≡ Some invite) (lives dialogs life) (ear side.clients)
               (ear after) outs (silent_then (event ≡ Some invite) (ear side.clients) (ear clients)
@@ -212,9 +212,9 @@ module _ (life : DialogLife) (invite : Id) (event : Option Id) (answer : Answer)
 
     finish_gone : (number : Option ℕ) → lives dialogs life ≡ false
         → Silent (event ≡ Some invite) (ear side.clients) (ear clients)
-        → ResultOf dialogs (settled answer.event answer.id rest clients).0 number outs
+        → ResultOf dialogs (settled answer.event answer.id change clients).0 number outs
     finish_gone number dead silent =
-        let after = (settled answer.event answer.id rest clients).0 in (
+        let after = (settled answer.event answer.id change clients).0 in (
           settles.apart,
           subst (λ b. Listens (event ≡ Some invite) (ear side.clients) (ear after)
               (in_life b number) (told_of (in_life b number) outs)) (sym dead) (
@@ -238,9 +238,9 @@ module _ (life : DialogLife) (invite : Id) (event : Option Id) (answer : Answer)
         → ear side.clients ≡ Some heard
         → ear clients ≡ Some (latest_after (offered heard number) heard number)
         → map (λ out. number) (filter is_response outs) ≡ taken (offered heard number) number
-        → ResultOf dialogs (settled answer.event answer.id rest clients).0 (Some number) outs
+        → ResultOf dialogs (settled answer.event answer.id change clients).0 (Some number) outs
     finish_heard number heard alive was is told =
-        let after = (settled answer.event answer.id rest clients).0 in (
+        let after = (settled answer.event answer.id change clients).0 in (
           settles.apart,
           subst (λ b. Listens (event ≡ Some invite) (ear side.clients) (ear after)
               (in_life b (Some number)) (told_of (in_life b (Some number)) outs)) (sym alive)
@@ -296,11 +296,11 @@ module _ (life : DialogLife) (invite : Id) (event : Option Id) (answer : Answer)
         ap (client_ear life) (found_now ∙ ap found_by same ∙ ap (option_map change) (there same))
 
     -- a request that is no INVITE of the life
-    no_ear : ((heard : Option ℕ) → asks_ear life client.asks heard ≡ None)
+    no_ear : ((heard : Option ℕ) → asks_ear life client.kind heard ≡ None)
         → is_id answer.id invite ≡ true → ear changed ≡ None
     no_ear none same =
         let after = change client in
-        ear_own same ∙ ap (λ asks. asks_ear life asks after.heard)
+        ear_own same ∙ ap (λ kind. asks_ear life kind after.heard)
         (asks_taken (noting client) side.dialogs answer) ∙ none after.heard
 
     other_silent : is_id answer.id invite ≡ false
@@ -311,10 +311,10 @@ module _ (life : DialogLife) (invite : Id) (event : Option Id) (answer : Answer)
         → Done None (reply_taken (noting client) side.dialogs answer)
     finish silent =
         let done = reply_taken (noting client) side.dialogs answer in
-        finish_silent changed left done.1 done.3 (rest_taken (noting client) side.dialogs answer)
+        finish_silent changed left done.1 done.3 (change_taken (noting client) side.dialogs answer)
         (done.2 ++ (settled answer.event answer.id done.3 changed).1) silent
 
-    pub no_invite : ((heard : Option ℕ) → asks_ear life client.asks heard ≡ None)
+    pub no_invite : ((heard : Option ℕ) → asks_ear life client.kind heard ≡ None)
         → Done None (reply_taken (noting client) side.dialogs answer)
     no_invite none =
         finish (by_bool (is_id answer.id invite) (λ same. inl (no_ear none same)) other_silent)
@@ -373,7 +373,7 @@ module _ (life : DialogLife) (invite : Id) (event : Option Id) (answer : Answer)
         → DoneSo None (taken_as case)
     unheard case heard none =
         let done = taken_as case in
-        finish_silent after (left found is) done.1 done.3 (rest_unheard case now held answer)
+        finish_silent after (left found is) done.1 done.3 (change_unheard case now held answer)
         (done.2 ++ (settled answer.event answer.id done.3 after).1) (now_is case heard none)
 
     passed : (number : ℕ) (offer : Offer) → offered client.heard number ≡ offer
@@ -395,7 +395,7 @@ module _ (life : DialogLife) (invite : Id) (event : Option Id) (answer : Answer)
     by_offer number Taken is_offered there alive heard =
         let done = taken_as (reply.Reliable number) in
         finish_heard after (left found is) done.1 done.3
-        (rest_unheard (reply.Reliable number) now held answer)
+        (change_unheard (reply.Reliable number) now held answer)
         (done.2 ++ (settled answer.event answer.id done.3 after).1) number client.heard
         (lives_owed life own number (noting found is client) side.dialogs answer held refl there ∙ alive) was
         (heard ∙ (λ i. if ours i then Some

@@ -10,8 +10,8 @@ use Rattle.sip_common.specs.declared.item.CallOut.{CallOut}
 use Rattle.sip_common.specs.Dialogs.{is_named, lives}
 use Rattle.sip_common.specs.Requests.{is_final}
 use Rattle.sip_common.specs.Ids.{is_id}
-use Rattle.sip_clients.specs.declared.client.Asks.{Asks}
-use Rattle.sip_clients.specs.declared.client.Asks.TheVariants.{First, Again, Inside, Plain}
+use Rattle.sip_clients.specs.declared.client.RequestKind.{RequestKind}
+use Rattle.sip_clients.specs.declared.client.RequestKind.TheVariants.{First, Again, Inside, Plain}
 use Rattle.sip_clients.specs.declared.client.Client.{Client}
 use Rattle.sip_clients.specs.declared.event.Event.{Event}
 use Rattle.sip_clients.specs.declared.reply.Reply.{Reply as Answer}
@@ -34,8 +34,8 @@ told_beside number None cancelled done = refl
 told_beside number (Some id) cancelled done =
     told_more number done.1 (cancel_command id cancelled) refl
 
-abbrev with_asks : Asks → Client → Client
-with_asks asks client = record client { asks = asks }
+abbrev with_asks : RequestKind → Client → Client
+with_asks kind client = record client { kind = kind }
 
 module _ (life : DialogLife) (invite : Id) (event : Option Id) (of : Event)
     (made : event ≡ Some of.id) (id : Id) (call_id : List ℕ) (response : Message) (side : Side)
@@ -43,10 +43,10 @@ module _ (life : DialogLife) (invite : Id) (event : Option Id) (of : Event)
     (once : event ≡ Some invite → ear_of life invite side.clients ≡ None) where
   abbrev answer_for : ℕ → Client → Answer
   answer_for status client =
-      reply_of of id call_id (reply_name client.asks client response) status response
+      reply_of of id call_id (reply_name client.kind client response) status response
 
   abbrev number_at : Option ℕ → Client → Option ℕ
-  number_at status client = if is_for (InTheDialog invite) life id client client.asks response
+  number_at status client = if is_for (InTheDialog invite) life id client client.kind response
       then provisional_number status response else None
 
   abbrev pub SideResult : Option ℕ → ClientTaken → Type 0
@@ -101,10 +101,10 @@ module _ (life : DialogLife) (invite : Id) (event : Option Id) (of : Event)
       invite_replied life invite event
       (answer_for status found) made side apart once own client refl is same is_ours
 
-  settles : (status : ℕ) (client : Client) (asks : Asks)
-      → client_at id side.clients ≡ Some (with_asks asks client)
-      → SideResult (number_at (Some status) (with_asks asks client))
-      (side_after of id side None (done_of status (with_asks asks client)))
+  settles : (status : ℕ) (client : Client) (kind : RequestKind)
+      → client_at id side.clients ≡ Some (with_asks kind client)
+      → SideResult (number_at (Some status) (with_asks kind client))
+      (side_after of id side None (done_of status (with_asks kind client)))
   settles status client First is =
       let found = with_asks First client in
       no_invite life invite event (answer_for status found) made side apart once found is
@@ -127,7 +127,7 @@ module _ (life : DialogLife) (invite : Id) (event : Option Id) (of : Event)
   by_asks status client is =
       freed (number_at (Some status) client) (freed_by (is_final status) client.cancel) client
       (done_of status client)
-      (settles status client client.asks is)
+      (settles status client client.kind is)
 
   by_client : (status : Option ℕ) (o : Option Client) → client_at id side.clients ≡ o
       → SideResult (option_and_then (number_at status) o)
@@ -136,7 +136,7 @@ module _ (life : DialogLife) (invite : Id) (event : Option Id) (of : Event)
   by_client (Some status) None is = unchanged
   by_client None (Some client) is =
       subst (λ number. SideResult number (side, []))
-      (sym (none_in_life (is_for (InTheDialog invite) life id client client.asks response)))
+      (sym (none_in_life (is_for (InTheDialog invite) life id client client.kind response)))
       unchanged
   by_client (Some status) (Some client) is = by_asks status client is
 

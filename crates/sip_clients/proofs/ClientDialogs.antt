@@ -14,8 +14,8 @@ use Rattle.sip_common.specs.declared.held_dialog.DialogName.{DialogName}
 use Rattle.sip_common.specs.declared.held_dialog.HeldDialog.{HeldDialog}
 use Rattle.sip_common.specs.declared.item.CallOut.{CallOut}
 use Rattle.sip_common.specs.Dialogs.{dialog_at, ended_at, is_early_of, is_named, lives, Dialogs}
-use Rattle.sip_clients.specs.declared.client.Asks.{Asks}
-use Rattle.sip_clients.specs.declared.client.Asks.TheVariants.{First, Again, Inside, Plain}
+use Rattle.sip_clients.specs.declared.client.RequestKind.{RequestKind}
+use Rattle.sip_clients.specs.declared.client.RequestKind.TheVariants.{First, Again, Inside, Plain}
 use Rattle.sip_clients.specs.declared.client.Client.{Client}
 use Rattle.sip_clients.specs.declared.event.Event.{Event}
 use Rattle.sip_clients.specs.declared.reply.Reply.{Reply as Answer}
@@ -28,7 +28,7 @@ use Rattle.sip_clients.specs.Commands.{bye_ended, is_bad_in, requesting}
 use Rattle.sip_clients.specs.Debts.{dropped_if_sent, kept_unless_sent, owing, paying}
 use Rattle.sip_clients.specs.Dialogs.{accepted, accepted_in, ended_with, hearing, opened, own_ended}
 use Rattle.sip_clients.specs.Replied.{ack_owed, by_case, heard_first, offer_to, prack_owed, with_dialog}
-use Rattle.sip_clients.specs.Service.{Served, numbered, requested, served}
+use Rattle.sip_clients.specs.Service.{Outcome, numbered, requested, discharged}
 use Rattle.sip_common.proofs.Keeps.{confirmed_keeps, retargeted_keeps}
 use Rattle.sip_common.proofs.Entries as entries
 use Rattle.sip_common.proofs.Heard.{AreApart, Goes, Keeps, Leads, Stays, goes_then, keeps_then, leads_filtered, leads_removed, leads_same, leads_then, name_laws, stays_same}
@@ -40,8 +40,8 @@ numbered_keeps None held = (refl, refl)
 numbered_keeps (Some fault) held = (refl, refl)
 
 served_keeps : (event : Event) (debt : Debt) (offer : Option (List ℕ)) (held : HeldDialog)
-    → Keeps held (served event debt offer held).0
-unfolding served
+    → Keeps held (discharged event debt offer held).0
+unfolding discharged
 served_keeps event debt None held = (refl, refl)
 served_keeps event (Ack invite number) (Some body) held = (refl, refl)
 served_keeps event (Prack rseq number) (Some body) held =
@@ -63,7 +63,7 @@ pub owing_keeps : (event : Event) (debt : Debt) (offer : Option (List ℕ)) (hel
     → Keeps held (owing event debt offer held)
 unfolding owing
 owing_keeps event debt offer held =
-    let done = served event debt offer held in
+    let done = discharged event debt offer held in
     keeps_then held done.0 (kept_unless_sent debt done.1 done.0)
     (served_keeps event debt offer held) (unless_sent_keeps debt done.1 done.0)
 
@@ -71,7 +71,7 @@ pub paying_keeps : (event : Event) (debt : Debt) (body : List ℕ) (held : HeldD
     → Keeps held (paying event debt body held)
 unfolding paying
 paying_keeps event debt body held =
-    let done = served event debt (Some body) held in
+    let done = discharged event debt (Some body) held in
     keeps_then held done.0 (dropped_if_sent debt done.1 done.0)
     (served_keeps event debt (Some body) held) (if_sent_keeps debt done.1 done.0)
 
@@ -80,7 +80,7 @@ pub requesting_keeps : (event : Event) (method body : List ℕ) (held : HeldDial
 unfolding requesting
 requesting_keeps event method body held =
     elim (is_bad_in held method) as (λ b.
-    Keeps held (cond {A = Served} b (held, Refused BadMethod)
+    Keeps held (cond {A = Outcome} b (held, Refused BadMethod)
     (requested event method None body held)).0) [
       | true ↦ (refl, refl)
       | false ↦ numbered_keeps (request_fault held.dialog method) held
@@ -95,8 +95,8 @@ module _ (Makes : Id → Type 0) where
   removed_or_same true name dialogs apart = leads_removed Makes name dialogs apart
   removed_or_same false name dialogs apart = leads_same Makes dialogs apart
 
-  own_leads : (asks : Asks) (ends : Bool) (dialogs : Dialogs) → AreApart dialogs
-      → Leads Makes dialogs (own_ended asks ends dialogs).0
+  own_leads : (kind : RequestKind) (ends : Bool) (dialogs : Dialogs) → AreApart dialogs
+      → Leads Makes dialogs (own_ended kind ends dialogs).0
   own_leads First ends dialogs apart = leads_same Makes dialogs apart
   own_leads (Again life) true dialogs apart =
       removed_or_same (lives dialogs life) life.name dialogs apart
@@ -110,9 +110,9 @@ module _ (Makes : Id → Type 0) where
       → Leads Makes dialogs (ended_with client ends dialogs).0
   ended_leads client ends dialogs apart =
       let left : Dialogs = filter (λ entry. not (is_early_of client.id entry.1)) dialogs in
-      leads_then Makes dialogs left (own_ended client.asks ends left).0
+      leads_then Makes dialogs left (own_ended client.kind ends left).0
       (leads_filtered Makes (λ held. not (is_early_of client.id held)) dialogs apart)
-      (own_leads client.asks ends left)
+      (own_leads client.kind ends left)
 
   pub bye_leads : (name : DialogName) (method : List ℕ) (service : Service) (dialogs : Dialogs)
       → AreApart dialogs → Leads Makes dialogs (bye_ended name method service dialogs).0
@@ -122,21 +122,21 @@ module _ (Makes : Id → Type 0) where
 
 -- ---- a response
 
-abbrev pub heard_number : ReplyCase → Asks → Bool → Option ℕ
+abbrev pub heard_number : ReplyCase → RequestKind → Bool → Option ℕ
 heard_number (reply.Reliable number) First true = Some number
-heard_number _ asks named = None
+heard_number _ kind named = None
 
-pub unnamed_unheard : (case : ReplyCase) (asks : Asks) → heard_number case asks false ≡ None
-unnamed_unheard reply.Repeated asks = refl
-unnamed_unheard reply.Accepted asks = refl
-unnamed_unheard reply.Late asks = refl
+pub unnamed_unheard : (case : ReplyCase) (kind : RequestKind) → heard_number case kind false ≡ None
+unnamed_unheard reply.Repeated kind = refl
+unnamed_unheard reply.Accepted kind = refl
+unnamed_unheard reply.Late kind = refl
 unnamed_unheard (reply.Reliable number) First = refl
 unnamed_unheard (reply.Reliable number) (Again life) = refl
 unnamed_unheard (reply.Reliable number) (Inside life) = refl
 unnamed_unheard (reply.Reliable number) Plain = refl
-unnamed_unheard reply.Passed asks = refl
-unnamed_unheard reply.Early asks = refl
-unnamed_unheard reply.Told asks = refl
+unnamed_unheard reply.Passed kind = refl
+unnamed_unheard reply.Early kind = refl
+unnamed_unheard reply.Told kind = refl
 
 -- a dialog before and after a response of which this number was heard in it
 abbrev pub HeardAt : (Id → Type 0) → Option ℕ → Option HeldDialog → Option HeldDialog → Type 0
@@ -153,8 +153,8 @@ module _ (Makes : Id → Type 0) (client : Client) (answer : Answer)
   opened_goes None = inr (makes, refl)
   opened_goes (Some held) = inl (refl, refl)
 
-  accepted_keeps : (asks : Asks) (held : HeldDialog)
-      → Keeps held (accepted_in asks answer.response held)
+  accepted_keeps : (kind : RequestKind) (held : HeldDialog)
+      → Keeps held (accepted_in kind answer.response held)
   accepted_keeps First held = confirmed_keeps answer.response held
   accepted_keeps (Again life) held = retargeted_keeps (contact_uri answer.response) held
   accepted_keeps (Inside life) held = (refl, refl)
@@ -163,7 +163,7 @@ module _ (Makes : Id → Type 0) (client : Client) (answer : Answer)
   accepted_goes : (found : Option HeldDialog)
       → Goes Makes found (Some (accepted client answer found))
   accepted_goes None = inr (makes, refl)
-  accepted_goes (Some held) = inl (accepted_keeps client.asks held)
+  accepted_goes (Some held) = inl (accepted_keeps client.kind held)
 
   ack_goes : (found : Option HeldDialog)
       → Goes Makes found (Some (ack_owed client (accepted client answer found) answer).0)
@@ -183,10 +183,10 @@ module _ (Makes : Id → Type 0) (client : Client) (answer : Answer)
       (opened_goes found) (inl (owing_keeps answer.event debt offer held))
 
   -- a reliable provisional response
-  prack_heard : (asks : Asks) (number : ℕ) (debt : Debt) (offer : Option (List ℕ))
+  prack_heard : (kind : RequestKind) (number : ℕ) (debt : Debt) (offer : Option (List ℕ))
       (found : Option HeldDialog)
-      → HeardAt Makes (heard_number (reply.Reliable number) asks true) found
-      (Some (owing answer.event debt offer (heard_first asks number (opened client answer found))))
+      → HeardAt Makes (heard_number (reply.Reliable number) kind true) found
+      (Some (owing answer.event debt offer (heard_first kind number (opened client answer found))))
   prack_heard First number debt offer found =
       let held = opened client answer found in
       (Some held, opened_goes found, owing_keeps answer.event debt offer (hearing number held))
@@ -200,12 +200,12 @@ module _ (Makes : Id → Type 0) (client : Client) (answer : Answer)
   pub record Answered (case : ReplyCase) (before after : Dialogs) : Type 0 where
     pub apart : AreApart after
     pub heard : (name : DialogName)
-        → HeardAt Makes (heard_number case client.asks (is_named answer.name name))
+        → HeardAt Makes (heard_number case client.kind (is_named answer.name name))
         (dialog_at name before) (dialog_at name after)
 
   -- where nothing is changed
   same_heard : (case : ReplyCase) (dialogs : Dialogs)
-      → ((name : DialogName) → heard_number case client.asks (is_named answer.name name) ≡ None)
+      → ((name : DialogName) → heard_number case client.kind (is_named answer.name name) ≡ None)
       → AreApart dialogs → Answered case dialogs dialogs
   same_heard case dialogs none apart = record {
     apart = apart;
@@ -215,26 +215,26 @@ module _ (Makes : Id → Type 0) (client : Client) (answer : Answer)
 
   -- where the dialog of its name is this one
   put_heard : (case : ReplyCase) (held : HeldDialog) (dialogs : Dialogs) → AreApart dialogs
-      → HeardAt Makes (heard_number case client.asks true) (dialog_at answer.name dialogs)
+      → HeardAt Makes (heard_number case client.kind true) (dialog_at answer.name dialogs)
       (Some held)
       → Answered case dialogs (insert_entry is_named dialogs answer.name held)
   put_heard case held dialogs apart here = record {
     apart = entries.apart_inserted name_laws answer.name held dialogs apart;
-    heard = λ name. subst (HeardAt Makes (heard_number case client.asks
+    heard = λ name. subst (HeardAt Makes (heard_number case client.kind
         (is_named answer.name name)) (dialog_at name dialogs))
         (sym (entries.found_inserted name_laws answer.name name held dialogs))
         (by_name name (is_named answer.name name) refl);
   }
     where
       by_name : (name : DialogName) (b : Bool) → is_named answer.name name ≡ b
-          → HeardAt Makes (heard_number case client.asks b) (dialog_at name dialogs)
+          → HeardAt Makes (heard_number case client.kind b) (dialog_at name dialogs)
           (cond b (Some held) (dialog_at name dialogs))
       by_name name true is =
-          subst (λ o. HeardAt Makes (heard_number case client.asks true) o (Some held))
+          subst (λ o. HeardAt Makes (heard_number case client.kind true) o (Some held))
           (sym (entries.same_key name_laws answer.name name dialogs is)) here
       by_name name false is =
           subst (λ o. HeardAt Makes o (dialog_at name dialogs) (dialog_at name dialogs))
-          (sym (unnamed_unheard case client.asks)) (inl (stays_same (dialog_at name dialogs)))
+          (sym (unnamed_unheard case client.kind)) (inl (stays_same (dialog_at name dialogs)))
 
   pub case_heard : (case : ReplyCase) (dialogs : Dialogs) → AreApart dialogs
       → Answered case dialogs (with_dialog answer.name
@@ -250,7 +250,7 @@ module _ (Makes : Id → Type 0) (client : Client) (answer : Answer)
       let found = dialog_at answer.name dialogs in
       put_heard (reply.Reliable number)
       (prack_owed number client (opened client answer found) answer).0 dialogs apart
-      (prack_heard client.asks number (Prack number ((client.request).cseq).number)
+      (prack_heard client.kind number (Prack number ((client.request).cseq).number)
       (offer_to client answer.response) found)
   case_heard reply.Passed dialogs apart = same_heard reply.Passed dialogs (λ name. refl) apart
   case_heard reply.Early dialogs apart =

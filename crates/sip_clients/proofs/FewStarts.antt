@@ -33,15 +33,15 @@ use Rattle.sip_common.proofs.Starts.{early_starts, ended_starts, none_of_all, no
 use Rattle.sip_clients.specs.declared.answers.SentAck.{SentAck}
 use Rattle.sip_clients.specs.declared.cancel.CancelCase.{CancelCase}
 use Rattle.sip_clients.specs.declared.cancel.CancelCase.TheVariants as asked
-use Rattle.sip_clients.specs.declared.client.Asks.{Asks}
-use Rattle.sip_clients.specs.declared.client.Asks.TheVariants.{First, Again, Inside, Plain}
+use Rattle.sip_clients.specs.declared.client.RequestKind.{RequestKind}
+use Rattle.sip_clients.specs.declared.client.RequestKind.TheVariants.{First, Again, Inside, Plain}
 use Rattle.sip_clients.specs.declared.client.Cancelling.{Cancelling}
 use Rattle.sip_clients.specs.declared.client.Cancelling.TheVariants as cancel
 use Rattle.sip_clients.specs.declared.client.Client.{Client}
 use Rattle.sip_clients.specs.declared.debts.DebtKind.TheVariants as kind
 use Rattle.sip_clients.specs.declared.event.Event.{Event}
-use Rattle.sip_clients.specs.declared.outputs.Rest.{Rest}
-use Rattle.sip_clients.specs.declared.outputs.Rest.TheVariants.{Stays, Over, Starts}
+use Rattle.sip_clients.specs.declared.outputs.ClientChange.{ClientChange}
+use Rattle.sip_clients.specs.declared.outputs.ClientChange.TheVariants.{Stays, Over, Starts}
 use Rattle.sip_clients.specs.declared.reply.Reply.{Reply as Answer}
 use Rattle.sip_clients.specs.declared.reply.ReplyCase.{ReplyCase}
 use Rattle.sip_clients.specs.declared.reply.ReplyCase.TheVariants as reply
@@ -228,14 +228,14 @@ started_within event client clients fresh =
     (str_to_ascii_lowercase (branch_of event)) ((client.request).cseq).method clients fresh
     (nothing clients clients (at_most_same clients))
 
-abbrev StartsFresh : Rest → Type 0
+abbrev StartsFresh : ClientChange → Type 0
 StartsFresh Stays = Unit {0}
 StartsFresh Over = Unit {0}
 StartsFresh (Starts client) = client.cancel ≡ cancel.NotAsked
 
-settled_within : (event : Event) (id : Id) (rest : Rest) (clients : Clients) → StartsFresh rest
+settled_within : (event : Event) (id : Id) (change : ClientChange) (clients : Clients) → StartsFresh change
     → Within (λ of. weight (is_id of) (Some event.id) + how_many of (waiting clients))
-    (starts (settled event id rest clients).1) (settled event id rest clients).0
+    (starts (settled event id change clients).1) (settled event id change clients).0
 settled_within event id Stays clients fresh =
     own_nothing (Some event.id) clients clients (at_most_same clients)
 settled_within event id Over clients fresh =
@@ -289,8 +289,8 @@ at_or_none : (b : Bool) (name : DialogName) (dialogs : Dialogs)
 at_or_none true name dialogs = ended_starts name dialogs
 at_or_none false name dialogs = refl
 
-own_none : (asks : Asks) (ends : Bool) (dialogs : Dialogs)
-    → starts (own_ended asks ends dialogs).1 ≡ []
+own_none : (kind : RequestKind) (ends : Bool) (dialogs : Dialogs)
+    → starts (own_ended kind ends dialogs).1 ≡ []
 own_none First ends dialogs = refl
 own_none (Again life) true dialogs = at_or_none (lives dialogs life) life.name dialogs
 own_none (Again life) false dialogs = refl
@@ -302,8 +302,8 @@ ended_none : (client : Client) (ends : Bool) (dialogs : Dialogs)
     → starts (ended_with client ends dialogs).1 ≡ []
 ended_none client ends dialogs =
     let early = early_ended client.id dialogs in
-    none_of_both early.1 (own_ended client.asks ends early.0).1 (early_starts client.id dialogs)
-    (own_none client.asks ends early.0)
+    none_of_both early.1 (own_ended client.kind ends early.0).1 (early_starts client.id dialogs)
+    (own_none client.kind ends early.0)
 
 again_none : (o : Option SentAck) → starts (option_map_or (λ ack. direct ack ∷ []) o []) ≡ []
 again_none None = refl
@@ -331,9 +331,9 @@ cancel_kept : (case : ReplyCase) (client : Client) (found : Option HeldDialog) (
 cancel_kept reply.Repeated client found answer = refl
 cancel_kept reply.Accepted client found answer = refl
 cancel_kept reply.Late client found answer = refl
-cancel_kept (reply.Reliable number) client found answer = by_asks client.asks
+cancel_kept (reply.Reliable number) client found answer = by_asks client.kind
   where
-    by_asks : (asks : Asks) → (heard_again asks number client).cancel ≡ client.cancel
+    by_asks : (kind : RequestKind) → (heard_again kind number client).cancel ≡ client.cancel
     by_asks First = refl
     by_asks (Again own) = refl
     by_asks (Inside own) = refl
@@ -363,7 +363,7 @@ record Replies (client : Client) (done : Replied) : Type 0 where
 
 replies : (client : Client) (dialogs : Dialogs) (answer : Answer)
     → Replies client (reply_taken client dialogs answer)
-replies client dialogs answer = by_last (is_last client.asks answer.status)
+replies client dialogs answer = by_last (is_last client.kind answer.status)
   where
     found : Option HeldDialog
     found = dialog_at answer.name dialogs
@@ -398,9 +398,9 @@ module _ (event : Event) (id : Id) (call_id : List ℕ) (response : Message) (si
 
   reply_fits : (status : ℕ) (client : Client) → client_at id side.clients ≡ Some client
       → Own (reply_settled (reply_of event id call_id
-      (reply_name client.asks client response) status response) client side)
+      (reply_name client.kind client response) status response) client side)
   reply_fits status client is =
-      let name = reply_name client.asks client response in
+      let name = reply_name client.kind client response in
       let answer = reply_of event id call_id name status response in
       let final = is_final status in
       let done = reply_taken (noted final client) side.dialogs answer in

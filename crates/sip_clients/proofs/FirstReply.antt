@@ -12,7 +12,7 @@ use Rattle.sip_common.specs.declared.held_dialog.HeldDialog.{HeldDialog}
 use Rattle.sip_common.specs.declared.item.CallOut.{CallOut}
 use Rattle.sip_common.specs.Dialogs.{dialog_at, is_named, lives, Dialogs}
 use Rattle.sip_common.specs.Requests.{is_final, is_inside, is_success}
-use Rattle.sip_clients.specs.declared.client.Asks.TheVariants.{First}
+use Rattle.sip_clients.specs.declared.client.RequestKind.TheVariants.{First}
 use Rattle.sip_clients.specs.declared.client.Client.{Client}
 use Rattle.sip_clients.specs.declared.reply.Reply.{Reply as Answer}
 use Rattle.sip_clients.specs.declared.reply.ReplyCase.{ReplyCase}
@@ -34,7 +34,7 @@ use Rattle.sip_common.proofs.Heard.{AreApart, Goes, name_laws}
 use Rattle.sip_clients.proofs.Hearing.{Listens}
 
 abbrev pub first : Client → Client
-first client = record client { asks = First }
+first client = record client { kind = First }
 
 -- ---- what is told
 
@@ -126,7 +126,7 @@ module _ (event : Option Id) (life : DialogLife) (client : Client) (answer : Ans
       (leads.goes life.name)
 
   unheard : (case : ReplyCase) (client : Client) (clients : Clients)
-      → heard_number case client.asks (is_named answer.name life.name) ≡ None
+      → heard_number case client.kind (is_named answer.name life.name) ≡ None
       → Result client None (taken_as case client) clients
   unheard case client clients none =
       let done = taken_as case client in
@@ -223,11 +223,11 @@ module _ (event : Option Id) (life : DialogLife) (client : Client) (answer : Ans
 
   -- a response to another request
   pub other_replied : (client : Client) (clients : Clients)
-      → ((case : ReplyCase) (named : Bool) → heard_number case client.asks named ≡ None)
+      → ((case : ReplyCase) (named : Bool) → heard_number case client.kind named ≡ None)
       → Result client None (reply_taken client dialogs answer) clients
   other_replied client clients none =
       let case = reply_case client found answer in
-      elim (is_last client.asks answer.status) as (λ last.
+      elim (is_last client.kind answer.status) as (λ last.
       Result client None (cond {A = Replied} last (finished client dialogs answer)
       (taken_as case client)) clients) [
         | true ↦ over client clients

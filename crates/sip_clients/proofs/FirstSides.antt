@@ -14,8 +14,8 @@ use Rattle.sip_common.specs.declared.refusal.Refusal.{Refusal}
 use Rattle.sip_common.specs.Dialogs.{dialog_at, is_named, lives, Dialogs}
 use Rattle.sip_common.specs.Requests.{is_final}
 use Rattle.sip_common.specs.Ids.{is_id}
-use Rattle.sip_clients.specs.declared.client.Asks.{Asks}
-use Rattle.sip_clients.specs.declared.client.Asks.TheVariants.{First, Again, Inside, Plain}
+use Rattle.sip_clients.specs.declared.client.RequestKind.{RequestKind}
+use Rattle.sip_clients.specs.declared.client.RequestKind.TheVariants.{First, Again, Inside, Plain}
 use Rattle.sip_clients.specs.declared.client.Client.{Client}
 use Rattle.sip_clients.specs.declared.event.Event.{Event}
 use Rattle.sip_clients.specs.declared.reply.Reply.{Reply as Answer}
@@ -36,19 +36,19 @@ use Rattle.sip_common.proofs.Heard.{AreApart, Leads, leads_changed, leads_same, 
 use Rattle.sip_clients.proofs.Hearing.{Listens}
 
 -- nothing is heard of a request by which no reliable provisional response is heard
-unheard_by : (asks : Asks)
-    → ((number : ℕ) (named : Bool) → heard_number (reply.Reliable number) asks named ≡ None)
-    → (case : ReplyCase) (named : Bool) → heard_number case asks named ≡ None
-unheard_by asks none reply.Repeated named = refl
-unheard_by asks none reply.Accepted named = refl
-unheard_by asks none reply.Late named = refl
-unheard_by asks none (reply.Reliable number) named = none number named
-unheard_by asks none reply.Passed named = refl
-unheard_by asks none reply.Early named = refl
-unheard_by asks none reply.Told named = refl
+unheard_by : (kind : RequestKind)
+    → ((number : ℕ) (named : Bool) → heard_number (reply.Reliable number) kind named ≡ None)
+    → (case : ReplyCase) (named : Bool) → heard_number case kind named ≡ None
+unheard_by kind none reply.Repeated named = refl
+unheard_by kind none reply.Accepted named = refl
+unheard_by kind none reply.Late named = refl
+unheard_by kind none (reply.Reliable number) named = none number named
+unheard_by kind none reply.Passed named = refl
+unheard_by kind none reply.Early named = refl
+unheard_by kind none reply.Told named = refl
 
-abbrev with_asks : Asks → Client → Client
-with_asks asks client = record client { asks = asks }
+abbrev with_asks : RequestKind → Client → Client
+with_asks kind client = record client { kind = kind }
 
 module _ (life : DialogLife) where
   abbrev pub ear : Dialogs → Option (Option ℕ)
@@ -83,10 +83,10 @@ module _ (life : DialogLife) where
 
     abbrev answer_for : ℕ → Client → Answer
     answer_for status client =
-        reply_of event id call_id (reply_name client.asks client response) status response
+        reply_of event id call_id (reply_name client.kind client response) status response
 
     abbrev number_at : Option ℕ → Client → Option ℕ
-    number_at status client = if is_for OfTheCall life id client client.asks response
+    number_at status client = if is_for OfTheCall life id client client.kind response
         then provisional_number status response else None
 
     abbrev noting : ℕ → Client → Client
@@ -117,9 +117,9 @@ module _ (life : DialogLife) where
     done_of status client =
         reply_taken (noting status client) side.dialogs (answer_for status client)
 
-    settles : (status : ℕ) (client : Client) (asks : Asks)
-        → SideResult (number_at (Some status) (with_asks asks client))
-        (side_after event id side None (done_of status (with_asks asks client)))
+    settles : (status : ℕ) (client : Client) (kind : RequestKind)
+        → SideResult (number_at (Some status) (with_asks kind client))
+        (side_after event id side None (done_of status (with_asks kind client)))
     settles status client First =
         let found = first client in
         first_replied call life (noting status client) (answer_for status found) side.dialogs apart
@@ -145,7 +145,7 @@ module _ (life : DialogLife) where
         (reply_settled (answer_for status client) client side)
     by_asks status client =
         freed (number_at (Some status) client) (freed_by (is_final status) client.cancel) client
-        (done_of status client) (settles status client client.asks)
+        (done_of status client) (settles status client client.kind)
 
     by_client : (status : Option ℕ) (o : Option Client)
         → SideResult (option_and_then (number_at status) o)
@@ -154,7 +154,7 @@ module _ (life : DialogLife) where
     by_client (Some status) None = unchanged
     by_client None (Some client) =
         subst (λ number. SideResult number (side, []))
-        (sym (none_in_life (is_for OfTheCall life id client client.asks response))) unchanged
+        (sym (none_in_life (is_for OfTheCall life id client client.kind response))) unchanged
     by_client (Some status) (Some client) = by_asks status client
 
     pub response_step : SideResult

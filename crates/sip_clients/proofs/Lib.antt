@@ -1,7 +1,7 @@
 pub mod AgainInvite
 pub mod AgainReply
 pub mod AgainSides
-pub mod Calm
+pub mod QuietBeforeDue
 pub mod ClientDialogs
 pub mod FewStarts
 pub mod FirstInvite

@@ -22,17 +22,17 @@ use Rattle.sip_common.specs.Dialogs.{dialog_at, early_ended, lives, Dialogs}
 use Rattle.sip_common.specs.Requests.{is_final}
 use Rattle.sip_common.specs.Ids.{is_id}
 use Rattle.sip_clients.specs.declared.answers.SentAck.{SentAck}
-use Rattle.sip_common.proofs.Shown.{early_shown, end_or_not, none_of_both, shown}
+use Rattle.sip_common.proofs.ToldRequests.{early_shown, end_or_not, none_of_both, shown}
 use Rattle.sip_clients.specs.declared.cancel.CancelCase.{CancelCase}
 use Rattle.sip_clients.specs.declared.cancel.CancelCase.TheVariants as ask
-use Rattle.sip_clients.specs.declared.client.Asks.{Asks}
-use Rattle.sip_clients.specs.declared.client.Asks.TheVariants.{First, Again, Inside, Plain}
+use Rattle.sip_clients.specs.declared.client.RequestKind.{RequestKind}
+use Rattle.sip_clients.specs.declared.client.RequestKind.TheVariants.{First, Again, Inside, Plain}
 use Rattle.sip_clients.specs.declared.client.Cancelling.TheVariants as cancel
 use Rattle.sip_clients.specs.declared.client.Client.{Client}
 use Rattle.sip_clients.specs.declared.debts.DebtKind.TheVariants as kind
 use Rattle.sip_clients.specs.declared.event.Event.{Event}
-use Rattle.sip_clients.specs.declared.outputs.Rest.{Rest}
-use Rattle.sip_clients.specs.declared.outputs.Rest.TheVariants.{Stays, Over, Starts}
+use Rattle.sip_clients.specs.declared.outputs.ClientChange.{ClientChange}
+use Rattle.sip_clients.specs.declared.outputs.ClientChange.TheVariants.{Stays, Over, Starts}
 use Rattle.sip_clients.specs.declared.reply.Reply.{Reply as Answer}
 use Rattle.sip_clients.specs.declared.reply.ReplyCase.{ReplyCase}
 use Rattle.sip_clients.specs.declared.reply.ReplyCase.TheVariants as reply
@@ -52,8 +52,8 @@ use Rattle.sip_clients.specs.Tick.{is_over, notices_of, tick_taken}
 
 -- ---- what ends
 
-own_end_asks : (asks : Asks) (ends : Bool) (dialogs : Dialogs)
-    → shown (own_ended asks ends dialogs).1 ≡ []
+own_end_asks : (kind : RequestKind) (ends : Bool) (dialogs : Dialogs)
+    → shown (own_ended kind ends dialogs).1 ≡ []
 own_end_asks First ends dialogs = refl
 own_end_asks (Again life) true dialogs = end_or_not (lives dialogs life) life.name dialogs
 own_end_asks (Again life) false dialogs = refl
@@ -65,8 +65,8 @@ ended_asks : (client : Client) (ends : Bool) (dialogs : Dialogs)
     → shown (ended_with client ends dialogs).1 ≡ []
 ended_asks client ends dialogs =
     let early = early_ended client.id dialogs in
-    none_of_both early.1 (own_ended client.asks ends early.0).1 (early_shown client.id dialogs)
-    (own_end_asks client.asks ends early.0)
+    none_of_both early.1 (own_ended client.kind ends early.0).1 (early_shown client.id dialogs)
+    (own_end_asks client.kind ends early.0)
 
 bye_asks : (name : DialogName) (method : List ℕ) (service : Service) (dialogs : Dialogs)
     → shown (bye_ended name method service dialogs).1 ≡ []
@@ -94,8 +94,8 @@ start_asks : (event : Event) (client : Client) (clients : Clients)
 unfolding start_command
 start_asks event client clients = refl
 
-settled_asks : (event : Event) (id : Id) (rest : Rest) (clients : Clients)
-    → shown (settled event id rest clients).1 ≡ []
+settled_asks : (event : Event) (id : Id) (change : ClientChange) (clients : Clients)
+    → shown (settled event id change clients).1 ≡ []
 settled_asks event id Stays clients = refl
 settled_asks event id Over clients = refl
 settled_asks event id (Starts client) clients = start_asks event client clients
@@ -147,7 +147,7 @@ replied_asks answer client side =
     beside_asks (freed_by final client.cancel) client (after.0, done.2 ++ after.1)
     (none_of_both done.2 after.1
     (reply_asks (noted final client) side.dialogs answer
-    (is_last client.asks answer.status))
+    (is_last client.kind answer.status))
     (settled_asks answer.event answer.id done.3
     (set_value (is_id answer.id) side.clients done.0)))
 
@@ -157,7 +157,7 @@ found_asks : (event : Event) (id : Id) (call_id : List ℕ) (response : Message)
 found_asks event id call_id response None found side = refl
 found_asks event id call_id response (Some status) None side = refl
 found_asks event id call_id response (Some status) (Some client) side =
-    replied_asks (reply_of event id call_id (reply_name client.asks client response) status
+    replied_asks (reply_of event id call_id (reply_name client.kind client response) status
     response) client side
 
 pub response_asks : (event : Event) (id : Id) (call_id : List ℕ) (response : Message)

@@ -25,15 +25,15 @@ use Rattle.sip_common.specs.Ids.{is_id}
 use Rattle.sip_clients.specs.declared.answers.SentAck.{SentAck}
 use Rattle.sip_clients.specs.declared.cancel.CancelCase.{CancelCase}
 use Rattle.sip_clients.specs.declared.cancel.CancelCase.TheVariants as ask
-use Rattle.sip_clients.specs.declared.client.Asks.{Asks}
-use Rattle.sip_clients.specs.declared.client.Asks.TheVariants.{First, Again, Inside, Plain}
+use Rattle.sip_clients.specs.declared.client.RequestKind.{RequestKind}
+use Rattle.sip_clients.specs.declared.client.RequestKind.TheVariants.{First, Again, Inside, Plain}
 use Rattle.sip_clients.specs.declared.client.Cancelling.{Cancelling}
 use Rattle.sip_clients.specs.declared.client.Cancelling.TheVariants as cancel
 use Rattle.sip_clients.specs.declared.client.Client.{Client}
 use Rattle.sip_clients.specs.declared.debts.DebtKind.TheVariants as kind
 use Rattle.sip_clients.specs.declared.event.Event.{Event}
-use Rattle.sip_clients.specs.declared.outputs.Rest.{Rest}
-use Rattle.sip_clients.specs.declared.outputs.Rest.TheVariants.{Stays, Over, Starts}
+use Rattle.sip_clients.specs.declared.outputs.ClientChange.{ClientChange}
+use Rattle.sip_clients.specs.declared.outputs.ClientChange.TheVariants.{Stays, Over, Starts}
 use Rattle.sip_clients.specs.declared.reply.Reply.{Reply as Answer}
 use Rattle.sip_clients.specs.declared.reply.ReplyCase.{ReplyCase}
 use Rattle.sip_clients.specs.declared.reply.ReplyCase.TheVariants as reply
@@ -53,7 +53,7 @@ use Rattle.sip_clients.specs.Reply.{is_last, reply_case}
 use Rattle.sip_clients.specs.Tick.{ends_at, is_over, notices_of, tick_taken}
 use Rattle.sip_common.proofs.Each.{all_of_each, both, each_but_one, each_changed, each_inserted, each_left, each_set, found_one}
 use Rattle.sip_common.proofs.OwnDialogs.{dialog_own, early_own}
-use Rattle.sip_clients.proofs.OwnDialogs.{IsServedOf, IsServiceOf, accepted_own, body_kept, bye_own, ended_with_own, heard_own, opened_own, owed_own, paid_own, requested_by_own}
+use Rattle.sip_clients.proofs.OwnDialogs.{IsOutcomeOf, IsServiceOf, accepted_own, body_kept, bye_own, ended_with_own, heard_own, opened_own, owed_own, paid_own, requested_by_own}
 
 supporting_kept : (asked_for : ProvisionalSupport) (message : Message)
     → (supporting asked_for message).call_id ≡ message.call_id
@@ -65,10 +65,10 @@ module _ (call_id : List ℕ) where
   -- ---- what a step makes
 
   -- a request that is sent
-  abbrev IsRestOf : Rest → Type 0
-  IsRestOf Stays = Unit {0}
-  IsRestOf Over = Unit {0}
-  IsRestOf (Starts client) = IsRequestOf call_id client
+  abbrev IsChangeOf : ClientChange → Type 0
+  IsChangeOf Stays = Unit {0}
+  IsChangeOf Over = Unit {0}
+  IsChangeOf (Starts client) = IsRequestOf call_id client
 
   -- the requests, and what is told
   abbrev AreSettledOf : Clients × List CallOut → Type 0
@@ -77,8 +77,8 @@ module _ (call_id : List ℕ) where
   abbrev IsTakenOf : ClientTaken → Type 0
   IsTakenOf taken = IsSideOf call_id taken.0 × AreNoticesOf call_id taken.1
 
-  hears_own : (asks : Asks) (rseq : ℕ) (client : Client) → IsRequestOf call_id client
-      → IsRequestOf call_id (heard_again asks rseq client)
+  hears_own : (kind : RequestKind) (rseq : ℕ) (client : Client) → IsRequestOf call_id client
+      → IsRequestOf call_id (heard_again kind rseq client)
   hears_own First rseq client its = its
   hears_own (Again life) rseq client its = its
   hears_own (Inside life) rseq client its = its
@@ -89,7 +89,7 @@ module _ (call_id : List ℕ) where
   request_said_own : (event : Event) (of : List ℕ) → of ≡ call_id → (name : DialogName)
       (service : Service) → IsServiceOf call_id service
       → AreNoticesOf call_id (request_said event of name service).0
-      × IsRestOf (request_said event of name service).1
+      × IsChangeOf (request_said event of name service).1
   request_said_own event of is name (Sent sending) own = (tt, own)
   request_said_own event of is name Waits own = (tt, tt)
   request_said_own event of is name (Refused refusal) own = ((is, tt), tt)
@@ -112,8 +112,8 @@ module _ (call_id : List ℕ) where
   started_own event client clients its own =
       (each_inserted (IsRequestOf call_id) is_id event.id client its clients own, (tt, tt))
 
-  settled_own : (event : Event) (id : Id) (rest : Rest) (clients : Clients) → IsRestOf rest
-      → AreClientsOf call_id clients → AreSettledOf (settled event id rest clients)
+  settled_own : (event : Event) (id : Id) (change : ClientChange) (clients : Clients) → IsChangeOf change
+      → AreClientsOf call_id clients → AreSettledOf (settled event id change clients)
   settled_own event id Stays clients its own = (own, tt)
   settled_own event id Over clients its own =
       (each_but_one (IsRequestOf call_id) (is_id id) clients own, tt)
@@ -138,29 +138,29 @@ module _ (call_id : List ℕ) where
     pub client : IsRequestOf call_id done.0
     pub dialog : IfSome done.1 (IsDialogOf call_id)
     pub told : AreNoticesOf call_id done.2
-    pub rest : IsRestOf done.3
+    pub change : IsChangeOf done.3
 
   -- the same with all dialogs
   record IsRepliedOf (done : Replied) : Type 0 where
     pub client : IsRequestOf call_id done.0
     pub dialogs : AreDialogsOf call_id done.1
     pub told : AreNoticesOf call_id done.2
-    pub rest : IsRestOf done.3
+    pub change : IsChangeOf done.3
 
   ack_owed_own : (client : Client) (held : HeldDialog) (answer : Answer)
-      → IsDialogOf call_id held → IsServedOf call_id (ack_owed client held answer)
+      → IsDialogOf call_id held → IsOutcomeOf call_id (ack_owed client held answer)
   unfolding ack_owed
   ack_owed_own client held answer own =
       owed_own call_id answer.event (Ack client.id client.request.cseq.number)
       (offer_to client answer.response) held own
 
   prack_owed_own : (rseq : ℕ) (client : Client) (held : HeldDialog) (answer : Answer)
-      → IsDialogOf call_id held → IsServedOf call_id (prack_owed rseq client held answer)
+      → IsDialogOf call_id held → IsOutcomeOf call_id (prack_owed rseq client held answer)
   unfolding prack_owed
   prack_owed_own rseq client held answer own =
       owed_own call_id answer.event (Prack rseq client.request.cseq.number)
-      (offer_to client answer.response) (heard_first client.asks rseq held)
-      (heard_own call_id client.asks rseq held own)
+      (offer_to client answer.response) (heard_first client.kind rseq held)
+      (heard_own call_id client.kind rseq held own)
 
   case_own : (case : ReplyCase) (client : Client) (found : Option HeldDialog) (answer : Answer)
       → answer.call_id ≡ call_id → IsRequestOf call_id client
@@ -169,7 +169,7 @@ module _ (call_id : List ℕ) where
     client = its;
     dialog = tt;
     told = again_own (ack_of answer.name client.answers);
-    rest = tt;
+    change = tt;
   }
   case_own reply.Accepted client found answer is its own =
       let held = accepted client answer found in
@@ -179,10 +179,10 @@ module _ (call_id : List ℕ) where
         client = its;
         dialog = owed.0;
         told = (is, ack_said_own answer.event answer.call_id is (ack_owed client held answer).1);
-        rest = tt;
+        change = tt;
       }
   case_own reply.Late client found answer is its own =
-      record { client = its; dialog = tt; told = (is, tt); rest = tt }
+      record { client = its; dialog = tt; told = (is, tt); change = tt }
   case_own (reply.Reliable rseq) client found answer is its own =
       let held = opened client answer found in
       let holds = opened_own call_id client answer found its own in
@@ -190,21 +190,21 @@ module _ (call_id : List ℕ) where
       let said = request_said_own answer.event answer.call_id is answer.name
       (prack_owed rseq client held answer).1 owed.1 in
       record {
-        client = hears_own client.asks rseq client its;
+        client = hears_own client.kind rseq client its;
         dialog = owed.0;
         told = (is, said.0);
-        rest = said.1;
+        change = said.1;
       }
   case_own reply.Passed client found answer is its own =
-      record { client = its; dialog = tt; told = tt; rest = tt }
+      record { client = its; dialog = tt; told = tt; change = tt }
   case_own reply.Early client found answer is its own = record {
     client = its;
     dialog = opened_own call_id client answer found its own;
     told = (is, tt);
-    rest = tt;
+    change = tt;
   }
   case_own reply.Told client found answer is its own =
-      record { client = its; dialog = tt; told = (is, tt); rest = tt }
+      record { client = its; dialog = tt; told = (is, tt); change = tt }
 
   with_dialog_own : (name : DialogName) (o : Option HeldDialog) (dialogs : Dialogs)
       → IfSome o (IsDialogOf call_id) → AreDialogsOf call_id dialogs
@@ -216,7 +216,7 @@ module _ (call_id : List ℕ) where
   reply_own : (client : Client) (dialogs : Dialogs) (answer : Answer)
       → answer.call_id ≡ call_id → IsRequestOf call_id client → AreDialogsOf call_id dialogs
       → IsRepliedOf (reply_taken client dialogs answer)
-  reply_own client dialogs answer is its own = by_last (is_last client.asks answer.status)
+  reply_own client dialogs answer is its own = by_last (is_last client.kind answer.status)
     where
       found : Option HeldDialog
       found = dialog_at answer.name dialogs
@@ -226,7 +226,7 @@ module _ (call_id : List ℕ) where
           (after_dialog answer.name dialogs (replied_in client found answer)))
       by_last true =
           let ended = ended_with_own call_id client (ends_dialog answer.status) dialogs own in
-          record { client = its; dialogs = ended.0; told = (is, ended.1); rest = tt }
+          record { client = its; dialogs = ended.0; told = (is, ended.1); change = tt }
       by_last false =
           let so = case_own (reply_case client found answer) client found answer is its
           (dialog_own call_id answer.name dialogs own) in
@@ -235,7 +235,7 @@ module _ (call_id : List ℕ) where
             dialogs = with_dialog_own answer.name (replied_in client found answer).1 dialogs
                 so.dialog own;
             told = so.told;
-            rest = so.rest;
+            change = so.change;
           }
 
   replied_own : (answer : Answer) (client : Client) (side : Side) → answer.call_id ≡ call_id
@@ -247,7 +247,7 @@ module _ (call_id : List ℕ) where
       let so = reply_own (noted final client) side.dialogs answer is its own.dialogs in
       let put = set_value (is_id answer.id) side.clients done.0 in
       let after = settled answer.event answer.id done.3 put in
-      let settles = settled_own answer.event answer.id done.3 put so.rest
+      let settles = settled_own answer.event answer.id done.3 put so.change
       (each_set (IsRequestOf call_id) (is_id answer.id) side.clients done.0 so.client
       own.clients) in
       let last = beside_own (freed_by final client.cancel) client its
@@ -262,7 +262,7 @@ module _ (call_id : List ℕ) where
   found_own event id response None found side its own = (own, tt)
   found_own event id response (Some status) None side its own = (own, tt)
   found_own event id response (Some status) (Some client) side its own =
-      replied_own (reply_of event id call_id (reply_name client.asks client response) status
+      replied_own (reply_of event id call_id (reply_name client.kind client response) status
       response) client side refl its own
 
   client_own : (id : Id) (clients : Clients) → AreClientsOf call_id clients

@@ -20,8 +20,8 @@ use Rattle.sip_common.specs.declared.refusal.Refusal.TheVariants.{BadMethod, NoS
 use Rattle.sip_common.specs.Dialogs.{dialog_at, early_ended, ended_at, is_named, lives, Dialogs}
 use Rattle.sip_common.proofs.Each.{both, each_changed}
 use Rattle.sip_common.proofs.OwnDialogs.{AreEndedOf, confirmed_keeps, dialog_own, early_own, ended_own, retargeted_keeps}
-use Rattle.sip_clients.specs.declared.client.Asks.{Asks}
-use Rattle.sip_clients.specs.declared.client.Asks.TheVariants.{First, Again, Inside, Plain}
+use Rattle.sip_clients.specs.declared.client.RequestKind.{RequestKind}
+use Rattle.sip_clients.specs.declared.client.RequestKind.TheVariants.{First, Again, Inside, Plain}
 use Rattle.sip_clients.specs.declared.client.Client.{Client}
 use Rattle.sip_clients.specs.declared.event.Event.{Event}
 use Rattle.sip_clients.specs.declared.reply.Reply.{Reply as Answer}
@@ -34,7 +34,7 @@ use Rattle.sip_clients.specs.Dialogs.{accepted, accepted_in, ended_with, opened,
 use Rattle.sip_clients.specs.Event.{branch_of}
 use Rattle.sip_clients.specs.OwnCall.{AreDialogsOf, IsDialogOf, IsNoticeOf, IsRequestOf}
 use Rattle.sip_clients.specs.Replied.{heard_first}
-use Rattle.sip_clients.specs.Service.{Served, acked, numbered, requested, served, service_by}
+use Rattle.sip_clients.specs.Service.{Outcome, acked, numbered, requested, discharged, service_by}
 
 pub body_kept : (message : Message) (body : List ℕ)
     → (with_body_of message body).call_id ≡ message.call_id
@@ -52,8 +52,8 @@ module _ (call_id : List ℕ) where
   IsServiceOf (Refused refusal) = Unit {0}
 
   -- a dialog, and the request that is to be sent in it
-  abbrev pub IsServedOf : Served → Type 0
-  IsServedOf done = IsDialogOf call_id done.0 × IsServiceOf done.1
+  abbrev pub IsOutcomeOf : Outcome → Type 0
+  IsOutcomeOf done = IsDialogOf call_id done.0 × IsServiceOf done.1
 
   -- ---- what is sent in a dialog
 
@@ -69,7 +69,7 @@ module _ (call_id : List ℕ) where
 
   requested_own : (event : Event) (method : List ℕ) (rack : Option RAck) (body : List ℕ)
       (held : HeldDialog) → IsDialogOf call_id held
-      → IsServedOf (requested event method rack body held)
+      → IsOutcomeOf (requested event method rack body held)
   requested_own event method rack body held own = (
     numbered_own (request_fault held.dialog method) held own,
     service_own (request_fault held.dialog method) _
@@ -85,8 +85,8 @@ module _ (call_id : List ℕ) where
       body ∙ own)
 
   served_own : (event : Event) (debt : Debt) (offer : Option (List ℕ)) (held : HeldDialog)
-      → IsDialogOf call_id held → IsServedOf (served event debt offer held)
-  unfolding served
+      → IsDialogOf call_id held → IsOutcomeOf (discharged event debt offer held)
+  unfolding discharged
   served_own event debt None held own = (own, tt)
   served_own event (Ack invite number) (Some body) held own =
       (own, acked_own event held number body own)
@@ -101,10 +101,10 @@ module _ (call_id : List ℕ) where
   kept_own debt (Refused refusal) held own = own
 
   pub owed_own : (event : Event) (debt : Debt) (offer : Option (List ℕ)) (held : HeldDialog)
-      → IsDialogOf call_id held → IsServedOf (owed event debt offer held)
+      → IsDialogOf call_id held → IsOutcomeOf (owed event debt offer held)
   unfolding owing
   owed_own event debt offer held own =
-      let done = served event debt offer held in
+      let done = discharged event debt offer held in
       let so = served_own event debt offer held own in
       (kept_own debt done.1 done.0 so.0, so.1)
 
@@ -118,13 +118,13 @@ module _ (call_id : List ℕ) where
       → IsDialogOf call_id held → IsDialogOf call_id (paying event debt body held)
   unfolding paying
   paying_own event debt body held own =
-      let done = served event debt (Some body) held in
+      let done = discharged event debt (Some body) held in
       dropped_own debt done.1 done.0 (served_own event debt (Some body) held own).0
 
   request_own : (event : Event) (method body : List ℕ) (held : HeldDialog)
-      → IsDialogOf call_id held → IsServedOf (request_in event method body held)
+      → IsDialogOf call_id held → IsOutcomeOf (request_in event method body held)
   request_own event method body held own =
-      elim (is_bad_in held method) as (λ b. IsServedOf (cond {A = Served} b
+      elim (is_bad_in held method) as (λ b. IsOutcomeOf (cond {A = Outcome} b
       (held, Refused BadMethod) (requested event method None body held))) [
         | true ↦ (own, tt)
         | false ↦ requested_own event method None body held own
@@ -149,7 +149,7 @@ module _ (call_id : List ℕ) where
   paid_own name event debt body dialogs own = (
     each_changed (IsDialogOf call_id) (is_named name) (paying event debt body)
         (paying_own event debt body) dialogs own,
-    found_service (λ held. (served event debt (Some body) held).1) Waits
+    found_service (λ held. (discharged event debt (Some body) held).1) Waits
         (λ held its. (served_own event debt (Some body) held its).1) tt
         (dialog_at name dialogs) (dialog_own call_id name dialogs own),
   )
@@ -178,8 +178,8 @@ module _ (call_id : List ℕ) where
   ended_or_not true name dialogs own = ended_own call_id name dialogs own
   ended_or_not false name dialogs own = (own, tt)
 
-  own_ended_own : (asks : Asks) (ends : Bool) (dialogs : Dialogs)
-      → AreDialogsOf call_id dialogs → AreEndedOf call_id (own_ended asks ends dialogs)
+  own_ended_own : (kind : RequestKind) (ends : Bool) (dialogs : Dialogs)
+      → AreDialogsOf call_id dialogs → AreEndedOf call_id (own_ended kind ends dialogs)
   own_ended_own First ends dialogs own = (own, tt)
   own_ended_own (Again life) true dialogs own =
       ended_or_not (lives dialogs life) life.name dialogs own
@@ -194,9 +194,9 @@ module _ (call_id : List ℕ) where
   ended_with_own client ends dialogs own =
       let early = early_ended client.id dialogs in
       let first = early_own call_id client.id dialogs own in
-      let last = own_ended_own client.asks ends early.0 first.0 in (
+      let last = own_ended_own client.kind ends early.0 first.0 in (
         last.0,
-        both (IsNoticeOf call_id) early.1 (own_ended client.asks ends early.0).1
+        both (IsNoticeOf call_id) early.1 (own_ended client.kind ends early.0).1
             first.1 last.1,
       )
 
@@ -209,8 +209,8 @@ module _ (call_id : List ℕ) where
 
   -- ---- what a response makes
 
-  accepted_in_own : (asks : Asks) (response : Message) (held : HeldDialog)
-      → IsDialogOf call_id held → IsDialogOf call_id (accepted_in asks response held)
+  accepted_in_own : (kind : RequestKind) (response : Message) (held : HeldDialog)
+      → IsDialogOf call_id held → IsDialogOf call_id (accepted_in kind response held)
   accepted_in_own First response held own = confirmed_keeps response held ∙ own
   accepted_in_own (Again life) response held own =
       retargeted_keeps (contact_uri response) held ∙ own
@@ -222,7 +222,7 @@ module _ (call_id : List ℕ) where
       → IsDialogOf call_id (accepted client answer found)
   accepted_own client answer None its own = its
   accepted_own client answer (Some held) its own =
-      accepted_in_own client.asks answer.response held own
+      accepted_in_own client.kind answer.response held own
 
   pub opened_own : (client : Client) (answer : Answer) (found : Option HeldDialog)
       → IsRequestOf call_id client → IfSome found (IsDialogOf call_id)
@@ -230,8 +230,8 @@ module _ (call_id : List ℕ) where
   opened_own client answer None its own = its
   opened_own client answer (Some held) its own = own
 
-  pub heard_own : (asks : Asks) (rseq : ℕ) (held : HeldDialog) → IsDialogOf call_id held
-      → IsDialogOf call_id (heard_first asks rseq held)
+  pub heard_own : (kind : RequestKind) (rseq : ℕ) (held : HeldDialog) → IsDialogOf call_id held
+      → IsDialogOf call_id (heard_first kind rseq held)
   heard_own First rseq held own = own
   heard_own (Again life) rseq held own = own
   heard_own (Inside life) rseq held own = own

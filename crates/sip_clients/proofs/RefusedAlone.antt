@@ -27,7 +27,7 @@ use Rattle.sip_clients.specs.Commands.{bye_ended, is_bad_in, name_in, request_in
 use Rattle.sip_clients.specs.Dialogs.{paid_at, service_at}
 use Rattle.sip_clients.specs.Debts.{dropped_if_sent, paying}
 use Rattle.sip_clients.specs.Outputs.{ack_said, refused_notice, request_said, start_command}
-use Rattle.sip_clients.specs.Service.{numbered, requested, served, service_by}
+use Rattle.sip_clients.specs.Service.{numbered, requested, discharged, service_by}
 use Rattle.sip_clients.specs.declared.cancel.CancelCase.{CancelCase}
 use Rattle.sip_clients.specs.declared.cancel.CancelCase.TheVariants as cancel
 use Rattle.sip_clients.specs.declared.client.Client.{Client}
@@ -87,19 +87,19 @@ requesting_same event method body held refusal e = by_method (is_bad_in held met
     by_method false is = requested_same event method None body held refusal is
 
 served_same : (event : Event) (owed : Debt) (body : List ℕ) (held : HeldDialog)
-    (refusal : Refusal) → (served event owed (Some body) held).1 ≡ Refused refusal
-    → (served event owed (Some body) held).0 ≡ held
-unfolding served
+    (refusal : Refusal) → (discharged event owed (Some body) held).1 ≡ Refused refusal
+    → (discharged event owed (Some body) held).0 ≡ held
+unfolding discharged
 served_same event (debt.Ack invite number) body held refusal e = refl
 served_same event (debt.Prack rseq number) body held refusal e =
     requested_same event (codes "PRACK") _ body held refusal e
 
 paying_same : (event : Event) (owed : Debt) (body : List ℕ) (held : HeldDialog)
-    (refusal : Refusal) → (served event owed (Some body) held).1 ≡ Refused refusal
+    (refusal : Refusal) → (discharged event owed (Some body) held).1 ≡ Refused refusal
     → paying event owed body held ≡ held
 unfolding paying
 paying_same event owed body held refusal e =
-    ap (λ service. dropped_if_sent owed service (served event owed (Some body) held).0) e
+    ap (λ service. dropped_if_sent owed service (discharged event owed (Some body) held).0) e
     ∙ served_same event owed body held refusal e
 
 unchanged_at : (name : DialogName) (change : HeldDialog → HeldDialog)
@@ -178,7 +178,7 @@ module _ (event : Event) (side : Side) where
       → Keeps (paid_at name event owed body side.dialogs).0
       (paid_at name event owed body side.dialogs).1
   paid_same name owed body refusal e =
-      unchanged_at name (paying event owed body) (λ held. (served event owed (Some body) held).1)
+      unchanged_at name (paying event owed body) (λ held. (discharged event owed (Some body) held).1)
       Waits side.dialogs refusal
       (λ held is. paying_same event owed body held refusal is) e
 

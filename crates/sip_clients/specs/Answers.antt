@@ -11,8 +11,10 @@ use Rattle.sip_clients.specs.declared.answers.SentAck.{SentAck}
 abbrev pub AnswerList : Type 0
 AnswerList = List (DialogName × Option SentAck)
 
+-- whether a 2xx of this dialog came
 abbrev pub has_answer : DialogName → AnswerList → Bool
 has_answer name answers = is_some (lookup (is_named name) answers)
 
+-- the ACK that was sent for it
 abbrev pub ack_of : DialogName → AnswerList → Option SentAck
 ack_of name answers = option_and_then (λ ack. ack) (lookup (is_named name) answers)

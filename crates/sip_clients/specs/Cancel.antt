@@ -11,7 +11,7 @@ use Rattle.sip_common.specs.declared.refusal.Refusal.TheVariants.{AlreadyFinal, 
 use Rattle.sip_clients.specs.declared.cancel.CancelCase.{CancelCase}
 use Rattle.sip_clients.specs.declared.cancel.CancelCase.TheVariants as case
 use Rattle.sip_clients.specs.declared.cancel.Cancellation.{Cancellation}
-use Rattle.sip_clients.specs.declared.client.Asks.TheVariants.{Plain}
+use Rattle.sip_clients.specs.declared.client.RequestKind.TheVariants.{Plain}
 use Rattle.sip_clients.specs.declared.client.Cancelling.{Cancelling}
 use Rattle.sip_clients.specs.declared.client.Cancelling.TheVariants.{NotAsked, Waits, Sent}
 use Rattle.sip_clients.specs.declared.client.Client.{Client}
@@ -52,17 +52,20 @@ asking_case provisional Sent = case.Repeated
 -- of an INVITE alone, and not once a 2xx came
 abbrev pub cancel_case : Client → CancelCase
 cancel_case client =
-    if not (is_inviting client.asks) then case.Refused NoSuchRequest
+    if not (is_inviting client.kind) then case.Refused NoSuchRequest
     else (if is_some client.removal then case.Refused AlreadyFinal
     else asking_case client.provisional client.cancel)
 
+-- with what was asked of its cancelling
 abbrev pub asked : Cancelling → Client → Client
 asked cancel client = record client { cancel = cancel }
 
+-- the command is refused, and nothing changes
 abbrev pub refusing : Event → Cancel → Refusal → Clients → Clients × List CallOut
 refusing event command refusal clients =
     (clients, refused_notice event command.call_id refusal ∷ [])
 
+-- case by case: refused; asked before; it waits for a provisional response; it goes out
 abbrev pub cancelled_as : CancelCase → Event → Cancel → Client → Clients → Clients × List CallOut
 cancelled_as (case.Refused refusal) event command invite clients =
     refusing event command refusal clients
@@ -73,11 +76,13 @@ cancelled_as case.Starts event command invite clients =
     sent_beside (Some (cancellation event.id invite))
     (client_changed command.id (asked Sent) clients, [])
 
+-- of the INVITE that is held, or of none
 abbrev pub cancelled_of : Option Client → Event → Cancel → Clients → Clients × List CallOut
 cancelled_of None event command clients = refusing event command NoSuchRequest clients
 cancelled_of (Some invite) event command clients =
     cancelled_as (cancel_case invite) event command invite clients
 
+-- the command
 abbrev pub cancelled : Event → Cancel → Clients → Clients × List CallOut
 cancelled event command clients =
     cancelled_of (client_at command.id clients) event command clients
@@ -103,6 +108,7 @@ noted final client = record client {
   cancel = cancelling_after final client.cancel;
 }
 
+-- the id of a CANCEL that waited and goes out now, unless the response is final
 abbrev pub freed_by : Bool → Cancelling → Option Id
 freed_by final NotAsked = None
 freed_by final (Waits id) = if final then None else Some id

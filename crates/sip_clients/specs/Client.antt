@@ -9,7 +9,7 @@ use Rattle.sip_message.specs.declared.message.Message.{Message}
 use Rattle.sip_common.specs.declared.item.CallOut.{CallOut}
 use Rattle.sip_common.specs.Dialogs.{Dialogs}
 use Rattle.sip_common.specs.Ids.{is_id}
-use Rattle.sip_clients.specs.declared.client.Asks.{Asks}
+use Rattle.sip_clients.specs.declared.client.RequestKind.{RequestKind}
 use Rattle.sip_clients.specs.declared.client.Cancelling.TheVariants.{NotAsked}
 use Rattle.sip_clients.specs.declared.client.Client.{Client}
 
@@ -27,18 +27,20 @@ client_changed id change clients =
     option_map_or (λ client. set_value (is_id id) clients (change client))
     (client_at id clients) clients
 
+-- all but the request of this id
 abbrev pub without : Id → Clients → Clients
 without id clients = remove_entry (is_id id) clients
 
+-- with the request of this id
 abbrev pub with_client : Id → Client → Clients → Clients
 with_client id client clients = insert_entry is_id clients id client
 
 -- a request that was just sent
-abbrev pub client_for : Id → Asks → Message → Addr → Client
-client_for id asks request to =
+abbrev pub client_for : Id → RequestKind → Message → Addr → Client
+client_for id kind request to =
     record {
       id = id;
-      asks = asks;
+      kind = kind;
       request = request;
       to = to;
       provisional = false;

@@ -23,13 +23,13 @@ use Rattle.sip_common.specs.Requests.{is_final, name_of_tags}
 use Rattle.sip_common.specs.Ids.{is_id}
 use Rattle.sip_clients.specs.declared.answers.SentAck.{SentAck}
 use Rattle.sip_clients.specs.declared.cancel.Cancellation.{Cancellation}
-use Rattle.sip_clients.specs.declared.client.Asks.{Asks}
-use Rattle.sip_clients.specs.declared.client.Asks.TheVariants.{First, Again, Inside, Plain}
+use Rattle.sip_clients.specs.declared.client.RequestKind.{RequestKind}
+use Rattle.sip_clients.specs.declared.client.RequestKind.TheVariants.{First, Again, Inside, Plain}
 use Rattle.sip_clients.specs.declared.client.Client.{Client}
 use Rattle.sip_clients.specs.declared.debts.DebtKind.TheVariants as kind
 use Rattle.sip_clients.specs.declared.event.Event.{Event}
-use Rattle.sip_clients.specs.declared.outputs.Rest.{Rest}
-use Rattle.sip_clients.specs.declared.outputs.Rest.TheVariants.{Stays, Over, Starts}
+use Rattle.sip_clients.specs.declared.outputs.ClientChange.{ClientChange}
+use Rattle.sip_clients.specs.declared.outputs.ClientChange.TheVariants.{Stays, Over, Starts}
 use Rattle.sip_clients.specs.declared.reply.Reply.{Reply as Answer}
 use Rattle.sip_clients.specs.Cancel.{cancel_freed, noted, sent_beside}
 use Rattle.sip_clients.specs.Client.{Clients, Side, Taken, client_at, client_changed, client_for, quiet, with_client, without}
@@ -45,7 +45,7 @@ started event client clients =
     (with_client event.id client clients, start_command event client ∷ [])
 
 -- what becomes of the requests after a response to that of an id, or after a command
-abbrev pub settled : Event → Id → Rest → Clients → Clients × List CallOut
+abbrev pub settled : Event → Id → ClientChange → Clients → Clients × List CallOut
 settled event id Stays clients = (clients, [])
 settled event id Over clients = (without id clients, [])
 settled event id (Starts client) clients = started event client clients
@@ -53,21 +53,22 @@ settled event id (Starts client) clients = started event client clients
 -- ---- a response
 
 -- the name of the dialog that it makes, or that its request was sent in
-abbrev pub reply_name : Asks → Client → Message → DialogName
+abbrev pub reply_name : RequestKind → Client → Message → DialogName
 reply_name First client response = name_of_tags (tag_of (client.request).from) (tag_of response.to)
 reply_name (Again life) client response = life.name
 reply_name (Inside life) client response = life.name
 reply_name Plain client response = name_of_tags (tag_of (client.request).from) (tag_of response.to)
 
+-- the status of a response
 abbrev pub status_of : StartLine → Option ℕ
 status_of (start.Request uri) = None
 status_of (start.Response status reason) = Some status
 
 -- the requests, and what is told: what becomes of them, and last the CANCEL that waited for it
-abbrev pub reply_ended : Event → Id → Rest → Option Cancellation → Clients → List CallOut
+abbrev pub reply_ended : Event → Id → ClientChange → Option Cancellation → Clients → List CallOut
     → Clients × List CallOut
-reply_ended event id rest cancel clients told =
-    let after = settled event id rest clients in sent_beside cancel (after.0, told ++ after.1)
+reply_ended event id change cancel clients told =
+    let after = settled event id change clients in sent_beside cancel (after.0, told ++ after.1)
 
 -- what is held and told after it has done this to the request of this id and to the dialogs
 abbrev pub side_after : Event → Id → Side → Option Cancellation → Replied → Taken
@@ -94,11 +95,12 @@ reply_of event id call_id name status response = record {
   response = response;
 }
 
+-- a response to the request that is held, or to none
 abbrev pub found_taken : Event → Id → List ℕ → Message → Option ℕ → Option Client → Side → Taken
 found_taken event id call_id response None client side = quiet side
 found_taken event id call_id response (Some status) None side = quiet side
 found_taken event id call_id response (Some status) (Some client) side =
-    let name = reply_name client.asks client response in
+    let name = reply_name client.kind client response in
     reply_settled (reply_of event id call_id name status response) client side
 
 -- where its request isn't held, nothing happens
@@ -109,6 +111,7 @@ response_taken event id call_id response side =
 
 -- ---- a request is lost: its transaction timed out, or its message could not be sent
 
+-- a request that timed out, or could not be sent, is over, and so is what ends with it
 abbrev pub lost_of : Id → Bool → Option Client → Side → Taken
 lost_of id timed_out None side =
     (record { dialogs = side.dialogs; clients = without id side.clients }, [])
@@ -116,15 +119,18 @@ lost_of id timed_out (Some client) side =
     let ended = ended_with client timed_out side.dialogs in
     (record { dialogs = ended.0; clients = without id side.clients }, ended.1)
 
+-- the request of this id
 abbrev pub lost : Id → Bool → Side → Taken
 lost id timed_out side = lost_of id timed_out (client_at id side.clients) side
 
 -- ---- commands outside of dialogs
 
+-- the command Invite: an INVITE goes out and is held
 abbrev pub invite_taken : Event → Invite → Clients → Clients × List CallOut
 invite_taken event invite clients =
     started event (client_for event.id First (invite_of event invite) invite.address) clients
 
+-- the command Plain: a request outside of dialogs, unless its method is none of a user's
 abbrev pub plain_taken : Event → PlainCommand → Clients → Clients × List CallOut
 plain_taken event plain clients =
     if is_bad_outside plain.method then (clients, refused_notice event plain.call_id BadMethod ∷ [])
@@ -132,11 +138,13 @@ plain_taken event plain clients =
 
 -- ---- commands in a dialog
 
-abbrev pub request_settled : Event → List CallOut → Rest → List CallOut → Clients
+-- what is told, what is sent, and then the ends of dialogs
+abbrev pub request_settled : Event → List CallOut → ClientChange → List CallOut → Clients
     → Clients × List CallOut
-request_settled event outs rest ends clients =
-    let after = settled event event.id rest clients in (after.0, outs ++ after.1 ++ ends)
+request_settled event outs change ends clients =
+    let after = settled event event.id change clients in (after.0, outs ++ after.1 ++ ends)
 
+-- the command Request: a request in a dialog
 abbrev pub request_taken : Event → DialogRequest → Side → Taken
 request_taken event command side =
     let told = request_told event (name_in command.local_tag command.remote_tag) command
@@ -149,23 +157,27 @@ abbrev pub acked_with : DialogName → SentAck → Client → Client
 acked_with name ack client =
     record client { answers = insert_entry is_named client.answers name (Some ack) }
 
+-- the ACK is kept, to be sent again where the 2xx comes again
 abbrev pub ack_noted : Debt → DialogName → Option SentAck → Clients → Clients
 ack_noted (Ack invite number) name None clients = clients
 ack_noted (Ack invite number) name (Some ack) clients =
     client_changed invite (acked_with name ack) clients
 ack_noted (Prack rseq number) name ack clients = clients
 
+-- the user's ACK for a 2xx that is owed one
 abbrev pub ack_paid : Event → DialogBody → DialogName → Debt → Side → Taken
 ack_paid event command name debt side =
     let told = ack_told event name debt command side.dialogs in
     (record { dialogs = told.0; clients = ack_noted debt name told.2 side.clients }, told.1)
 
+-- the user's PRACK for a response that is owed one
 abbrev pub prack_paid : Event → DialogBody → DialogName → Debt → Side → Taken
 prack_paid event command name debt side =
     let told = prack_told event name debt command side.dialogs in
     let after = settled event event.id told.2 side.clients in
     (record { dialogs = told.0; clients = after.0 }, told.1 ++ after.1)
 
+-- where nothing is owed the command is refused
 abbrev pub paid_or_refused : Event → DialogBody → (Debt → Side → Taken) → Result Debt Refusal → Side
     → Taken
 paid_or_refused event command pay (Err refusal) side =
@@ -179,6 +191,7 @@ ack_taken event command side =
     paid_or_refused event command (ack_paid event command name)
     (debt_for kind.Ack name side.dialogs) side
 
+-- the command Prack, for the oldest response of its dialog that is owed one
 abbrev pub prack_taken : Event → DialogBody → Side → Taken
 prack_taken event command side =
     let name = name_in command.local_tag command.remote_tag in

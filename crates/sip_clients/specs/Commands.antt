@@ -20,13 +20,13 @@ use Rattle.sip_clients.specs.declared.answers.SentAck.{SentAck}
 use Rattle.sip_clients.specs.declared.debts.DebtKind.{DebtKind}
 use Rattle.sip_clients.specs.declared.debts.DebtKind.TheVariants as kind
 use Rattle.sip_clients.specs.declared.event.Event.{Event}
-use Rattle.sip_clients.specs.declared.outputs.Rest.{Rest}
+use Rattle.sip_clients.specs.declared.outputs.ClientChange.{ClientChange}
 use Rattle.sip_clients.specs.declared.service.Service.{Service}
 use Rattle.sip_clients.specs.declared.service.Service.TheVariants.{Sent, Waits, Refused}
 use Rattle.sip_clients.specs.Debts.{is_of}
 use Rattle.sip_clients.specs.Dialogs.{paid_at, service_at}
 use Rattle.sip_clients.specs.Outputs.{ack_said, request_said}
-use Rattle.sip_clients.specs.Service.{Served, requested}
+use Rattle.sip_clients.specs.Service.{Outcome, requested}
 
 -- ---- methods
 
@@ -40,6 +40,7 @@ abbrev pub is_bad_outside : List ℕ → Bool
 is_bad_outside method =
     is_own_kind method || bytes_eq method (codes "INVITE") || bytes_eq method (codes "BYE")
 
+-- the side that the INVITE came to
 abbrev pub is_callee : Side → Bool
 is_callee Caller = false
 is_callee Callee = true
@@ -49,20 +50,24 @@ abbrev pub is_bad_early : Side → List ℕ → Bool
 is_bad_early side method =
     bytes_eq method (codes "INVITE") || (is_callee side && bytes_eq method (codes "BYE"))
 
+-- a method that isn't the user's to send in this dialog
 abbrev pub is_bad_in : HeldDialog → List ℕ → Bool
 is_bad_in held method =
     is_own_kind method || (is_early (held.dialog).state && is_bad_early (held.dialog).side method)
 
 -- ---- a request
 
-abbrev pub request_in : Event → List ℕ → List ℕ → HeldDialog → Served
+-- the request, where its method may be sent
+abbrev pub request_in : Event → List ℕ → List ℕ → HeldDialog → Outcome
 request_in event method body held =
     if is_bad_in held method then (held, Refused BadMethod)
     else requested event method None body held
 
+-- the dialog after it
 unfoldable pub requesting : Event → List ℕ → List ℕ → HeldDialog → HeldDialog
 requesting event method body held = (request_in event method body held).0
 
+-- the same, in the dialog of this name
 abbrev pub requested_at : DialogName → Event → List ℕ → List ℕ → Dialogs → Dialogs × Service
 requested_at name event method body dialogs = (
   dialog_changed name (requesting event method body) dialogs,
@@ -70,6 +75,7 @@ requested_at name event method body dialogs = (
       (Refused NoSuchDialog) dialogs,
 )
 
+-- the same, as a command asks for it
 unfoldable pub requested_by : DialogName → Event → DialogRequest → Dialogs → Dialogs × Service
 requested_by name event command dialogs =
     requested_at name event command.method command.body dialogs
@@ -83,7 +89,7 @@ bye_ended name method (Refused refusal) dialogs = (dialogs, [])
 
 -- the dialogs after it, what is told, the request that is sent, and the end that is told last
 abbrev pub request_told : Event → DialogName → DialogRequest → Dialogs
-    → Dialogs × List CallOut × Rest × List CallOut
+    → Dialogs × List CallOut × ClientChange × List CallOut
 request_told event name command dialogs =
     let done = requested_by name event command dialogs in
     let bye = bye_ended name command.method done.1 done.0 in
@@ -92,10 +98,12 @@ request_told event name command dialogs =
 
 -- ---- an ACK or a PRACK
 
+-- the refusal where nothing of a kind is owed
 abbrev pub nothing_owed : DebtKind → Refusal
 nothing_owed kind.Ack = NothingToAck
 nothing_owed kind.Prack = NothingToPrack
 
+-- the debt, or that refusal
 abbrev pub debt_or_refusal : DebtKind → Option Debt → Result Debt Refusal
 debt_or_refusal kind None = Err (nothing_owed kind)
 debt_or_refusal kind (Some debt) = Ok debt
@@ -104,6 +112,7 @@ debt_or_refusal kind (Some debt) = Ok debt
 abbrev pub oldest_debt : DebtKind → HeldDialog → Result Debt Refusal
 oldest_debt kind held = debt_or_refusal kind (find (is_of kind) held.owed)
 
+-- the oldest debt of a kind in the dialog of this name, or why there is none
 abbrev pub debt_for : DebtKind → DialogName → Dialogs → Result Debt Refusal
 debt_for kind name dialogs =
     option_map_or (oldest_debt kind) (dialog_at name dialogs) (Err NoSuchDialog)
@@ -118,7 +127,7 @@ ack_told event name debt command dialogs =
 
 -- the dialogs after the PRACK, what is told, and the request that is sent
 abbrev pub prack_told : Event → DialogName → Debt → DialogBody → Dialogs
-    → Dialogs × List CallOut × Rest
+    → Dialogs × List CallOut × ClientChange
 prack_told event name debt command dialogs =
     let done = paid_at name event debt command.body dialogs in
     let said = request_said event command.call_id name done.1 in

@@ -10,14 +10,16 @@ use Rattle.sip_clients.specs.declared.debts.DebtKind.TheVariants as kind
 use Rattle.sip_clients.specs.declared.event.Event.{Event}
 use Rattle.sip_clients.specs.declared.service.Service.{Service}
 use Rattle.sip_clients.specs.declared.service.Service.TheVariants.{Sent, Waits, Refused}
-use Rattle.sip_clients.specs.Service.{served}
+use Rattle.sip_clients.specs.Service.{discharged}
 
+-- a debt of this kind
 abbrev pub is_of : DebtKind → Debt → Bool
 is_of kind.Ack (Ack invite number) = true
 is_of kind.Ack (Prack rseq number) = false
 is_of kind.Prack (Ack invite number) = false
 is_of kind.Prack (Prack rseq number) = true
 
+-- the same debt
 abbrev pub is_same : Debt → Debt → Bool
 is_same (Ack invite number) (Ack other_invite other_number) =
     is_id invite other_invite && (number == other_number)
@@ -28,29 +30,34 @@ is_same (Prack rseq number) (Prack other_rseq other_number) =
 
 -- ---- a response asks for it: it stays owed where it isn't sent
 
+-- owed further, unless it was sent
 abbrev pub kept_unless_sent : Debt → Service → HeldDialog → HeldDialog
 kept_unless_sent debt (Sent sending) held = held
 kept_unless_sent debt Waits held = record held { owed = held.owed ++ debt ∷ [] }
 kept_unless_sent debt (Refused refusal) held = record held { owed = held.owed ++ debt ∷ [] }
 
+-- the dialog after it
 unfoldable pub owing : Event → Debt → Option (List ℕ) → HeldDialog → HeldDialog
 owing event debt offer held =
-    let done = served event debt offer held in kept_unless_sent debt done.1 done.0
+    let done = discharged event debt offer held in kept_unless_sent debt done.1 done.0
 
 -- the dialog after it, and what becomes of what is to be sent
 abbrev pub owed : Event → Debt → Option (List ℕ) → HeldDialog → HeldDialog × Service
-owed event debt offer held = (owing event debt offer held, (served event debt offer held).1)
+owed event debt offer held = (owing event debt offer held, (discharged event debt offer held).1)
 
 -- ---- the user serves it: it is owed no more where it is sent
 
+-- all debts but this one
 abbrev pub without : Debt → HeldDialog → HeldDialog
 without debt held = record held { owed = filter (λ other. not (is_same debt other)) held.owed }
 
+-- owed no longer, where it was sent
 abbrev pub dropped_if_sent : Debt → Service → HeldDialog → HeldDialog
 dropped_if_sent debt (Sent sending) held = without debt held
 dropped_if_sent debt Waits held = held
 dropped_if_sent debt (Refused refusal) held = held
 
+-- the dialog after it
 unfoldable pub paying : Event → Debt → List ℕ → HeldDialog → HeldDialog
 paying event debt body held =
-    let done = served event debt (Some body) held in dropped_if_sent debt done.1 done.0
+    let done = discharged event debt (Some body) held in dropped_if_sent debt done.1 done.0

@@ -11,18 +11,19 @@ use Rattle.sip_common.specs.declared.held_dialog.DialogName.{DialogName}
 use Rattle.sip_common.specs.declared.held_dialog.HeldDialog.{HeldDialog}
 use Rattle.sip_common.specs.declared.item.CallOut.{CallOut}
 use Rattle.sip_common.specs.Dialogs.{confirmed, dialog_at, dialog_changed, early_ended, ended_at, lives, retargeted, Dialogs}
-use Rattle.sip_clients.specs.declared.client.Asks.{Asks}
-use Rattle.sip_clients.specs.declared.client.Asks.TheVariants.{First, Again, Inside, Plain}
+use Rattle.sip_clients.specs.declared.client.RequestKind.{RequestKind}
+use Rattle.sip_clients.specs.declared.client.RequestKind.TheVariants.{First, Again, Inside, Plain}
 use Rattle.sip_clients.specs.declared.client.Client.{Client}
 use Rattle.sip_clients.specs.declared.event.Event.{Event}
 use Rattle.sip_clients.specs.declared.reply.Reply.{Reply as Answer}
 use Rattle.sip_clients.specs.declared.service.Service.{Service}
 use Rattle.sip_clients.specs.declared.service.Service.TheVariants.{Waits}
 use Rattle.sip_clients.specs.Debts.{paying}
-use Rattle.sip_clients.specs.Service.{served}
+use Rattle.sip_clients.specs.Service.{discharged}
 
 -- ---- how a dialog is made (RFC 3261, section 12.1.2)
 
+-- the dialog that a response makes (RFC 3261, section 12.1.2)
 abbrev pub made_dialog : Client → Answer → HeldDialog
 made_dialog client reply = record {
   dialog = opened_by_response client.request reply.response;
@@ -46,15 +47,16 @@ abbrev pub refreshed : Message → HeldDialog → HeldDialog
 refreshed response held = retargeted (contact_uri response) held
 
 -- that to the first INVITE confirms the dialog of its name, or makes it
-abbrev pub accepted_in : Asks → Message → HeldDialog → HeldDialog
+abbrev pub accepted_in : RequestKind → Message → HeldDialog → HeldDialog
 accepted_in First response held = confirmed response held
 accepted_in (Again life) response held = refreshed response held
 accepted_in (Inside life) response held = held
 accepted_in Plain response held = held
 
+-- the dialog after the first 2xx of its name
 abbrev pub accepted : Client → Answer → Option HeldDialog → HeldDialog
 accepted client reply None = made_dialog client reply
-accepted client reply (Some held) = accepted_in client.asks reply.response held
+accepted client reply (Some held) = accepted_in client.kind reply.response held
 
 -- ---- what is heard and paid in a dialog
 
@@ -66,10 +68,11 @@ hearing rseq held = record held { heard = latest_after (offered held.heard rseq)
 abbrev pub service_at : DialogName → (HeldDialog → Service) → Service → Dialogs → Service
 service_at name serve otherwise dialogs = option_map_or serve (dialog_at name dialogs) otherwise
 
+-- in the dialog of this name: the dialogs after it, and what becomes of the request
 abbrev pub paid_at : DialogName → Event → Debt → List ℕ → Dialogs → Dialogs × Service
 paid_at name event debt body dialogs = (
   dialog_changed name (paying event debt body) dialogs,
-  service_at name (λ held. (served event debt (Some body) held).1) Waits dialogs,
+  service_at name (λ held. (discharged event debt (Some body) held).1) Waits dialogs,
 )
 
 -- ---- what ends with a client request
@@ -79,7 +82,7 @@ abbrev pub life_ended : DialogLife → Dialogs → Dialogs × List CallOut
 life_ended life dialogs = if lives dialogs life then ended_at life.name dialogs else (dialogs, [])
 
 -- the dialog that it was sent in, where it ends that
-abbrev pub own_ended : Asks → Bool → Dialogs → Dialogs × List CallOut
+abbrev pub own_ended : RequestKind → Bool → Dialogs → Dialogs × List CallOut
 own_ended First ends dialogs = (dialogs, [])
 own_ended (Again life) ends dialogs = if ends then life_ended life dialogs else (dialogs, [])
 own_ended (Inside life) ends dialogs = if ends then life_ended life dialogs else (dialogs, [])
@@ -89,5 +92,5 @@ own_ended Plain ends dialogs = (dialogs, [])
 abbrev pub ended_with : Client → Bool → Dialogs → Dialogs × List CallOut
 ended_with client ends dialogs =
     let early = early_ended client.id dialogs in
-    let own = own_ended client.asks ends early.0 in
+    let own = own_ended client.kind ends early.0 in
     (own.0, early.1 ++ own.1)

@@ -7,5 +7,6 @@ use Rattle.sip_clients.specs.Name.{name_of}
 unfoldable pub branch_of : Event → List ℕ
 branch_of event = codes "z9hG4bK" ++ name_of event.seed event.id 0
 
+-- the From tag of a request outside of dialogs
 abbrev pub from_tag_of : Event → List ℕ
 from_tag_of event = name_of event.seed event.id 1

@@ -14,12 +14,12 @@ use Rattle.sip_common.specs.declared.refusal.Refusal.{Refusal}
 use Rattle.sip_common.specs.Requests.{is_invite}
 use Rattle.sip_transactions.specs.declared.input.Command.TheVariants.{Start}
 use Rattle.sip_clients.specs.declared.answers.SentAck.{SentAck}
-use Rattle.sip_clients.specs.declared.client.Asks.{Asks}
-use Rattle.sip_clients.specs.declared.client.Asks.TheVariants.{Again, Inside}
+use Rattle.sip_clients.specs.declared.client.RequestKind.{RequestKind}
+use Rattle.sip_clients.specs.declared.client.RequestKind.TheVariants.{Again, Inside}
 use Rattle.sip_clients.specs.declared.client.Client.{Client}
 use Rattle.sip_clients.specs.declared.event.Event.{Event}
-use Rattle.sip_clients.specs.declared.outputs.Rest.{Rest}
-use Rattle.sip_clients.specs.declared.outputs.Rest.TheVariants.{Stays, Starts}
+use Rattle.sip_clients.specs.declared.outputs.ClientChange.{ClientChange}
+use Rattle.sip_clients.specs.declared.outputs.ClientChange.TheVariants.{Stays, Starts}
 use Rattle.sip_clients.specs.declared.reply.Reply.{Reply as Answer}
 use Rattle.sip_clients.specs.declared.service.Sending.{Sending}
 use Rattle.sip_clients.specs.declared.service.Service.{Service}
@@ -27,26 +27,30 @@ use Rattle.sip_clients.specs.declared.service.Service.TheVariants.{Sent, Waits, 
 use Rattle.sip_clients.specs.Client.{client_for}
 use Rattle.sip_clients.specs.Event.{branch_of}
 
+-- the user is told of a response
 abbrev pub response_notice : Answer → CallOut
 response_notice reply =
     out.Notice (notice.Response reply.call_id reply.id reply.status (tag_of reply.response.from)
     (tag_of reply.response.to) reply.response.body)
 
+-- the user is told that a command is refused, and why
 abbrev pub refused_notice : Event → List ℕ → Refusal → CallOut
 refused_notice event call_id refusal = out.Notice (notice.Refused call_id (event.id).place refusal)
 
 -- ---- a request in a dialog
 
-abbrev pub asks_in : DialogLife → Message → Asks
-asks_in life message = if is_invite message then Again life else Inside life
+-- what a request in a dialog is for
+abbrev pub kind_in : DialogLife → Message → RequestKind
+kind_in life message = if is_invite message then Again life else Inside life
 
+-- the request that is held from then on
 abbrev pub client_of : Event → DialogName → Sending → Client
 client_of event name sending =
-    client_for event.id (asks_in record { name = name; born = sending.born } sending.message)
+    client_for event.id (kind_in record { name = name; born = sending.born } sending.message)
     sending.message sending.to
 
 -- what is told of it, and the request that is sent
-abbrev pub request_said : Event → List ℕ → DialogName → Service → List CallOut × Rest
+abbrev pub request_said : Event → List ℕ → DialogName → Service → List CallOut × ClientChange
 request_said event call_id name (Sent sending) = ([], Starts (client_of event name sending))
 request_said event call_id name Waits = ([], Stays)
 request_said event call_id name (Refused refusal) =
@@ -58,14 +62,17 @@ start_under id branch client =
     out.Command id (Start (client_key branch ((client.request).cseq).method)
     (client.request).call_id client.request client.to)
 
+-- its transaction starts, with the branch of the event
 unfoldable pub start_command : Event → Client → CallOut
 start_command event client = start_under event.id (branch_of event) client
 
 -- ---- an ACK
 
+-- an ACK as it goes out
 abbrev pub sent_ack : Sending → SentAck
 sent_ack sending = record { to = sending.to; bytes = written sending.message }
 
+-- an ACK goes out without a transaction (RFC 3261, section 13.2.2.4)
 abbrev pub direct : SentAck → CallOut
 direct ack = out.Direct ack.to ack.bytes
 

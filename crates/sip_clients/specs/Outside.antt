@@ -27,6 +27,7 @@ bare_request event call_id method uri from to =
       max_forwards = Some MAX_FORWARDS;
     }
 
+-- with this agent's address as Contact
 abbrev pub with_contact : Addr → Message → Message
 with_contact local message = record message { contacts = contact_of local ∷ [] }
 
@@ -43,6 +44,7 @@ bare_invite event invite =
     (bare_request event invite.call_id
     (codes "INVITE") invite.request_uri invite.from invite.to))
 
+-- with its body
 abbrev pub invite_of : Event → Invite → Message
 invite_of event invite = with_body_of (bare_invite event invite) invite.body
 
@@ -51,5 +53,6 @@ abbrev pub bare_plain : Event → Plain → Message
 bare_plain event plain =
     bare_request event plain.call_id plain.method plain.request_uri plain.from plain.to
 
+-- with its body
 abbrev pub plain_of : Event → Plain → Message
 plain_of event plain = with_body_of (bare_plain event plain) plain.body

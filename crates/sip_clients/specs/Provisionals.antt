@@ -10,8 +10,8 @@ use Rattle.sip_common.specs.declared.notice.Notice.TheVariants as notice
 use Rattle.sip_common.specs.Dialogs.{is_named}
 use Rattle.sip_common.specs.Requests.{is_final, is_inside}
 use Rattle.sip_common.specs.Ids.{is_id}
-use Rattle.sip_clients.specs.declared.client.Asks.{Asks}
-use Rattle.sip_clients.specs.declared.client.Asks.TheVariants.{First, Again}
+use Rattle.sip_clients.specs.declared.client.RequestKind.{RequestKind}
+use Rattle.sip_clients.specs.declared.client.RequestKind.TheVariants.{First, Again}
 use Rattle.sip_clients.specs.declared.client.Client.{Client}
 use Rattle.sip_clients.specs.Clients.{reply_name, status_of}
 use Rattle.sip_clients.specs.Reply.{rseq_of}
@@ -23,7 +23,7 @@ pub data AnInvite : Type 0 where
 
 -- A request of this id, which asks so, is that INVITE, and this response to it is of this life of a
 -- dialog.
-abbrev pub is_for : AnInvite → DialogLife → Id → Client → Asks → Message → Bool
+abbrev pub is_for : AnInvite → DialogLife → Id → Client → RequestKind → Message → Bool
 is_for OfTheCall life id client First response =
     is_named life.name (reply_name First client response)
 is_for (InTheDialog invite) life id client (Again own) response =
@@ -39,9 +39,10 @@ provisional_number (Some status) response =
     else (if not (status == 100) && is_inside response then rseq_of response
     else None)
 
+-- the RSeq of such a response to the request that is held
 abbrev pub number_for : AnInvite → DialogLife → Id → Message → Client → Option ℕ
 number_for invite life id response client =
-    if is_for invite life id client client.asks response
+    if is_for invite life id client client.kind response
     then provisional_number (status_of response.start) response else None
 
 -- the user is told of a response

@@ -12,11 +12,11 @@ use Rattle.sip_common.specs.declared.item.CallOut.{CallOut}
 use Rattle.sip_common.specs.Dialogs.{dialog_at, is_named, Dialogs}
 use Rattle.sip_timers.specs.declared.estimate.TheConstants.{LIFETIME}
 use Rattle.sip_clients.specs.declared.answers.SentAck.{SentAck}
-use Rattle.sip_clients.specs.declared.client.Asks.{Asks}
-use Rattle.sip_clients.specs.declared.client.Asks.TheVariants.{First, Again, Inside, Plain}
+use Rattle.sip_clients.specs.declared.client.RequestKind.{RequestKind}
+use Rattle.sip_clients.specs.declared.client.RequestKind.TheVariants.{First, Again, Inside, Plain}
 use Rattle.sip_clients.specs.declared.client.Client.{Client}
-use Rattle.sip_clients.specs.declared.outputs.Rest.{Rest}
-use Rattle.sip_clients.specs.declared.outputs.Rest.TheVariants.{Stays, Over}
+use Rattle.sip_clients.specs.declared.outputs.ClientChange.{ClientChange}
+use Rattle.sip_clients.specs.declared.outputs.ClientChange.TheVariants.{Stays, Over}
 use Rattle.sip_clients.specs.declared.reply.Reply.{Reply as Answer}
 use Rattle.sip_clients.specs.declared.reply.ReplyCase.{ReplyCase}
 use Rattle.sip_clients.specs.declared.reply.ReplyCase.TheVariants as reply
@@ -30,12 +30,13 @@ use Rattle.sip_clients.specs.Reply.{is_last, reply_case}
 -- the client request and the dialogs after a response, what is told, and what becomes of the
 -- requests
 abbrev pub Replied : Type 0
-Replied = Client × Dialogs × List CallOut × Rest
+Replied = Client × Dialogs × List CallOut × ClientChange
 
 -- the same of the one dialog that it may change: that after it, if it is changed or made
 abbrev pub InDialog : Type 0
-InDialog = Client × Option HeldDialog × List CallOut × Rest
+InDialog = Client × Option HeldDialog × List CallOut × ClientChange
 
+-- the user is told of it
 abbrev pub notice : Answer → List CallOut
 notice answer = response_notice answer ∷ []
 
@@ -55,17 +56,19 @@ finished client dialogs answer =
 
 -- the dialog of a first INVITE keeps what came in it, and an INVITE in a dialog keeps itself what
 -- came for it
-abbrev pub heard_first : Asks → ℕ → HeldDialog → HeldDialog
+abbrev pub heard_first : RequestKind → ℕ → HeldDialog → HeldDialog
 heard_first First rseq held = hearing rseq held
 heard_first (Again life) rseq held = held
 heard_first (Inside life) rseq held = held
 heard_first Plain rseq held = held
 
+-- of the responses to the request this RSeq is the latest
 abbrev pub hears : ℕ → Client → Client
 hears rseq client =
     record client { heard = latest_after (offered client.heard rseq) client.heard rseq }
 
-abbrev pub heard_again : Asks → ℕ → Client → Client
+-- the same, unless it opens a call: then the dialog keeps it
+abbrev pub heard_again : RequestKind → ℕ → Client → Client
 heard_again First rseq client = client
 heard_again (Again life) rseq client = hears rseq client
 heard_again (Inside life) rseq client = hears rseq client
@@ -78,12 +81,14 @@ abbrev pub offer_to : Client → Message → Option (List ℕ)
 offer_to client response =
     if not (length (client.request).body == 0) || (length response.body == 0) then Some [] else None
 
+-- its PRACK is owed, or sent
 unfoldable pub prack_owed : ℕ → Client → HeldDialog → Answer → HeldDialog × Service
 prack_owed rseq client held answer =
     owed answer.event (Prack rseq ((client.request).cseq).number)
-    (offer_to client answer.response) (heard_first client.asks rseq held)
+    (offer_to client answer.response) (heard_first client.kind rseq held)
 
-abbrev pub told_of_prack : Answer → Service → List CallOut × Rest
+-- what is told and sent, and the PRACK's request
+abbrev pub told_of_prack : Answer → Service → List CallOut × ClientChange
 told_of_prack answer service =
     let said = request_said answer.event answer.call_id answer.name service in
     (notice answer ++ said.0, said.1)
@@ -93,7 +98,7 @@ abbrev pub reliable : ℕ → Client → HeldDialog → Answer → InDialog
 reliable rseq client held answer =
     let owed = prack_owed rseq client held answer in
     let told = told_of_prack answer owed.1 in
-    (heard_again client.asks rseq client, Some owed.0, told.0, told.1)
+    (heard_again client.kind rseq client, Some owed.0, told.0, told.1)
 
 -- ---- a 2xx to an INVITE
 
@@ -109,11 +114,13 @@ answered answer ack client = record client {
   removal = Some (unwrap_or client.removal ((answer.event).moment + LIFETIME));
 }
 
+-- its ACK is owed, or sent
 unfoldable pub ack_owed : Client → HeldDialog → Answer → HeldDialog × Service
 ack_owed client held answer =
     owed answer.event (Ack client.id ((client.request).cseq).number)
     (offer_to client answer.response) held
 
+-- what is told and sent, and the ACK
 abbrev pub told_of_ack : Answer → Service → List CallOut × Option SentAck
 told_of_ack answer service =
     let said = ack_said answer.event answer.call_id service in (notice answer ++ said.0, said.1)
@@ -140,6 +147,7 @@ by_case reply.Early client found answer =
     (client, Some (opened client answer found), notice answer, Stays)
 by_case reply.Told client found answer = (client, None, notice answer, Stays)
 
+-- case by case, in the dialog of its name where it is held
 abbrev pub replied_in : Client → Option HeldDialog → Answer → InDialog
 replied_in client found answer = by_case (reply_case client found answer) client found answer
 
@@ -148,15 +156,17 @@ abbrev pub with_dialog : DialogName → Option HeldDialog → Dialogs → Dialog
 with_dialog name None dialogs = dialogs
 with_dialog name (Some held) dialogs = insert_entry is_named dialogs name held
 
+-- the dialogs with that one after it
 abbrev pub after_dialog : DialogName → Dialogs → InDialog → Replied
 after_dialog name dialogs done = (done.0, with_dialog name done.1 dialogs, done.2, done.3)
 
+-- the last response ends its request; any other is taken case by case
 abbrev pub reply_taken : Client → Dialogs → Answer → Replied
 reply_taken client dialogs answer =
-    if is_last client.asks answer.status then finished client dialogs answer
+    if is_last client.kind answer.status then finished client dialogs answer
     else after_dialog answer.name dialogs
     (replied_in client (dialog_at answer.name dialogs) answer)
 
 -- of a held dialog: that after it
-abbrev pub in_place : HeldDialog → InDialog → Client × HeldDialog × List CallOut × Rest
+abbrev pub in_place : HeldDialog → InDialog → Client × HeldDialog × List CallOut × ClientChange
 in_place held done = (done.0, unwrap_or done.1 held, done.2, done.3)

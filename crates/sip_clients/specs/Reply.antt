@@ -10,8 +10,8 @@ use Rattle.sip_common.specs.declared.held_dialog.DialogName.{DialogName}
 use Rattle.sip_common.specs.declared.held_dialog.HeldDialog.{HeldDialog}
 use Rattle.sip_common.specs.Requests.{is_final, is_inside, is_success, requires_100rel}
 use Rattle.sip_common.specs.Ids.{is_id}
-use Rattle.sip_clients.specs.declared.client.Asks.{Asks}
-use Rattle.sip_clients.specs.declared.client.Asks.TheVariants.{First, Again, Inside, Plain}
+use Rattle.sip_clients.specs.declared.client.RequestKind.{RequestKind}
+use Rattle.sip_clients.specs.declared.client.RequestKind.TheVariants.{First, Again, Inside, Plain}
 use Rattle.sip_clients.specs.declared.client.Client.{Client}
 use Rattle.sip_clients.specs.declared.reply.Reply.{Reply as Answer}
 use Rattle.sip_clients.specs.declared.reply.ReplyCase.{ReplyCase}
@@ -20,18 +20,19 @@ use Rattle.sip_clients.specs.Answers.{has_answer}
 
 -- ---- what is asked of a response
 
-abbrev pub is_inviting : Asks → Bool
+-- an INVITE
+abbrev pub is_inviting : RequestKind → Bool
 is_inviting First = true
 is_inviting (Again life) = true
 is_inviting (Inside life) = false
 is_inviting Plain = false
 
 -- the final response of its request, or one that rejects an INVITE
-abbrev pub is_last : Asks → ℕ → Bool
-is_last asks status = is_final status && not (is_inviting asks && is_success status)
+abbrev pub is_last : RequestKind → ℕ → Bool
+is_last kind status = is_final status && not (is_inviting kind && is_success status)
 
 -- by the held dialog of its name, if there is one: the dialog of an INVITE is held, or may be made
-abbrev pub is_there : Asks → Option HeldDialog → Bool
+abbrev pub is_there : RequestKind → Option HeldDialog → Bool
 is_there First found = true
 is_there (Again life) found =
     option_map_or (λ (held : HeldDialog). is_id held.born life.born) found false
@@ -39,7 +40,7 @@ is_there (Inside life) found = false
 is_there Plain found = false
 
 -- the last RSeq that was taken in the same dialog for the same INVITE
-abbrev pub heard_of : Asks → Client → Option HeldDialog → Option ℕ
+abbrev pub heard_of : RequestKind → Client → Option HeldDialog → Option ℕ
 heard_of First client found = option_and_then (λ held. held.heard) found
 heard_of (Again life) client found = client.heard
 heard_of (Inside life) client found = client.heard
@@ -55,17 +56,20 @@ is_of_dialog reply = not (reply.status == 100) && is_inside reply.response
 
 -- ---- which case it is
 
+-- a 2xx to an INVITE: it came before; its dialog stands or begins; or it comes late
 abbrev pub success_case : Client → Option HeldDialog → DialogName → ReplyCase
 success_case client found name =
     if has_answer name client.answers then Repeated
-    else (if is_there client.asks found then Accepted
+    else (if is_there client.kind found then Accepted
     else Late)
 
+-- by its RSeq it is the next one, or it is passed over (RFC 3262, section 4)
 abbrev pub offer_case : Offer → ℕ → ReplyCase
 offer_case Taken rseq = Reliable rseq
 offer_case Repeat rseq = Passed
 offer_case Gap rseq = Passed
 
+-- by the latest RSeq and its own, where it has one
 abbrev pub reliable_case : Option ℕ → Option ℕ → ReplyCase
 reliable_case heard None = Early
 reliable_case heard (Some rseq) = offer_case (offered heard rseq) rseq
@@ -74,6 +78,6 @@ reliable_case heard (Some rseq) = offer_case (offered heard rseq) rseq
 abbrev pub reply_case : Client → Option HeldDialog → Answer → ReplyCase
 reply_case client found reply =
     if is_final reply.status then success_case client found reply.name
-    else (if is_of_dialog reply && is_there client.asks found
-    then reliable_case (heard_of client.asks client found) (rseq_of reply.response)
+    else (if is_of_dialog reply && is_there client.kind found
+    then reliable_case (heard_of client.kind client found) (rseq_of reply.response)
     else Told)

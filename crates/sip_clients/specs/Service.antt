@@ -21,8 +21,8 @@ use Rattle.sip_clients.specs.declared.service.Service.TheVariants.{Sent, Waits, 
 use Rattle.sip_clients.specs.Event.{branch_of}
 
 -- a dialog after a request that is to be sent in it, and what becomes of that
-abbrev pub Served : Type 0
-Served = HeldDialog × Service
+abbrev pub Outcome : Type 0
+Outcome = HeldDialog × Service
 
 -- why a request isn't sent; a held dialog hasn't ended
 abbrev pub refusal_of : DialogFault → Refusal
@@ -33,10 +33,12 @@ refusal_of fault.SequenceUsedUp = refusal.SequenceUsedUp
 refusal_of fault.OutOfOrder = refusal.SequenceUsedUp
 refusal_of fault.NoMemory = refusal.SequenceUsedUp
 
+-- sent, or refused as the dialog does
 abbrev pub service_by : Option DialogFault → Sending → Service
 service_by None sending = Sent sending
 service_by (Some fault) sending = Refused (refusal_of fault)
 
+-- with this RAck
 abbrev pub with_rack : Option RAck → Message → Message
 with_rack rack message = record message { rack = rack }
 
@@ -46,7 +48,7 @@ numbered None held = record held { dialog = with_next_number held.dialog }
 numbered (Some fault) held = held
 
 -- a request of this method, with a RAck where it is a PRACK
-abbrev pub requested : Event → List ℕ → Option RAck → List ℕ → HeldDialog → Served
+abbrev pub requested : Event → List ℕ → Option RAck → List ℕ → HeldDialog → Outcome
 requested event method rack body held = (
   numbered (request_fault held.dialog method) held,
   service_by (request_fault held.dialog method) record {
@@ -58,7 +60,7 @@ requested event method rack body held = (
 )
 
 -- the PRACK of a response of this RSeq to the INVITE of this number
-abbrev pub pracked : Event → ℕ → ℕ → List ℕ → HeldDialog → Served
+abbrev pub pracked : Event → ℕ → ℕ → List ℕ → HeldDialog → Outcome
 pracked event rseq number body held =
     requested event (codes "PRACK")
     (Some record { rseq = rseq; cseq = number; method = codes "INVITE" }) body held
@@ -71,11 +73,12 @@ acked event held number body = service_by (ack_fault held.dialog) record {
   born = held.born;
 }
 
-abbrev pub served_with : Event → Debt → List ℕ → HeldDialog → Served
-served_with event (Ack invite number) body held = (held, acked event held number body)
-served_with event (Prack rseq number) body held = pracked event rseq number body held
+-- the ACK or the PRACK goes out with this body
+abbrev pub discharged_with : Event → Debt → List ℕ → HeldDialog → Outcome
+discharged_with event (Ack invite number) body held = (held, acked event held number body)
+discharged_with event (Prack rseq number) body held = pracked event rseq number body held
 
--- what is owed is served with the body that its request carries; without one it waits for the user
-unfoldable pub served : Event → Debt → Option (List ℕ) → HeldDialog → Served
-served event debt None held = (held, Waits)
-served event debt (Some body) held = served_with event debt body held
+-- what is owed is discharged with the body that its request carries; without one it waits for the user
+unfoldable pub discharged : Event → Debt → Option (List ℕ) → HeldDialog → Outcome
+discharged event debt None held = (held, Waits)
+discharged event debt (Some body) held = discharged_with event debt body held

@@ -20,9 +20,11 @@ abbrev pub ends_at : ℕ → Clients → HeldDialog → Bool
 ends_at now clients held =
     list_any (λ client. is_over now client && is_early_of client.id held) (values_of clients)
 
+-- the dialogs that stay
 abbrev pub dialogs_left : ℕ → Dialogs → Clients → Dialogs
 dialogs_left now dialogs clients = filter (λ entry. not (ends_at now clients entry.1)) dialogs
 
+-- the requests that stay
 abbrev pub clients_left : ℕ → Clients → Clients
 clients_left now clients = filter (λ entry. not (is_over now entry.1)) clients
 
@@ -30,9 +32,11 @@ clients_left now clients = filter (λ entry. not (is_over now entry.1)) clients
 abbrev pub notices_of : ℕ → Dialogs → Client → List CallOut
 notices_of now dialogs client = if is_over now client then (early_ended client.id dialogs).1 else []
 
+-- the ends that the user is told of
 abbrev pub over_notices : ℕ → Dialogs → Clients → List CallOut
 over_notices now dialogs clients = flat_map (notices_of now dialogs) (values_of clients)
 
+-- INVITEs that had their first 2xx 64 times T1 ago are removed with their early dialogs
 abbrev pub tick_taken : Side → ℕ → Taken
 tick_taken side now = (
   record {

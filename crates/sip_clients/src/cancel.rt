@@ -4,7 +4,7 @@ ghost use Rattle.std.specs.Prelude.{◌≡◌, IfOk, OnOk};
 ghost use Rattle.sip_clients.specs.Cancel as spec;
 ghost use Rattle.sip_clients.specs.Client.{client_changed};
 
-use crate::client::{Asks, Cancelling, Client, client_for};
+use crate::client::{Cancelling, Client, RequestKind, client_for};
 use crate::event::Event;
 use crate::held::{ClientMap, hold};
 use crate::outputs::{refused, start_under};
@@ -41,7 +41,7 @@ fn made_cancel(alloc: Global, id: Id, invite: &Client) -> Result<Cancellation, A
     ensures { IfOk result (λ cancel. cancel ≡ spec.cancellation id invite.now) }
 {
     let message = cancel_for(alloc, &invite.request)?;
-    let client = client_for(alloc, id, Asks::Plain, message, invite.to);
+    let client = client_for(alloc, id, RequestKind::Plain, message, invite.to);
     let start = start_under(alloc, id, invite.request.vias.top().branch(), &client)?;
     Ok(Cancellation { client, start })
 }
@@ -97,7 +97,7 @@ pub(crate) fn take_cancel(
 fn cancel_case(invite: &Client) -> CancelCase
     ensures { result ≡ spec.cancel_case invite.now }
 {
-    if !is_inviting(&invite.asks) {
+    if !is_inviting(&invite.kind) {
         CancelCase::Refused(Refusal::NoSuchRequest)
     } else if invite.removal.is_some() {
         CancelCase::Refused(Refusal::AlreadyFinal)

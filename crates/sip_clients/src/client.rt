@@ -10,7 +10,7 @@ use sip_reliable::Inbound;
 use std::alloc::Global;
 
 /// What a client request is for.
-pub enum Asks {
+pub enum RequestKind {
     /// The INVITE of a call, whose responses make dialogs (RFC 3261, section 13.2).
     First,
     /// An INVITE in this dialog (RFC 3261, section 14.1).
@@ -34,7 +34,7 @@ pub enum Cancelling {
 pub struct Client {
     /// The event that sent it, by which it is found.
     pub id: Id,
-    pub asks: Asks,
+    pub kind: RequestKind,
     pub request: Message,
     /// Where it was sent.
     pub to: Addr,
@@ -50,12 +50,18 @@ pub struct Client {
 }
 
 /// A request that was just sent.
-pub(crate) fn client_for(alloc: Global, id: Id, asks: Asks, request: Message, to: Addr) -> Client
-    ensures { result ≡ spec.client_for id asks request to }
+pub(crate) fn client_for(
+    alloc: Global,
+    id: Id,
+    kind: RequestKind,
+    request: Message,
+    to: Addr,
+) -> Client
+    ensures { result ≡ spec.client_for id kind request to }
 {
     Client {
         id,
-        asks,
+        kind,
         request,
         to,
         provisional: false,
@@ -66,12 +72,12 @@ pub(crate) fn client_for(alloc: Global, id: Id, asks: Asks, request: Message, to
     }
 }
 
-impl Drop for Asks {
+impl Drop for RequestKind {
     fn drop(self) {
         match self {
-            Asks::First | Asks::Plain => {}
-            Asks::Again(_) => {}
-            Asks::Inside(_) => {}
+            RequestKind::First | RequestKind::Plain => {}
+            RequestKind::Again(_) => {}
+            RequestKind::Inside(_) => {}
         }
     }
 }
@@ -80,7 +86,7 @@ impl Drop for Client {
     fn drop(self) {
         let Client {
             id: _,
-            asks: _,
+            kind: _,
             request: _,
             to: _,
             provisional: _,

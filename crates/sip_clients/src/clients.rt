@@ -6,12 +6,12 @@ ghost use Rattle.sip_clients.specs.Clients as spec;
 ghost use Rattle.sip_clients.specs.Tick as ticks;
 
 use crate::cancel::take_cancel;
-use crate::client::{Asks, client_for};
+use crate::client::{RequestKind, client_for};
 use crate::commands::{ack_told, debt_for, is_bad_outside, name_in, prack_told, request_told};
 use crate::debts::DebtKind;
 use crate::event::Event;
-use crate::held::{ClientMap, lose, note_ack, settle, start, take_response};
-use crate::outputs::{Rest, refused};
+use crate::held::{ClientMap, fail_request, note_ack, settle, start, take_response};
+use crate::outputs::{ClientChange, refused};
 use crate::outside::{invite_of, plain_of};
 use crate::tick::{drop_clients, drop_dialogs, next_due, over_notices};
 use indexmap::IndexMap;
@@ -121,7 +121,7 @@ impl Clients {
     /// The transaction of the request that the event `id` sent timed out, or its message could not
     /// be sent: it is held no more. The early dialogs that it made end, and the dialog that it was
     /// sent in where it timed out (RFC 3261, section 12.2.1.2).
-    pub fn lose(
+    pub fn fail_request(
         &mut self,
         dialogs: &mut Dialogs,
         id: Id,
@@ -133,7 +133,7 @@ impl Clients {
         ensures err { OnErr result (self.new ≡ []) }
     {
         let mut requests = self.take();
-        let outs = lose(self.alloc, &mut requests, dialogs, id, timed_out)?;
+        let outs = fail_request(self.alloc, &mut requests, dialogs, id, timed_out)?;
         self.requests = requests;
         Ok(outs)
     }
@@ -149,7 +149,7 @@ impl Clients {
         let alloc = self.alloc;
         let mut requests = self.take();
         let message = invite_of(alloc, event, invite)?;
-        let client = client_for(alloc, event.id, Asks::First, message, invite.address);
+        let client = client_for(alloc, event.id, RequestKind::First, message, invite.address);
         let outs = start(alloc, &mut requests, event, client)?;
         self.requests = requests;
         Ok(outs)
@@ -266,7 +266,7 @@ fn plain_told(
         return refused(alloc, event, &plain.call_id, Refusal::BadMethod);
     }
     let message = plain_of(alloc, event, plain)?;
-    let client = client_for(alloc, event.id, Asks::Plain, message, plain.address);
+    let client = client_for(alloc, event.id, RequestKind::Plain, message, plain.address);
     start(alloc, requests, event, client)
 }
 
@@ -275,13 +275,13 @@ fn finish_request(
     alloc: Global,
     requests: &mut ClientMap,
     event: Event,
-    told: (Vec<CallOut>, Rest, Vec<CallOut>),
+    told: (Vec<CallOut>, ClientChange, Vec<CallOut>),
 ) -> Result<Vec<CallOut>, AllocError>
     ensures { IfOk result (λ outs. (requests.new.entries, outs.items)
         ≡ spec.request_settled event told.0.items told.1 told.2.items requests.old.entries) }
 {
-    let (mut outs, rest, mut ends) = told;
-    outs.append(&mut settle(alloc, requests, event, event.id, rest)?)?;
+    let (mut outs, change, mut ends) = told;
+    outs.append(&mut settle(alloc, requests, event, event.id, change)?)?;
     outs.append(&mut ends)?;
     Ok(outs)
 }
@@ -359,7 +359,7 @@ fn pay_prack(
         ≡ spec.prack_paid event command.now name debt
         record { dialogs = dialogs.old.entries; clients = requests.old.entries }) }
 {
-    let (mut outs, rest) = prack_told(alloc, dialogs, event, &name, command, debt)?;
-    outs.append(&mut settle(alloc, requests, event, event.id, rest)?)?;
+    let (mut outs, change) = prack_told(alloc, dialogs, event, &name, command, debt)?;
+    outs.append(&mut settle(alloc, requests, event, event.id, change)?)?;
     Ok(outs)
 }

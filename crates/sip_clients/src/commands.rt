@@ -8,7 +8,7 @@ use crate::answers::SentAck;
 use crate::debts::{DebtKind, oldest};
 use crate::dialogs::pay_at;
 use crate::event::Event;
-use crate::outputs::{Rest, ack_said, request_said};
+use crate::outputs::{ClientChange, ack_said, request_said};
 use crate::service::{Service, request};
 use sip_common::dialogs::end;
 use sip_common::{
@@ -50,20 +50,20 @@ pub(crate) fn request_told(
     event: Event,
     name: &DialogName,
     command: &DialogRequest,
-) -> Result<(Vec<CallOut>, Rest, Vec<CallOut>), AllocError>
+) -> Result<(Vec<CallOut>, ClientChange, Vec<CallOut>), AllocError>
     ensures dialogs { OnOk result (dialogs.new.entries
         ≡ (spec.request_told event name.now command.now dialogs.old.entries).0) }
     ensures outs { IfOk result (λ told. told.0.items
         ≡ (spec.request_told event name.now command.now dialogs.old.entries).1) }
-    ensures rest { IfOk result (λ told. told.1
+    ensures change { IfOk result (λ told. told.1
         ≡ (spec.request_told event name.now command.now dialogs.old.entries).2) }
     ensures ends { IfOk result (λ told. told.2.items
         ≡ (spec.request_told event name.now command.now dialogs.old.entries).3) }
 {
     let service = request_by(alloc, dialogs, name, event, command)?;
     let ends = bye_end(alloc, dialogs, name, &command.method, &service)?;
-    let (outs, rest) = request_said(alloc, event, &command.call_id, name, service)?;
-    Ok((outs, rest, ends))
+    let (outs, change) = request_said(alloc, event, &command.call_id, name, service)?;
+    Ok((outs, change, ends))
 }
 
 #[tactic(auto, unfolding(crate::specs::Commands::requested_by))]
@@ -233,12 +233,12 @@ pub(crate) fn prack_told(
     name: &DialogName,
     command: &DialogBody,
     debt: Debt,
-) -> Result<(Vec<CallOut>, Rest), AllocError>
+) -> Result<(Vec<CallOut>, ClientChange), AllocError>
     ensures dialogs { OnOk result (dialogs.new.entries
         ≡ (spec.prack_told event name.now debt command.now dialogs.old.entries).0) }
     ensures outs { IfOk result (λ told. told.0.items
         ≡ (spec.prack_told event name.now debt command.now dialogs.old.entries).1) }
-    ensures rest { IfOk result (λ told. told.1
+    ensures change { IfOk result (λ told. told.1
         ≡ (spec.prack_told event name.now debt command.now dialogs.old.entries).2) }
 {
     let body = command.body.clone()?;

@@ -1,12 +1,12 @@
-//! What is owed in a dialog, and how it is served.
+//! What is owed in a dialog, and how it is discharged.
 
 ghost use Rattle.std.specs.Prelude.{◌≡◌, IfOk, OnOk, Some, filter, find, not};
 ghost use Rattle.std.specs.Option.{option_copied};
 ghost use Rattle.sip_clients.specs.Debts as spec;
-ghost use Rattle.sip_clients.specs.Service.{served};
+ghost use Rattle.sip_clients.specs.Service.{discharged};
 
 use crate::event::Event;
-use crate::service::{Service, serve};
+use crate::service::{Service, discharge};
 use sip_common::{Debt, HeldDialog};
 use sip_text::{Series, Text};
 use std::alloc::{AllocError, Global};
@@ -19,7 +19,7 @@ pub(crate) enum DebtKind {
     Prack,
 }
 
-/// Serves what a response asks for; it stays owed where it isn't sent.
+/// Discharges what a response asks for; it stays owed where it isn't sent.
 #[tactic(auto, unfolding(crate::specs::Debts::owing))]
 pub(crate) fn owe(
     alloc: Global,
@@ -28,10 +28,10 @@ pub(crate) fn owe(
     debt: Debt,
     offer: Option<Text>,
 ) -> Result<Service, AllocError>
-    ensures service { IfOk result (λ service. service ≡ (served event debt offer held.old).1) }
+    ensures service { IfOk result (λ service. service ≡ (discharged event debt offer held.old).1) }
     ensures held { OnOk result (held.new ≡ spec.owing event debt offer held.old) }
 {
-    let service = serve(alloc, held, event, debt, offer)?;
+    let service = discharge(alloc, held, event, debt, offer)?;
     keep_unless_sent(held, debt, &service)?;
     Ok(service)
 }
@@ -55,10 +55,10 @@ pub(crate) fn pay(
     body: Text,
 ) -> Result<Service, AllocError>
     ensures service { IfOk result (λ service. service
-        ≡ (served event debt (Some body) held.old).1) }
+        ≡ (discharged event debt (Some body) held.old).1) }
     ensures held { OnOk result (held.new ≡ spec.paying event debt body held.old) }
 {
-    let service = serve(alloc, held, event, debt, Some(body))?;
+    let service = discharge(alloc, held, event, debt, Some(body))?;
     drop_if_sent(alloc, held, debt, &service);
     Ok(service)
 }

@@ -5,7 +5,7 @@ ghost use Rattle.indexmap.specs.IndexMap.{insert_entry};
 ghost use Rattle.sip_common.specs.Dialogs.{is_named};
 ghost use Rattle.sip_clients.specs.Dialogs as spec;
 
-use crate::client::{Asks, Client};
+use crate::client::{Client, RequestKind};
 use crate::debts::pay;
 use crate::event::Event;
 use crate::reply::Reply;
@@ -53,15 +53,15 @@ pub(crate) fn hold(
 /// 3261, sections 13.2.2.4 and 12.2.1.2).
 pub(crate) fn accept(
     held: &mut HeldDialog,
-    asks: &Asks,
+    kind: &RequestKind,
     response: &Message,
 ) -> Result<(), AllocError>
-    ensures { OnOk result (held.new ≡ spec.accepted_in asks.now response.now held.old) }
+    ensures { OnOk result (held.new ≡ spec.accepted_in kind.now response.now held.old) }
 {
-    match asks {
-        Asks::First => confirm_dialog(held, response),
-        Asks::Again(_) => refresh_dialog(held, response),
-        Asks::Inside(_) | Asks::Plain => Ok(()),
+    match kind {
+        RequestKind::First => confirm_dialog(held, response),
+        RequestKind::Again(_) => refresh_dialog(held, response),
+        RequestKind::Inside(_) | RequestKind::Plain => Ok(()),
     }
 }
 
@@ -115,21 +115,23 @@ pub(crate) fn end_with(
         ≡ spec.ended_with client.now ends dialogs.old.entries) }
 {
     let mut outs = end_early(alloc, dialogs, client.id)?;
-    outs.append(&mut end_own(alloc, dialogs, &client.asks, ends)?)?;
+    outs.append(&mut end_own(alloc, dialogs, &client.kind, ends)?)?;
     Ok(outs)
 }
 
 fn end_own(
     alloc: Global,
     dialogs: &mut Dialogs,
-    asks: &Asks,
+    kind: &RequestKind,
     ends: bool,
 ) -> Result<Vec<CallOut>, AllocError>
     ensures { IfOk result (λ outs. (dialogs.new.entries, outs.items)
-        ≡ spec.own_ended asks.now ends dialogs.old.entries) }
+        ≡ spec.own_ended kind.now ends dialogs.old.entries) }
 {
-    match asks {
-        Asks::Again(life) | Asks::Inside(life) if ends => end_life(alloc, dialogs, life),
+    match kind {
+        RequestKind::Again(life) | RequestKind::Inside(life) if ends => end_life(
+            alloc, dialogs, life,
+        ),
         _ => Ok(Vec::new(alloc)),
     }
 }

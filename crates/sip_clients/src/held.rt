@@ -12,7 +12,7 @@ use crate::cancel::{Cancellation, note_reply, send_beside};
 use crate::client::Client;
 use crate::dialogs::end_with;
 use crate::event::Event;
-use crate::outputs::{Rest, start_command};
+use crate::outputs::{ClientChange, start_command};
 use crate::replied::take_reply;
 use crate::reply::{Reply, reply_name, status_of};
 use indexmap::IndexMap;
@@ -63,7 +63,7 @@ pub(crate) fn take_response(
 }
 
 /// What is told of a response, what becomes of the requests, and the CANCEL that waited for it.
-type Told = (Vec<CallOut>, Rest, Option<Cancellation>);
+type Told = (Vec<CallOut>, ClientChange, Option<Cancellation>);
 
 fn reply_to(
     alloc: Global,
@@ -79,8 +79,8 @@ fn reply_to(
         ≡ cancel_freed (is_final reply.now.status) client.old) }
 {
     let cancel = note_reply(alloc, client, is_final(reply.status.code()))?;
-    let (outs, rest) = take_reply(alloc, client, dialogs, reply)?;
-    Ok((outs, rest, cancel))
+    let (outs, change) = take_reply(alloc, client, dialogs, reply)?;
+    Ok((outs, change, cancel))
 }
 
 fn settle_reply(
@@ -93,8 +93,8 @@ fn settle_reply(
     ensures { IfOk result (λ outs. (clients.new.entries, outs.items)
         ≡ spec.reply_ended event id told.1 told.2 clients.old.entries told.0.items) }
 {
-    let (mut outs, rest, cancel) = told;
-    outs.append(&mut settle(alloc, clients, event, id, rest)?)?;
+    let (mut outs, change, cancel) = told;
+    outs.append(&mut settle(alloc, clients, event, id, change)?)?;
     send_beside(clients, cancel, outs)
 }
 
@@ -104,18 +104,18 @@ pub(crate) fn settle(
     clients: &mut ClientMap,
     event: Event,
     id: Id,
-    rest: Rest,
+    change: ClientChange,
 ) -> Result<Vec<CallOut>, AllocError>
     ensures { IfOk result (λ outs. (clients.new.entries, outs.items)
-        ≡ spec.settled event id rest clients.old.entries) }
+        ≡ spec.settled event id change clients.old.entries) }
 {
-    match rest {
-        Rest::Stays => Ok(Vec::new(alloc)),
-        Rest::Over => {
+    match change {
+        ClientChange::Stays => Ok(Vec::new(alloc)),
+        ClientChange::Over => {
             let _ = take(clients, id);
             Ok(Vec::new(alloc))
         }
-        Rest::Starts(client) => start(alloc, clients, event, client),
+        ClientChange::Starts(client) => start(alloc, clients, event, client),
     }
 }
 
@@ -151,7 +151,7 @@ fn take(clients: &mut ClientMap, id: Id) -> Option<Client>
 }
 
 /// A request is held no more, and what ends with it ends.
-pub(crate) fn lose(
+pub(crate) fn fail_request(
     alloc: Global,
     clients: &mut ClientMap,
     dialogs: &mut Dialogs,

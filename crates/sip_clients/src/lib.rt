@@ -21,7 +21,7 @@ mod service;
 mod tick;
 
 pub use answers::{Answers, SentAck};
-pub use client::{Asks, Cancelling, Client};
+pub use client::{Cancelling, Client, RequestKind};
 pub use clients::Clients;
 pub use event::Event;
 pub use laws::{each_notice_is_of_its_call, names_differ, quiet_until_due};

@@ -4,7 +4,7 @@ ghost use Rattle.std.specs.Prelude.{◌≡◌, ◌∷◌, [], IfOk};
 ghost use Rattle.sip_clients.specs.Outputs as spec;
 
 use crate::answers::SentAck;
-use crate::client::{Asks, Client, client_for};
+use crate::client::{Client, RequestKind, client_for};
 use crate::event::Event;
 use crate::reply::Reply;
 use crate::service::{Sending, Service};
@@ -18,7 +18,7 @@ use std::alloc::{AllocError, Global};
 
 /// What becomes of the client requests after a response or a command.
 #[derive(Drop)]
-pub(crate) enum Rest {
+pub(crate) enum ClientChange {
     Stays,
     /// The request is over.
     Over,
@@ -71,19 +71,24 @@ pub(crate) fn request_said(
     call_id: &CallId,
     name: &DialogName,
     service: Service,
-) -> Result<(Vec<CallOut>, Rest), AllocError>
+) -> Result<(Vec<CallOut>, ClientChange), AllocError>
     ensures outs { IfOk result (λ said. said.0.items
         ≡ (spec.request_said event call_id.now name.now service).0) }
-    ensures rest { IfOk result (λ said. said.1
+    ensures change { IfOk result (λ said. said.1
         ≡ (spec.request_said event call_id.now name.now service).1) }
 {
     match service {
         Service::Sent(sending) => {
             let client = client_of(alloc, event, name, sending)?;
-            Ok((Vec::new(alloc), Rest::Starts(client)))
+            Ok((Vec::new(alloc), ClientChange::Starts(client)))
         }
-        Service::Waits => Ok((Vec::new(alloc), Rest::Stays)),
-        Service::Refused(refusal) => { Ok((refused(alloc, event, call_id, refusal)?, Rest::Stays)) }
+        Service::Waits => Ok((Vec::new(alloc), ClientChange::Stays)),
+        Service::Refused(refusal) => {
+            Ok((
+                refused(alloc, event, call_id, refusal)?,
+                ClientChange::Stays,
+            ))
+        }
     }
 }
 
@@ -100,17 +105,17 @@ fn client_of(
         born: sending.born,
     };
     let (message, to) = sending.into_parts();
-    let asks = asks_in(life, &message);
-    Ok(client_for(alloc, event.id, asks, message, to))
+    let kind = kind_in(life, &message);
+    Ok(client_for(alloc, event.id, kind, message, to))
 }
 
-fn asks_in(life: DialogLife, message: &Message) -> Asks
-    ensures { result ≡ spec.asks_in life message.now }
+fn kind_in(life: DialogLife, message: &Message) -> RequestKind
+    ensures { result ≡ spec.kind_in life message.now }
 {
     if is_invite(message) {
-        Asks::Again(life)
+        RequestKind::Again(life)
     } else {
-        Asks::Inside(life)
+        RequestKind::Inside(life)
     }
 }
 

@@ -4,10 +4,10 @@ ghost use Rattle.std.specs.Prelude.{◌≡◌, ◌≤◌, ◌^◌, IfOk, OnOk, N
 ghost use Rattle.sip_clients.specs.Replied as spec;
 
 use crate::answers::SentAck;
-use crate::client::{Asks, Client};
+use crate::client::{Client, RequestKind};
 use crate::debts::owe;
 use crate::dialogs::{accept, end_with, hear, hold, made_dialog};
-use crate::outputs::{Rest, ack_said, direct, request_said, response_notice};
+use crate::outputs::{ClientChange, ack_said, direct, request_said, response_notice};
 use crate::reply::{Reply, ReplyCase, is_last, reply_case};
 use crate::service::Service;
 use sip_common::outputs::one;
@@ -29,12 +29,12 @@ pub(crate) fn take_reply(
     client: &mut Client,
     dialogs: &mut Dialogs,
     reply: &Reply,
-) -> Result<(Vec<CallOut>, Rest), AllocError>
+) -> Result<(Vec<CallOut>, ClientChange), AllocError>
     requires { reply.now.event.moment ≤ 2 ^ 62 }
     ensures { IfOk result (λ told. (client.new, dialogs.new.entries, told.0.items, told.1)
         ≡ spec.reply_taken client.old dialogs.old.entries reply.now) }
 {
-    if is_last(&client.asks, reply.status.code()) {
+    if is_last(&client.kind, reply.status.code()) {
         return finish(alloc, client, dialogs, reply);
     }
     match dialogs.get_mut(&reply.name) {
@@ -49,7 +49,7 @@ fn take_in(
     client: &mut Client,
     held: &mut HeldDialog,
     reply: &Reply,
-) -> Result<(Vec<CallOut>, Rest), AllocError>
+) -> Result<(Vec<CallOut>, ClientChange), AllocError>
     requires { reply.now.event.moment ≤ 2 ^ 62 }
     ensures { IfOk result (λ told. (client.new, held.new, told.0.items, told.1)
         ≡ spec.in_place held.old
@@ -58,12 +58,12 @@ fn take_in(
     match reply_case(client, Some(&*held), reply) {
         ReplyCase::Repeated => repeat(alloc, client, reply),
         ReplyCase::Accepted => {
-            accept(held, &client.asks, &reply.response)?;
+            accept(held, &client.kind, &reply.response)?;
             accepted(alloc, client, held, reply)
         }
         ReplyCase::Late => late(alloc, client, reply),
         ReplyCase::Reliable(rseq) => reliable(alloc, client, held, reply, rseq),
-        ReplyCase::Passed => Ok((Vec::new(alloc), Rest::Stays)),
+        ReplyCase::Passed => Ok((Vec::new(alloc), ClientChange::Stays)),
         ReplyCase::Early | ReplyCase::Told => told(alloc, reply),
     }
 }
@@ -74,7 +74,7 @@ fn take_new(
     client: &mut Client,
     dialogs: &mut Dialogs,
     reply: &Reply,
-) -> Result<(Vec<CallOut>, Rest), AllocError>
+) -> Result<(Vec<CallOut>, ClientChange), AllocError>
     requires { reply.now.event.moment ≤ 2 ^ 62 }
     ensures { IfOk result (λ told. (client.new, dialogs.new.entries, told.0.items, told.1)
         ≡ spec.after_dialog reply.now.name dialogs.old.entries
@@ -95,7 +95,7 @@ fn take_new(
             hold(dialogs, reply.name.clone()?, made)?;
             Ok(told)
         }
-        ReplyCase::Passed => Ok((Vec::new(alloc), Rest::Stays)),
+        ReplyCase::Passed => Ok((Vec::new(alloc), ClientChange::Stays)),
         ReplyCase::Early => {
             let made = made_dialog(alloc, client, reply)?;
             hold(dialogs, reply.name.clone()?, made)?;
@@ -105,11 +105,14 @@ fn take_new(
     }
 }
 
-fn told(alloc: Global, reply: &Reply) -> Result<(Vec<CallOut>, Rest), AllocError>
+fn told(alloc: Global, reply: &Reply) -> Result<(Vec<CallOut>, ClientChange), AllocError>
     ensures outs { IfOk result (λ told. told.0.items ≡ spec.notice reply.now) }
-    ensures rest { IfOk result (λ told. told.1 ≡ Rest.Stays) }
+    ensures change { IfOk result (λ told. told.1 ≡ ClientChange.Stays) }
 {
-    Ok((one(alloc, response_notice(alloc, reply)?)?, Rest::Stays))
+    Ok((
+        one(alloc, response_notice(alloc, reply)?)?,
+        ClientChange::Stays,
+    ))
 }
 
 // The request is over, and what ends with it ends.
@@ -118,14 +121,14 @@ fn finish(
     client: &Client,
     dialogs: &mut Dialogs,
     reply: &Reply,
-) -> Result<(Vec<CallOut>, Rest), AllocError>
+) -> Result<(Vec<CallOut>, ClientChange), AllocError>
     ensures { IfOk result (λ told. (client.now, dialogs.new.entries, told.0.items, told.1)
         ≡ spec.finished client.now dialogs.old.entries reply.now) }
 {
     let mut outs = one(alloc, response_notice(alloc, reply)?)?;
     let ends = ends_dialog(reply.status.code());
     outs.append(&mut end_with(alloc, dialogs, client, ends)?)?;
-    Ok((outs, Rest::Over))
+    Ok((outs, ClientChange::Over))
 }
 
 fn ends_dialog(status: u16) -> bool
@@ -135,15 +138,19 @@ fn ends_dialog(status: u16) -> bool
 }
 
 // A 2xx that came before gets the same ACK again.
-fn repeat(alloc: Global, client: &Client, reply: &Reply) -> Result<(Vec<CallOut>, Rest), AllocError>
+fn repeat(
+    alloc: Global,
+    client: &Client,
+    reply: &Reply,
+) -> Result<(Vec<CallOut>, ClientChange), AllocError>
     ensures outs { IfOk result (λ told. told.0.items ≡ spec.ack_again client.now reply.now) }
-    ensures rest { IfOk result (λ told. told.1 ≡ Rest.Stays) }
+    ensures change { IfOk result (λ told. told.1 ≡ ClientChange.Stays) }
 {
     let mut outs = Vec::new(alloc);
     if let Some(ack) = client.answers.ack(&reply.name) {
         outs.push(direct(ack)?)?;
     }
-    Ok((outs, Rest::Stays))
+    Ok((outs, ClientChange::Stays))
 }
 
 // ---- a reliable provisional response
@@ -154,7 +161,7 @@ fn reliable(
     held: &mut HeldDialog,
     reply: &Reply,
     rseq: u32,
-) -> Result<(Vec<CallOut>, Rest), AllocError>
+) -> Result<(Vec<CallOut>, ClientChange), AllocError>
     ensures { IfOk result (λ told. (client.new, Some held.new, told.0.items, told.1)
         ≡ spec.reliable rseq client.old held.old reply.now) }
 {
@@ -167,9 +174,9 @@ fn told_of_prack(
     alloc: Global,
     reply: &Reply,
     service: Service,
-) -> Result<(Vec<CallOut>, Rest), AllocError>
+) -> Result<(Vec<CallOut>, ClientChange), AllocError>
     ensures outs { IfOk result (λ told. told.0.items ≡ (spec.told_of_prack reply.now service).0) }
-    ensures rest { IfOk result (λ told. told.1 ≡ (spec.told_of_prack reply.now service).1) }
+    ensures change { IfOk result (λ told. told.1 ≡ (spec.told_of_prack reply.now service).1) }
 {
     let mut outs = one(alloc, response_notice(alloc, reply)?)?;
     let mut said = request_said(alloc, reply.event, &reply.call_id, &reply.name, service)?;
@@ -191,7 +198,7 @@ fn owe_prack(
     ensures held { OnOk result (held.new
         ≡ (spec.prack_owed rseq client.now held.old reply.now).0) }
 {
-    hear_first(held, &client.asks, rseq);
+    hear_first(held, &client.kind, rseq);
     let debt = Debt::Prack {
         rseq,
         number: client.request.cseq.number,
@@ -201,22 +208,22 @@ fn owe_prack(
 }
 
 // The dialog of a first INVITE keeps what came in it.
-fn hear_first(held: &mut HeldDialog, asks: &Asks, rseq: u32)
-    ensures { held.new ≡ spec.heard_first asks.now rseq held.old }
+fn hear_first(held: &mut HeldDialog, kind: &RequestKind, rseq: u32)
+    ensures { held.new ≡ spec.heard_first kind.now rseq held.old }
 {
-    match asks {
-        Asks::First => hear(held, rseq),
-        Asks::Again(_) | Asks::Inside(_) | Asks::Plain => {}
+    match kind {
+        RequestKind::First => hear(held, rseq),
+        RequestKind::Again(_) | RequestKind::Inside(_) | RequestKind::Plain => {}
     }
 }
 
 // An INVITE in a dialog keeps itself what came for it.
 fn hear_again(client: &mut Client, rseq: u32)
-    ensures { client.new ≡ spec.heard_again client.old.asks rseq client.old }
+    ensures { client.new ≡ spec.heard_again client.old.kind rseq client.old }
 {
-    match &client.asks {
-        Asks::First => {}
-        Asks::Again(_) | Asks::Inside(_) | Asks::Plain => {
+    match &client.kind {
+        RequestKind::First => {}
+        RequestKind::Again(_) | RequestKind::Inside(_) | RequestKind::Plain => {
             let _ = client.heard.offer(rseq);
         }
     }
@@ -242,7 +249,7 @@ fn accepted(
     client: &mut Client,
     held: &mut HeldDialog,
     reply: &Reply,
-) -> Result<(Vec<CallOut>, Rest), AllocError>
+) -> Result<(Vec<CallOut>, ClientChange), AllocError>
     requires { reply.now.event.moment ≤ 2 ^ 62 }
     ensures { IfOk result (λ told. (client.new, Some held.new, told.0.items, told.1)
         ≡ spec.accepted_by_ack client.old held.old reply.now) }
@@ -250,7 +257,7 @@ fn accepted(
     let service = owe_ack(alloc, client, held, reply)?;
     let (outs, ack) = told_of_ack(alloc, reply, service)?;
     note_answer(client, reply, ack)?;
-    Ok((outs, Rest::Stays))
+    Ok((outs, ClientChange::Stays))
 }
 
 // Its ACK is owed in its dialog.
@@ -291,11 +298,11 @@ fn late(
     alloc: Global,
     client: &mut Client,
     reply: &Reply,
-) -> Result<(Vec<CallOut>, Rest), AllocError>
+) -> Result<(Vec<CallOut>, ClientChange), AllocError>
     requires { reply.now.event.moment ≤ 2 ^ 62 }
     ensures client { OnOk result (client.new ≡ spec.answered reply.now None client.old) }
     ensures outs { IfOk result (λ told. told.0.items ≡ spec.notice reply.now) }
-    ensures rest { IfOk result (λ told. told.1 ≡ Rest.Stays) }
+    ensures change { IfOk result (λ told. told.1 ≡ ClientChange.Stays) }
 {
     note_answer(client, reply, None)?;
     told(alloc, reply)

@@ -6,7 +6,7 @@ ghost use Rattle.sip_reliable.specs.Inbound.{offered};
 ghost use Rattle.sip_clients.specs.Clients.{reply_name, status_of};
 ghost use Rattle.sip_clients.specs.Reply as spec;
 
-use crate::client::{Asks, Client};
+use crate::client::{Client, RequestKind};
 use crate::event::Event;
 use sip_common::request::{is_final, is_inside, is_success, requires_100rel};
 use sip_common::{DialogName, HeldDialog};
@@ -58,13 +58,13 @@ pub(crate) fn reply_name(
     client: &Client,
     response: &Message,
 ) -> Result<DialogName, AllocError>
-    ensures { IfOk result (λ name. name ≡ reply_name client.now.asks client.now response.now) }
+    ensures { IfOk result (λ name. name ≡ reply_name client.now.kind client.now response.now) }
 {
-    match &client.asks {
-        Asks::First | Asks::Plain => {
+    match &client.kind {
+        RequestKind::First | RequestKind::Plain => {
             DialogName::of_tags(alloc, client.request.from.tag(), response.to.tag())
         }
-        Asks::Again(life) | Asks::Inside(life) => life.name.clone(),
+        RequestKind::Again(life) | RequestKind::Inside(life) => life.name.clone(),
     }
 }
 
@@ -89,10 +89,10 @@ pub(crate) enum ReplyCase {
 }
 
 /// Whether a response is the final one of its request, or rejects an INVITE.
-pub(crate) fn is_last(asks: &Asks, status: u16) -> bool
-    ensures { result ≡ spec.is_last asks.now status }
+pub(crate) fn is_last(kind: &RequestKind, status: u16) -> bool
+    ensures { result ≡ spec.is_last kind.now status }
 {
-    is_final(status) && !(is_inviting(asks) && is_success(status))
+    is_final(status) && !(is_inviting(kind) && is_success(status))
 }
 
 /// The first case that fits, by the held dialog of its name.
@@ -102,7 +102,7 @@ pub(crate) fn reply_case(client: &Client, found: Option<&HeldDialog>, reply: &Re
     if is_final(reply.status.code()) {
         return success_case(client, found, &reply.name);
     }
-    if is_of_dialog(reply) && is_there(&client.asks, found) {
+    if is_of_dialog(reply) && is_there(&client.kind, found) {
         return reliable_case(heard_of(client, found), rseq_of(&reply.response));
     }
     ReplyCase::Told
@@ -113,7 +113,7 @@ fn success_case(client: &Client, found: Option<&HeldDialog>, name: &DialogName) 
 {
     if client.answers.contains(name) {
         ReplyCase::Repeated
-    } else if is_there(&client.asks, found) {
+    } else if is_there(&client.kind, found) {
         ReplyCase::Accepted
     } else {
         ReplyCase::Late
@@ -134,34 +134,34 @@ fn reliable_case(heard: Inbound, rseq: Option<u32>) -> ReplyCase
 }
 
 /// Whether a request is an INVITE.
-pub(crate) fn is_inviting(asks: &Asks) -> bool
-    ensures { result ≡ spec.is_inviting asks.now }
+pub(crate) fn is_inviting(kind: &RequestKind) -> bool
+    ensures { result ≡ spec.is_inviting kind.now }
 {
-    match asks {
-        Asks::First | Asks::Again(_) => true,
-        Asks::Inside(_) | Asks::Plain => false,
+    match kind {
+        RequestKind::First | RequestKind::Again(_) => true,
+        RequestKind::Inside(_) | RequestKind::Plain => false,
     }
 }
 
 // Whether the dialog of an INVITE is there, or may be made.
-fn is_there(asks: &Asks, found: Option<&HeldDialog>) -> bool
-    ensures { result ≡ spec.is_there asks.now (option_copied found.entry) }
+fn is_there(kind: &RequestKind, found: Option<&HeldDialog>) -> bool
+    ensures { result ≡ spec.is_there kind.now (option_copied found.entry) }
 {
-    match (asks, found) {
-        (Asks::First, _) => true,
-        (Asks::Again(life), Some(held)) => held.born == life.born,
-        (Asks::Again(_), None) | (Asks::Inside(_) | Asks::Plain, _) => false,
+    match (kind, found) {
+        (RequestKind::First, _) => true,
+        (RequestKind::Again(life), Some(held)) => held.born == life.born,
+        (RequestKind::Again(_), None) | (RequestKind::Inside(_) | RequestKind::Plain, _) => false,
     }
 }
 
 // The reliable provisional responses that came before in the same dialog to the same INVITE.
 fn heard_of(client: &Client, found: Option<&HeldDialog>) -> Inbound
-    ensures { result ≡ spec.heard_of client.now.asks client.now (option_copied found.entry) }
+    ensures { result ≡ spec.heard_of client.now.kind client.now (option_copied found.entry) }
 {
-    match (&client.asks, found) {
-        (Asks::First, Some(held)) => held.heard,
-        (Asks::First, None) => Inbound::new(),
-        (Asks::Again(_) | Asks::Inside(_) | Asks::Plain, _) => client.heard,
+    match (&client.kind, found) {
+        (RequestKind::First, Some(held)) => held.heard,
+        (RequestKind::First, None) => Inbound::new(),
+        (RequestKind::Again(_) | RequestKind::Inside(_) | RequestKind::Plain, _) => client.heard,
     }
 }
 

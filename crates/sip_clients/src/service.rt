@@ -152,17 +152,18 @@ fn refused_by(fault: DialogFault) -> Result<Service, AllocError>
     }
 }
 
-/// Serves a debt with the body that its request carries; without one it waits for the user.
-#[tactic(auto, unfolding(crate::specs::Service::served))]
-pub(crate) fn serve(
+/// Discharges a debt with the body that its request carries; without one it waits for the user.
+#[tactic(auto, unfolding(crate::specs::Service::discharged))]
+pub(crate) fn discharge(
     alloc: Global,
     held: &mut HeldDialog,
     event: Event,
     debt: Debt,
     offer: Option<Text>,
 ) -> Result<Service, AllocError>
-    ensures service { IfOk result (λ service. service ≡ (spec.served event debt offer held.old).1) }
-    ensures held { OnOk result (held.new ≡ (spec.served event debt offer held.old).0) }
+    ensures service { IfOk result (λ service. service
+        ≡ (spec.discharged event debt offer held.old).1) }
+    ensures held { OnOk result (held.new ≡ (spec.discharged event debt offer held.old).0) }
 {
     let Some(body) = offer else {
         return Ok(Service::Waits);

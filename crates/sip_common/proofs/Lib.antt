@@ -4,5 +4,5 @@ pub mod Entries
 pub mod Heard
 pub mod Keeps
 pub mod OwnDialogs
-pub mod Shown
+pub mod ToldRequests
 pub mod Starts

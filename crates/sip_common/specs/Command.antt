@@ -5,6 +5,7 @@ use Rattle.sip_common.specs.declared.item.Item.{Item}
 use Rattle.sip_common.specs.declared.item.Item.TheVariants.{Up, User}
 use Rattle.sip_common.specs.declared.command.UserCommand.TheVariants.{Invite, Plain, Request, Respond, Ack, Prack, Cancel}
 
+-- the call of a command
 abbrev pub call_of_command : UserCommand → List ℕ
 call_of_command (Invite invite) = invite.call_id
 call_of_command (Plain plain) = plain.call_id
@@ -14,6 +15,7 @@ call_of_command (Ack ack) = ack.call_id
 call_of_command (Prack prack) = prack.call_id
 call_of_command (Cancel cancel) = cancel.call_id
 
+-- the call of what comes up, or of a command
 abbrev pub call_of_item : Item → List ℕ
 call_of_item (Up up) = up.call_id
 call_of_item (User command) = call_of_command command

@@ -48,6 +48,7 @@ abbrev pub life_at : DialogName → Dialogs → Option DialogLife
 life_at name dialogs =
     option_map (λ held. record { name = name; born = held.born }) (dialog_at name dialogs)
 
+-- the life of the held dialog that a request with a To tag is in
 abbrev pub own_dialog : Message → DialogName → Dialogs → Option DialogLife
 own_dialog request name dialogs = if is_inside request then life_at name dialogs else None
 
@@ -57,6 +58,7 @@ own_dialog request name dialogs = if is_inside request then life_at name dialogs
 abbrev pub takes : HeldDialog → ℕ → Bool
 takes held number = not (is_some (accept_fault held.dialog number))
 
+-- the greatest CSeq that came is noted (RFC 3261, section 12.2.2)
 abbrev pub numbered : ℕ → HeldDialog → HeldDialog
 numbered number held =
     if takes held number then record held { dialog = with_accepted held.dialog number } else held
@@ -72,6 +74,7 @@ retargeted (Some uri) held =
 abbrev pub refreshed : Message → HeldDialog → HeldDialog
 refreshed request held = if is_invite request then retargeted (contact_uri request) held else held
 
+-- a request in a dialog: its number is noted, and it refreshes the target where its method does
 abbrev pub visited : Message → HeldDialog → HeldDialog
 visited request held = refreshed request (numbered request.cseq.number held)
 
@@ -83,6 +86,7 @@ confirmed response held =
     if is_some (ended_fault held.dialog) then held
     else record held { dialog = confirmed_by held.dialog response }
 
+-- a tag, empty where there is none
 abbrev pub tag_text : Option (List ℕ) → List ℕ
 tag_text tag = unwrap_or tag []
 
@@ -99,6 +103,7 @@ ended_at name dialogs = (
   option_map_or (λ held. ended_notice held ∷ []) (dialog_at name dialogs) [],
 )
 
+-- an early dialog that a response to this INVITE made
 abbrev pub is_early_of : Id → HeldDialog → Bool
 is_early_of invite held = is_early held.dialog.state && is_id held.made_by invite
 

@@ -2,5 +2,6 @@
 use Rattle.std.specs.Prelude.{Bool, ◌&&◌, ◌==◌}
 use Rattle.sip_message.specs.declared.id.Id.{Id}
 
+-- the same event
 abbrev pub is_id : Id → Id → Bool
 is_id one other = (one.round == other.round) && (one.place == other.place)

@@ -7,18 +7,23 @@ use Rattle.sip_message.specs.declared.message.Message.{Message}
 use Rattle.sip_message.specs.Party.{tag_of}
 use Rattle.sip_common.specs.declared.held_dialog.DialogName.{DialogName}
 
+-- the method is this one
 abbrev pub is_method : List ℕ → Message → Bool
 is_method method request = bytes_eq request.cseq.method method
 
+-- an INVITE
 abbrev pub is_invite : Message → Bool
 is_invite request = is_method (codes "INVITE") request
 
+-- a BYE
 abbrev pub is_bye : Message → Bool
 is_bye request = is_method (codes "BYE") request
 
+-- a CANCEL
 abbrev pub is_cancel : Message → Bool
 is_cancel request = is_method (codes "CANCEL") request
 
+-- a PRACK
 abbrev pub is_prack : Message → Bool
 is_prack request = is_method (codes "PRACK") request
 
@@ -30,9 +35,11 @@ is_inside request = not (length (tag_of request.to) == 0)
 abbrev pub is_100rel : List ℕ → Bool
 is_100rel option = str_eq_ignore_ascii_case option (codes "100rel")
 
+-- Require has 100rel
 abbrev pub requires_100rel : Message → Bool
 requires_100rel request = list_any is_100rel request.require
 
+-- Supported or Require has 100rel
 abbrev pub supports_100rel : Message → Bool
 supports_100rel request = list_any is_100rel request.supported || requires_100rel request
 
@@ -58,8 +65,10 @@ dialog_name request made = name_of_tags (local_tag_of request made) (tag_of requ
 abbrev pub is_provisional : ℕ → Bool
 is_provisional status = nat_lt status 200
 
+-- a 2xx
 abbrev pub is_success : ℕ → Bool
 is_success status = nat_le 200 status && nat_lt status 300
 
+-- a final response: 200 or above
 abbrev pub is_final : ℕ → Bool
 is_final status = nat_le 200 status

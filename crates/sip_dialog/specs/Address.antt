@@ -14,6 +14,7 @@ address_in text None = ip_at text >>= λ ip. Some record { ip = ip; port = 5060 
 address_in text (Some (host, port)) =
     ip_at host >>= λ ip. number_at 65535 port >>= λ number. Some record { ip = ip; port = number }
 
+-- an IPv4 address, and behind a colon its port, 5060 where it has none
 unfoldable pub address_at : List ℕ → Option Addr
 address_at text = address_in text (cut_at colon text)
 

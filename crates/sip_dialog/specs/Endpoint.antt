@@ -4,6 +4,7 @@ use Rattle.sip_message.specs.declared.party.Party.{Party}
 use Rattle.sip_message.specs.Party.{tag_of}
 use Rattle.sip_dialog.specs.declared.endpoint.Endpoint.{Endpoint}
 
+-- a text that isn't empty
 abbrev pub some_unless_empty : List ℕ → Option (List ℕ)
 some_unless_empty [] = None
 some_unless_empty (b ∷ bs) = Some (b ∷ bs)

@@ -18,6 +18,7 @@ request_fault dialog method =
     else (if nat_le 2147483647 dialog.local_cseq then Some SequenceUsedUp
     else None)))
 
+-- why a dialog makes no ACK
 abbrev pub ack_fault : Dialog → Option DialogFault
 ack_fault dialog =
     if is_ended dialog.state then Some Ended
@@ -25,6 +26,7 @@ ack_fault dialog =
     else (if is_strict dialog.route_set then Some StrictRoute
     else None))
 
+-- why an ended dialog changes nothing
 abbrev pub ended_fault : Dialog → Option DialogFault
 ended_fault dialog = if is_ended dialog.state then Some Ended else None
 

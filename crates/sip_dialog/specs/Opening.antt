@@ -23,6 +23,7 @@ pub data Opening : Type 0 where
 abbrev pub state_by : ℕ → DialogState
 state_by status = if nat_lt status 200 then Early else Confirmed
 
+-- the state in which a dialog begins by a response
 abbrev pub state_of : StartLine → DialogState
 state_of (Request uri) = Confirmed
 state_of (Response status reason) = state_by status

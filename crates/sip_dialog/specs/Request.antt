@@ -38,6 +38,7 @@ contact_of local = record { display = []; uri = codes "sip:" ++ addr_text local;
 abbrev pub is_invite : List ℕ → Bool
 is_invite method = bytes_eq method (codes "INVITE")
 
+-- an INVITE has a Contact: this agent's address
 unfoldable pub contacts_of : List ℕ → Addr → List NameAddr
 contacts_of method local = if is_invite method then contact_of local ∷ [] else []
 

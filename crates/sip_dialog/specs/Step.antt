@@ -11,9 +11,11 @@ use Rattle.sip_dialog.specs.Opening.{contact_uri}
 abbrev pub with_next_number : Dialog → Dialog
 with_next_number dialog = record dialog { local_cseq = dialog.local_cseq + 1 }
 
+-- with the remote CSeq of a request that was taken
 abbrev pub with_accepted : Dialog → ℕ → Dialog
 with_accepted dialog number = record dialog { remote_cseq = Some number }
 
+-- with another remote target
 abbrev pub with_target : Dialog → List ℕ → Dialog
 with_target dialog uri = record dialog { target = uri }
 
@@ -29,6 +31,7 @@ abbrev pub confirmed_at : Side → Dialog → Message → Dialog
 confirmed_at Callee dialog response = record dialog { state = Confirmed }
 confirmed_at Caller dialog response = record (routed_by dialog response) { state = Confirmed }
 
+-- the dialog that a response to the INVITE confirms
 abbrev pub confirmed_by : Dialog → Message → Dialog
 confirmed_by dialog response = confirmed_at dialog.side dialog response
 

@@ -6,21 +6,27 @@ use Rattle.std.specs.Option.{option_map, option_map_or}
 use Rattle.std.specs.Str.{str_eq_ignore_ascii_case}
 use Rattle.sip_text.specs.Cut.{cut_at}
 
+-- `:`
 abbrev pub colon : ℕ
 colon = 58
 
+-- `;`
 abbrev pub semicolon : ℕ
 semicolon = 59
 
+-- `=`
 abbrev pub equals_sign : ℕ
 equals_sign = 61
 
+-- `?`
 abbrev pub question_mark : ℕ
 question_mark = 63
 
+-- `@`
 abbrev pub is_at_sign : ℕ → Bool
 is_at_sign b = b == 64
 
+-- `;`, as a test
 abbrev pub is_semicolon : ℕ → Bool
 is_semicolon b = b == semicolon
 
@@ -51,6 +57,7 @@ uri_parameters part = option_map_or (λ p. slice_split is_semicolon p.1) (cut_at
 unfoldable pub is_lr : List ℕ → Bool
 is_lr parameter = str_eq_ignore_ascii_case (before equals_sign parameter) (codes "lr")
 
+-- whether a URI has the parameter `lr` (RFC 3261, section 19.1.1)
 abbrev pub has_lr : List ℕ → Bool
 has_lr part = list_any is_lr (uri_parameters part)
 

@@ -19,6 +19,7 @@ first_fault (Some header) other = Some (fault.Missing header)
 first_fault None (Some header) = Some (fault.Repeated header)
 first_fault None None = None
 
+-- the first fault of a draft, of the headers alone
 unfoldable pub fault_in : Draft → Option ReadFault
 fault_in d = if has_bad_header d then Some fault.BadHeader else first_fault (missing d) (repeated d)
 
@@ -28,6 +29,7 @@ abbrev pub slot_of : {X : Type 0} → Option X → Slot X
 slot_of None = Absent
 slot_of (Some x) = Once x
 
+-- the value of a header that stands once
 abbrev pub once : {X : Type 0} → Slot X → Option X
 once (Once x) = Some x
 once Absent = None
@@ -50,6 +52,7 @@ pub record IsComplete (d : Draft) : Type 0 where
   pub supported : is_some d.supported ≡ true
   pub others : is_some d.others ≡ true
 
+-- the method of the CSeq
 abbrev pub method_in : Draft → Option (List ℕ)
 method_in d = option_map (λ cseq. cseq.method) (once d.cseq)
 
@@ -74,6 +77,7 @@ draft_with h = record {
   others = Some h.others;
 }
 
+-- the draft, where it has no fault
 abbrev pub unless_fault : Option ReadFault → Draft → Result Draft ReadFault
 unless_fault (Some e) d = Err e
 unless_fault None d = Ok d

@@ -15,6 +15,7 @@ use Rattle.sip_headers.specs.Slot.{met, listed}
 use Rattle.sip_headers.specs.declared.draft.Draft.{Draft}
 use Rattle.sip_headers.specs.declared.slot.Slot.TheVariants.{Absent}
 
+-- before the first header line
 abbrev pub no_draft : Draft
 no_draft = record {
   is_bad = false;
@@ -71,9 +72,11 @@ other_from name value =
     then Some ((record { name = long_name name; value = value }) ∷ []) else None)
     else None
 
+-- one more header that stays as it stands
 abbrev pub with_other : Draft → List ℕ → List ℕ → Draft
 with_other d name value = record d { others = listed d.others (other_from name value) }
 
+-- with one more header line
 abbrev pub with_class : Draft → Class → Draft
 with_class d bad = record d { is_bad = true }
 with_class d (known header value) = with_value d header value

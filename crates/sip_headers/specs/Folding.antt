@@ -11,6 +11,7 @@ use Rattle.sip_headers.specs.declared.draft.Draft.{Draft}
 abbrev pub Section : Type 0
 Section = List (List ℕ) × List ℕ
 
+-- one more line before the empty one that ends the section
 abbrev pub with_line_of : List ℕ → List ℕ → Option Section → Option Section
 with_line_of [] rest more = Some ([], rest)
 with_line_of (b ∷ bs) rest more = option_map (λ s. ((b ∷ bs) ∷ s.0, s.1)) more
@@ -35,6 +36,7 @@ folded_onto line (next ∷ lines) =
     if begins_blank next then folded_onto (joined line next) lines
     else line ∷ folded_onto next lines
 
+-- the lines, each with those that go on with it
 abbrev pub whole_lines : List (List ℕ) → List (List ℕ)
 whole_lines [] = []
 whole_lines (line ∷ lines) = folded_onto line lines
@@ -43,6 +45,7 @@ whole_lines (line ∷ lines) = folded_onto line lines
 abbrev pub whole_section : Option Section → Option Section
 whole_section section = option_map (λ s. (whole_lines s.0, s.1)) section
 
+-- one more line before those of a section
 abbrev pub onto_section : List ℕ → Option Section → Option Section
 onto_section line section = option_map (λ s. (folded_onto line s.0, s.1)) section
 

@@ -24,6 +24,7 @@ ValueText value text = Told trimmed (Passing has_no_line_byte) value text
 abbrev pub IsHeaderLine : List ℕ × List ℕ → List ℕ → Type 0
 IsHeaderLine parts line = OnCut (Byte 58) (Both NameText ValueText) Never parts line
 
+-- what reading a header line finds: the name and the value
 abbrev pub line_from : List ℕ → Option (List ℕ × List ℕ)
 line_from line =
     on_cut (Byte 58) (both (reading_of (passing is_token) trimmed_end)
@@ -31,19 +32,23 @@ line_from line =
 
 -- ---- what it is
 
+-- a line that is no header line, a value of a header of the table, or another header
 pub data Class : Type 0 where
   bad : Class
   known : HeaderName → List ℕ → Class
   other : List ℕ → List ℕ → Class
 
+-- by the header that the name stands for
 abbrev pub class_by_name : List ℕ → List ℕ → Option HeaderName → Class
 class_by_name name value None = other name value
 class_by_name name value (Some header) = known header value
 
+-- by the name and the value, where the line has them
 abbrev pub class_by_parts : Option (List ℕ × List ℕ) → Class
 class_by_parts None = bad
 class_by_parts (Some parts) = class_by_name parts.0 parts.1 (header_named parts.0)
 
+-- what a line is
 abbrev pub class_from : List ℕ → Class
 class_from line = class_by_parts (line_from line)
 

@@ -56,6 +56,7 @@ Many P xs values = IsList P (Some xs) values
 
 -- ---- one header line, and a header that stays as it stands
 
+-- a header line of any name
 abbrev pub IsSomeHeaderLine : List ℕ → Type 0
 IsSomeHeaderLine line = (parts : List ℕ × List ℕ) × IsHeaderLine parts line
 

@@ -20,6 +20,7 @@ use Rattle.sip_headers.specs.declared.slot.Slot.TheVariants.{Absent, Once, Twice
 
 -- ---- the headers of a message, with its numbers in their places
 
+-- a Via whose port is known
 abbrev pub via_draft : Via → ViaDraft
 via_draft via = record {
   transport = via.transport;
@@ -28,6 +29,7 @@ via_draft via = record {
   parameters = via.parameters;
 }
 
+-- a RAck whose numbers are known
 abbrev pub rack_draft : RAck → RAckDraft
 rack_draft rack = record { rseq = Number rack.rseq; cseq = Number rack.cseq; method = rack.method }
 
@@ -53,6 +55,7 @@ headers_with m length = record {
 
 -- ---- words in the places of numbers
 
+-- the two words of a RAck that are to be numbers
 abbrev pub rack_words : RAckDraft → List Numeral
 rack_words rack = rack.rseq ∷ (rack.cseq ∷ [])
 
@@ -67,10 +70,12 @@ number_words h =
     ++ (option_to_list h.rseq ++ (flat_map rack_words (option_to_list h.rack)
     ++ option_to_list h.content_length)))
 
+-- a word that is a number in its bounds
 abbrev pub is_number : Numeral → Bool
 is_number (Number n) = true
 is_number NotANumber = false
 
+-- a number below 2^16
 abbrev pub is_port : Numeral → Bool
 is_port (Number n) = nat_lt n (2 ^ 16)
 is_port NotANumber = false
@@ -81,6 +86,7 @@ are_numbers h = list_all is_port (port_words h.vias) && list_all is_number (numb
 
 -- ---- the numbers, read
 
+-- the number
 abbrev pub known : Numeral → Option ℕ
 known (Number n) = Some n
 known NotANumber = None
@@ -92,15 +98,18 @@ known_slot (Once word) = known word >>= λ n. Some (Some n)
 known_slot Twice = None
 known_slot Bad = None
 
+-- two numbers
 abbrev pub known_both : Numeral → Numeral → Option (Option (ℕ × ℕ))
 known_both one other = known one >>= λ a. known other >>= λ b. Some (Some (a, b))
 
+-- the numbers of a RAck, where there is one
 abbrev pub known_rack : Slot RAckDraft → Option (Option (ℕ × ℕ))
 known_rack Absent = Some None
 known_rack (Once rack) = known_both rack.rseq rack.cseq
 known_rack Twice = None
 known_rack Bad = None
 
+-- all numbers of a draft, where each word that is to be one is
 unfoldable pub numbers_in : Draft → Option Numbers
 numbers_in d = do
   cseq ← once d.cseq
@@ -117,6 +126,7 @@ numbers_in d = do
     content_length = content_length;
   })
 
+-- the port, where there is one
 abbrev pub known_port : Option Numeral → Option (Option ℕ)
 known_port None = Some None
 known_port (Some word) = known word >>= λ n. if nat_lt 65535 n then None else Some (Some n)
@@ -133,6 +143,7 @@ via_with via = known_port via.port >>= λ port.
 
 -- ---- the message
 
+-- the RAck of these numbers
 abbrev pub rack_with : Slot RAckDraft → Option (ℕ × ℕ) → Option RAck
 rack_with (Once rack) (Some numbers) =
     Some (record { rseq = numbers.0; cseq = numbers.1; method = rack.method })

@@ -11,17 +11,20 @@ use Rattle.sip_headers.specs.declared.faults.Presence.TheVariants.{Nowhere, Fitt
 use Rattle.sip_headers.specs.declared.slot.Slot.{Slot}
 use Rattle.sip_headers.specs.declared.slot.Slot.TheVariants.{Absent, Once, Twice, Bad}
 
+-- of a header that stands at most once
 abbrev pub slot_presence : {X : Type 0} → Slot X → Presence
 slot_presence Absent = Nowhere
 slot_presence (Once x) = Fitting
 slot_presence Twice = Repeated
 slot_presence Bad = Unfit
 
+-- of a header whose values are a list
 abbrev pub list_presence : {X : Type 0} → Option (List X) → Presence
 list_presence None = Unfit
 list_presence (Some []) = Nowhere
 list_presence (Some (x ∷ xs)) = Fitting
 
+-- of each header that may be missing or repeated
 abbrev pub presence_of : Draft → HeaderName → Presence
 presence_of d name.Via = list_presence d.vias
 presence_of d name.From = slot_presence d.from
@@ -38,14 +41,17 @@ presence_of d name.Route = list_presence d.routes
 presence_of d name.Require = list_presence d.require
 presence_of d name.Supported = list_presence d.supported
 
+-- it is missing
 abbrev pub is_nowhere : Presence → Bool
 is_nowhere Nowhere = true
 is_nowhere presence = false
 
+-- it is repeated
 abbrev pub is_repeated : Presence → Bool
 is_repeated Repeated = true
 is_repeated presence = false
 
+-- a line of it has another form
 abbrev pub is_unfit : Presence → Bool
 is_unfit Unfit = true
 is_unfit presence = false

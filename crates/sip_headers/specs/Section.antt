@@ -12,6 +12,7 @@ use Rattle.sip_headers.specs.HeaderLine.{Class, bad, known, other, class_from}
 use Rattle.sip_headers.specs.Slot.{IsSlot, IsList}
 use Rattle.sip_headers.specs.declared.draft.Draft.{Draft}
 
+-- the same header of the table
 abbrev pub is_same : HeaderName → HeaderName → Bool
 is_same name.Via name.Via = true
 is_same name.MaxForwards name.MaxForwards = true
@@ -41,6 +42,7 @@ abbrev pub values : HeaderName → List (List ℕ) → List (List ℕ)
 values header [] = []
 values header (line ∷ lines) = before_values header (class_from line) (values header lines)
 
+-- one more of the headers that stay as they stand
 abbrev pub before_others : Class → List (List ℕ × List ℕ) → List (List ℕ × List ℕ)
 before_others (other name value) others = (name, value) ∷ others
 before_others class others = others

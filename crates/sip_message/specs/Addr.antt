@@ -3,6 +3,7 @@ use Rattle.std.specs.Prelude.{ℕ, ◌<◌, ◌^◌, ◌++◌, List, codes, deci
 use Rattle.sip_message.specs.declared.addr.Addr.{Addr}
 use Rattle.sip_message.specs.Ip.{IsIp, ip_text}
 
+-- an address and port: four numbers with dots, a colon, the port
 abbrev pub addr_text : Addr → List ℕ
 addr_text addr = ip_text addr.ip ++ codes ":" ++ decimal addr.port
 

@@ -24,18 +24,22 @@ abbrev pub side_of : Key → ℕ
 side_of (Client branch method) = 0
 side_of (Server branch sent_by method) = 1
 
+-- the branch of a key
 abbrev pub branch_in : Key → List ℕ
 branch_in (Client branch method) = branch
 branch_in (Server branch sent_by method) = branch
 
+-- the host of the sent-by of a server transaction's key; a client's key has none
 abbrev pub host_in : Key → List ℕ
 host_in (Client branch method) = []
 host_in (Server branch sent_by method) = sent_by.host
 
+-- the port of that sent-by
 abbrev pub port_in : Key → ℕ
 port_in (Client branch method) = 0
 port_in (Server branch sent_by method) = sent_by.port
 
+-- the method of a key
 abbrev pub method_in : Key → List ℕ
 method_in (Client branch method) = method
 method_in (Server branch sent_by method) = method

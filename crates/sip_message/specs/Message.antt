@@ -8,10 +8,12 @@ use Rattle.sip_message.specs.declared.party.Party.{Party}
 use Rattle.sip_message.specs.declared.cseq.CSeq.{CSeq}
 use Rattle.sip_message.specs.declared.message.Message.{Message}
 
+-- whether a start line is that of a request
 abbrev pub is_request_line : StartLine → Bool
 is_request_line (Request uri) = true
 is_request_line (Response status reason) = false
 
+-- whether a message is a request
 abbrev pub is_request_message : Message → Bool
 is_request_message message = is_request_line message.start
 

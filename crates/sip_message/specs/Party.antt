@@ -8,6 +8,7 @@ use Rattle.sip_parts.specs.Tag.{tag_in}
 abbrev pub tag_of : Party → List ℕ
 tag_of party = tag_in party.parameters
 
+-- the parameter `tag`, where there is a tag
 abbrev pub tag_alone : Option (List ℕ) → List Parameter
 tag_alone None = []
 tag_alone (Some tag) = (record { name = codes "tag"; value = Some tag }) ∷ []

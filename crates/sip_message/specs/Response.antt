@@ -7,6 +7,7 @@ use Rattle.sip_message.specs.declared.message.Message.{Message}
 use Rattle.sip_message.specs.Message.{bare}
 use Rattle.sip_parts.specs.Parameters.{parameter_named}
 
+-- the parameter `tag` of this value
 abbrev pub tag_parameter : List ℕ → Parameter
 tag_parameter tag = record { name = codes "tag"; value = Some tag }
 

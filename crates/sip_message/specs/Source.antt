@@ -29,9 +29,11 @@ is_open (Some p) = is_none p.value
 abbrev pub asks_port : Via → Bool
 asks_port via = is_open (parameter_named (codes "rport") via.parameters)
 
+-- with `received` the source's IP address
 abbrev pub with_received : Addr → List Parameter → List Parameter
 with_received source parameters = with_value (codes "received") (ip_text source.ip) parameters
 
+-- with `rport` the source's port (RFC 3581, section 4)
 abbrev pub with_port : Addr → List Parameter → List Parameter
 with_port source parameters = with_value (codes "rport") (decimal source.port) parameters
 
@@ -43,6 +45,7 @@ stamped_parameters source via =
     else (if bytes_eq via.host (ip_text source.ip) then via.parameters
     else with_received source via.parameters)
 
+-- the top Via with what is noted of the source
 abbrev pub stamped_via : Addr → Via → Via
 stamped_via source via = record via { parameters = stamped_parameters source via }
 
@@ -55,6 +58,7 @@ stamped_vias source (via ∷ vias) = stamped_via source via ∷ vias
 unfoldable pub stamped : Message → Addr → Message
 stamped message source = record message { vias = stamped_vias source message.vias }
 
+-- where the answer goes: to the source, or to its IP address and the port of the sent-by
 abbrev pub answered_at : Addr → Via → Addr
 answered_at source via =
     if asks_port via then source else record { ip = source.ip; port = port_of via }

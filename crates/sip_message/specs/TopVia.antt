@@ -13,9 +13,11 @@ use Rattle.sip_message.specs.Via.{branch_of}
 abbrev pub top_via : Message → Option Via
 top_via message = slice_get message.vias 0
 
+-- the branch of the top Via
 abbrev pub top_branch : Message → List ℕ
 top_branch message = option_map_or branch_of (top_via message) []
 
+-- the host of its sent-by
 abbrev pub top_host : Message → List ℕ
 top_host message = option_map_or (λ via. via.host) (top_via message) []
 
@@ -23,6 +25,7 @@ top_host message = option_map_or (λ via. via.host) (top_via message) []
 abbrev pub port_of : Via → ℕ
 port_of via = unwrap_or via.port 5060
 
+-- the port of its sent-by, 5060 where it says none
 abbrev pub top_port : Message → ℕ
 top_port message = option_map_or port_of (top_via message) 5060
 
@@ -30,5 +33,6 @@ top_port message = option_map_or port_of (top_via message) 5060
 abbrev pub is_via_of : Addr → Via → Bool
 is_via_of local via = bytes_eq via.host (ip_text local.ip) && (port_of via == local.port)
 
+-- whether the top Via has the sent-by of this agent
 unfoldable pub is_sent_by_of : Message → Addr → Bool
 is_sent_by_of message local = option_map_or (is_via_of local) (top_via message) false

@@ -16,6 +16,7 @@ use Rattle.sip_message.specs.declared.message.Message.{Message}
 unfoldable pub header_line : List ℕ → List ℕ → List ℕ
 header_line name value = name ++ codes ": " ++ value ++ codes "\r\n"
 
+-- `=` and the value of a parameter that has one
 abbrev pub value_text : Option (List ℕ) → List ℕ
 value_text None = []
 value_text (Some value) = codes "=" ++ value
@@ -24,9 +25,11 @@ value_text (Some value) = codes "=" ++ value
 unfoldable pub parameter_text : Parameter → List ℕ
 parameter_text p = codes ";" ++ p.name ++ value_text p.value
 
+-- parameters, one behind the other
 abbrev pub parameters_text : List Parameter → List ℕ
 parameters_text parameters = flat_map parameter_text parameters
 
+-- `:` and the port, where there is one
 abbrev pub port_text : Option ℕ → List ℕ
 port_text None = []
 port_text (Some port) = codes ":" ++ decimal port
@@ -36,6 +39,7 @@ unfoldable pub via_text : Via → List ℕ
 via_text via = codes "SIP/2.0/" ++ via.transport ++ codes " " ++ via.host ++ port_text via.port
     ++ parameters_text via.parameters
 
+-- the display text with a space behind it, where there is one
 abbrev pub display_part : List ℕ → List ℕ
 display_part [] = []
 display_part (b ∷ bs) = (b ∷ bs) ++ codes " "
@@ -45,12 +49,15 @@ unfoldable pub address_text : List ℕ → List ℕ → List Parameter → List 
 address_text display uri parameters =
     display_part display ++ codes "<" ++ uri ++ codes ">" ++ parameters_text parameters
 
+-- a Via line
 abbrev pub via_line : Via → List ℕ
 via_line via = header_line (codes "Via") (via_text via)
 
+-- a From or a To line
 abbrev pub party_line : List ℕ → Party → List ℕ
 party_line name party = header_line name (address_text party.display party.uri party.parameters)
 
+-- the line of a Contact or of a route
 abbrev pub address_line : List ℕ → NameAddr → List ℕ
 address_line name address =
     header_line name (address_text address.display address.uri address.parameters)
@@ -69,16 +76,20 @@ abbrev pub tokens_line : List ℕ → List (List ℕ) → List ℕ
 tokens_line name [] = []
 tokens_line name (token ∷ tokens) = header_line name (joined token tokens)
 
+-- the value of a CSeq: the number and the method (RFC 3261, section 20.16)
 unfoldable pub cseq_text : CSeq → List ℕ
 cseq_text cseq = decimal cseq.number ++ codes " " ++ cseq.method
 
+-- the value of a RAck: RSeq, number and method (RFC 3262, section 7.2)
 unfoldable pub rack_text : RAck → List ℕ
 rack_text rack = decimal rack.rseq ++ codes " " ++ decimal rack.cseq ++ codes " " ++ rack.method
 
+-- the RAck line, where there is a RAck
 abbrev pub rack_line : Option RAck → List ℕ
 rack_line None = []
 rack_line (Some rack) = header_line (codes "RAck") (rack_text rack)
 
+-- the line of a header that stays as it came
 abbrev pub other_line : Header → List ℕ
 other_line header = header_line header.name header.value
 
@@ -118,5 +129,6 @@ content_text m =
     flat_map other_line m.others ++ header_line (codes "Content-Length") (decimal (length m.body))
     ++ codes "\r\n" ++ m.body
 
+-- the whole text: start line, headers in their order, an empty line, the body
 unfoldable pub written : Message → List ℕ
 written m = head_text m ++ identity_text m ++ routes_text m ++ extensions_text m ++ content_text m

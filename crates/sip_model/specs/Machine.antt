@@ -7,6 +7,7 @@ pub record Timed (I : Type 0) : Type 0 where
   pub moment : ℕ
   pub input : Option I
 
+-- an input at a moment
 abbrev pub given_at : {I : Type 0} → ℕ → I → Timed I
 given_at now input = record { moment = now; input = Some input }
 
@@ -26,9 +27,11 @@ due_of due None = None
 due_of due (Some state) = due state
 
 module _ {K S I O : Type 0} where
+  -- the state after an input
   abbrev pub next : Machine K S I O → K → Option S → I → Option S
   next machine key state input = (machine.step key state input).0
 
+  -- what is said to an input
   abbrev pub adds : Machine K S I O → K → Option S → I → List O
   adds machine key state input = (machine.step key state input).1
 

@@ -20,6 +20,7 @@ abbrev pub timed_item : {K I : Type 0} → ℕ → Item K I → Item K (Timed I)
 timed_item now item =
     record { place = item.place; key = item.key; input = given_at now item.input }
 
+-- items, each at the moment of the phase
 abbrev pub timed_items : {K I : Type 0} → ℕ → List (Item K I) → List (Item K (Timed I))
 timed_items now items = map (timed_item now) items
 
@@ -40,6 +41,7 @@ by_place said = ((said.0).0, said.1)
 -- ---- each key's own inputs
 
 module _ {K I : Type 0} (cmp : K → K → Ordering) where
+  -- the inputs of one key, in their order
   abbrev pub inputs_of : List (Item K I) → K → List I
   inputs_of items key = map (λ item. item.input) (filter (λ item. is_at (cmp item.key) key) items)
 

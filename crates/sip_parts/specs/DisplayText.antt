@@ -6,9 +6,11 @@ use Rattle.sip_text.specs.Character.{is_among}
 use Rattle.sip_text.specs.Quoted.{is_quoted}
 use Rattle.sip_parts.specs.HeaderValue.{has_no_blank_ends}
 
+-- a byte of a display text without quotes
 unfoldable pub is_display_text_byte : ℕ → Bool
 is_display_text_byte b = not (is_among (codes "\r\n<>\",") b)
 
+-- a quoted string, or a run of such bytes without blanks at its ends
 unfoldable pub is_display_text : List ℕ → Bool
 is_display_text text =
     is_quoted text || (has_no_blank_ends text && list_all is_display_text_byte text)

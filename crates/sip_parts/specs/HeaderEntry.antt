@@ -16,9 +16,11 @@ pub record Entry : Type 0 where
   pub compact : List ℕ
   pub kind : HeaderKind
 
+-- the entry of a long name, a compact name (or none) and how often its lines may stand
 abbrev row : List ℕ → List ℕ → HeaderKind → Entry
 row name compact kind = record { name = name; compact = compact; kind = kind }
 
+-- the entry of each header
 abbrev pub entry : HeaderName → Entry
 entry Via = row (codes "Via") (codes "v") NeededList
 entry MaxForwards = row (codes "Max-Forwards") [] AtMostOnce
@@ -67,5 +69,6 @@ is_single Once = true
 is_single AtMostOnce = true
 is_single kind = false
 
+-- the headers whose kind passes a test, in the order of the table
 abbrev pub headers_where : (HeaderKind → Bool) → List HeaderName
 headers_where test = filter (λ header. test (entry header).kind) headers

@@ -12,5 +12,6 @@ has_no_blank_ends text =
 abbrev pub has_no_line_byte : List ℕ → Bool
 has_no_line_byte text = list_all (λ b. not (is_line_byte b)) text
 
+-- one line, without blanks at its ends
 unfoldable pub is_header_value : List ℕ → Bool
 is_header_value text = has_no_blank_ends text && has_no_line_byte text

@@ -4,6 +4,7 @@ use Rattle.std.specs.List.{list_all}
 use Rattle.sip_text.specs.Character.{is_among}
 use Rattle.sip_text.specs.Cut.{cut_at}
 
+-- a byte of a host that is a name or an IPv4 address
 unfoldable pub is_host_byte : ℕ → Bool
 is_host_byte b = not (is_among (codes " \t\r\n:;,[\"<>") b)
 
@@ -11,6 +12,7 @@ is_host_byte b = not (is_among (codes " \t\r\n:;,[\"<>") b)
 unfoldable pub is_bracket_byte : ℕ → Bool
 is_bracket_byte b = not (is_among (codes " \t\r\n,;]\"<>") b)
 
+-- whether a text that was cut at its first `]` ends there and has nothing else in brackets
 abbrev pub is_closed : Option (List ℕ × List ℕ) → Bool
 is_closed None = false
 is_closed (Some (inside, [])) = list_all is_bracket_byte inside
@@ -20,6 +22,7 @@ is_closed (Some (inside, b ∷ bs)) = false
 abbrev pub ends_in_bracket : List ℕ → Bool
 ends_in_bracket text = is_closed (cut_at 93 text)
 
+-- a text in brackets, or a run of such bytes that isn't empty
 unfoldable pub is_host : List ℕ → Bool
 is_host [] = false
 is_host (b ∷ bs) = if b == 91 then ends_in_bracket bs else list_all is_host_byte (b ∷ bs)

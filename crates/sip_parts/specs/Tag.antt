@@ -8,10 +8,12 @@ use Rattle.sip_parts.specs.Parameters.{parameter_named, value_named}
 abbrev pub tag_in : List Parameter → List ℕ
 tag_in parameters = value_named (codes "tag") parameters
 
+-- a value that is there and is a token
 abbrev pub is_token_value : Option (List ℕ) → Bool
 is_token_value None = false
 is_token_value (Some value) = is_token value
 
+-- no parameter, or one whose value is a token
 abbrev pub is_good_tag : Option Parameter → Bool
 is_good_tag None = true
 is_good_tag (Some p) = is_token_value p.value

@@ -7,5 +7,6 @@ use Rattle.sip_text.specs.Token.{is_run}
 unfoldable pub is_uri_byte : ℕ → Bool
 is_uri_byte b = not (is_among (codes " \t\r\n<>\"") b)
 
+-- a run of such bytes that isn't empty
 unfoldable pub is_uri : List ℕ → Bool
 is_uri text = is_run is_uri_byte text

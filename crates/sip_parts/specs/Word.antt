@@ -7,5 +7,6 @@ use Rattle.sip_text.specs.Token.{is_run}
 unfoldable pub is_word_byte : ℕ → Bool
 is_word_byte b = not (is_among (codes " \t\r\n") b)
 
+-- a run of such bytes that isn't empty
 unfoldable pub is_word : List ℕ → Bool
 is_word text = is_run is_word_byte text

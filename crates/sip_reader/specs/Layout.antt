@@ -6,6 +6,7 @@ use Rattle.std.specs.List.{AllByRecursion}
 use Rattle.sip_text.specs.Lines.{IsLines}
 use Rattle.sip_headers.specs.Folding.{whole_lines}
 
+-- a line that isn't empty
 abbrev pub IsFull : List ℕ → Type 0
 IsFull line = line ≡ [] → ⊥
 

@@ -45,19 +45,23 @@ or_fault e (Some x) = Ok x
 
 -- ---- the message
 
+-- Vias of which the first has a branch with the mark of RFC 3261
 abbrev pub good_vias : List Via → Option (List Via)
 good_vias vias = if are_vias vias then Some vias else None
 
+-- the Vias, where their ports are numbers and the first has that mark
 unfoldable pub vias_of : List ViaDraft → Result (List Via) ReadFault
 vias_of drafts = do
   vias ← or_fault fault.BadNumber (each via_with drafts)
   or_fault fault.OldBranch (good_vias vias)
 
+-- the start line; a request's method is that of its CSeq
 unfoldable pub start_line_of : FirstLine → List ℕ → Option StartLine
 start_line_of (first.Request method uri) cseq_method =
     if bytes_eq method cseq_method then Some (start.Request uri) else None
 start_line_of (first.Response status reason) cseq_method = Some (start.Response status reason)
 
+-- the body: what follows the headers, or its first bytes as Content-Length says
 unfoldable pub body_of : List ℕ → Option ℕ → Option (List ℕ)
 body_of text None = Some text
 body_of text (Some n) = if nat_lt (length text) n then None else Some (take n text)
@@ -73,6 +77,7 @@ message_of_draft line d text = do
   body ← or_fault fault.Truncated (body_of text numbers.content_length)
   or_fault fault.BadHeader (message_with start vias numbers d body)
 
+-- the message of a start line, a draft of the headers and what follows
 unfoldable pub message_of_lines : List ℕ → Draft → List ℕ → Result Message ReadFault
 message_of_lines start_line draft text = do
   start ← or_fault fault.BadStartLine (start_at start_line)
@@ -92,6 +97,7 @@ message_in text = do
   line ← or_fault fault.NoEmptyLine (line_at text)
   message_of_section (onto_section line.0 (section_at line.1))
 
+-- the message of a text that isn't too long, line ends before it left out
 abbrev pub message_at : List ℕ → Result Message ReadFault
 message_at text =
     if nat_lt 65535 (length text) then Err fault.TooLong else message_in (without_line_ends text)

@@ -18,13 +18,16 @@ request_at method rest = do
   if is_version p.1 && (is_token method && is_word p.0) then Some (first.Request method p.0)
       else None
 
+-- a status code is 100 to 699
 abbrev pub code_from : ℕ → Option ℕ
 code_from number = if nat_lt number 100 || nat_lt 699 number then None else Some number
 
+-- the same of a number that was read
 abbrev pub code_in : Result ℕ TextFault → Option ℕ
 code_in (Ok number) = code_from number
 code_in (Err fault) = None
 
+-- the status code that a text spells
 unfoldable pub code_at : List ℕ → Option ℕ
 code_at text = code_in (number_of text)
 
@@ -40,6 +43,7 @@ status_at text = do
   reason ← reason_at (drop 3 text)
   Some (first.Response status reason)
 
+-- a line that begins with the version is a status line; any other is a request line
 unfoldable pub start_at : List ℕ → Option FirstLine
 start_at line = do
   p ← cut_at 32 line

@@ -3,6 +3,7 @@
 use Rattle.std.specs.Prelude.{ℕ, Bool, true, false, List, ◌==◌}
 use Rattle.std.specs.List.{list_any}
 
+-- what can happen to the responses of one INVITE
 pub data Happening : Type 0 where
   -- one is sent, with a body or without, at a moment
   Sends : ℕ → Bool → ℕ → Happening
@@ -43,6 +44,7 @@ is_acknowledgment_of wanted GivesUp = false
 is_acknowledgment_of wanted (Acknowledges number) = wanted == number
 is_acknowledgment_of wanted Closes = false
 
+-- whether the responses sent before are given up by it
 abbrev pub is_giving_up : Happening → Bool
 is_giving_up (Sends number has_body now) = false
 is_giving_up (Repeats numbers now) = false
@@ -50,6 +52,7 @@ is_giving_up GivesUp = true
 is_giving_up (Acknowledges number) = false
 is_giving_up Closes = false
 
+-- whether no response follows it, as the INVITE has its final answer
 abbrev pub is_closing : Happening → Bool
 is_closing (Sends number has_body now) = false
 is_closing (Repeats numbers now) = false

@@ -68,6 +68,7 @@ happenings_of Nothing now = []
 happenings_of (Again numbers) now = Repeats numbers.items now ∷ []
 happenings_of GivenUp now = GivesUp ∷ []
 
+-- what waits after a tick of this kind
 abbrev pub ticked : Tick → Ledger → ℕ → Ledger
 ticked Nothing l now = l
 ticked (Again numbers) l now = record l { waiting = map (after_repeat now) l.waiting }
@@ -88,6 +89,7 @@ IsNextDue answers (Some due) =
 
 -- ---- what the calls do
 
+-- whether the response of this number waits for its PRACK
 abbrev pub waits_for : ℕ → Ledger → Bool
 waits_for number l = list_any (λ p. p.number == number) l.waiting
 
@@ -104,6 +106,7 @@ send_fault l =
     (if must_wait l then Some fault.Unacknowledged else
     (if nat_lt 4294967295 l.next then Some fault.NumbersUsedUp else None)))
 
+-- a fault where there is one, otherwise the value
 abbrev pub ok_unless : {A E : Type 0} → Option E → A → Result A E
 ok_unless None value = Ok value
 ok_unless (Some fault) value = Err fault
@@ -112,13 +115,16 @@ ok_unless (Some fault) value = Err fault
 abbrev pub send_answer : Ledger → Result ℕ SendFault
 send_answer l = ok_unless (send_fault l) l.next
 
+-- one more response waits, of the next number
 abbrev pub with_sent : Bool → ℕ → Ledger → Ledger
 with_sent has_body now l =
     record l { next = l.next + 1; waiting = l.waiting ++ sent_before l.next has_body now [] ∷ [] }
 
+-- the response of this number waits no longer
 abbrev pub acknowledged : ℕ → Ledger → Ledger
 acknowledged number l = record l { waiting = filter (λ p. not (p.number == number)) l.waiting }
 
+-- no further reliable response is sent
 abbrev pub closed_now : Ledger → Ledger
 closed_now l = record l { closed = true }
 

@@ -30,6 +30,7 @@ last_moment wanted last GivesUp = last
 last_moment wanted last (Acknowledges number) = last
 last_moment wanted last Closes = last
 
+-- when it is sent again, after what happened later; never once it is given up
 abbrev pub retransmission_after : ℕ → ℕ → List Happening → Option Retransmission
 retransmission_after number sent later =
     let repeats = count_by (is_repeat_of number) later in
@@ -39,6 +40,7 @@ retransmission_after number sent later =
       repeats = repeats;
     }
 
+-- a response that was sent at a moment, after what happened later
 abbrev pub sent_before : ℕ → Bool → ℕ → List Happening → Provisional
 sent_before number has_body sent later =
     record {
@@ -50,6 +52,7 @@ sent_before number has_body sent later =
 
 -- ---- what is due at a moment
 
+-- whether it is sent no more
 abbrev pub is_given_up : Provisional → Bool
 is_given_up p = is_none p.retransmission
 
@@ -71,6 +74,7 @@ due_moment p = option_map (λ r. min r.due (end_of p)) p.retransmission
 
 -- ---- what a tick makes of it
 
+-- it is sent no more
 abbrev pub given_up : Provisional → Provisional
 given_up p = record p { retransmission = None }
 
@@ -82,5 +86,6 @@ sent_again now p = record p {
       p.retransmission;
 }
 
+-- sent again where it is due
 abbrev pub after_repeat : ℕ → Provisional → Provisional
 after_repeat now p = if is_repeated now p then sent_again now p else p

@@ -19,7 +19,7 @@ use Rattle.sip_common.specs.declared.notice.Notice.{Notice as ANotice}
 use Rattle.sip_common.specs.declared.notice.Notice.TheVariants as notice
 use Rattle.sip_common.specs.Command.{call_of_item}
 use Rattle.sip_common.specs.Notices.{request_in}
-use Rattle.sip_served.specs.Shown.{is_request}
+use Rattle.sip_served.specs.ForUser.{is_request}
 use Rattle.sip_common.specs.Ids.{is_id}
 use Rattle.sip_calls.specs.declared.call.Call.{Call}
 use Rattle.sip_calls.specs.declared.calls.Calls.{Calls}

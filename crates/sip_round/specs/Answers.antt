@@ -37,10 +37,12 @@ pub record Past : Type 0 where
 
 -- ---- one phase, after others
 
+-- what all transactions say to a phase, after the phases before
 abbrev pub said_by_transactions : List (Phase Key (Timed Input)) → Phase Key (Timed Input)
     → PhaseOutputs Key Out
 said_by_transactions = told_next key_cmp transaction_machine tick_at
 
+-- what all calls say to a phase
 abbrev pub said_by_calls : Calls → List (Phase (List ℕ) (Timed CallItem))
     → Phase (List ℕ) (Timed CallItem)
     → PhaseOutputs (List ℕ) CallOut
@@ -62,18 +64,23 @@ items_first number told arrivals =
 -- ---- one round of this number, after a past
 
 module _ (config : Config) (number : ℕ) (past : Past) (round : Round) where
+  -- what each event is, by its id
   abbrev pub arrivals : List (Id × Arrival)
   arrivals = arrivals_from config.local number 1 round.events
 
+  -- the first phase: a tick, and then what arrived
   unfoldable pub first : Phase Key (Timed Input)
   first = first_phase round.moment arrivals
 
+  -- what comes up from it, and the user's commands
   unfoldable pub items_of_round : List (Id × Item)
   items_of_round = items_first number (said_by_transactions past.transactions first) arrivals
 
+  -- the second phase: a tick, and those items
   unfoldable pub second : Phase (List ℕ) (Timed CallItem)
   second = second_phase round.moment items_of_round
 
+  -- what the calls say
   unfoldable pub given_second : List CallOut
   given_second = all_said (said_by_calls (calls_of config) past.calls second)
 
@@ -97,6 +104,7 @@ module _ (config : Config) (number : ℕ) (past : Past) (round : Round) where
 
 -- ---- whole lists of rounds
 
+-- no phase before
 abbrev pub no_past : Past
 no_past = record { transactions = []; calls = [] }
 
@@ -106,6 +114,7 @@ past_from config number past [] = past
 past_from config number past (round ∷ rounds) =
     past_from config (suc number) (past_after config number past round) rounds
 
+-- the outputs of the rounds from one of this number on
 abbrev pub answers_from : Config → ℕ → Past → List Round → List (List Output)
 answers_from config number past [] = []
 answers_from config number past (round ∷ rounds) =
@@ -116,15 +125,18 @@ abbrev pub last_moment_from : ℕ → List Round → ℕ
 last_moment_from moment [] = moment
 last_moment_from moment (round ∷ rounds) = last_moment_from round.moment rounds
 
+-- the phases of all rounds
 unfoldable pub past_of : Config → List Round → Past
 past_of config rounds = past_from config config.first no_past rounds
 
+-- the outputs of each round, from the first
 unfoldable pub answers : Config → List Round → List (List Output)
 answers config rounds = answers_from config config.first no_past rounds
 
 unfoldable pub last_moment : List Round → ℕ
 last_moment rounds = last_moment_from 0 rounds
 
+-- the first refusal
 abbrev pub refused_or : Option RoundFault → ℕ → Option (ℕ × RoundFault) → Option (ℕ × RoundFault)
 refused_or (Some fault) index later = Some (index, fault)
 refused_or None index later = later
@@ -136,6 +148,7 @@ refused_from number moment index (round ∷ rounds) =
     refused_or (round_fault moment number round) index
     (refused_from (suc number) round.moment (suc index) rounds)
 
+-- the round that is refused first, and why
 unfoldable pub refused : Config → List Round → Option (ℕ × RoundFault)
 refused config rounds = refused_from config.first 0 0 rounds
 

@@ -43,6 +43,7 @@ abbrev pub datagram_arrival : Addr → Id → Addr → Result Message ReadFault 
 datagram_arrival local id from (Ok message) = message_arrival local id from message
 datagram_arrival local id from (Err fault) = Dropped (Unreadable fault)
 
+-- an event: a datagram, a failed send or a command
 unfoldable pub arrival_of : Addr → Id → Event → Arrival
 arrival_of local id (event.Datagram from bytes) = datagram_arrival local id from (message_at bytes)
 arrival_of local id (event.Failed key) = Transaction key (Failed id)

@@ -125,6 +125,7 @@ pub record TellsProvisionals (config : Config) (rounds : List Round) (given : Li
   pub once : AllPairs (λ x y. x ≢ y)
       (shown (calls_of config) invite life (call_inputs_of config rounds call_id))
 
+-- of each INVITE, in each life of a dialog
 abbrev pub GivesProvisionalsInOrder : Config → List Round → List (List Output) → Type 0
 GivesProvisionalsInOrder config rounds given =
     (call_id : List ℕ) (invite : AnInvite) (life : DialogLife)

@@ -23,6 +23,7 @@ transaction_item id (arrival.Transaction key input) =
 transaction_item id (arrival.Dropped why) = []
 transaction_item id (arrival.User command) = []
 
+-- what arrived for transactions
 abbrev pub transaction_items : List (Id × Arrival) → List (Item Key Input)
 transaction_items arrivals = flat_map (λ a. transaction_item a.0 a.1) arrivals
 
@@ -38,6 +39,7 @@ call_items place (i ∷ is) =
     record { place = place; key = call_of_item i.1; input = i }
     ∷ call_items (suc place) is
 
+-- a tick, and the items of the calls
 abbrev pub second_phase : ℕ → List (Id × served.Item) → Phase (List ℕ) (Timed CallItem)
 second_phase now items = phase_at now true (call_items 0 items)
 
@@ -48,5 +50,6 @@ command_items place (c ∷ cs) =
     record { place = place; key = command_key c.1; input = asked_by c.0 c.1 }
     ∷ command_items (suc place) cs
 
+-- the commands to transactions, without a tick
 abbrev pub third_phase : ℕ → List (Id × Command) → Phase Key (Timed Input)
 third_phase now commands = phase_at now false (command_items 0 commands)

@@ -1,4 +1,4 @@
-pub mod Calm
+pub mod QuietBeforeDue
 pub mod Changes
 pub mod DialogSteps
 pub mod Dues

@@ -13,7 +13,7 @@ use Rattle.sip_transactions.specs.declared.input.Command.TheVariants.{Answer as 
 use Rattle.sip_transactions.specs.declared.output.Kind.{Kind}
 use Rattle.sip_transactions.specs.declared.output.Kind.TheVariants.{Request, Ack, Response, Timeout, Failed}
 use Rattle.sip_transactions.specs.declared.output.Up.{Up}
-use Rattle.sip_common.proofs.Shown.{early_shown, end_shown, none_of_both, shown}
+use Rattle.sip_common.proofs.ToldRequests.{early_shown, end_shown, none_of_both, shown}
 use Rattle.sip_served.specs.declared.arrival.ArrivalCase.{ArrivalCase}
 use Rattle.sip_served.specs.declared.arrival.ArrivalCase.TheVariants.{Merged, BadExtension, NoDialog, OutOfOrder, Acknowledges, AcknowledgesNothing, ForUser}
 use Rattle.sip_common.specs.declared.command.Respond.{Respond as Answer}
@@ -36,7 +36,7 @@ use Rattle.sip_common.specs.Requests.{dialog_name, is_bye, is_cancel, is_inside}
 use Rattle.sip_served.specs.Provisionals.{of_numbers}
 use Rattle.sip_served.specs.Respond.{answer_to, by_refusal, by_request, confirms_dialog, dialogs_answered, makes_dialog, refusal_for, rejects}
 use Rattle.sip_served.specs.Run.{Event, Takes, Ticks, event_taken}
-use Rattle.sip_served.specs.Shown.{brings, for_user, for_user_of, if_for_user, is_request, told_from}
+use Rattle.sip_served.specs.ForUser.{brings, for_user, for_user_of, if_for_user, is_request, told_from}
 use Rattle.sip_common.specs.Ids.{is_id}
 use Rattle.sip_served.specs.State.{State, has_id}
 use Rattle.sip_served.specs.Step.{command_taken, kind_taken}

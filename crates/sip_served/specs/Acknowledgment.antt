@@ -34,9 +34,11 @@ acknowledged_invite ack requests =
 abbrev pub stopped : Success → Success
 stopped success = record success { retransmission = None }
 
+-- its 2xx is sent no more
 abbrev pub acked : HeldRequest → HeldRequest
 acked held = record held { success = option_map stopped held.success }
 
+-- the ACK of the INVITE of this id, or of none: the user is told of the first
 abbrev pub ack_noted : State → List ℕ → Message → Option Id → Taken
 ack_noted state call_id ack None = quiet state
 ack_noted state call_id ack (Some invite) = (
@@ -44,5 +46,6 @@ ack_noted state call_id ack (Some invite) = (
   Notice (Ack call_id invite ack.body) ∷ [],
 )
 
+-- an ACK that comes up
 abbrev pub ack_taken : State → List ℕ → Message → Taken
 ack_taken state call_id ack = ack_noted state call_id ack (acknowledged_invite ack state.requests)

@@ -78,6 +78,7 @@ named_invite requests name born rack =
     option_map (λ held. held.id)
     (find (λ held. is_in_dialog name born held && is_named_by rack held) requests)
 
+-- a PRACK: the response that its RAck names waits, or it acknowledges nothing (RFC 3262, section 3)
 abbrev pub prack_case : List HeldRequest → DialogName → Id → Option RAck → ArrivalCase
 prack_case requests name born None = AcknowledgesNothing
 prack_case requests name born (Some rack) =
@@ -110,6 +111,7 @@ case_of requests dialogs name request =
 abbrev pub command_for : HeldRequest → Message → CallOut
 command_for arrival response = Command arrival.id (Answer arrival.key response)
 
+-- the agent answers by itself
 abbrev pub answered_with : HeldRequest → ℕ → List ℕ → List CallOut
 answered_with arrival status reason =
     command_for arrival (response_of arrival.request status reason arrival.tag) ∷ []
@@ -119,6 +121,7 @@ abbrev pub unsupported : List (List ℕ) → Header
 unsupported options =
     record { name = codes "Unsupported"; value = join_by (λ option. option) (codes ", ") options }
 
+-- with one more header
 abbrev pub with_header : Header → Message → Message
 with_header header message = record message { others = message.others ++ header ∷ [] }
 
@@ -130,17 +133,20 @@ refused_extension arrival =
     (response_of arrival.request 420 (codes "Bad Extension") arrival.tag))
     ∷ []
 
+-- the agent answers 481
 abbrev pub no_such_dialog : HeldRequest → List CallOut
 no_such_dialog arrival = answered_with arrival 481 (codes "Call/Transaction Does Not Exist")
 
 -- ---- a PRACK that names a response which waits for it
 
+-- the response of this RSeq waits no longer, and is kept no longer
 abbrev pub pracked : ℕ → HeldRequest → HeldRequest
 pracked rseq held = record held {
   ledger = acknowledged rseq held.ledger;
   provisionals = without rseq held.provisionals;
 }
 
+-- a PRACK for a response that waits: it gets 200, and the user is told
 abbrev pub prack_taken : State → List ℕ → HeldRequest → Id → ℕ → Taken
 prack_taken state call_id arrival invite rseq = (
   record state { requests = changed_at invite (pracked rseq) state.requests },
@@ -150,6 +156,7 @@ prack_taken state call_id arrival invite rseq = (
 
 -- ---- a request for the user
 
+-- the user is told of a request
 abbrev pub request_notice : List ℕ → HeldRequest → ANotice
 request_notice call_id arrival =
     Request call_id arrival.id arrival.request.cseq.method
@@ -175,6 +182,7 @@ bye_taken request name state =
     )
     else quiet state
 
+-- a request for the user is held; a BYE ends its dialog
 abbrev pub for_user : State → List ℕ → DialogName → HeldRequest → Taken
 for_user state call_id name arrival =
     followed (request_held state call_id name arrival) (bye_taken arrival.request name)
@@ -188,6 +196,7 @@ noted state name request =
     then record state { dialogs = dialog_changed name (visited request) state.dialogs }
     else state
 
+-- what becomes of it, case by case
 abbrev pub by_case : ArrivalCase → State → List ℕ → DialogName → HeldRequest → Taken
 by_case Merged state call_id name arrival =
     (state, answered_with arrival 482 (codes "Loop Detected"))

@@ -78,6 +78,7 @@ user_termination call_id invite = record {
 
 -- ---- all of it
 
+-- a CANCEL of the request that is held gets 200, and an unanswered INVITE gets 487; of none 481
 abbrev pub by_cancelled : State → List ℕ → HeldRequest → ℕ → Option HeldRequest → Taken
 by_cancelled state call_id arrival now None = (state, no_such_dialog arrival)
 by_cancelled state call_id arrival now (Some held) =

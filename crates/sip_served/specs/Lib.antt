@@ -7,7 +7,7 @@ pub mod Provisionals
 pub mod Respond
 pub mod Run
 pub mod ServerSide
-pub mod Shown
+pub mod ForUser
 pub mod State
 pub mod Step
 pub mod Story

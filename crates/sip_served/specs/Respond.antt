@@ -38,6 +38,7 @@ use Rattle.sip_served.specs.State.{State, Taken, changed_at, has_id}
 abbrev pub is_user_status : ℕ → Bool
 is_user_status status = nat_le 101 status && nat_le status 699
 
+-- the user asks for a reliable provisional response
 abbrev pub is_reliable : Reliability → Bool
 is_reliable Plain = false
 is_reliable Reliable = true
@@ -61,6 +62,7 @@ is_of_dialog held status = is_invite held.request && (is_provisional status || i
 abbrev pub has_ended : Dialogs → HeldRequest → Bool
 has_ended dialogs held = option_map_or (λ life. not (lives dialogs life)) held.dialog false
 
+-- why a reliable provisional response can't be sent
 abbrev pub refusal_of_fault : SendFault → Refusal
 refusal_of_fault send.Closed = AlreadyFinal
 refusal_of_fault send.NotSupported = NotSupported
@@ -90,6 +92,7 @@ first_refusal [] otherwise = otherwise
 first_refusal ((holds, refusal) ∷ others) otherwise =
     if holds then Some refusal else first_refusal others otherwise
 
+-- the first reason for which an answer is refused
 abbrev pub refusal_for : Dialogs → Respond → HeldRequest → Option Refusal
 refusal_for dialogs respond held =
     first_refusal (refusals dialogs respond held) (reliable_refusal held respond)
@@ -105,9 +108,11 @@ abbrev pub with_routes : Addr → Message → Message → Message
 with_routes local request response =
     record response { contacts = contact_of local ∷ []; record_routes = request.record_routes }
 
+-- a change, where it is to be made
 abbrev pub if_so : Bool → (Message → Message) → Message → Message
 if_so so change message = if so then change message else message
 
+-- the response that goes out
 abbrev pub answer_to : Addr → HeldRequest → Respond → Message
 answer_to local held respond =
     with_body_of
@@ -127,6 +132,7 @@ sent_as (Ok number) response now held =
     }
 sent_as (Err fault) response now held = held
 
+-- it is kept until its PRACK comes
 abbrev pub sent_reliably : Message → ℕ → HeldRequest → HeldRequest
 sent_reliably response now held = sent_as (send_answer held.ledger) response now held
 
@@ -150,6 +156,7 @@ finished response status now held = record held {
   removal = Some (now + LIFETIME);
 }
 
+-- the held request after its answer
 abbrev pub answered : Respond → Message → ℕ → HeldRequest → HeldRequest
 answered respond response now held =
     if is_sent_reliably held respond then sent_reliably response now held
@@ -164,6 +171,7 @@ abbrev pub makes_dialog : HeldRequest → ℕ → Bool
 makes_dialog held status =
     is_of_dialog held status && not (is_inside held.request) && is_none held.dialog
 
+-- the dialog that an answer makes at the callee (RFC 3261, section 12.1.1)
 abbrev pub made_dialog : Id → HeldRequest → ℕ → HeldDialog
 made_dialog event held status = record {
   dialog = opened_by_request held.request held.tag status;
@@ -183,6 +191,7 @@ confirms_dialog held status =
 abbrev pub rejects : HeldRequest → ℕ → Bool
 rejects held status = is_invite held.request && nat_le 300 status
 
+-- the dialogs after it: one more, one confirmed, or the early ones of a rejected INVITE ended
 abbrev pub dialogs_answered : Id → HeldRequest → Respond → Message → Dialogs
     → Dialogs × List CallOut
 dialogs_answered event held respond response dialogs =
@@ -222,6 +231,7 @@ answer_given_at changed state event respond now held =
       Command held.id (Answer held.key response) ∷ dialogs.1,
     )
 
+-- the same of the request of this id, among those that are held
 abbrev pub answer_given : State → Id → Respond → ℕ → HeldRequest → Taken
 answer_given state event respond now held =
     answer_given_at (λ change. changed_at respond.id change state.requests) state event respond now
@@ -231,11 +241,13 @@ answer_given state event respond now held =
 abbrev pub refused_notice : Id → Respond → Refusal → List CallOut
 refused_notice event respond refusal = Notice (Refused respond.call_id event.place refusal) ∷ []
 
+-- refused, or given
 abbrev pub by_refusal : State → Id → Respond → ℕ → HeldRequest → Option Refusal → Taken
 by_refusal state event respond now held (Some refusal) =
     (state, refused_notice event respond refusal)
 by_refusal state event respond now held None = answer_given state event respond now held
 
+-- an answer to the request that is held, or to none
 abbrev pub by_request : State → Id → Respond → ℕ → Option HeldRequest → Taken
 by_request state event respond now None = (state, refused_notice event respond NoSuchRequest)
 by_request state event respond now (Some held) =

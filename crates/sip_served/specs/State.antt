@@ -26,6 +26,7 @@ quiet state = (state, [])
 abbrev pub followed : Taken → (State → Taken) → Taken
 followed done more = ((more done.0).0, done.1 ++ (more done.0).1)
 
+-- the request that came by this event
 abbrev pub has_id : Id → HeldRequest → Bool
 has_id id held = is_id held.id id
 

@@ -43,6 +43,7 @@ due_with now end (Some retransmission) =
     else (if nat_le retransmission.due now then repeat.Again
     else repeat.Nothing)
 
+-- whether a 2xx is sent again or given up
 abbrev pub success_answer : ℕ → Success → SuccessDue
 success_answer now success = due_with now success.end success.retransmission
 
@@ -51,19 +52,23 @@ abbrev pub next_retransmission : ℕ → Retransmission → Retransmission
 next_retransmission now last =
     record { due = now + min (2 * last.interval) T2; interval = min (2 * last.interval) T2 }
 
+-- when it is sent again after that
 abbrev pub retransmission_after : SuccessDue → ℕ → Option Retransmission → Option Retransmission
 retransmission_after repeat.Nothing now last = last
 retransmission_after repeat.Again now last = option_map (next_retransmission now) last
 retransmission_after repeat.GivenUp now last = None
 
+-- with that
 abbrev pub with_retransmission : Success → Option Retransmission → Success
 with_retransmission success retransmission = record success { retransmission = retransmission }
 
+-- the 2xx after a tick
 abbrev pub success_after : ℕ → Success → Success
 success_after now success =
     with_retransmission success
     (retransmission_after (success_answer now success) now success.retransmission)
 
+-- of a request that has its 2xx, or has none yet
 abbrev pub success_of : ℕ → HeldRequest → Option Success → Ticked
 success_of now held None = (held, [])
 success_of now held (Some success) = (
@@ -71,6 +76,7 @@ success_of now held (Some success) = (
   success_told (success_answer now success) held success.response,
 )
 
+-- the 2xx of a held request at a tick
 abbrev pub success_ticked : ℕ → HeldRequest → Ticked
 success_ticked now held = success_of now held held.success
 
@@ -82,17 +88,20 @@ sent_again numbers held =
     map (λ one. Command held.id (Answer held.key one.response))
     (of_numbers numbers held.provisionals)
 
+-- what is sent again, or that no PRACK came
 abbrev pub provisionals_told : Tick → HeldRequest → List CallOut
 provisionals_told tick.Nothing held = []
 provisionals_told (tick.Again numbers) held = sent_again numbers.items held
 provisionals_told tick.GivenUp held = out.Notice (NoPrack held.request.call_id held.id) ∷ []
 
+-- the request after it, and what it gives
 abbrev pub provisionals_by : Tick → ℕ → HeldRequest → Ticked
 provisionals_by answer now held = (
   record held { ledger = ticked answer held.ledger now },
   provisionals_told answer held,
 )
 
+-- the reliable provisional responses of a held request at a tick
 abbrev pub provisionals_ticked : ℕ → HeldRequest → Ticked
 provisionals_ticked now held = provisionals_by (tick_answer held.ledger now) now held
 
@@ -109,6 +118,7 @@ request_ticked now held =
 abbrev pub is_kept_at : ℕ → HeldRequest → Bool
 is_kept_at now held = option_map_or (λ moment. nat_lt now moment) held.removal true
 
+-- each held request takes the tick; those whose time is over are removed
 abbrev pub tick_taken : State → ℕ → Taken
 tick_taken state now = (
   record state {

@@ -13,7 +13,7 @@ ghost use Rattle.sip_served.specs.OwnCall.{IsEventOf, IsStateOf};
 ghost use Rattle.sip_served.specs.Respond.{respond_taken};
 ghost use Rattle.sip_served.specs.Run.{Event, FewWaitEach, event_taken, state_after};
 ghost use Rattle.sip_served.specs.ServerSide.{empty_at};
-ghost use Rattle.sip_served.specs.Shown.{brings, for_user, told_by, told_from};
+ghost use Rattle.sip_served.specs.ForUser.{brings, for_user, told_by, told_from};
 ghost use Rattle.sip_common.specs.Ids.{is_id};
 ghost use Rattle.sip_served.specs.State.{State, followed, has_id, quiet};
 ghost use Rattle.sip_served.specs.Story.{greatest_accepted, held_by, ledger_of};

@@ -29,6 +29,7 @@ is_numeral [] = false
 is_numeral (b ∷ []) = is_ascii_digit b
 is_numeral (b ∷ c ∷ bs) = not (b == 48) && list_all is_ascii_digit (b ∷ c ∷ bs)
 
+-- the number up to a greatest one whose one spelling the text is
 unfoldable pub number_at : ℕ → List ℕ → Option ℕ
 number_at most text =
     if is_numeral text && nat_le (digits_value 10 text) most then Some (digits_value 10 text)

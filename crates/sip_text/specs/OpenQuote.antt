@@ -4,6 +4,7 @@ use Rattle.sip_text.specs.Separator.{after}
 use Rattle.sip_text.specs.declared.separator.Place.{Place}
 use Rattle.sip_text.specs.declared.separator.Place.TheVariants.{Plain, Quoted, Escaped}
 
+-- between quotes
 abbrev pub is_in_quotes : Place → Bool
 is_in_quotes Quoted = true
 is_in_quotes Escaped = true

@@ -11,9 +11,11 @@ use Rattle.sip_text.specs.declared.separator.Separator.TheVariants.{Byte}
 
 -- ---- names and values
 
+-- a byte of a value without quotes
 unfoldable pub is_value_byte : ℕ → Bool
 is_value_byte b = not (is_among (codes " \t\r\n;,<>\"") b)
 
+-- a run of such bytes that isn't empty
 unfoldable pub is_value_word : List ℕ → Bool
 is_value_word text = is_run is_value_byte text
 
@@ -21,6 +23,7 @@ is_value_word text = is_run is_value_byte text
 unfoldable pub is_parameter_value : List ℕ → Bool
 is_parameter_value text = is_quoted text || is_value_word text
 
+-- blanks only, or nothing
 abbrev pub is_blanks : List ℕ → Bool
 is_blanks text = list_all is_blank text
 
@@ -28,20 +31,25 @@ is_blanks text = list_all is_blank text
 abbrev pub Name : List ℕ → List ℕ → Type 0
 Name name text = Of (Passing is_token) trimmed name text
 
+-- the name, with blanks allowed round it
 abbrev pub name_from : List ℕ → Option (List ℕ)
 name_from text = reading_of (passing is_token) trimmed text
 
+-- the value, with blanks allowed round it
 abbrev pub Value : List ℕ → List ℕ → Type 0
 Value value text = Of (Passing is_parameter_value) trimmed value text
 
+-- what reading it finds
 abbrev pub value_from : List ℕ → Option (List ℕ)
 value_from text = reading_of (passing is_parameter_value) trimmed text
 
 -- ---- one parameter, and several
 
+-- a name and a value
 abbrev pub with_value : List ℕ × List ℕ → List ℕ × Option (List ℕ)
 with_value parts = (parts.0, Some parts.1)
 
+-- a name alone
 abbrev pub without_value : List ℕ → List ℕ × Option (List ℕ)
 without_value name = (name, None)
 
@@ -50,6 +58,7 @@ abbrev pub IsParameter : List ℕ × Option (List ℕ) → List ℕ → Type 0
 IsParameter parameter text =
     OnCut (Byte 61) (Told with_value (Both Name Value)) (Told without_value Name) parameter text
 
+-- what reading a parameter finds
 abbrev pub parameter_from : List ℕ → Option (List ℕ × Option (List ℕ))
 parameter_from text = on_cut (Byte 61) (told with_value (both name_from value_from))
     (told without_value name_from) text
@@ -60,6 +69,7 @@ abbrev pub Parameters : {X : Type 0} → (X → List ℕ → Type 0) → List X 
 Parameters P xs text =
     OnCut (Byte 59) (Behind is_blanks (Split (Byte 59) P)) (Guarded is_blanks (Always [])) xs text
 
+-- what reading parameters finds
 abbrev pub parameters_from : {X : Type 0} → (List ℕ → Option X) → List ℕ → Option (List X)
 parameters_from f text =
     on_cut (Byte 59) (behind is_blanks (split (Byte 59) f)) (guarded is_blanks (always [])) text

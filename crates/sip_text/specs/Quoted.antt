@@ -21,6 +21,7 @@ pub record IsQuoted (text : List ℕ) : Type 0 where
 
 -- ---- the same, from left to right
 
+-- an empty text
 abbrev pub is_nothing : List ℕ → Bool
 is_nothing [] = true
 is_nothing (b ∷ bs) = false
@@ -36,6 +37,7 @@ ends_in_quote escaped (b ∷ bs) =
     else (if b == 34 then is_nothing bs
     else ends_in_quote false bs)))
 
+-- the test of a quoted string
 unfoldable pub is_quoted : List ℕ → Bool
 is_quoted [] = false
 is_quoted (b ∷ bs) = if b == 34 then ends_in_quote false bs else false

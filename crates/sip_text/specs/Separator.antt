@@ -75,9 +75,11 @@ pub record IsWholeFrom (at : Separator) (place : Place) (text : List ℕ) : Type
   pub last : Place
   pub none : place_after at place text ≡ Some last
 
+-- the text is cut at the first separator that counts
 abbrev pub IsCut : Separator → List ℕ × List ℕ → List ℕ → Type 0
 IsCut at parts text = IsCutFrom at Plain parts text
 
+-- no separator counts
 abbrev pub IsWhole : Separator → List ℕ → Type 0
 IsWhole at text = IsWholeFrom at Plain text
 
@@ -89,11 +91,13 @@ IsSplitFrom at place (piece ∷ (next ∷ pieces)) text =
     (rest : List ℕ) × IsCutFrom at place (piece, rest) text
     × IsSplitFrom at Plain (next ∷ pieces) rest
 
+-- the text is cut at each separator that counts
 abbrev pub IsSplit : Separator → List (List ℕ) → List ℕ → Type 0
 IsSplit at pieces text = IsSplitFrom at Plain pieces text
 
 -- ---- the same, from left to right
 
+-- the byte cuts, or goes before the cut that is found behind it
 abbrev pub by_place : ℕ → List ℕ → Option Place → (Place → Option (List ℕ × List ℕ))
     → Option (List ℕ × List ℕ)
 by_place b bs None more = Some ([], bs)
@@ -104,6 +108,7 @@ abbrev pub cut_from : Separator → Place → List ℕ → Option (List ℕ × L
 cut_from at place [] = None
 cut_from at place (b ∷ bs) = by_place b bs (next_place at place b) (λ p. cut_from at p bs)
 
+-- the byte cuts, or goes into the first piece of what is behind it
 abbrev pub by_piece : ℕ → Option Place → (Place → List (List ℕ)) → List (List ℕ)
 by_piece b None more = [] ∷ more Plain
 by_piece b (Some place) more = onto_first b (more place)

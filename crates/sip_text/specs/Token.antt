@@ -8,5 +8,6 @@ abbrev pub is_run : (ℕ → Bool) → List ℕ → Bool
 is_run test [] = false
 is_run test (b ∷ bs) = list_all test (b ∷ bs)
 
+-- one or more such bytes
 unfoldable pub is_token : List ℕ → Bool
 is_token text = is_run is_token_byte text

@@ -6,6 +6,7 @@ use Rattle.std.specs.Str.Lines.{strip_carriage_return}
 use Rattle.sip_text.specs.Character.{is_blank}
 use Rattle.sip_text.specs.Trimmed.{trimmed_start, trimmed_end}
 
+-- a line that begins with a blank
 abbrev pub begins_blank : List ℕ → Bool
 begins_blank [] = false
 begins_blank (b ∷ bs) = is_blank b

@@ -67,6 +67,7 @@ abbrev pub due_of : ℕ → Option ℕ → Option ℕ → Option Trigger
 due_of now ending repeat = if is_due now ending then Some on.TimeoutDue else if is_due now repeat
     then Some on.RetransmitDue else None
 
+-- what is due at a moment, the ending before the repeat
 abbrev pub tick_of : ℕ → Option Life → Option Trigger
 tick_of now None = None
 tick_of now (Some life) = due_of now life.timers.ending life.timers.repeat

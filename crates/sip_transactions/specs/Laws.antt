@@ -45,6 +45,7 @@ abbrev pub CommandsOnlySend : Type 0
 CommandsOnlySend = (key : Key) (held : Option Life) (id : Id) (command : Command) (now : ℕ)
     → AllByRecursion IsSend (adds transaction_machine key held (order id command now))
 
+-- a server transaction
 abbrev pub IsServer : Key → Type 0
 IsServer (key.Client branch method) = ⊥
 IsServer (key.Server branch sent_by method) = Unit {0}
@@ -57,11 +58,13 @@ is_request_kind (kind.Response message) = false
 is_request_kind kind.Timeout = false
 is_request_kind kind.Failed = false
 
+-- a request is handed up
 abbrev pub is_request_up : Out → Bool
 is_request_up (out.Up up) = is_request_kind up.kind
 is_request_up (out.Send key to bytes) = false
 is_request_up (out.Dropped place reason) = false
 
+-- how many requests are handed up
 abbrev pub requests_in : List Out → ℕ
 requests_in outs = count_by is_request_up outs
 
@@ -95,6 +98,7 @@ naming_id (Some (Start id call_id message to)) = Some id
 naming_id (Some (Answer id message)) = None
 naming_id (Some (Failed id)) = None
 
+-- the same event
 abbrev pub same_id : Id → Id → Bool
 same_id a b = (a.round == b.round) && (a.place == b.place)
 

@@ -91,6 +91,7 @@ abbrev pub acted_at_arrival : Key → ℕ → Id → Message → Addr → Step �
 acted_at_arrival key now id message reply_to step =
     acted key now (Some (Receive id message reply_to)) (life_by id message.call_id reply_to None) step
 
+-- where there is a life, the step of a row; otherwise nothing
 abbrev pub acted_if : Key → ℕ → Option Input → Option Life → Step → Option Life × List Out
 acted_if key now input None step = (None, [])
 acted_if key now input (Some life) step = acted key now input life step
@@ -101,6 +102,7 @@ stepped_by key held now input None = (held, [])
 stepped_by key held now input (Some step) =
     acted_if key now input (life_of (role_of key) held input) step
 
+-- an input of a transaction, from state to state, and what it gives
 unfoldable pub stepped : Key → Option Life → Timed Input → Option Life × List Out
 stepped key held timed =
     stepped_by key held timed.moment timed.input (step_for key held timed.moment timed.input)

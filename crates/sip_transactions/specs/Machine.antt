@@ -8,6 +8,7 @@ use Rattle.sip_transactions.specs.Timers.{first_due}
 use Rattle.sip_transactions.specs.declared.input.Input.{Input}
 use Rattle.sip_model.specs.Machine.{Machine, Timed}
 
+-- one transaction's inputs lead from life to life
 abbrev pub transaction_machine : Machine Key Life (Timed Input) Out
 transaction_machine = record { step = λ key held timed. stepped key held timed }
 

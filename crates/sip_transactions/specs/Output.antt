@@ -35,6 +35,7 @@ abbrev pub up_out : Key → Life → Kind → Out
 up_out key life kind =
     out.Up (record { key = key; id = life.id; call_id = life.call_id; kind = kind })
 
+-- what came goes up
 abbrev pub arrived_out : Key → Life → Message × Addr → Out
 arrived_out key life arrived = up_out key life (kind_of arrived.0.start arrived.0 arrived.1)
 
@@ -74,11 +75,13 @@ sent_bytes last send.Latest made = last
 sent_bytes last send.Trying made = made
 sent_bytes last send.Ack made = made
 
+-- a datagram goes out
 abbrev pub send_out : Key → Addr → List ℕ → Out
 send_out key to bytes = out.Send key to bytes
 
 -- ---- both
 
+-- what a row gives: first what it hands up or drops, then what it sends
 unfoldable pub outputs_of : Key → Life → Step → Option (List ℕ) → Option (Message × Addr) → List Out
 outputs_of key life step made arrived =
     option_to_list (handed_out key life step.handed arrived)

@@ -44,9 +44,11 @@ row from on next handed sent due = record {
 abbrev pub fresh : List (Option State)
 fresh = None ∷ []
 
+-- a row of one state
 abbrev pub at : State → List (Option State)
 at state = Some state ∷ []
 
+-- a row of two states
 abbrev pub either : State → State → List (Option State)
 either one other = Some one ∷ Some other ∷ []
 
@@ -54,12 +56,15 @@ either one other = Some one ∷ Some other ∷ []
 abbrev pub provisional : List Trigger
 provisional = Response class.Trying ∷ Response class.Provisional ∷ []
 
+-- a 2xx that comes
 abbrev pub success : List Trigger
 success = Response class.Success ∷ []
 
+-- a response of 300 to 699 that comes
 abbrev pub failure : List Trigger
 failure = Response class.Failure ∷ []
 
+-- any response that comes
 abbrev pub any_response : List Trigger
 any_response = provisional ++ success ++ failure
 
@@ -67,9 +72,11 @@ any_response = provisional ++ success ++ failure
 abbrev pub answer_1xx : List Trigger
 answer_1xx = Answer class.Provisional ∷ []
 
+-- the user's 2xx
 abbrev pub answer_2xx : List Trigger
 answer_2xx = Answer class.Success ∷ []
 
+-- the user's answer of 300 to 699
 abbrev pub answer_failure : List Trigger
 answer_failure = Answer class.Failure ∷ []
 
@@ -168,12 +175,14 @@ state_place (Some Completed) = 4
 state_place (Some Accepted) = 5
 state_place (Some Confirmed) = 6
 
+-- a class by a number
 abbrev pub class_place : Class → ℕ
 class_place class.Trying = 0
 class_place class.Provisional = 1
 class_place class.Success = 2
 class_place class.Failure = 3
 
+-- a trigger by a number, by which two are compared
 abbrev pub trigger_place : Trigger → ℕ
 trigger_place Start = 0
 trigger_place RetransmitDue = 1

@@ -35,6 +35,7 @@ receipt id message reply_to now = given_at now (Receive id message reply_to)
 abbrev pub failure : Id → ℕ → Timed Input
 failure id now = given_at now (Failed id)
 
+-- the transaction that a command is for
 abbrev pub command_key : Command → Key
 command_key (command.Start key call_id message to) = key
 command_key (command.Answer key message) = key

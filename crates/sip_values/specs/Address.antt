@@ -19,9 +19,11 @@ Target = List ℕ × List Parameter
 
 -- ---- the parts
 
+-- a URI, with blanks allowed round it
 abbrev pub UriText : List ℕ → List ℕ → Type 0
 UriText uri text = Of (Passing is_uri) trimmed uri text
 
+-- what reading it finds
 abbrev pub uri_from : List ℕ → Option (List ℕ)
 uri_from text = reading_of (passing is_uri) trimmed text
 
@@ -29,9 +31,11 @@ uri_from text = reading_of (passing is_uri) trimmed text
 abbrev pub Bracketed : Target → List ℕ → Type 0
 Bracketed target text = OnCut (Byte 62) (Both UriText AllParameters) Never target text
 
+-- what reading the part behind `<` finds
 abbrev pub bracketed_from : List ℕ → Option Target
 bracketed_from text = on_cut (Byte 62) (both uri_from all_parameters) never text
 
+-- a URI alone
 abbrev pub without_parameters : List ℕ → Target
 without_parameters uri = (uri, [])
 
@@ -40,16 +44,20 @@ abbrev pub Bare : Target → List ℕ → Type 0
 Bare target text =
     OnCut (Byte 59) (Both UriText ManyParameters) (Told without_parameters UriText) target text
 
+-- what reading an address without brackets finds
 abbrev pub bare_from : List ℕ → Option Target
 bare_from text =
     on_cut (Byte 59) (both uri_from many_parameters) (told without_parameters uri_from) text
 
+-- the display text before `<`, with blanks allowed round it
 abbrev pub Display : (List ℕ → Bool) → List ℕ → List ℕ → Type 0
 Display is_display display text = Of (Passing is_display) trimmed display text
 
+-- what reading it finds
 abbrev pub display_from : (List ℕ → Bool) → List ℕ → Option (List ℕ)
 display_from is_display text = reading_of (passing is_display) trimmed text
 
+-- an address without display text
 abbrev pub without_display : Target → List ℕ × Target
 without_display target = ([], target)
 
@@ -58,6 +66,7 @@ abbrev pub Address : (List ℕ → Bool) → List ℕ × Target → List ℕ →
 Address is_display address text =
     OnCut (Byte 60) (Both (Display is_display) Bracketed) (Told without_display Bare) address text
 
+-- what reading an address finds
 abbrev pub address_from : (List ℕ → Bool) → List ℕ → Option (List ℕ × Target)
 address_from is_display text =
     on_cut (Byte 60) (both (display_from is_display) bracketed_from)
@@ -65,6 +74,7 @@ address_from is_display text =
 
 -- ---- From and To
 
+-- a From or a To of these parts
 abbrev pub party_of : List ℕ × Target → Party
 party_of address = record { display = address.0; uri = address.1.0; parameters = address.1.1 }
 
@@ -72,21 +82,26 @@ party_of address = record { display = address.0; uri = address.1.0; parameters =
 abbrev pub has_address_tag : List ℕ × Target → Bool
 has_address_tag address = has_good_tag address.1.1
 
+-- the value of a From or a To, whose tag is a token
 abbrev pub IsPartyText : Party → List ℕ → Type 0
 IsPartyText party text =
     Told party_of (Checked has_address_tag (Address is_party_display)) party text
 
+-- what reading it finds
 abbrev pub party_from : List ℕ → Option Party
 party_from text = told party_of (checked has_address_tag (address_from is_party_display)) text
 
 -- ---- Contact, Route and Record-Route
 
+-- an address of these parts
 abbrev pub name_addr_of : List ℕ × Target → NameAddr
 name_addr_of address = record { display = address.0; uri = address.1.0; parameters = address.1.1 }
 
+-- the value of a Contact or of a route
 abbrev pub IsNameAddr : NameAddr → List ℕ → Type 0
 IsNameAddr address text = Told name_addr_of (Address is_display_text) address text
 
+-- what reading it finds
 abbrev pub name_addr_from : List ℕ → Option NameAddr
 name_addr_from text = told name_addr_of (address_from is_display_text) text
 
@@ -94,5 +109,6 @@ name_addr_from text = told name_addr_of (address_from is_display_text) text
 abbrev pub AreNameAddrs : List NameAddr → List ℕ → Type 0
 AreNameAddrs addresses text = Split (Byte 44) IsNameAddr addresses text
 
+-- what reading a list of them finds
 abbrev pub name_addrs_from : List ℕ → Option (List NameAddr)
 name_addrs_from text = split (Byte 44) name_addr_from text

@@ -17,5 +17,6 @@ numeral limit word =
 abbrev pub IsNumeral : ℕ → Numeral → List ℕ → Type 0
 IsNumeral limit value text = Told (numeral limit) (Passing is_word) value text
 
+-- what reading such a word finds
 abbrev pub numeral_from : ℕ → List ℕ → Option Numeral
 numeral_from limit text = told (numeral limit) (passing is_word) text

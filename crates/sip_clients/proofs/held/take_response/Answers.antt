@@ -21,7 +21,7 @@ returns c =
     let dialogs = c.reply_to.new.dialogs.entries in
     let status : status_of response.start ≡ Some c.in-Some.status = search rules in
     let found : client_at id clients ≡ Some client = search rules in
-    let named : c.in_ok-name.name ≡ reply_name client.asks client response = search rules in
+    let named : c.in_ok-name.name ≡ reply_name client.kind client response = search rules in
     let lent : (c.get_mut.follows.lender c.reply_to.new.client).entries
     ≡ set_value (is_id id) clients c.reply_to.new.client = search rules in
     if_ok c.settle_reply.result _ _ c.settle_reply.ensures (λ outs is.

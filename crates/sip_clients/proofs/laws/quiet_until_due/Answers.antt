@@ -1,4 +1,4 @@
-use Rattle.sip_clients.proofs.Calm.{clients_quiet_before}
+use Rattle.sip_clients.proofs.QuietBeforeDue.{clients_quiet_before}
 use Rattle.sip_clients.proofs.laws.quiet_until_due.Goals as goal
 
 pub returns : goal.returns

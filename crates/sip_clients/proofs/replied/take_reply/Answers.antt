@@ -38,7 +38,7 @@ returns-in-Some c =
     let client = c.args.client.now in
     let dialogs : Dialogs = c.args.dialogs.now.entries in
     let held = c.in-Some.held.now in
-    let last : is_last client.asks reply.status ≡ false = search rules in
+    let last : is_last client.kind reply.status ≡ false = search rules in
     let found : dialog_at reply.name dialogs ≡ Some held = search rules in
     let lent : (c.get_mut.follows.lender c.take_in.new.held).entries
     ≡ set_value (is_named reply.name) dialogs c.take_in.new.held = search rules in

@@ -1,4 +1,4 @@
-use Rattle.sip_served.proofs.Calm.{busy_from, quiet_before}
+use Rattle.sip_served.proofs.QuietBeforeDue.{busy_from, quiet_before}
 use Rattle.sip_served.proofs.laws.ticks_when_due.Goals as goal
 
 pub returns : goal.returns

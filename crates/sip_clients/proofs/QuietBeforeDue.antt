@@ -41,10 +41,10 @@ none_over now clients calm = sym (all_due now None (values_of clients)) ∙ calm
 
 -- ---- lists of which none passes
 
-silent_step : (over : Bool) (outs rest : List CallOut) → over ≡ false → rest ≡ []
-    → (if over then outs else []) ++ rest ≡ []
-silent_step true outs rest e silent = absurd cc
-silent_step false outs rest e silent = silent
+silent_step : (over : Bool) (outs change : List CallOut) → over ≡ false → change ≡ []
+    → (if over then outs else []) ++ change ≡ []
+silent_step true outs change e silent = absurd cc
+silent_step false outs change e silent = silent
 
 silent : (now : ℕ) (dialogs : Dialogs) (clients : List Client)
     → list_any (is_over now) clients ≡ false → flat_map (notices_of now dialogs) clients ≡ []
@@ -54,10 +54,10 @@ silent now dialogs (client ∷ clients) calm =
     silent_step (is_over now client) (early_ended client.id dialogs).1
     (flat_map (notices_of now dialogs) clients) parts.0 (silent now dialogs clients parts.1)
 
-kept_step : {X : Type 0} (dropped : Bool) (x : X) (xs rest : List X) → dropped ≡ false → rest ≡ xs
-    → cond (not dropped) (x ∷ rest) rest ≡ x ∷ xs
-kept_step true x xs rest e same = absurd cc
-kept_step false x xs rest e same = ap (λ ys. x ∷ ys) same
+kept_step : {X : Type 0} (dropped : Bool) (x : X) (xs change : List X) → dropped ≡ false → change ≡ xs
+    → cond (not dropped) (x ∷ change) change ≡ x ∷ xs
+kept_step true x xs change e same = absurd cc
+kept_step false x xs change e same = ap (λ ys. x ∷ ys) same
 
 kept_clients : (now : ℕ) (clients : Clients) → list_any (is_over now) (values_of clients) ≡ false
     → clients_left now clients ≡ clients
