@@ -4,12 +4,9 @@ use Rattle.std.specs.Prelude.{is_none}
 use Rattle.std.specs.List.{AllZip, AllByRecursion, flat_map, list_any}
 use Rattle.std.proofs.lemmas.List.{append-nil}
 use Rattle.std.proofs.lemmas.Option.{same_Some, none-some}
-use Rattle.sip_text.specs.Token.{is_token}
-use Rattle.sip_text.specs.Trimmed.{trimmed, trimmed_end}
-use Rattle.sip_text.specs.declared.separator.Separator.TheVariants.{Byte}
-use Rattle.sip_text.proofs.ReadForms.{Reads, passing_reads, never_reads, of_reads, told_reads, both_reads, cut_reads}
+use Rattle.sip_text.proofs.ReadForms.{Reads}
 use Rattle.sip_parts.specs.HeaderEntry.{entry, headers, is_needed, header_named}
-use Rattle.sip_parts.specs.HeaderValue.{has_no_line_byte, is_header_value}
+use Rattle.sip_parts.specs.HeaderValue.{is_header_value}
 use Rattle.sip_parts.specs.OtherName.{is_other_name}
 use Rattle.sip_parts.specs.declared.header_name.HeaderName.{HeaderName}
 use Rattle.sip_parts.specs.declared.header_name.HeaderName.TheVariants as name
@@ -18,8 +15,9 @@ use Rattle.sip_message.specs.declared.header.Header.{Header}
 use Rattle.sip_values.proofs.Rows.{numeral_reads, party_reads, name_addrs_reads, vias_reads, tokens_reads, call_id_reads, cseq_reads, rack_reads}
 use Rattle.sip_headers.specs.Complete.{slot_of, draft_with, fault_in, first_fault, unless_fault, faultless}
 use Rattle.sip_headers.specs.Draft.{long_name, other_from, no_draft, draft_of}
-use Rattle.sip_headers.specs.HeaderLine.{line_from, IsHeaderLine, class_by_name, class_by_parts}
-use Rattle.sip_headers.specs.Headers.{Headers, One, AtMostOne, Many, IsSomeHeaderLine, IsOther, AreHeaders}
+use Rattle.sip_headers.specs.HeaderLine.{class_by_name, class_by_parts, line_from}
+use Rattle.sip_headers.specs.Headers.{Headers, One, AtMostOne, Many, IsOther, AreHeaders}
+use Rattle.sip_headers.specs.Named.{IsSomeHeaderLine}
 use Rattle.sip_headers.specs.Presence.{slot_presence, list_presence, presence_of, is_nowhere, is_repeated, is_unfit, has_bad_header, missing, repeated}
 use Rattle.sip_headers.specs.Section.{is_bad_class, has_bad_line, values, others_of, IsDraftOf}
 use Rattle.sip_headers.specs.Slot.{met, listed, slot_from, list_from, IsSlot}
@@ -27,6 +25,7 @@ use Rattle.sip_headers.specs.declared.draft.Draft.{Draft}
 use Rattle.sip_headers.specs.declared.slot.Slot.TheVariants.{Absent, Once}
 use Rattle.sip_headers.proofs.Completes.{headers_there, via_there}
 use Rattle.sip_headers.proofs.Drafts.{fold-with_line, is_draft}
+use Rattle.sip_headers.proofs.NamedLines.{ByLine, by_line, by_name, line_reads}
 use Rattle.sip_headers.proofs.Presences.{list_never_repeated}
 
 -- ---- columns of values
@@ -65,11 +64,6 @@ at_most_one_is P None vs is = subst (λ (ws : List (List ℕ)). AllZip P [] ws) 
 at_most_one_is P (Some x) vs is = is
 
 -- ---- header lines
-
-pub line_reads : Reads (List ℕ) (List ℕ × List ℕ) line_from IsHeaderLine
-line_reads =
-    cut_reads (Byte 58) (both_reads (of_reads trimmed_end (passing_reads is_token))
-    (told_reads trimmed (passing_reads has_no_line_byte))) never_reads
 
 class_good : (name value : List ℕ) (o : Option HeaderName) (rest : Bool)
     → is_bad_class (class_by_name name value o) rest ≡ rest
@@ -207,29 +201,29 @@ others_list_from lines all none =
 
 -- ---- the draft of lines with these headers
 
-pub drafted : (h : Headers) (lines : List (List ℕ)) → AreHeaders h lines
+pub drafted : (h : Headers) (lines : List (List ℕ)) → ByLine h lines
     → draft_of lines ≡ draft_with h
 drafted h lines is =
     fold-with_line no_draft lines ∙ (λ i. record {
-      is_bad = good_lines lines is.all_lines i;
-      vias = many_list vias_reads h.vias (values name.Via lines) is.vias i;
+      is_bad = good_lines lines is.0 i;
+      vias = many_list vias_reads h.vias (values name.Via lines) is.1.vias i;
       max_forwards = open_slot (numeral_reads (2 ^ 32)) h.max_forwards
-          (values name.MaxForwards lines) is.max_forwards i;
-      from = one_slot party_reads h.from (values name.From lines) is.from i;
-      to = one_slot party_reads h.to (values name.To lines) is.to i;
-      call_id = one_slot call_id_reads h.call_id (values name.CallId lines) is.call_id i;
-      cseq = one_slot cseq_reads h.cseq (values name.CSeq lines) is.cseq i;
-      contacts = many_list name_addrs_reads h.contacts (values name.Contact lines) is.contacts i;
+          (values name.MaxForwards lines) is.1.max_forwards i;
+      from = one_slot party_reads h.from (values name.From lines) is.1.from i;
+      to = one_slot party_reads h.to (values name.To lines) is.1.to i;
+      call_id = one_slot call_id_reads h.call_id (values name.CallId lines) is.1.call_id i;
+      cseq = one_slot cseq_reads h.cseq (values name.CSeq lines) is.1.cseq i;
+      contacts = many_list name_addrs_reads h.contacts (values name.Contact lines) is.1.contacts i;
       record_routes = many_list name_addrs_reads h.record_routes
-          (values name.RecordRoute lines) is.record_routes i;
-      routes = many_list name_addrs_reads h.routes (values name.Route lines) is.routes i;
-      require = many_list tokens_reads h.require (values name.Require lines) is.require i;
-      supported = many_list tokens_reads h.supported (values name.Supported lines) is.supported i;
-      rseq = open_slot (numeral_reads (2 ^ 32)) h.rseq (values name.RSeq lines) is.rseq i;
-      rack = open_slot rack_reads h.rack (values name.RAck lines) is.rack i;
+          (values name.RecordRoute lines) is.1.record_routes i;
+      routes = many_list name_addrs_reads h.routes (values name.Route lines) is.1.routes i;
+      require = many_list tokens_reads h.require (values name.Require lines) is.1.require i;
+      supported = many_list tokens_reads h.supported (values name.Supported lines) is.1.supported i;
+      rseq = open_slot (numeral_reads (2 ^ 32)) h.rseq (values name.RSeq lines) is.1.rseq i;
+      rack = open_slot rack_reads h.rack (values name.RAck lines) is.1.rack i;
       content_length = open_slot (numeral_reads (2 ^ 32)) h.content_length
-          (values name.ContentLength lines) is.content_length i;
-      others = others_list [] h.others (others_of lines) is.others i;
+          (values name.ContentLength lines) is.1.content_length i;
+      others = others_list [] h.others (others_of lines) is.1.others i;
     })
 
 -- ---- a draft with headers has no fault
@@ -383,7 +377,9 @@ no_fault h some =
 
 pub headers_again : (h : Headers) (lines : List (List ℕ)) → AreHeaders h lines
     → faultless (draft_of lines) ≡ Ok (draft_with h)
-headers_again h lines is = ap faultless (drafted h lines is) ∙ no_fault h is.some_via
+headers_again h lines is =
+    let found = by_line h lines is in
+    ap faultless (drafted h lines found) ∙ no_fault h found.1.some_via
 
 -- ---- lines have headers in one way
 
@@ -418,7 +414,8 @@ same_headers g h e = λ i. record {
 pub only_headers : (g h : Headers) (lines : List (List ℕ)) → AreHeaders g lines
     → AreHeaders h lines → g ≡ h
 only_headers g h lines is also =
-    same_headers g h (sym (drafted g lines is) ∙ drafted h lines also)
+    same_headers g h (sym (drafted g lines (by_line g lines is))
+    ∙ drafted h lines (by_line h lines also))
 
 -- ---- a draft without a fault has headers
 
@@ -426,27 +423,29 @@ pub headers_are : (h : Headers) (lines : List (List ℕ)) → draft_of lines ≡
     → (h.vias ≡ [] → ⊥) → AreHeaders h lines
 headers_are h lines same some =
     let is = subst (λ (d : Draft). IsDraftOf d lines) same (is_draft lines) in
-    record {
-      all_lines = lines_are lines (sym is.bad_is);
-      some_via = some;
-      vias = is.vias;
-      max_forwards = at_most_one_is _ h.max_forwards
-          (values name.MaxForwards lines) is.max_forwards;
-      from = is.from;
-      to = is.to;
-      call_id = is.call_id;
-      cseq = is.cseq;
-      contacts = is.contacts;
-      record_routes = is.record_routes;
-      routes = is.routes;
-      require = is.require;
-      supported = is.supported;
-      rseq = at_most_one_is _ h.rseq (values name.RSeq lines) is.rseq;
-      rack = at_most_one_is _ h.rack (values name.RAck lines) is.rack;
-      content_length =
-          at_most_one_is _ h.content_length (values name.ContentLength lines) is.content_length;
-      others = others_are h.others lines (ap (λ (d : Draft). d.others) same);
-    }
+    by_name h lines (
+      lines_are lines (sym is.bad_is),
+      record {
+        some_via = some;
+        vias = is.vias;
+        max_forwards = at_most_one_is _ h.max_forwards
+            (values name.MaxForwards lines) is.max_forwards;
+        from = is.from;
+        to = is.to;
+        call_id = is.call_id;
+        cseq = is.cseq;
+        contacts = is.contacts;
+        record_routes = is.record_routes;
+        routes = is.routes;
+        require = is.require;
+        supported = is.supported;
+        rseq = at_most_one_is _ h.rseq (values name.RSeq lines) is.rseq;
+        rack = at_most_one_is _ h.rack (values name.RAck lines) is.rack;
+        content_length =
+            at_most_one_is _ h.content_length (values name.ContentLength lines) is.content_length;
+        others = others_are h.others lines (ap (λ (d : Draft). d.others) same);
+      },
+    )
 
 pub complete_headers : (lines : List (List ℕ)) → has_bad_header (draft_of lines) ≡ false
     → missing (draft_of lines) ≡ None → repeated (draft_of lines) ≡ None

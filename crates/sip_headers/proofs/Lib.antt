@@ -3,6 +3,8 @@ pub mod Folds
 pub mod Presences
 pub mod Completes
 pub mod Eaches
+pub mod NamedLines
+pub mod OthersFit
 pub mod HeaderSets
 pub mod HeaderNumbers
 pub mod HeaderFaults

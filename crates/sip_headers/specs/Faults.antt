@@ -7,13 +7,11 @@ use Rattle.sip_parts.specs.declared.header_name.HeaderName.{HeaderName}
 use Rattle.sip_parts.specs.declared.header_name.HeaderName.TheVariants as name
 use Rattle.sip_message.specs.declared.fault.ReadFault.{ReadFault}
 use Rattle.sip_message.specs.declared.fault.ReadFault.TheVariants as fault
-use Rattle.sip_message.specs.declared.header.Header.{Header}
 use Rattle.sip_values.specs.Address.{AreNameAddrs, IsPartyText}
 use Rattle.sip_values.specs.Numeral.{IsNumeral}
 use Rattle.sip_values.specs.Sequence.{AreTokens, IsCallId, IsCSeqText, IsRAckText}
 use Rattle.sip_values.specs.ViaValue.{AreVias}
-use Rattle.sip_headers.specs.Headers.{IsSomeHeaderLine, IsOther}
-use Rattle.sip_headers.specs.Section.{values, others_of}
+use Rattle.sip_headers.specs.Named.{IsSomeHeaderLine, OfHeaderLines, values_of}
 use Rattle.sip_headers.specs.Slot.{HasBad}
 
 -- ---- the first of several faults
@@ -53,22 +51,20 @@ HasBadValue name.RSeq values = HasBad (IsNumeral (2 ^ 32)) values
 HasBadValue name.RAck values = HasBad IsRAckText values
 HasBadValue name.ContentLength values = HasBad (IsNumeral (2 ^ 32)) values
 
--- one of the other headers can't stay as it stands
-abbrev pub HasBadOther : List (List ℕ × List ℕ) → Type 0
-HasBadOther others = AllByRecursion (λ other. (header : Header) × IsOther header other) others → ⊥
-
 -- not every line is a header line, or a value isn't in its header's form
 abbrev pub HasBadHeader : List (List ℕ) → Type 0
 HasBadHeader lines =
     (AllByRecursion IsSomeHeaderLine lines → ⊥)
-    ⊎ (((header : HeaderName) × HasBadValue header (values header lines))
-    ⊎ HasBadOther (others_of lines))
+    ⊎ OfHeaderLines (λ named. (header : HeaderName) × HasBadValue header (values_of header named))
+    lines
 
 -- what a fault says of the lines
 abbrev pub HeaderCondition : List (List ℕ) → ReadFault → Type 0
 HeaderCondition lines fault.BadHeader = HasBadHeader lines
-HeaderCondition lines (fault.Missing header) = values header lines ≡ []
-HeaderCondition lines (fault.Repeated header) = 1 < length (values header lines)
+HeaderCondition lines (fault.Missing header) =
+    OfHeaderLines (λ named. values_of header named ≡ []) lines
+HeaderCondition lines (fault.Repeated header) =
+    OfHeaderLines (λ named. 1 < length (values_of header named)) lines
 HeaderCondition lines other = ⊥
 
 -- the faults in their order: the five headers that each message has, and the eight that stand at

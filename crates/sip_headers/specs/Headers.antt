@@ -1,10 +1,11 @@
 -- The headers of a message: what its header lines say together, where each value is in its header's
 -- form and none is missing or stands too often (RFC 3261, sections 7.3 and 20).
 use Rattle.std.specs.Prelude.{◌≡◌, ◌^◌, ℕ, IsTrue, List, [], ◌∷◌, Option, Some}
-use Rattle.std.specs.List.{AllZip, AllByRecursion}
+use Rattle.std.specs.List.{AllZip}
 use Rattle.std.specs.Option.{option_to_list}
 use Rattle.sip_parts.specs.HeaderValue.{is_header_value}
 use Rattle.sip_parts.specs.OtherName.{is_other_name}
+use Rattle.sip_parts.specs.declared.header_name.HeaderName.{HeaderName}
 use Rattle.sip_parts.specs.declared.header_name.HeaderName.TheVariants as name
 use Rattle.sip_message.specs.declared.header.Header.{Header}
 use Rattle.sip_message.specs.declared.name_addr.NameAddr.{NameAddr}
@@ -18,8 +19,7 @@ use Rattle.sip_values.specs.declared.sequence.CSeqDraft.{CSeqDraft}
 use Rattle.sip_values.specs.declared.sequence.RAckDraft.{RAckDraft}
 use Rattle.sip_values.specs.declared.via.ViaDraft.{ViaDraft}
 use Rattle.sip_headers.specs.Draft.{long_name}
-use Rattle.sip_headers.specs.HeaderLine.{IsHeaderLine}
-use Rattle.sip_headers.specs.Section.{values, others_of}
+use Rattle.sip_headers.specs.Named.{OfHeaderLines, others_in, values_of}
 use Rattle.sip_headers.specs.Slot.{IsList}
 
 -- words in the places of numbers
@@ -54,11 +54,7 @@ AtMostOne P value values = AllZip P (option_to_list value) values
 abbrev pub Many : {X : Type 0} → (List X → List ℕ → Type 0) → List X → List (List ℕ) → Type 0
 Many P xs values = IsList P (Some xs) values
 
--- ---- one header line, and a header that stays as it stands
-
--- a header line of any name
-abbrev pub IsSomeHeaderLine : List ℕ → Type 0
-IsSomeHeaderLine line = (parts : List ℕ × List ℕ) × IsHeaderLine parts line
+-- ---- a header that stays as it stands
 
 -- its long name, and its value
 pub record IsOther (header : Header) (parts : List ℕ × List ℕ) : Type 0 where
@@ -69,23 +65,27 @@ pub record IsOther (header : Header) (parts : List ℕ × List ℕ) : Type 0 whe
 
 -- ---- the table
 
--- The lines have these headers, and at least one Via.
-pub record AreHeaders (h : Headers) (lines : List (List ℕ)) : Type 0 where
-  pub all_lines : AllByRecursion IsSomeHeaderLine lines
+-- Of each header the values are in its form, and no more than it may have; there is a Via.
+pub record AreRows (h : Headers) (values : HeaderName → List (List ℕ))
+    (further : List (List ℕ × List ℕ)) : Type 0 where
   pub some_via : h.vias ≡ [] → ⊥
-  pub vias : Many AreVias h.vias (values name.Via lines)
-  pub max_forwards : AtMostOne (IsNumeral (2 ^ 32)) h.max_forwards (values name.MaxForwards lines)
-  pub from : One IsPartyText h.from (values name.From lines)
-  pub to : One IsPartyText h.to (values name.To lines)
-  pub call_id : One IsCallId h.call_id (values name.CallId lines)
-  pub cseq : One IsCSeqText h.cseq (values name.CSeq lines)
-  pub contacts : Many AreNameAddrs h.contacts (values name.Contact lines)
-  pub record_routes : Many AreNameAddrs h.record_routes (values name.RecordRoute lines)
-  pub routes : Many AreNameAddrs h.routes (values name.Route lines)
-  pub require : Many AreTokens h.require (values name.Require lines)
-  pub supported : Many AreTokens h.supported (values name.Supported lines)
-  pub rseq : AtMostOne (IsNumeral (2 ^ 32)) h.rseq (values name.RSeq lines)
-  pub rack : AtMostOne IsRAckText h.rack (values name.RAck lines)
-  pub content_length : AtMostOne (IsNumeral (2 ^ 32)) h.content_length
-      (values name.ContentLength lines)
-  pub others : AllZip IsOther h.others (others_of lines)
+  pub vias : Many AreVias h.vias (values name.Via)
+  pub max_forwards : AtMostOne (IsNumeral (2 ^ 32)) h.max_forwards (values name.MaxForwards)
+  pub from : One IsPartyText h.from (values name.From)
+  pub to : One IsPartyText h.to (values name.To)
+  pub call_id : One IsCallId h.call_id (values name.CallId)
+  pub cseq : One IsCSeqText h.cseq (values name.CSeq)
+  pub contacts : Many AreNameAddrs h.contacts (values name.Contact)
+  pub record_routes : Many AreNameAddrs h.record_routes (values name.RecordRoute)
+  pub routes : Many AreNameAddrs h.routes (values name.Route)
+  pub require : Many AreTokens h.require (values name.Require)
+  pub supported : Many AreTokens h.supported (values name.Supported)
+  pub rseq : AtMostOne (IsNumeral (2 ^ 32)) h.rseq (values name.RSeq)
+  pub rack : AtMostOne IsRAckText h.rack (values name.RAck)
+  pub content_length : AtMostOne (IsNumeral (2 ^ 32)) h.content_length (values name.ContentLength)
+  pub others : AllZip IsOther h.others further
+
+-- all lines are header lines, and together they are these headers
+abbrev pub AreHeaders : Headers → List (List ℕ) → Type 0
+AreHeaders h lines =
+    OfHeaderLines (λ named. AreRows h (λ header. values_of header named) (others_in named)) lines

@@ -9,26 +9,9 @@ use Rattle.sip_values.specs.Numeral.{IsNumeral}
 use Rattle.sip_values.specs.Sequence.{AreTokens, IsCallId, IsCSeqText, IsRAckText}
 use Rattle.sip_values.specs.ViaValue.{AreVias}
 use Rattle.sip_headers.specs.HeaderLine.{Class, bad, known, other, class_from}
+use Rattle.sip_headers.specs.Named.{is_same}
 use Rattle.sip_headers.specs.Slot.{IsSlot, IsList}
 use Rattle.sip_headers.specs.declared.draft.Draft.{Draft}
-
--- the same header of the table
-abbrev pub is_same : HeaderName → HeaderName → Bool
-is_same name.Via name.Via = true
-is_same name.MaxForwards name.MaxForwards = true
-is_same name.From name.From = true
-is_same name.To name.To = true
-is_same name.CallId name.CallId = true
-is_same name.CSeq name.CSeq = true
-is_same name.Contact name.Contact = true
-is_same name.RecordRoute name.RecordRoute = true
-is_same name.Route name.Route = true
-is_same name.Require name.Require = true
-is_same name.Supported name.Supported = true
-is_same name.RSeq name.RSeq = true
-is_same name.RAck name.RAck = true
-is_same name.ContentLength name.ContentLength = true
-is_same one another = false
 
 -- the line's value before those that follow, where the line is of this header
 abbrev pub before_values : HeaderName → Class → List (List ℕ) → List (List ℕ)

@@ -23,7 +23,7 @@ use Rattle.sip_headers.specs.Headers.{Headers, AreHeaders}
 use Rattle.sip_headers.specs.Numbers.{are_numbers, numbers_in, known_slot, via_with}
 use Rattle.sip_headers.specs.declared.draft.Draft.{Draft}
 use Rattle.sip_headers.specs.declared.numbers.Numbers.{Numbers}
-use Rattle.sip_headers.proofs.HeaderFaults.{decided, headers_take, first_more, first_behind, none_both}
+use Rattle.sip_headers.proofs.HeaderFaults.{told_decides, decided, headers_take, first_more, first_behind, none_both}
 use Rattle.sip_headers.proofs.HeaderNumbers.{numbers_there, are_all_numbers, are_known, via_parameters}
 use Rattle.sip_headers.proofs.HeaderSets.{only_headers}
 use Rattle.sip_reader.specs.declared.first_line.FirstLine.{FirstLine}
@@ -176,7 +176,7 @@ branch_decided start lines rest line h numbers vias is ns vs =
     (λ e. (
       h,
       is.headers_are,
-      old_branch h.vias vias is.headers_are.some_via vs
+      old_branch h.vias vias is.headers_are.2.some_via vs
           (good_none vias (are_vias vias) e),
     ))
     (λ good e. (
@@ -255,26 +255,7 @@ headers_decided start lines rest line h is =
 abbrev line_faults : List ReadFault
 line_faults = header_faults ++ last_faults
 
--- the conditions of header lines are those of the lines in a text
-told_first : (C D : ReadFault → Type 0) (es : List ReadFault) (e : ReadFault)
-    → AllByRecursion (λ f. (C f → D f) × (D f → C f)) es → IsFirst C es e → IsFirst D es e
-told_first C D [] e both is = absurd is
-told_first C D (f ∷ es) e both (inl here) = inl (here.0, both.0.0 here.1)
-told_first C D (f ∷ es) e both (inr more) =
-    inr (λ has. more.0 (both.0.1 has), told_first C D es e both.1 more.1)
-
-told_none : (C D : ReadFault → Type 0) (es : List ReadFault)
-    → AllByRecursion (λ f. (C f → D f) × (D f → C f)) es → NoneHolds C es → NoneHolds D es
-told_none C D [] both none = tt
-told_none C D (f ∷ es) both none = (λ has. none.0 (both.0.1 has), told_none C D es both.1 none.1)
-
-pub told_decides : {X : Type 0} (C D : ReadFault → Type 0) (es : List ReadFault)
-    (r : Result X ReadFault) → AllByRecursion (λ f. (C f → D f) × (D f → C f)) es → Decides C es r
-    → Decides D es r
-told_decides C D es (Ok x) both is = told_none C D es both is
-told_decides C D es (Err e) both is = told_first C D es e both is
-
--- a condition is what it is
+-- the conditions of header lines are those of the lines in a text: a condition is what it is
 eq : {A : Type 0} → (A → A) × (A → A)
 eq = (λ x. x, λ x. x)
 

@@ -1,0 +1,184 @@
+-- A header line that is of no header of the table can stay as it stands.
+use Rattle.std.proofs.Common.{◌≡◌, ◌⊎◌, inl, inr, ℕ, suc, ◌-◌, Bool, true, false, not, cond, ◌&&◌, ◌||◌, List, [], ◌∷◌, length, Option, Some, None, refl, sym, ap, subst, ◌∙◌, arith, codes}
+use Rattle.std.specs.Prelude.{is_none, is_some, slice_index}
+use Rattle.std.specs.List.{AllByRecursion, AllZip, filter, list_all}
+use Rattle.std.specs.Str.{str_eq_ignore_ascii_case}
+use Rattle.std.proofs.lemmas.Bool.{and_parts}
+use Rattle.sip_text.specs.Character.{is_blank, is_line_byte, is_token_byte}
+use Rattle.sip_text.specs.Token.{is_token}
+use Rattle.sip_text.specs.Trimmed.{trimmed, trimmed_end, trimmed_start}
+use Rattle.sip_parts.specs.HeaderEntry.{header_named, is_named}
+use Rattle.sip_parts.specs.HeaderValue.{has_no_blank_ends, has_no_line_byte, is_header_value}
+use Rattle.sip_parts.specs.OtherName.{is_compact_name, is_other_name}
+use Rattle.sip_parts.specs.declared.header_name.HeaderName.{HeaderName}
+use Rattle.sip_message.specs.declared.header.Header.{Header}
+use Rattle.sip_headers.specs.Draft.{long_name}
+use Rattle.sip_headers.specs.HeaderLine.{IsHeaderLine}
+use Rattle.sip_headers.specs.Headers.{IsOther}
+use Rattle.sip_headers.specs.Named.{others_in}
+
+and_both : (x y : Bool) → x ≡ true → y ≡ true → (x && y) ≡ true
+and_both x y e f = rw (e, f) refl
+
+-- ---- a value without the blanks at its ends
+
+start_by : (b : ℕ) (bs : List ℕ) (blank : Bool) → is_blank b ≡ blank
+    → is_blank (slice_index (trimmed_start bs) 0) ≡ false
+    → is_blank (slice_index (cond blank (trimmed_start bs) (b ∷ bs)) 0) ≡ false
+start_by b bs true e more = more
+start_by b bs false e more = e
+
+starts_full : (text : List ℕ) → is_blank (slice_index (trimmed_start text) 0) ≡ false
+starts_full [] = refl
+starts_full (b ∷ bs) = start_by b bs (is_blank b) refl (starts_full bs)
+
+start_stays : (text : List ℕ) → is_blank (slice_index text 0) ≡ false
+    → is_blank (slice_index (trimmed_end text) 0) ≡ false
+start_stays [] e = e
+start_stays (b ∷ bs) e =
+    subst (λ (text : List ℕ). is_blank (slice_index text 0) ≡ false)
+    (sym (ap (λ blank. cond (blank && list_all is_blank bs) [] (b ∷ trimmed_end bs)) e)) e
+
+abbrev ends_blank : List ℕ → Bool
+ends_blank [] = false
+ends_blank (b ∷ []) = is_blank b
+ends_blank (b ∷ (c ∷ cs)) = ends_blank (c ∷ cs)
+
+one_less : (n : ℕ) → suc n - 1 ≡ n
+one_less n = omega arith
+
+last_is : (text : List ℕ) → is_blank (slice_index text (length text - 1)) ≡ ends_blank text
+last_is [] = refl
+last_is (b ∷ []) = refl
+last_is (b ∷ (c ∷ cs)) =
+    ap (λ n. is_blank (slice_index (b ∷ (c ∷ cs)) n)) (one_less (suc (length cs)))
+    ∙ ap (λ n. is_blank (slice_index (c ∷ cs) n)) (sym (one_less (length cs)))
+    ∙ last_is (c ∷ cs)
+
+nothing_by : (b : ℕ) (blank all : Bool) (more : List ℕ)
+    → ◌≡◌ {A = List ℕ} (cond (blank && all) [] (b ∷ more)) [] → (blank && all) ≡ true
+nothing_by b true true more e = refl
+nothing_by b true false more e = absurd cc
+nothing_by b false all more e = absurd cc
+
+nothing_left : (text : List ℕ) → trimmed_end text ≡ [] → list_all is_blank text ≡ true
+nothing_left [] e = refl
+nothing_left (b ∷ bs) e = nothing_by b (is_blank b) (list_all is_blank bs) (trimmed_end bs) e
+
+end_by : (b : ℕ) (blank all : Bool) (more : List ℕ) → is_blank b ≡ blank
+    → (more ≡ [] → all ≡ true) → ends_blank more ≡ false
+    → ends_blank (cond (blank && all) [] (b ∷ more)) ≡ false
+end_by b true true more e none last = refl
+end_by b true false [] e none last = let f : false ≡ true = none refl in absurd cc
+end_by b true false (c ∷ cs) e none last = last
+end_by b false all [] e none last = e
+end_by b false all (c ∷ cs) e none last = last
+
+ends_full : (text : List ℕ) → ends_blank (trimmed_end text) ≡ false
+ends_full [] = refl
+ends_full (b ∷ bs) =
+    end_by b (is_blank b) (list_all is_blank bs) (trimmed_end bs) refl (nothing_left bs)
+    (ends_full bs)
+
+-- ---- a value of one line
+
+plain_by : (b : ℕ) (bs less : List ℕ) (out : Bool) → has_no_line_byte (b ∷ bs) ≡ true
+    → has_no_line_byte less ≡ true → has_no_line_byte (cond out less (b ∷ bs)) ≡ true
+plain_by b bs less true all more = more
+plain_by b bs less false all more = all
+
+plain_start : (text : List ℕ) → has_no_line_byte text ≡ true
+    → has_no_line_byte (trimmed_start text) ≡ true
+plain_start [] all = refl
+plain_start (b ∷ bs) all =
+    plain_by b bs (trimmed_start bs) (is_blank b) all
+    (plain_start bs (and_parts (not (is_line_byte b)) (has_no_line_byte bs) all).1)
+
+plain_end : (text : List ℕ) → has_no_line_byte text ≡ true
+    → has_no_line_byte (trimmed_end text) ≡ true
+plain_end [] all = refl
+plain_end (b ∷ bs) all =
+    let parts = and_parts (not (is_line_byte b)) (has_no_line_byte bs) all in
+    cut_by b (is_blank b && list_all is_blank bs) (trimmed_end bs) parts.0 (plain_end bs parts.1)
+  where
+    cut_by : (c : ℕ) (out : Bool) (more : List ℕ) → not (is_line_byte c) ≡ true
+        → has_no_line_byte more ≡ true → has_no_line_byte (cond out [] (c ∷ more)) ≡ true
+    cut_by c true more e all = refl
+    cut_by c false more e all = and_both (not (is_line_byte c)) (has_no_line_byte more) e all
+
+value_fits : (text : List ℕ) → has_no_line_byte text ≡ true → is_header_value (trimmed text) ≡ true
+unfolding is_header_value
+value_fits text plain =
+    and_both (has_no_blank_ends (trimmed text)) (has_no_line_byte (trimmed text))
+    (and_both (not (is_blank (slice_index (trimmed text) 0)))
+    (not (is_blank (slice_index (trimmed text) (length (trimmed text) - 1))))
+    (ap not (start_stays (trimmed_start text) (starts_full text)))
+    (ap not (last_is (trimmed text) ∙ ends_full (trimmed_start text))))
+    (plain_end (trimmed_start text) (plain_start text plain))
+
+-- ---- a name
+
+name_by : (name : List ℕ) (c s e : Bool) → str_eq_ignore_ascii_case name (codes "c") ≡ c
+    → str_eq_ignore_ascii_case name (codes "s") ≡ s
+    → str_eq_ignore_ascii_case name (codes "e") ≡ e → is_token name ≡ true
+    → is_none (header_named name) ≡ true
+    → is_other_name (cond c (codes "Content-Type")
+    (cond s (codes "Subject") (cond e (codes "Content-Encoding") name))) ≡ true
+unfolding is_compact_name is_named is_other_name is_token is_token_byte
+name_by name true s e f g h token none = refl
+name_by name false true e f g h token none = refl
+name_by name false false true f g h token none = refl
+name_by name false false false f g h token none =
+    and_both (is_token name) (not (is_some (header_named name) || is_compact_name name)) token
+    (ap not (or_neither (header_named name) (is_compact_name name) none
+    (rw (f, g, h) refl)))
+  where
+    or_neither : (o : Option HeaderName) (compact : Bool) → is_none o ≡ true → compact ≡ false
+        → (is_some o || compact) ≡ false
+    or_neither None compact is not_compact = not_compact
+    or_neither (Some header) compact is not_compact = absurd cc
+
+name_fits : (name : List ℕ) → is_token name ≡ true → is_none (header_named name) ≡ true
+    → is_other_name (long_name name) ≡ true
+unfolding long_name
+name_fits name token none =
+    name_by name (str_eq_ignore_ascii_case name (codes "c"))
+    (str_eq_ignore_ascii_case name (codes "s")) (str_eq_ignore_ascii_case name (codes "e")) refl
+    refl refl token none
+
+-- ---- a line
+
+line_fits : (parts : List ℕ × List ℕ) (line : List ℕ) → IsHeaderLine parts line
+    → is_none (header_named parts.0) ≡ true → (header : Header) × IsOther header parts
+line_fits parts line (inr whole) none = absurd whole.1
+line_fits parts line (inl cut) none =
+    let named = cut.2.0 in
+    let valued = cut.2.1 in
+    let token : is_token parts.0 ≡ true = ap is_token named.0 ∙ named.1 in (
+      record { name = long_name parts.0; value = parts.1 },
+      record {
+        name_is = refl;
+        value_is = refl;
+        good_name = name_fits parts.0 token none;
+        good_value = ap is_header_value valued.1
+            ∙ value_fits valued.0 (ap has_no_line_byte valued.2.0 ∙ valued.2.1);
+      },
+    )
+
+kept_by : (parts : List ℕ × List ℕ) (more : List (List ℕ × List ℕ)) (none : Bool)
+    → (none ≡ true → (header : Header) × IsOther header parts)
+    → AllByRecursion (λ other. (header : Header) × IsOther header other) more
+    → AllByRecursion (λ other. (header : Header) × IsOther header other)
+    (cond none (parts ∷ more) more)
+kept_by parts more true one all = (one refl, all)
+kept_by parts more false one all = all
+
+pub others_fit : (named : List (List ℕ × List ℕ)) (lines : List (List ℕ))
+    → AllZip IsHeaderLine named lines
+    → AllByRecursion (λ other. (header : Header) × IsOther header other) (others_in named)
+others_fit [] [] all = tt
+others_fit [] (line ∷ lines) all = absurd all
+others_fit (parts ∷ named) [] all = absurd all
+others_fit (parts ∷ named) (line ∷ lines) all =
+    kept_by parts (others_in named) (is_none (header_named parts.0))
+    (line_fits parts line all.0) (others_fit named lines all.1)
