@@ -1,3 +1,4 @@
+mod Names
 pub mod Drafts
 pub mod Folds
 pub mod Presences

@@ -30,6 +30,11 @@ line_from line =
     on_cut (Byte 58) (both (reading_of (passing is_token) trimmed_end)
     (told trimmed (passing has_no_line_byte))) never line
 
+-- the name, and what stands behind the colon
+abbrev pub name_before_colon : List ℕ → Option (List ℕ × List ℕ)
+name_before_colon line =
+    on_cut (Byte 58) (both (reading_of (passing is_token) trimmed_end) (λ rest. Some rest)) never line
+
 -- ---- what it is
 
 -- a line that is no header line, a value of a header of the table, or another header

@@ -4,7 +4,7 @@ ghost use Rattle.sip_headers.specs.HeaderLine as header_lines;
 ghost use Rattle.sip_text.specs.Cut.{both_now};
 
 use sip_parts::{HeaderName, has_no_line_byte};
-use sip_text::{Separator, is_token, trimmed, trimmed_end};
+use sip_text::{Separator, TokenBytes, is_token, run_before, trimmed, trimmed_end};
 
 /// What a header line is.
 #[derive(Clone, Copy)]
@@ -34,10 +34,32 @@ pub fn class_of(line: &[u8]) -> LineClass<'_>
 fn parts_of(line: &[u8]) -> Option<(&[u8], &[u8])>
     ensures { both_now result ≡ header_lines.line_from line.now }
 {
-    let (name, value) = Separator::Byte(b':').cut(line)?;
-    let name = trimmed_end(name);
-    if !is_token(name) || !has_no_line_byte(value) {
+    let (name, value) = name_in(line)?;
+    if !has_no_line_byte(value) {
         return None;
     }
     Some((name, trimmed(value)))
+}
+
+/// A name, and what stands behind its colon.
+fn name_in(line: &[u8]) -> Option<(&[u8], &[u8])>
+    ensures { both_now result ≡ header_lines.name_before_colon line.now }
+{
+    match run_before::<TokenBytes>(b':', line) {
+        Some((name, value)) => Some((name, value)),
+        None => cut_at_colon(line),
+    }
+}
+
+/// The same, where white space may stand before the colon.
+fn cut_at_colon(line: &[u8]) -> Option<(&[u8], &[u8])>
+    ensures { both_now result ≡ header_lines.name_before_colon line.now }
+{
+    let (name, value) = Separator::Byte(b':').cut(line)?;
+    let name = trimmed_end(name);
+    if is_token(name) {
+        Some((name, value))
+    } else {
+        None
+    }
 }

@@ -75,6 +75,9 @@ pub(crate) fn listed<T: Drop>(
 fn joined<T: Drop>(before: Series<T>, more: Series<T>) -> Result<Series<T>, AllocError>
     ensures { IfOk result (λ all. all ≡ before ++ more) }
 {
+    if before.is_empty() {
+        return Ok(more);
+    }
     let mut all = before.into_vec();
     let mut more = more.into_vec();
     all.append(&mut more)?;

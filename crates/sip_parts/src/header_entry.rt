@@ -89,9 +89,38 @@ impl HeaderName {
     pub fn of(name: &[u8]) -> Option<HeaderName>
         ensures { result ≡ table.header_named name.now }
     {
+        match likely(name) {
+            Some(header) if name == header.as_str().as_bytes() => Some(header),
+            _ => HeaderName::looked_up(name),
+        }
+    }
+
+    fn looked_up(name: &[u8]) -> Option<HeaderName>
+        ensures { result ≡ table.header_named name.now }
+    {
         HeaderName::ALL
             .iter()
             .copied()
             .find(|header| header.is_named(name))
     }
+}
+
+/// The one header whose long name the text may be, by its length and one or two letters; None where
+/// there is none, or the letters have another case than they are written in.
+fn likely(name: &[u8]) -> Option<HeaderName> {
+    let header = match name {
+        [b'V', _, _] => HeaderName::Via,
+        [b'F', _, _, _] => HeaderName::From,
+        [b'T', _] => HeaderName::To,
+        [b'C', b'S', _, _] => HeaderName::CSeq,
+        [b'C', b'a', _, _, _, _, _] => HeaderName::CallId,
+        [b'C', b'o', _, _, _, _, _] => HeaderName::Contact,
+        [b'M', _, _, _, _, _, _, _, _, _, _, _] => HeaderName::MaxForwards,
+        [b'R', b'o', _, _, _] => HeaderName::Route,
+        [b'R', _, _, _, _, _, _, _, _, _, _, _] => HeaderName::RecordRoute,
+        [b'S', _, _, _, _, _, _, _, _] => HeaderName::Supported,
+        [b'C', _, _, _, _, _, _, b'-', _, _, _, _, _, _] => HeaderName::ContentLength,
+        _ => return None,
+    };
+    Some(header)
 }

@@ -4,7 +4,7 @@ ghost use Rattle.std.specs.List.{list_all};
 ghost use Rattle.sip_parts.specs.Host as rule;
 
 use crate::checked::{Checked, Rule};
-use sip_text::cut;
+use sip_text::{ByteClass, cut};
 
 /// The rule of [`Host`].
 pub struct HostRule;
@@ -65,12 +65,33 @@ fn each_is_host_byte(text: &[u8]) -> bool
     text.iter().all(|byte| is_host_byte(*byte))
 }
 
-#[tactic(auto, unfolding(crate::specs::Host::is_host_byte))]
+// An x at the place of each byte of a host without brackets.
+#[rattlefmt::skip]
+static HOST_BYTES: [u8; 256] = *b"\
+    xxxxxxxxx..xx.xxxxxxxxxxxxxxxxxx\
+    .x.xxxxxxxxx.xxxxxxxxxxxxx...x.x\
+    xxxxxxxxxxxxxxxxxxxxxxxxxxx.xxxx\
+    xxxxxxxxxxxxxxxxxxxxxxxxxxxxxxxx\
+    xxxxxxxxxxxxxxxxxxxxxxxxxxxxxxxx\
+    xxxxxxxxxxxxxxxxxxxxxxxxxxxxxxxx\
+    xxxxxxxxxxxxxxxxxxxxxxxxxxxxxxxx\
+    xxxxxxxxxxxxxxxxxxxxxxxxxxxxxxxx";
+
 fn is_host_byte(byte: u8) -> bool
     ensures { result ≡ rule.is_host_byte byte }
 {
-    !matches!(
-        byte,
-        b' ' | b'\t' | b'\r' | b'\n' | b':' | b';' | b',' | b'[' | b'"' | b'<' | b'>'
-    )
+    HOST_BYTES[usize::from(byte)] == b'x'
+}
+
+/// The bytes of a host without brackets.
+pub struct HostBytes;
+
+impl ByteClass for HostBytes {
+    ghost use Rattle.sip_parts.specs.Host.{is_host_byte};
+
+    ghost holds = { is_host_byte };
+
+    fn test(byte: u8) -> bool {
+        is_host_byte(byte)
+    }
 }

@@ -4,6 +4,7 @@ ghost use Rattle.std.specs.List.{list_all};
 ghost use Rattle.sip_parts.specs.Uri as rule;
 
 use crate::checked::{Checked, Rule};
+use sip_text::ByteClass;
 
 /// The rule of [`Uri`].
 pub struct UriRule;
@@ -38,9 +39,33 @@ fn each_is_uri_byte(text: &[u8]) -> bool
     text.iter().all(|byte| is_uri_byte(*byte))
 }
 
-#[tactic(auto, unfolding(crate::specs::Uri::is_uri_byte))]
+// An x at the place of each byte of a URI.
+#[rattlefmt::skip]
+static URI_BYTES: [u8; 256] = *b"\
+    xxxxxxxxx..xx.xxxxxxxxxxxxxxxxxx\
+    .x.xxxxxxxxxxxxxxxxxxxxxxxxx.x.x\
+    xxxxxxxxxxxxxxxxxxxxxxxxxxxxxxxx\
+    xxxxxxxxxxxxxxxxxxxxxxxxxxxxxxxx\
+    xxxxxxxxxxxxxxxxxxxxxxxxxxxxxxxx\
+    xxxxxxxxxxxxxxxxxxxxxxxxxxxxxxxx\
+    xxxxxxxxxxxxxxxxxxxxxxxxxxxxxxxx\
+    xxxxxxxxxxxxxxxxxxxxxxxxxxxxxxxx";
+
 pub(crate) fn is_uri_byte(byte: u8) -> bool
     ensures { result ≡ rule.is_uri_byte byte }
 {
-    !matches!(byte, b' ' | b'\t' | b'\r' | b'\n' | b'<' | b'>' | b'"')
+    URI_BYTES[usize::from(byte)] == b'x'
+}
+
+/// The bytes of a URI.
+pub struct UriBytes;
+
+impl ByteClass for UriBytes {
+    ghost use Rattle.sip_parts.specs.Uri.{is_uri_byte};
+
+    ghost holds = { is_uri_byte };
+
+    fn test(byte: u8) -> bool {
+        is_uri_byte(byte)
+    }
 }

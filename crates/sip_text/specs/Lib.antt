@@ -1,5 +1,6 @@
 pub mod Character
 pub mod Token
+pub mod Run
 pub mod Number
 pub mod Options
 pub mod Cut

@@ -1,7 +1,8 @@
 //! Classes of bytes (RFC 3261, section 25.1).
-ghost use Rattle.std.specs.Prelude.{◌≡◌, ◌==◌, codes};
-ghost use Rattle.std.specs.List.{list_any};
+ghost use Rattle.std.specs.Prelude.{◌≡◌};
 ghost use Rattle.sip_text.specs.Character as character;
+
+use crate::run::ByteClass;
 
 /// Whether the byte is a space or a tab.
 pub fn is_blank(byte: u8) -> bool
@@ -17,19 +18,34 @@ pub fn is_line_byte(byte: u8) -> bool
     byte == b'\r' || byte == b'\n'
 }
 
+// An x at the place of each byte of a token.
+#[rattlefmt::skip]
+static TOKEN_BYTES: [u8; 256] = *b"\
+    ................................\
+    .x...x.x..xx.xx.xxxxxxxxxx......\
+    .xxxxxxxxxxxxxxxxxxxxxxxxxx....x\
+    xxxxxxxxxxxxxxxxxxxxxxxxxxx...x.\
+    ................................\
+    ................................\
+    ................................\
+    ................................";
+
 /// Whether the byte may stand in a token.
-#[tactic(auto, unfolding(crate::specs::Character::is_token_byte))]
 pub fn is_token_byte(byte: u8) -> bool
     ensures { result ≡ character.is_token_byte byte }
 {
-    byte.is_ascii_alphanumeric() || is_token_mark(byte)
+    TOKEN_BYTES[usize::from(byte)] == b'x'
 }
 
-fn is_token_mark(byte: u8) -> bool
-    ensures { result ≡ list_any (λ c. c == byte) (codes "-.!%*_+`'~") }
-{
-    matches!(
-        byte,
-        b'-' | b'.' | b'!' | b'%' | b'*' | b'_' | b'+' | b'`' | b'\'' | b'~'
-    )
+/// The bytes of a token.
+pub struct TokenBytes;
+
+impl ByteClass for TokenBytes {
+    ghost use Rattle.sip_text.specs.Character.{is_token_byte};
+
+    ghost holds = { is_token_byte };
+
+    fn test(byte: u8) -> bool {
+        is_token_byte(byte)
+    }
 }

@@ -12,6 +12,7 @@ mod open_quote;
 mod parameters;
 mod pieces;
 mod quoted;
+mod run;
 mod separator;
 mod series;
 mod text;
@@ -20,7 +21,7 @@ mod trim;
 mod values;
 
 pub use boxed::Boxed;
-pub use character::{is_blank, is_line_byte, is_token_byte};
+pub use character::{TokenBytes, is_blank, is_line_byte, is_token_byte};
 pub use fault::TextFault;
 pub use folding::{begins_blank, lines, unfold};
 pub use laws::{one_cut, one_list_of_parameters, one_split, quoted_strings};
@@ -28,10 +29,11 @@ pub use line::next_line;
 pub use number::{decimal, number_u32, number_up_to};
 pub use open_quote::has_open_quote;
 pub use parameters::{
-    ParameterText, is_blanks, is_parameter_value, is_value_word, parameter_in, params,
+    ParameterText, ValueBytes, is_blanks, is_parameter_value, is_value_word, parameter_in, params,
 };
 pub use pieces::{cut, cut_blank};
 pub use quoted::is_quoted;
+pub use run::{ByteClass, run_before, run_len};
 pub use separator::{Place, Separator};
 pub use series::Series;
 pub use text::Text;

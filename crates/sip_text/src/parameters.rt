@@ -13,6 +13,7 @@ use crate::character::is_blank;
 use crate::fault::TextFault;
 use crate::open_quote::has_open_quote;
 use crate::quoted::is_quoted;
+use crate::run::ByteClass;
 use crate::separator::Separator;
 use crate::token::is_token;
 use crate::trim::trimmed;
@@ -155,12 +156,33 @@ fn each_is_value_byte(text: &[u8]) -> bool
     text.iter().all(|byte| is_value_byte(*byte))
 }
 
-#[tactic(auto, unfolding(crate::specs::Parameter::is_value_byte))]
+// An x at the place of each byte of a value without quotes.
+#[rattlefmt::skip]
+static VALUE_BYTES: [u8; 256] = *b"\
+    xxxxxxxxx..xx.xxxxxxxxxxxxxxxxxx\
+    .x.xxxxxxxxx.xxxxxxxxxxxxxx..x.x\
+    xxxxxxxxxxxxxxxxxxxxxxxxxxxxxxxx\
+    xxxxxxxxxxxxxxxxxxxxxxxxxxxxxxxx\
+    xxxxxxxxxxxxxxxxxxxxxxxxxxxxxxxx\
+    xxxxxxxxxxxxxxxxxxxxxxxxxxxxxxxx\
+    xxxxxxxxxxxxxxxxxxxxxxxxxxxxxxxx\
+    xxxxxxxxxxxxxxxxxxxxxxxxxxxxxxxx";
+
 fn is_value_byte(byte: u8) -> bool
     ensures { result ≡ parameter.is_value_byte byte }
 {
-    !matches!(
-        byte,
-        b' ' | b'\t' | b'\r' | b'\n' | b';' | b',' | b'<' | b'>' | b'"'
-    )
+    VALUE_BYTES[usize::from(byte)] == b'x'
+}
+
+/// The bytes of a parameter's value without quotes.
+pub struct ValueBytes;
+
+impl ByteClass for ValueBytes {
+    ghost use Rattle.sip_text.specs.Parameter.{is_value_byte};
+
+    ghost holds = { is_value_byte };
+
+    fn test(byte: u8) -> bool {
+        is_value_byte(byte)
+    }
 }

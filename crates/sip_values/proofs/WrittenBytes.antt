@@ -33,7 +33,7 @@ is_solid b = not (is_blank b) && not (is_line_byte b)
 abbrev pub solid : List ℕ → Bool
 solid text = list_all is_solid text
 
-solid_byte : (test : ℕ → Bool) → test 32 ≡ false → test 9 ≡ false → test 13 ≡ false
+pub solid_byte : (test : ℕ → Bool) → test 32 ≡ false → test 9 ≡ false → test 13 ≡ false
     → test 10 ≡ false → (b : ℕ) → test b ≡ true → is_solid b ≡ true
 solid_byte test space tab cr lf b passes =
     rw (
@@ -93,6 +93,13 @@ solid_end text s =
     ap trimmed_end (sym (append-nil text))
     ∙ end_is text [] (all_imply is_solid (λ b. not (is_blank b)) solid_full text s) refl
 
+pub solid_kept : (text : List ℕ) → solid text ≡ true → trimmed text ≡ text
+solid_kept [] s = refl
+solid_kept (b ∷ bs) s =
+    let here = not-true (is_blank b)
+    (solid_full b (and_parts (is_solid b) (list_all is_solid bs) s).0) in
+    ap trimmed_end (starts_full b bs here) ∙ solid_end (b ∷ bs) s
+
 some_full : (b : ℕ) (bs : List ℕ) (r : Bool) → cond r [] (b ∷ trimmed_end bs) ≡ b ∷ bs → r ≡ false
 some_full b bs true e = absurd cc
 some_full b bs false e = refl
@@ -151,7 +158,7 @@ pub decimal_value : (n : ℕ) → n < 2 ^ 64 → digits_value 10 (decimal n) ≡
 decimal_value n lt = digits_value-decimal
     (numerals_by_value (λ ds. all_ascii_digits ds ≡ true) tells_all_ascii_digits) n lt
 
-full_to : (test : ℕ → Bool) (b at : ℕ) → test at ≡ false → test b ≡ true → eqb at b ≡ false
+pub full_to : (test : ℕ → Bool) (b at : ℕ) → test at ≡ false → test b ≡ true → eqb at b ≡ false
 full_to test b at fails passes =
     by_bool (eqb at b) (λ r. r ≡ false)
     (λ e. absurd (true≢false (sym passes ∙ ap test (sym (eqb-true at b e)) ∙ fails)))

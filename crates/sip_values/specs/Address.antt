@@ -1,6 +1,6 @@
 -- Addresses: From and To, Contact, Route and Record-Route (RFC 3261, sections 20.10, 20.20, 20.30,
 -- 20.34 and 20.39).
-use Rattle.std.specs.Prelude.{ℕ, Bool, List, [], Option}
+use Rattle.std.specs.Prelude.{ℕ, Bool, List, [], Option, Some}
 use Rattle.sip_text.specs.Forms.{Passing, passing, Never, never, Of, reading_of, Checked, checked, Told, told, Both, both, OnCut, on_cut, Split, split}
 use Rattle.sip_text.specs.Trimmed.{trimmed}
 use Rattle.sip_text.specs.declared.separator.Separator.TheVariants.{Byte}
@@ -26,6 +26,10 @@ UriText uri text = Of (Passing is_uri) trimmed uri text
 -- what reading it finds
 abbrev pub uri_from : List ℕ → Option (List ℕ)
 uri_from text = reading_of (passing is_uri) trimmed text
+
+-- a URI before `>`, and what follows
+abbrev pub uri_before_bracket : List ℕ → Option (List ℕ × List ℕ)
+uri_before_bracket text = on_cut (Byte 62) (both uri_from (λ rest. Some rest)) never text
 
 -- behind `<`: a URI, `>` and parameters
 abbrev pub Bracketed : Target → List ℕ → Type 0

@@ -1,3 +1,4 @@
+pub mod First
 pub mod Numeral
 pub mod ParameterValues
 pub mod Address

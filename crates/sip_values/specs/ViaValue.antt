@@ -1,5 +1,6 @@
 -- Via values (RFC 3261, section 20.42), with words in the place of their ports.
 use Rattle.std.specs.Prelude.{ℕ, ◌^◌, Bool, not, List, [], Option, Some, None, codes}
+use Rattle.std.specs.Borrow.{Bor}
 use Rattle.std.specs.Str.{str_eq_ignore_ascii_case}
 use Rattle.sip_text.specs.Forms.{Passing, passing, Never, never, Of, reading_of, Guarded, guarded, Told, told, Both, both, Behind, behind, OnCut, on_cut, Split, split}
 use Rattle.sip_text.specs.OpenQuote.{has_open_quote}
@@ -53,6 +54,10 @@ abbrev pub sent_by_from : List ℕ → Option SentBy
 sent_by_from text =
     on_cut Colon (told with_port (both host_from port_from)) (told without_port host_from) text
 
+-- what a host and its port point to
+abbrev pub sent_by_now : Bor (List ℕ) × Option Numeral → SentBy
+sent_by_now sent_by = (sent_by.0.now, sent_by.1)
+
 -- a sent-by without parameters
 abbrev pub without_parameters : SentBy → SentBy × List Parameter
 without_parameters sent_by = (sent_by, [])
@@ -83,6 +88,10 @@ via_of parts = record {
   parameters = parts.1.1;
 }
 
+-- a token before white space, and what follows
+abbrev pub transport_from : List ℕ → Option (List ℕ × List ℕ)
+transport_from text = on_cut Blank (both (passing is_token) (λ rest. Some rest)) never text
+
 -- the transport, white space, and what stands behind it
 abbrev pub IsHop : ViaDraft → List ℕ → Type 0
 IsHop via text =
@@ -112,10 +121,13 @@ abbrev pub IsVia : ViaDraft → List ℕ → Type 0
 IsVia via text =
     Of (OnCut (Byte 47) (Behind (is_like (codes "SIP")) IsBehindProtocol) Never) trimmed via text
 
+-- what reading it finds, without the blanks at its ends
+abbrev pub protocol_from : List ℕ → Option ViaDraft
+protocol_from text = on_cut (Byte 47) (behind (is_like (codes "SIP")) behind_protocol_from) never text
+
 -- what reading a Via value finds
 abbrev pub via_from : List ℕ → Option ViaDraft
-via_from text = reading_of (on_cut (Byte 47)
-    (behind (is_like (codes "SIP")) behind_protocol_from) never) trimmed text
+via_from text = reading_of protocol_from trimmed text
 
 -- ---- several, split at commas outside quotes and angle brackets
 

@@ -1,13 +1,15 @@
 //! Addresses: a display text, a URI and parameters (RFC 3261, section 20.10).
-ghost use Rattle.std.specs.Prelude.{◌≡◌, IfOk};
+ghost use Rattle.std.specs.Prelude.{◌≡◌, IfOk, IfSome, IsTrue};
+ghost use Rattle.sip_text.specs.Cut.{both_now};
 ghost use Rattle.sip_parts.specs.DisplayText as rule;
+ghost use Rattle.sip_parts.specs.Uri.{is_uri};
 ghost use Rattle.sip_values.specs.Address as values;
 
 use crate::parameter::{parameters_behind, parameters_between};
 use crate::row::{Row, split_of};
 use sip_message::NameAddr;
-use sip_parts::{DisplayText, Parameter, Uri, is_display_text, is_uri};
-use sip_text::{Separator, Series, Text, trimmed};
+use sip_parts::{DisplayText, Parameter, Uri, UriBytes, is_display_text, is_uri};
+use sip_text::{Separator, Series, Text, run_before, trimmed};
 use std::alloc::{AllocError, Global};
 
 /// One address of a Contact, a Route or a Record-Route.
@@ -82,16 +84,33 @@ fn display_in(alloc: Global, text: &[u8]) -> Result<Option<DisplayText>, AllocEr
 pub(crate) fn bracketed_in(alloc: Global, text: &[u8]) -> Result<Option<Target>, AllocError>
     ensures { IfOk result (λ made. made ≡ values.bracketed_from text.now) }
 {
-    let Some((uri, rest)) = Separator::Byte(b'>').cut(text) else {
-        return Ok(None);
-    };
-    let Some(uri) = uri_in(alloc, uri)? else {
+    let Some((uri, rest)) = uri_before_bracket(text) else {
         return Ok(None);
     };
     let Some(parameters) = parameters_behind(alloc, rest)? else {
         return Ok(None);
     };
-    Ok(Some((uri, parameters)))
+    Ok(Some((Uri::from_text(Text::copy_of(alloc, uri)?), parameters)))
+}
+
+/// A URI before `>`, and what follows.
+fn uri_before_bracket(text: &[u8]) -> Option<(&[u8], &[u8])>
+    ensures exact { both_now result ≡ values.uri_before_bracket text.now }
+    ensures rule { IfSome result (λ parts. IsTrue (is_uri parts.0.now)) }
+{
+    match run_before::<UriBytes>(b'>', text) {
+        Some((uri, rest)) => Some((uri, rest)),
+        None => cut_at_bracket(text),
+    }
+}
+
+fn cut_at_bracket(text: &[u8]) -> Option<(&[u8], &[u8])>
+    ensures exact { both_now result ≡ values.uri_before_bracket text.now }
+    ensures rule { IfSome result (λ parts. IsTrue (is_uri parts.0.now)) }
+{
+    let (uri, rest) = Separator::Byte(b'>').cut(text)?;
+    let uri = trimmed(uri);
+    if is_uri(uri) { Some((uri, rest)) } else { None }
 }
 
 /// A URI alone, and parameters.

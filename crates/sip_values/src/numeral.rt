@@ -43,7 +43,7 @@ pub(crate) fn numeral_in(text: &[u8], most: u32) -> Option<Numeral>
 }
 
 #[tactic(auto, unfolding(sip_text::specs::Number::number_of))]
-fn numeral_of(word: &[u8], most: u32) -> Numeral
+pub(crate) fn numeral_of(word: &[u8], most: u32) -> Numeral
     ensures { result ≡ numerals.numeral (most + 1) word.now }
 {
     match number_u32(word) {

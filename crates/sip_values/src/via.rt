@@ -1,12 +1,21 @@
 //! Via values (RFC 3261, section 20.42).
-ghost use Rattle.std.specs.Prelude.{◌≡◌, IfOk, codes};
+ghost use Rattle.std.specs.Prelude.{◌≡◌, ◌++◌, ◌∷◌, IfOk, IfSome, IsTrue, Some, codes, true};
+ghost use Rattle.std.specs.Option.{option_copied, option_map};
+ghost use Rattle.sip_text.specs.Cut.{both_now};
+ghost use Rattle.sip_text.specs.Token.{is_run, is_token};
+ghost use Rattle.sip_text.specs.declared.separator.Separator.TheVariants as separator;
+ghost use Rattle.sip_parts.specs.Host.{is_host, is_host_byte};
+ghost use Rattle.sip_values.specs.First.{first, first_now};
 ghost use Rattle.sip_values.specs.ViaValue as values;
 
-use crate::numeral::{Numeral, numeral_in};
-use crate::parameter::parameters_between;
+use crate::numeral::{Numeral, numeral_in, numeral_of};
+use crate::parameter::{behind_semicolon, parameters_between};
 use crate::row::{Row, split_of};
-use sip_parts::{Host, Parameter, Token, is_host};
-use sip_text::{Separator, Series, Text, has_open_quote, is_token, token_eq, trimmed};
+use sip_parts::{Host, HostBytes, Parameter, Token, is_host};
+use sip_text::{
+    Separator, Series, Text, TokenBytes, has_open_quote, is_token, run_before, run_len, token_eq,
+    trimmed,
+};
 use std::alloc::{AllocError, Global};
 
 /// One value of a Via, whose port may be no number.
@@ -17,6 +26,9 @@ pub struct ViaDraft {
     pub port: Option<Numeral>,
     pub parameters: Series<Parameter>,
 }
+
+/// What stands before the transport, where it is written without white space.
+const PROTOCOL: &[u8] = b"SIP/2.0/";
 
 /// One value of a Via.
 pub struct ViaRow;
@@ -29,13 +41,11 @@ impl Row for ViaRow {
     ghost reads = { via_from };
 
     fn read(alloc: Global, text: &[u8]) -> Result<Option<ViaDraft>, AllocError> {
-        let Some((protocol, rest)) = Separator::Byte(b'/').cut(trimmed(text)) else {
-            return Ok(None);
-        };
-        if !token_eq(trimmed(protocol), b"SIP") {
-            return Ok(None);
+        let text = trimmed(text);
+        if let Some(hop) = text.strip_prefix(PROTOCOL) {
+            return hop_in(alloc, trimmed(hop));
         }
-        behind_protocol(alloc, rest)
+        spaced_in(alloc, text)
     }
 }
 
@@ -54,6 +64,19 @@ impl Row for ViaListRow {
     }
 }
 
+/// The same, where white space may stand round the slashes, and the letters may have any case.
+fn spaced_in(alloc: Global, text: &[u8]) -> Result<Option<ViaDraft>, AllocError>
+    ensures { IfOk result (λ made. made ≡ values.protocol_from text.now) }
+{
+    let Some((protocol, rest)) = Separator::Byte(b'/').cut(text) else {
+        return Ok(None);
+    };
+    if !token_eq(trimmed(protocol), b"SIP") {
+        return Ok(None);
+    }
+    behind_protocol(alloc, rest)
+}
+
 fn behind_protocol(alloc: Global, text: &[u8]) -> Result<Option<ViaDraft>, AllocError>
     ensures { IfOk result (λ made. made ≡ values.behind_protocol_from text.now) }
 {
@@ -70,12 +93,9 @@ fn behind_protocol(alloc: Global, text: &[u8]) -> Result<Option<ViaDraft>, Alloc
 fn hop_in(alloc: Global, text: &[u8]) -> Result<Option<ViaDraft>, AllocError>
     ensures { IfOk result (λ made. made ≡ values.hop_from text.now) }
 {
-    let Some((transport, rest)) = Separator::Blank.cut(text) else {
+    let Some((transport, rest)) = transport_in(text) else {
         return Ok(None);
     };
-    if !is_token(transport) {
-        return Ok(None);
-    }
     let Some(((host, port), parameters)) = end_in(alloc, trimmed(rest))? else {
         return Ok(None);
     };
@@ -87,8 +107,28 @@ fn hop_in(alloc: Global, text: &[u8]) -> Result<Option<ViaDraft>, AllocError>
     }))
 }
 
-/// A host, and a word in its port's place, where there is one.
-type SentByDraft = (Host, Option<Numeral>);
+/// A token before white space, and what follows.
+fn transport_in(text: &[u8]) -> Option<(&[u8], &[u8])>
+    ensures exact { both_now result ≡ values.transport_from text.now }
+    ensures rule { IfSome result (λ parts. IsTrue (is_token parts.0.now)) }
+{
+    match run_before::<TokenBytes>(b' ', text) {
+        Some((transport, rest)) => Some((transport, rest)),
+        None => cut_transport(text),
+    }
+}
+
+fn cut_transport(text: &[u8]) -> Option<(&[u8], &[u8])>
+    ensures exact { both_now result ≡ values.transport_from text.now }
+    ensures rule { IfSome result (λ parts. IsTrue (is_token parts.0.now)) }
+{
+    let (transport, rest) = Separator::Blank.cut(text)?;
+    if is_token(transport) {
+        Some((transport, rest))
+    } else {
+        None
+    }
+}
 
 /// The host, the port and the parameters, which begin at the first semicolon.
 fn end_in(
@@ -100,45 +140,102 @@ fn end_in(
     if has_open_quote(text) {
         return Ok(None);
     }
-    let Some((sent_by, rest)) = Separator::Anywhere(b';').cut(text) else {
-        let Some(sent_by) = sent_by_in(alloc, text)? else {
-            return Ok(None);
-        };
-        return Ok(Some((sent_by, Series::new(alloc))));
-    };
-    let Some(sent_by) = sent_by_in(alloc, sent_by)? else {
+    let Some(((host, port), rest)) = first_sent_by(text) else {
         return Ok(None);
     };
-    let Some(parameters) = parameters_between(alloc, rest)? else {
-        return Ok(None);
+    let parameters = match rest {
+        None => Series::new(alloc),
+        Some(rest) => match parameters_between(alloc, rest)? {
+            Some(parameters) => parameters,
+            None => return Ok(None),
+        },
     };
-    Ok(Some((sent_by, parameters)))
+    let host = Host::from_text(Text::copy_of(alloc, host)?);
+    Ok(Some(((host, port), parameters)))
 }
 
-fn sent_by_in(alloc: Global, text: &[u8]) -> Result<Option<SentByDraft>, AllocError>
-    ensures { IfOk result (λ made. made ≡ values.sent_by_from text.now) }
+/// A host, and a word in its port's place, where there is one.
+type SentByDraft = (Host, Option<Numeral>);
+
+/// The same as they stand in a text.
+type SentByText<'a> = (&'a [u8], Option<Numeral>);
+
+/// The host and the port, and what stands behind the first semicolon, where there is one.
+fn first_sent_by(text: &[u8]) -> Option<(SentByText<'_>, Option<&[u8]>)>
+    ensures exact { option_map (first_now values.sent_by_now) result
+        ≡ first (separator.Anywhere 59) values.sent_by_from text.now }
+    ensures rule { IfSome result (λ found. IsTrue (is_host found.0.0.now)) }
 {
-    let Some((host, port)) = Separator::Colon.cut(text) else {
-        let Some(host) = host_in(alloc, text)? else {
-            return Ok(None);
-        };
-        return Ok(Some((host, None)));
-    };
-    let Some(host) = host_in(alloc, host)? else {
-        return Ok(None);
-    };
-    let Some(port) = numeral_in(trimmed(port), u32::from(u16::MAX)) else {
-        return Ok(None);
-    };
-    Ok(Some((host, Some(port))))
+    match plain_sent_by(text) {
+        Some(found) => Some(found),
+        None => cut_sent_by(text),
+    }
 }
 
-fn host_in(alloc: Global, text: &[u8]) -> Result<Option<Host>, AllocError>
-    ensures { IfOk result (λ made. made ≡ values.host_from text.now) }
+fn cut_sent_by(text: &[u8]) -> Option<(SentByText<'_>, Option<&[u8]>)>
+    ensures exact { option_map (first_now values.sent_by_now) result
+        ≡ first (separator.Anywhere 59) values.sent_by_from text.now }
+    ensures rule { IfSome result (λ found. IsTrue (is_host found.0.0.now)) }
+{
+    match Separator::Anywhere(b';').cut(text) {
+        None => Some((sent_by_in(text)?, None)),
+        Some((sent_by, after)) => Some((sent_by_in(sent_by)?, Some(after))),
+    }
+}
+
+/// The same in one pass. None where white space stands in it, the host has brackets, or it is no host
+/// and port.
+fn plain_sent_by(text: &[u8]) -> Option<(SentByText<'_>, Option<&[u8]>)>
+    ensures exact { IfSome result (λ found. first (separator.Anywhere 59) values.sent_by_from text.now
+        ≡ Some (first_now values.sent_by_now found)) }
+    ensures rule { IfSome result (λ found. IsTrue (is_host found.0.0.now)) }
+{
+    let (host, rest) = text.split_at(run_len::<HostBytes>(text));
+    if host.is_empty() {
+        return None;
+    }
+    if let [b':', port @ ..] = rest {
+        return plain_port(host, port);
+    }
+    let after = behind_semicolon(rest)?;
+    Some(((host, None), after))
+}
+
+/// The same, where a colon stands behind the host.
+fn plain_port<'a>(host: &'a [u8], text: &'a [u8]) -> Option<(SentByText<'a>, Option<&'a [u8]>)>
+    requires { is_run is_host_byte host.now ≡ true }
+    ensures exact { IfSome result (λ found.
+        first (separator.Anywhere 59) values.sent_by_from (host.now ++ 58 ∷ text.now)
+        ≡ Some (first_now values.sent_by_now found)) }
+    ensures rule { IfSome result (λ found. IsTrue (is_host found.0.0.now)) }
+{
+    let (port, rest) = text.split_at(run_len::<TokenBytes>(text));
+    if port.is_empty() {
+        return None;
+    }
+    let after = behind_semicolon(rest)?;
+    let port = numeral_of(port, u32::from(u16::MAX));
+    Some(((host, Some(port)), after))
+}
+
+fn sent_by_in(text: &[u8]) -> Option<SentByText<'_>>
+    ensures exact { option_map values.sent_by_now result ≡ values.sent_by_from text.now }
+    ensures rule { IfSome result (λ sent_by. IsTrue (is_host sent_by.0.now)) }
+{
+    match Separator::Colon.cut(text) {
+        None => Some((host_in(text)?, None)),
+        Some((host, port)) => {
+            let host = host_in(host)?;
+            let port = numeral_in(trimmed(port), u32::from(u16::MAX))?;
+            Some((host, Some(port)))
+        }
+    }
+}
+
+fn host_in(text: &[u8]) -> Option<&[u8]>
+    ensures exact { option_copied result ≡ values.host_from text.now }
+    ensures rule { IfSome result (λ host. IsTrue (is_host host.now)) }
 {
     let host = trimmed(text);
-    if !is_host(host) {
-        return Ok(None);
-    }
-    Ok(Some(Host::from_text(Text::copy_of(alloc, host)?)))
+    if is_host(host) { Some(host) } else { None }
 }
