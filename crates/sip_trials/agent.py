@@ -288,8 +288,11 @@ def compare_cases():
     cases, differ = 0, 0
     for events in sorted((Path(__file__).parent / "data").glob("*/*.events")):
         kind = ".outputs"
-        if events.with_suffix(".args").exists() and "round" not in events.read_text("latin-1"):
-            continue  # it is its words that are tried
+        words = events.with_suffix(".args")
+        if words.exists() and (
+                not words.read_text().startswith("replay\n")
+                or "round" not in events.read_text("latin-1")):
+            continue  # it is its words, or another command, that are tried
         try:
             text = replayed(events.read_bytes().decode("latin-1"))
         except FileFault as fault:

@@ -1,6 +1,9 @@
 //! Why a trial stopped.
 
+use crate::stop::Stop;
+use sip_files::EventsFault;
 use sip_round::{NoMemory, RoundFault};
+use sip_transactions::ShardFault;
 use std::alloc::{AllocError, AllocFailed};
 use std::io;
 use thiserror::Error;
@@ -24,6 +27,12 @@ bad words; it takes none, or one of
   transactions HELD N
   idle HELD N
   rounds N SHARDS WORKERS
+  examples
+  example NAME
+  round_by_round FOLDER
+  cuts FOLDER N
+  devices FOLDER
+  sizes
 with each number from 1 to 9999999, at most 999 rounds, 256 shards and 64 workers";
 
 /// Why a trial stopped.
@@ -51,19 +60,28 @@ pub enum TrialFault {
     /// A file or a stream failed.
     #[error("a file or a stream failed")]
     Device,
+    /// The script is no event file.
+    #[error("no event file")]
+    Script,
     #[error("no memory")]
     NoMemory,
+    /// Memory was refused, and what it was refused to is broken, as it is to be then.
+    #[error("no memory, and broken")]
+    Broken,
 }
 
 impl TrialFault {
     /// The status that the program ends in.
     pub fn status(&self) -> u8 {
         match self {
-            TrialFault::Differ(_) | TrialFault::Message | TrialFault::Count { .. } => DIFFERENT,
+            TrialFault::Differ(_)
+            | TrialFault::Message
+            | TrialFault::Script
+            | TrialFault::Count { .. } => DIFFERENT,
             TrialFault::Words => BAD_WORDS,
             TrialFault::Round(_) => BAD_ROUND,
             TrialFault::Device => FAILED_DEVICE,
-            TrialFault::NoMemory => NO_MEMORY,
+            TrialFault::NoMemory | TrialFault::Broken => NO_MEMORY,
         }
     }
 }
@@ -82,6 +100,31 @@ impl<T: Drop> From<AllocFailed<T>> for TrialFault {
 
 impl From<NoMemory> for TrialFault {
     fn from(_error: NoMemory) -> TrialFault {
+        TrialFault::NoMemory
+    }
+}
+
+impl From<EventsFault> for TrialFault {
+    fn from(fault: EventsFault) -> TrialFault {
+        match fault {
+            EventsFault::NoMemory => TrialFault::NoMemory,
+            _ => TrialFault::Script,
+        }
+    }
+}
+
+impl From<Stop> for TrialFault {
+    fn from(stop: Stop) -> TrialFault {
+        match stop {
+            Stop::Different => TrialFault::Differ(1),
+            Stop::NoMemory => TrialFault::NoMemory,
+            Stop::Broken => TrialFault::Broken,
+        }
+    }
+}
+
+impl From<ShardFault> for TrialFault {
+    fn from(_fault: ShardFault) -> TrialFault {
         TrialFault::NoMemory
     }
 }

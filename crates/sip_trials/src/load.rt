@@ -1,10 +1,11 @@
 //! An agent under load: requests come, are told to the user, are answered and end.
 
 use crate::fault::TrialFault;
+use crate::open::Open;
 use crate::options::options_of;
 use crate::tally::{Served, expect};
 use sip_message::{Addr, Reason, Spread};
-use sip_round::{Agent, Config, Event, Gate, Output, Round};
+use sip_round::{Agent, Config, Event, Output, Round};
 use sip_served::{Notice, Reliability, Respond, UserCommand};
 use sip_text::{Series, Text};
 use std::alloc::{AllocError, Global};
@@ -33,13 +34,6 @@ const CONFIG: Config = Config {
     seed: [7; 32],
     first: 0,
 };
-
-/// The gate of the agent: it holds no piece of work up.
-struct Open;
-
-impl Gate for Open {
-    fn begin(&self, _shard: usize) {}
-}
 
 /// An agent, the user that answers each of its requests with 200, and what was counted so far.
 #[derive(Drop)]
@@ -105,6 +99,32 @@ impl Load {
         Ok(())
     }
 
+    /// Moves all that is held to so many shards.
+    ///
+    /// # Errors
+    ///
+    /// `Words` for a number of shards that there can't be, an agent that refuses, and want of
+    /// memory.
+    pub fn reshard(&mut self, shards: usize) -> Result<(), TrialFault> {
+        if shards == 0 || shards > MOST_SHARDS {
+            return Err(TrialFault::Words);
+        }
+        Ok(self.agent.reshard(shards)?)
+    }
+
+    /// That so many transactions, and as many calls, are held.
+    ///
+    /// # Errors
+    ///
+    /// `Count` where that isn't so.
+    pub fn is_held(&self, held: u64) -> Result<(), TrialFault> {
+        let (transactions, calls) = self.agent.live();
+        let transactions = u64::try_from(transactions).unwrap_or(u64::MAX);
+        let calls = u64::try_from(calls).unwrap_or(u64::MAX);
+        expect("transactions held", held, transactions)?;
+        expect("calls held", held, calls)
+    }
+
     /// What came of the requests.
     ///
     /// # Errors
@@ -112,18 +132,14 @@ impl Load {
     /// `Count`, where the user wasn't told of each request, not each was answered, or not as many
     /// are held as are to be.
     pub fn served(&self, held: u64) -> Result<Served, TrialFault> {
-        let (transactions, calls) = self.agent.live();
-        let transactions = u64::try_from(transactions).unwrap_or(u64::MAX);
-        let calls = u64::try_from(calls).unwrap_or(u64::MAX);
+        self.is_held(held)?;
         expect("requests told", self.made, self.told)?;
         expect("answers", self.made, self.answered)?;
-        expect("transactions held", held, transactions)?;
-        expect("calls held", held, calls)?;
         Ok(Served {
             told: self.told,
             answered: self.answered,
-            ended: self.made.saturating_sub(transactions),
-            held: transactions,
+            ended: self.made.saturating_sub(held),
+            held,
             rounds: self.rounds,
         })
     }

@@ -4,12 +4,20 @@
 
 mod case;
 mod cases;
+mod cuts;
+mod devices;
 mod difference;
 mod digits;
+mod examples;
 mod fault;
 mod load;
 mod messages;
+mod open;
 mod options;
+mod refusals;
+mod script;
+mod sizes;
+mod stop;
 mod tally;
 mod words;
 mod work;
@@ -20,17 +28,23 @@ use std::env;
 use std::io::{self, Write};
 use std::process::ExitCode;
 use std::thread::Threads;
-use tally::Tally;
 use words::{Task, task_of};
 use work::done;
 
 const SUCCESS: u8 = 0;
 
-/// What is done where no words are given: the cases of the folder that the program runs in, and a
-/// small load.
-const TASKS: [Task<'static>; 2] = [
+/// What is done where no words are given: the cases of the folder that the program runs in, a small
+/// load, and all that has no numbers of its own.
+const TASKS: [Task<'static>; 6] = [
     Task::Cases { folder: "." },
     Task::Transactions { held: 10, more: 10 },
+    Task::Examples,
+    Task::Cuts {
+        folder: ".",
+        times: 200,
+    },
+    Task::Devices { folder: "." },
+    Task::Sizes,
 ];
 
 fn main(rt: HostRuntime) -> ExitCode {
@@ -79,8 +93,8 @@ where
 {
     let tally = done(rt, task, output)?;
     writeln!(output, "{tally}")?;
-    match tally {
-        Tally::Cases { differ, .. } if differ > 0 => Err(TrialFault::Differ(differ)),
-        _ => Ok(()),
+    match tally.differ() {
+        0 => Ok(()),
+        differ => Err(TrialFault::Differ(differ)),
     }
 }

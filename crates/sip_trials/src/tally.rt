@@ -8,13 +8,59 @@ use std::fmt;
 pub enum Tally {
     /// Cases that were run, and how many of them ended otherwise, or wrote something else, than
     /// they are to.
-    Cases { cases: u64, differ: u64 },
+    Cases {
+        cases: u64,
+        differ: u64,
+    },
     /// Messages that were read, and their bytes.
-    Read { messages: u64, bytes: u64 },
+    Read {
+        messages: u64,
+        bytes: u64,
+    },
     /// Answers that were written, and their bytes.
-    Answered { answers: u64, bytes: u64 },
+    Answered {
+        answers: u64,
+        bytes: u64,
+    },
     /// What came of requests.
     Served(Served),
+    /// Examples that were run, and how many of them differ.
+    Examples {
+        examples: u64,
+        differ: u64,
+    },
+    /// Runs of a script, and how many of them give another output file.
+    Runs {
+        runs: u64,
+        differ: u64,
+    },
+    /// Calls of devices that were failed in turn.
+    Devices {
+        reads: u64,
+        writes: u64,
+        sends: u64,
+    },
+    /// What was held in one shard, and the numbers of shards, workers and events of a round.
+    Sizes {
+        held: u64,
+        shards: usize,
+        workers: usize,
+        events: u64,
+    },
+    /// One thing was done, and its answer was the right one.
+    Right,
+}
+
+impl Tally {
+    /// How many of what was compared differ.
+    pub fn differ(&self) -> u64 {
+        match self {
+            Tally::Cases { differ, .. }
+            | Tally::Examples { differ, .. }
+            | Tally::Runs { differ, .. } => *differ,
+            _ => 0,
+        }
+    }
 }
 
 /// What came of the requests of a load.
@@ -52,6 +98,29 @@ impl fmt::Display for Tally {
                 f,
                 "{told} told, {answered} answered, {ended} ended, {held} held, {rounds} rounds"
             ),
+            Tally::Examples { examples, differ } => write!(
+                f,
+                "{examples} examples, {differ} differ"
+            ),
+            Tally::Runs { runs, differ } => write!(f, "{runs} runs of a script, {differ} differ"),
+            Tally::Devices {
+                reads,
+                writes,
+                sends,
+            } => write!(
+                f,
+                "{reads} reads, {writes} writes and {sends} sends failed in turn"
+            ),
+            Tally::Sizes {
+                held,
+                shards,
+                workers,
+                events,
+            } => write!(
+                f,
+                "{held} held in one shard, {shards} shards, {workers} workers, {events} events"
+            ),
+            Tally::Right => write!(f, "right"),
         }
     }
 }

@@ -39,6 +39,27 @@ pub enum Task<'a> {
         shards: usize,
         workers: usize,
     },
+    /// All examples.
+    Examples,
+    /// The example of this name alone. Memory may be refused.
+    Example {
+        name: &'a str,
+    },
+    /// The script of a folder of cases, round by round. Memory may be refused.
+    RoundByRound {
+        folder: &'a str,
+    },
+    /// The script in each number of shards and workers, and so often in many.
+    Cuts {
+        folder: &'a str,
+        times: u64,
+    },
+    /// The script over devices that fail.
+    Devices {
+        folder: &'a str,
+    },
+    /// Large numbers of all that there is.
+    Sizes,
 }
 
 /// What the words ask for, without the program's own name.
@@ -66,6 +87,15 @@ pub fn task_of<'a>(words: &[&'a str]) -> Option<Task<'a>> {
             shards: shards.parse().ok()?,
             workers: workers.parse().ok()?,
         }),
+        [name] if *name == "examples" => Some(Task::Examples),
+        [name, example] if *name == "example" => Some(Task::Example { name: *example }),
+        [name, folder] if *name == "round_by_round" => Some(Task::RoundByRound { folder: *folder }),
+        [name, folder, times] if *name == "cuts" => Some(Task::Cuts {
+            folder: *folder,
+            times: number(*times, MAX_COUNT)?,
+        }),
+        [name, folder] if *name == "devices" => Some(Task::Devices { folder: *folder }),
+        [name] if *name == "sizes" => Some(Task::Sizes),
         _ => None,
     }
 }

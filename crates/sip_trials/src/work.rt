@@ -1,9 +1,14 @@
 //! What each task does.
 
 use crate::cases::cases_of;
+use crate::cuts::cuts_of;
+use crate::devices::devices_of;
 use crate::fault::TrialFault;
 use crate::load::Load;
 use crate::messages::{answer_often, read_often};
+use crate::refusals::{example_of, examples_of, round_by_round};
+use crate::script::Script;
+use crate::sizes::sizes_of;
 use crate::tally::Tally;
 use crate::words::Task;
 use sip_program::Host;
@@ -42,6 +47,16 @@ where
             shards,
             workers,
         } => large_rounds(rt, Load::new(rt.alloc(), shards, workers)?, rounds),
+        Task::Examples => examples_of(rt, output),
+        Task::Example { name } => example_of(rt, rt.alloc(), name),
+        Task::RoundByRound { folder } => {
+            round_by_round(rt, rt.alloc(), &Script::read(rt, folder)?)
+        }
+        Task::Cuts { folder, times } => {
+            cuts_of(rt, rt.alloc(), &Script::read(rt, folder)?, times)
+        }
+        Task::Devices { folder } => devices_of(rt, rt.alloc(), &Script::read(rt, folder)?),
+        Task::Sizes => sizes_of(rt, rt.alloc()),
     }
 }
 

@@ -144,22 +144,6 @@ fn a_poster_whose_desk_is_gone(rt: HostRuntime) -> Result<(), Fail> {
     Ok(())
 }
 
-#[test]
-fn a_refusal_of_memory_takes_no_event(rt: HostRuntime) -> Result<(), Fail> {
-    let Ok(lines) = two_lines(rt.alloc(), 2) else {
-        return Ok(());
-    };
-    let (mut desk, mut first, _second) = lines;
-    assert!(rt; first.post((0, 1)).is_ok());
-    assert!(rt; first.post((0, 2)).is_ok());
-    let events = match desk.collect(2) {
-        Ok(events) => events,
-        Err(NoMemory) => desk.collect(2)?,
-    };
-    assert!(rt; events.as_slice() == [(0, 1), (0, 2)].as_slice());
-    Ok(())
-}
-
 // Posts the numbers from 1 on, each again where the line gives it back, and ends the line.
 fn post_numbers(line: usize, mut poster: Poster<Event>) -> Result<Ended<Event>, Unfinished>
     ensures { IfOk result (λ ended. IsEndOfLine poster ended) }

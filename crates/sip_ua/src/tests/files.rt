@@ -1,16 +1,14 @@
-//! What the lines of an output file say that no run of an event file gives yet, faults of event
-//! files that no stored case has, and a reader that counts.
+//! A line of an output file that no event file gives, faults of event files that no stored case has,
+//! and a reader that counts.
 
 use sip_files::{CountedRead, EventsFault, replay, write_outputs};
-use sip_message::{CallId, Id, Spread};
+use sip_message::{CallId, Spread};
 use sip_round::{Gate, Output};
 use sip_served::{Notice, Refusal};
 use sip_text::Text;
 use std::alloc::Global;
 use std::io::{self, Read};
 use std::test::Fail;
-
-const ID: Id = Id { round: 3, place: 2 };
 
 fn call(alloc: Global) -> Result<CallId, Fail> {
     let call_id = CallId::new(Text::copy_of(alloc, b"c1")?).ok_or("a Call-ID")?;
@@ -29,15 +27,6 @@ fn is_told(alloc: Global, notice: Notice, line: &[u8]) -> Result<bool, Fail> {
         .strip_prefix(b"sip-outputs 1\nround 7\n".as_slice())
         .ok_or("the lines before the output")?;
     Ok(told == line)
-}
-
-#[test]
-fn a_cancel_is_told(rt: HostRuntime) -> Result<(), Fail> {
-    let alloc = rt.alloc();
-    let (call_id, id) = (call(alloc)?, ID);
-    let cancel = Notice::Cancel { call_id, id };
-    assert!(rt; is_told(alloc, cancel, b"notice c1 cancel 3.2\n")?);
-    Ok(())
 }
 
 // No event file can use up the numbers of a dialog.

@@ -1,11 +1,10 @@
-//! Rounds over shards and workers: the same bytes however names are cut, pieces are dealt and keys
-//! are moved.
+//! Rounds over shards and workers: pieces that wait for each other, what has ended, and rounds that
+//! are refused.
 
 ghost use Rattle.std.specs.Prelude.{◌<◌, ◌≤◌};
 
-use sip_files::write_outputs;
-use sip_message::{Addr, CallId, Cut, First, Id, Key, Reason, Spread, Token};
-use sip_round::{Agent, Config, Event, Gate, Output, Round, RoundFault};
+use sip_message::{Addr, CallId, First, Id, Reason, Spread};
+use sip_round::{Agent, Config, Event, Gate, Round, RoundFault};
 use sip_served::{Reliability, Respond, UserCommand};
 use sip_text::{Series, Text};
 use std::alloc::Global;
@@ -28,9 +27,6 @@ const CONFIG: Config = Config {
     seed: [0; 32],
     first: 0,
 };
-
-/// How many transactions the script has.
-const KEYS: u32 = 40;
 
 /// A gate that holds no piece of work up.
 struct Open;
@@ -66,149 +62,22 @@ impl Gate for Meeting {
     }
 }
 
-// The request of a transaction of the script: of four methods, several in a call.
-fn request(alloc: Global, key: u32) -> Result<Event, Fail> {
-    let method = match key % 4 {
-        0 => "OPTIONS",
-        1 => "INVITE",
-        2 => "INFO",
-        _ => "MESSAGE",
-    };
-    let call = key % 13;
-    let text = format!(in alloc;
-        "{method} sip:192.0.2.1 SIP/2.0\r\nVia: SIP/2.0/UDP 192.0.2.9;branch=z9hG4bKs{key}\r\n\
-        From: <sip:a@192.0.2.9>;tag=f{key}\r\nTo: <sip:192.0.2.1>\r\nCall-ID: c{call}\r\n\
-        CSeq: 7 {method}\r\nSupported: 100rel\r\n\r\n"
-    )?;
-    let bytes = Text::copy_of(alloc, text.as_bytes())?;
-    Ok(Event::Datagram { from: PEER, bytes })
-}
-
 fn call_id(alloc: Global, number: u32) -> Result<CallId, Fail> {
     let text = format!(in alloc; "c{number}")?;
     let call_id = CallId::new(Text::copy_of(alloc, text.as_bytes())?);
     Ok(call_id.ok_or("a Call-ID")?)
 }
 
-fn answer(alloc: Global, call: u32, id: Id, status: u16) -> Result<Event, Fail> {
+fn answer(alloc: Global, call: u32, id: Id) -> Result<Event, Fail> {
     let reason = Reason::new(Text::copy_of(alloc, b"OK")?).ok_or("a reason")?;
     Ok(Event::Command(UserCommand::Respond(Respond {
         call_id: call_id(alloc, call)?,
         id,
-        status,
+        status: 200,
         reliability: Reliability::Plain,
         body: Text::copy_of(alloc, b"")?,
         reason,
     })))
-}
-
-// What becomes of a transaction in the script's round of this index.
-fn event(alloc: Global, round: u64, key: u32) -> Result<Option<Event>, Fail> {
-    let id = Id {
-        round: 0,
-        place: key % KEYS + 1,
-    };
-    let event = match (round, key % 3) {
-        (0, _) | (1, 0) | (4, _) => request(alloc, key),
-        (1, 1) => answer(alloc, key % 13, id, 180),
-        (2, 1) | (3, 0) => answer(alloc, key % 13, id, 200),
-        (3, 2) => answer(alloc, key % 13, id, 486),
-        (5, 2) => {
-            let branch = format!(in alloc; "z9hG4bKs{key}")?;
-            let method = Token::new(Text::copy_of(alloc, b"INFO")?).ok_or("a method")?;
-            let key = Key::server(alloc, branch.as_bytes(), b"192.0.2.9", 5060, method)?;
-            Ok(Event::Failed(key))
-        }
-        _ => return Ok(None),
-    };
-    Ok(Some(event?))
-}
-
-fn script_round(alloc: Global, index: u64, moment: u64) -> Result<Round, Fail> {
-    let mut events = Series::new(alloc);
-    for key in 0..KEYS {
-        if let Some(event) = event(alloc, index, key)? {
-            events.push(event)?;
-        }
-    }
-    Ok(Round { moment, events })
-}
-
-// The moments of its rounds: repeats fall due between them, and transactions end.
-const MOMENTS: [u64; 9] = [0, 100, 600, 1_700, 33_000, 34_000, 40_000, 66_000, 99_000];
-
-fn script(alloc: Global) -> Result<Vec<Round>, Fail> {
-    let mut rounds = Vec::new(alloc);
-    for (index, moment) in MOMENTS.iter().enumerate() {
-        rounds.push(script_round(alloc, index as u64, *moment)?)?;
-    }
-    Ok(rounds)
-}
-
-// Moves what is held to another number of shards between rounds.
-fn move_between<C: Cut + Drop>(agent: &mut Agent<C>, index: usize) -> Result<(), RoundFault> {
-    match index % 4 {
-        0 => agent.reshard(2),
-        1 => agent.reshard(64),
-        2 => agent.reshard(1),
-        _ => agent.reshard(7),
-    }
-}
-
-// The output file of the script, in so many shards and on so many workers.
-fn file<T: Threads + Sync, C: Cut + Drop>(
-    rt: &T,
-    alloc: Global,
-    rounds: &[Round],
-    shards: usize,
-    workers: usize,
-    cut: C,
-    moving: bool,
-) -> Result<Vec<u8>, Fail>
-    requires some_shard { 0 < shards }
-    requires most_shards { shards ≤ 256 }
-    requires some_worker { 0 < workers }
-    requires most_workers { workers ≤ 64 }
-{
-    let mut agent = Agent::new(alloc, CONFIG, shards, cut)?;
-    let mut told: Vec<(u64, Vec<Output>)> = Vec::new(alloc);
-    for (index, round) in rounds.iter().enumerate() {
-        if moving {
-            move_between(&mut agent, index)?;
-        }
-        let outputs = agent.run_round(rt, round, workers, &Open)?;
-        told.push((round.moment, outputs))?;
-    }
-    Ok(write_outputs(alloc, told.as_slice())?)
-}
-
-#[test]
-fn the_same_bytes_in_any_shards_and_on_any_workers(rt: HostRuntime) -> Result<(), Fail> {
-    let alloc = rt.alloc();
-    let rounds = script(alloc)?;
-    let rounds = rounds.as_slice();
-    let one = file(&rt, alloc, rounds, 1, 1, Spread, false)?;
-    assert!(rt; one.len() > 20_000);
-    for moving in [false, true] {
-        assert!(rt; file(&rt, alloc, rounds, 1, 8, First, moving)? == one);
-        assert!(rt; file(&rt, alloc, rounds, 2, 1, Spread, moving)? == one);
-        assert!(rt; file(&rt, alloc, rounds, 7, 3, Spread, moving)? == one);
-        assert!(rt; file(&rt, alloc, rounds, 7, 2, First, moving)? == one);
-        assert!(rt; file(&rt, alloc, rounds, 64, 8, Spread, moving)? == one);
-    }
-    Ok(())
-}
-
-#[test]
-fn the_same_bytes_each_time(rt: HostRuntime) -> Result<(), Fail> {
-    let alloc = rt.alloc();
-    let rounds = script(alloc)?;
-    let rounds = rounds.get(..3).ok_or("three rounds")?;
-    let one = file(&rt, alloc, rounds, 1, 1, Spread, false)?;
-    for _ in 0..200 {
-        assert!(rt; file(&rt, alloc, rounds, 64, 8, Spread, false)? == one);
-    }
-    Ok(())
 }
 
 // How many pieces of a round without events, in two shards, waited for the other in vain.
@@ -245,7 +114,7 @@ fn answered(alloc: Global, number: u32) -> Result<Round, Fail> {
     let round = u64::from(number);
     let mut events = Series::new(alloc);
     events.push(Event::Datagram { from: PEER, bytes })?;
-    events.push(answer(alloc, number, Id { round, place: 1 }, 200)?)?;
+    events.push(answer(alloc, number, Id { round, place: 1 })?)?;
     let moment = 100 * round;
     Ok(Round { moment, events })
 }

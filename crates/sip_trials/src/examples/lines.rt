@@ -1,0 +1,48 @@
+//! Lines from posters to a desk.
+
+ghost use Rattle.std.specs.Prelude.{IfOk};
+ghost use Rattle.sip_desk.specs.Lines.{IsPosterOf, KeepsLines};
+
+use crate::examples::Examples;
+use crate::stop::{Stop, check};
+use sip_desk::{Desk, NoMemory, Poster, open};
+use std::alloc::Global;
+
+/// How many events the line of a desk has room for.
+const CAPACITY: usize = 2;
+
+pub fn of_lines(alloc: Global, examples: &mut Examples<'_>) {
+    if examples.wants("Desk") {
+        examples.note(a_line_is_settled(alloc));
+    }
+}
+
+// A desk of one line, and its poster.
+fn one_line(alloc: Global) -> Result<(Desk<u8>, Poster<u8>), NoMemory>
+    ensures { IfOk result (λ line. IsPosterOf line.0 line.1) }
+{
+    let (desk, mut posters) = open(alloc, 1, CAPACITY)?;
+    let poster = posters.pop().ok_or(NoMemory)?;
+    Ok((desk, poster))
+}
+
+// The events that are collected are these. Without memory none is taken.
+fn collects(desk: &mut Desk<u8>, events: &[u8]) -> Result<(), Stop>
+    ensures { KeepsLines desk.old desk.new }
+{
+    let collected = match desk.collect(CAPACITY) {
+        Ok(collected) => collected,
+        Err(NoMemory) => desk.collect(CAPACITY)?,
+    };
+    check(collected.as_slice() == events)
+}
+
+fn a_line_is_settled(alloc: Global) -> Result<(), Stop> {
+    let (mut desk, mut poster) = one_line(alloc)?;
+    check(poster.post(1).is_ok())?;
+    check(poster.post(2).is_ok())?;
+    check(poster.post(3) == Err(3))?;
+    let ended = poster.finish()?;
+    collects(&mut desk, b"\x01\x02")?;
+    check(desk.settle(0, ended).is_ok())
+}

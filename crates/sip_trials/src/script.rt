@@ -1,0 +1,44 @@
+//! An event file, and the output file that it gives.
+
+use crate::fault::TrialFault;
+use sip_files::read_events;
+use sip_round::{Config, Round};
+use sip_text::Series;
+use std::alloc::Global;
+use std::fs;
+use std::rt::Files;
+
+/// The name of the script of forty transactions, in the folder of the cases.
+const NAME: &str = "keys/forty-keys";
+
+/// An event file, as text and as it is read, and the output file that it gives.
+#[derive(Drop)]
+pub struct Script {
+    pub events: Vec<u8>,
+    pub outputs: Vec<u8>,
+}
+
+impl Script {
+    /// The script of forty transactions, in this folder of cases.
+    ///
+    /// # Errors
+    ///
+    /// A file that is missing or can't be read, and want of memory.
+    pub fn read<R: Files + AllocGlobal>(rt: &R, folder: &str) -> Result<Script, TrialFault> {
+        let events = format!(in rt.alloc(); "{folder}/{NAME}.events")?;
+        let outputs = format!(in rt.alloc(); "{folder}/{NAME}.outputs")?;
+        Ok(Script {
+            events: fs::read(rt, events.as_str())?,
+            outputs: fs::read(rt, outputs.as_str())?,
+        })
+    }
+
+    /// The configuration and the rounds.
+    ///
+    /// # Errors
+    ///
+    /// `Script` where the text is no event file, and want of memory.
+    pub fn rounds(&self, alloc: Global) -> Result<(Config, Series<Round>), TrialFault> {
+        Ok(read_events(alloc, &self.events)?)
+    }
+}
