@@ -5,6 +5,7 @@ pub mod Beginning
 pub mod CallEvents
 pub mod Climbing
 pub mod Cutting
+pub mod EventRuns
 pub mod EventsRise
 pub mod FewUps
 pub mod GivenNotices

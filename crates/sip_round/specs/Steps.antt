@@ -2,6 +2,8 @@
 pub mod Arrived
 pub mod AllShards
 pub mod Dues
+pub mod EventRuns
 pub mod Led
+pub mod SetOut
 pub mod Transfer
 pub mod Waiting

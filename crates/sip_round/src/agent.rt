@@ -11,16 +11,17 @@ use crate::output::Output;
 use crate::parts::parts_of;
 use crate::phase::tell_of_each;
 use crate::phases::{Arrived, PhaseRunner};
+use crate::reading::set_out_by;
 use crate::round::Round;
 use crate::round_fault::RoundFault;
 use crate::shards::Shards;
-use crate::waiting::set_out;
+use crate::waiting::SetOut;
 use sip_calls::Calls;
 use sip_message::Cut;
 use sip_model::laws_of_phases;
 use sip_transactions::Transactions;
 use sip_workers::{Gate, NoMemory};
-use std::alloc::{AllocError, Global};
+use std::alloc::Global;
 use std::marker::Model;
 use std::thread::Threads;
 
@@ -142,8 +143,8 @@ impl<C: Cut + Drop> Agent<C> {
     }
 
     /// Deals with the events of a round, on up to so many workers, and answers its outputs in stamp
-    /// order. In each phase the gate is told of each shard; one worker, or one shard, starts no
-    /// thread.
+    /// order. In each phase the gate is told of each shard. One worker starts no thread, nor do few
+    /// events in one shard.
     ///
     /// # Errors
     ///
@@ -183,7 +184,7 @@ impl<C: Cut + Drop> Agent<C> {
             self.last_moment = round.moment;
             return Ok(Vec::new(self.alloc));
         }
-        let Ok(arrived) = self.arrived(round) else {
+        let Ok(arrived) = self.arrived(rt, round, workers) else {
             return Err(RoundFault::NoMemory { broken: false });
         };
         match self.deal(rt, round, arrived, workers, gate) {
@@ -284,7 +285,14 @@ impl<C: Cut + Drop> Agent<C> {
     }
 
     // What arrived in the round, read and stamped, and cut into the parts of the shards.
-    fn arrived(&self, round: &Round) -> Result<Arrived, AllocError>
+    fn arrived<R: Threads + Sync>(
+        &self,
+        rt: &R,
+        round: &Round,
+        workers: usize,
+    ) -> Result<Arrived, NoMemory>
+        requires some { 0 < workers }
+        requires most { workers ≤ 64 }
         requires places { length round.now.events ≤ 65536 }
         ensures { IfOk result (λ arrived.
             IfSome self.now.shards (λ shards.
@@ -294,10 +302,16 @@ impl<C: Cut + Drop> Agent<C> {
             (map (λ part. part.items) arrived.0.items) arrived.1.items)) }
     {
         let Some(shards) = &self.shards else {
-            return Err(AllocError);
+            return Err(NoMemory);
         };
-        let events = round.events.as_slice();
-        let (items, waiting) = set_out(self.alloc, self.calls.local, self.next_round, events)?;
+        let SetOut { items, waiting } = set_out_by(
+            rt,
+            self.alloc,
+            self.calls.local,
+            self.next_round,
+            round.events.as_slice(),
+            workers,
+        )?;
         let parts = parts_of(self.alloc, &self.cut, items, shards.count())?;
         Ok((parts, waiting))
     }

@@ -1,13 +1,13 @@
 //! The events of a round: the inputs of transactions, and what waits for what these say.
 
-ghost use Rattle.std.specs.Prelude.{◌≡◌, ◌≤◌, ◌++◌, IfOk, OnOk, length};
+ghost use Rattle.std.specs.Prelude.{◌≡◌, ◌≤◌, ◌+◌, ◌++◌, IfOk, OnOk, length};
 ghost use Rattle.std.specs.List.{flat_map};
 ghost use Rattle.std.specs.Vec.Iter.{into_iter_items};
 ghost use Rattle.sip_model.specs.Groups.{groups};
 ghost use Rattle.sip_round.specs.Arrivals.{arrivals_from};
 ghost use Rattle.sip_round.specs.Outputs.{joined, raised_of, sent_of};
-ghost use Rattle.sip_round.specs.Phases.{transaction_items};
-ghost use Rattle.sip_round.specs.Steps.Waiting.{all_waiting, items_waiting, outs_next, said_rest, by_event};
+ghost use Rattle.sip_round.specs.Steps.SetOut.{IsSetOut};
+ghost use Rattle.sip_round.specs.Steps.Waiting.{items_waiting, outs_next, said_rest, by_event};
 
 use crate::arrival::set_out_event;
 use crate::output::Output;
@@ -31,30 +31,36 @@ pub(crate) enum Waiting {
     User(UserCommand),
 }
 
-/// The events of the round of this number, read and stamped: the inputs of transactions, and what is
-/// left of each event under its id, by place.
+/// Events that were read and stamped.
+#[derive(Drop)]
+pub(crate) struct SetOut {
+    /// The inputs of transactions, by place.
+    pub(crate) items: Vec<model::Item<Key, Input>>,
+    /// What is left of each event under its id, by place.
+    pub(crate) waiting: Vec<(Id, Waiting)>,
+}
+
+/// Events of the round of this number, read and stamped; so many stand before them.
 pub(crate) fn set_out(
     alloc: Global,
     local: Addr,
     round: u64,
+    before: u32,
     events: &[Event],
-) -> Result<(Vec<model::Item<Key, Input>>, Vec<(Id, Waiting)>), AllocError>
-    requires { length events.now ≤ 65536 }
-    ensures items { IfOk result (λ both. both.0.items
-        ≡ transaction_items (arrivals_from local round 1 events.now)) }
-    ensures waiting { IfOk result (λ both. both.1.items
-        ≡ all_waiting (arrivals_from local round 1 events.now)) }
+) -> Result<SetOut, AllocError>
+    requires { before + length events.now ≤ 65536 }
+    ensures { IfOk result (IsSetOut (arrivals_from local round (before + 1) events.now)) }
 {
     let mut items = Vec::with_capacity(alloc, events.len())?;
     let mut waiting = Vec::with_capacity(alloc, events.len())?;
-    let mut place = 0;
+    let mut place = before;
     for event in events {
         place += 1;
         let id = Id { round, place };
         let left = set_out_event(alloc, local, id, event, &mut items)?;
         waiting.push((id, left))?;
     }
-    Ok((items, waiting))
+    Ok(SetOut { items, waiting })
 }
 
 /// The outputs of the first phase of the round of this number, and the items of the calls: those of

@@ -1,4 +1,4 @@
-use Rattle.std.proofs.Common.{◌+◌, [], ◌∷◌, ◌++◌, ◌∙◌, ap, refl}
+use Rattle.std.proofs.Common.{◌+◌, [], ◌∷◌, ◌++◌, ◌∙◌, ap, refl, arith}
 use Rattle.sip_message.specs.declared.id.Id.{Id}
 use Rattle.sip_round.specs.Arrivals.{arrival_of, arrivals_from}
 use Rattle.sip_round.specs.Phases.{transaction_item, transaction_items}
@@ -14,10 +14,10 @@ loop-event-preserved c =
     let events = c.args.events.now in
     let id : Id = record { round = round; place = place } in
     let arrival = arrival_of local id c.event-item.result in
-    let all = arrivals_from local round 1 events in
+    let all = arrivals_from local round (c.args.before + 1) events in
     let next = next_arrival local round place c.loop-event.event-index c.event-item.result events
     c.loop-event-test.true c.event-item.is in (
-      ap (λ n. n + 1) c.loop-event.invariant.0,
+      omega (arith, c.loop-event.invariant.0),
       further transaction_items (id, arrival) (transaction_item id arrival) c.loop-event.items.items
           c.set_out_event.new.items.items (transaction_items all) next refl
           c.in_ok-left.ensures.items c.loop-event.invariant.1,

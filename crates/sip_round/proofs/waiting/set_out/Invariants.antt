@@ -8,7 +8,7 @@ use Rattle.sip_round.proofs.waiting.set_out.Given as goal
 abbrev pub invariant-loop-event : goal.invariant-loop-event
 invariant-loop-event l =
     let left = arrivals_from l.local l.round (l.place + 1) (drop l.event-index l.events) in
-    let all = arrivals_from l.local l.round 1 l.events in
-    (l.place ≡ l.event-index)
+    let all = arrivals_from l.local l.round (l.before + 1) l.events in
+    (l.place ≡ l.before + l.event-index)
     × (l.items.items ++ transaction_items left ≡ transaction_items all)
     × (l.waiting.items ++ all_waiting left ≡ all_waiting all)

@@ -11,19 +11,21 @@ pub returns : goal.returns
 returns g c =
     let shard_of = g.C.Cut.shard_of in
     let inside = c.self.inside in
+    let out = c.in_ok-items.field-0 in
     let parts = map (λ part. part.items) c.in_ok-parts.parts.items in
     let here = arrived_here (λ n. owner_of (shard_of inside.cut) branch_in n) c.count.result
     (length c.in-Some.shards.transactions) inside.calls.local
-    inside.next_round c.args.round.now.events c.as_slice-events.result.now
-    c.in_ok-items.items.items parts c.in_ok-items.waiting.items
-    c.count.ensures.count c.as_slice-events.ensures c.in_ok-items.ensures.items c.in_ok-items.ensures.waiting c.in_ok-parts.ensures in
+    inside.next_round c.args.round.now.events c.as_slice.result.now
+    out.items.items parts out.waiting.items
+    c.count.ensures.count c.as_slice.ensures c.in_ok-items.ensures.items_are
+    c.in_ok-items.ensures.waiting_are c.in_ok-parts.ensures in
     subst (λ agent. IfSome agent.shards
     (λ shards. IsArrived (owner_of (shard_of agent.cut) branch_in (length shards.transactions))
     (length shards.transactions)
     (arrivals_from agent.calls.local agent.next_round 1 c.args.round.now.events) parts
-    c.in_ok-items.waiting.items)) c.self.view_is
+    out.waiting.items)) c.self.view_is
     (subst (λ held. IfSome held (λ shards.
     IsArrived (owner_of (shard_of inside.cut) branch_in (length shards.transactions))
     (length shards.transactions)
     (arrivals_from inside.calls.local inside.next_round 1 c.args.round.now.events) parts
-    c.in_ok-items.waiting.items)) (sym c.in-Some.is) here)
+    out.waiting.items)) (sym c.in-Some.is) here)
