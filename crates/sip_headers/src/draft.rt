@@ -1,12 +1,13 @@
 //! All header lines of a message, by header.
-ghost use Rattle.std.specs.Prelude.{◌≡◌, IfOk, OnOk, Some, true, is_some};
+ghost use Rattle.std.specs.Prelude.{◌≡◌, [], ◌∷◌, IfOk, OnOk, Some, true, is_some};
+ghost use Rattle.std.specs.Option.{option_map};
 ghost use Rattle.sip_headers.specs.Complete as complete;
 ghost use Rattle.sip_headers.specs.Draft as drafts;
 ghost use Rattle.sip_headers.specs.Numbers as numbered;
 
 use crate::header_line::{LineClass, class_of};
 use crate::numbers::{Numbers, rack_with};
-use crate::slot::{Slot, listed, meet, meet_list};
+use crate::slot::{Slot, read_list, read_once};
 use sip_message::{CSeq, Header, Message, NameAddr, Party, StartLine, Vias};
 use sip_parts::{CallId, HeaderName, HeaderValue, OtherName, Token};
 use sip_text::{Series, Text, token_eq};
@@ -109,40 +110,49 @@ impl Draft {
         ensures { OnOk result (self.new ≡ drafts.with_value self.old header text.now) }
     {
         match header {
-            HeaderName::Via => meet_list::<ViaDraft, ViaListRow>(alloc, &mut self.vias, text),
-            HeaderName::MaxForwards => meet::<NumberRow>(alloc, &mut self.max_forwards, text),
-            HeaderName::From => meet::<PartyRow>(alloc, &mut self.from, text),
-            HeaderName::To => meet::<PartyRow>(alloc, &mut self.to, text),
-            HeaderName::CallId => meet::<CallIdRow>(alloc, &mut self.call_id, text),
-            HeaderName::CSeq => meet::<CSeqRow>(alloc, &mut self.cseq, text),
+            HeaderName::Via => read_list::<ViaDraft, ViaListRow>(alloc, &mut self.vias, text),
+            HeaderName::MaxForwards => read_once::<NumberRow>(alloc, &mut self.max_forwards, text),
+            HeaderName::From => read_once::<PartyRow>(alloc, &mut self.from, text),
+            HeaderName::To => read_once::<PartyRow>(alloc, &mut self.to, text),
+            HeaderName::CallId => read_once::<CallIdRow>(alloc, &mut self.call_id, text),
+            HeaderName::CSeq => read_once::<CSeqRow>(alloc, &mut self.cseq, text),
             HeaderName::Contact => {
-                meet_list::<NameAddr, AddressListRow>(alloc, &mut self.contacts, text)
+                read_list::<NameAddr, AddressListRow>(alloc, &mut self.contacts, text)
             }
             HeaderName::RecordRoute => {
-                meet_list::<NameAddr, AddressListRow>(alloc, &mut self.record_routes, text)
+                read_list::<NameAddr, AddressListRow>(alloc, &mut self.record_routes, text)
             }
-            HeaderName::Route => meet_list::<NameAddr, AddressListRow>(
+            HeaderName::Route => read_list::<NameAddr, AddressListRow>(
                 alloc,
                 &mut self.routes,
                 text,
             ),
-            HeaderName::Require => meet_list::<Token, TokenListRow>(alloc, &mut self.require, text),
-            HeaderName::Supported => meet_list::<Token, TokenListRow>(
+            HeaderName::Require => read_list::<Token, TokenListRow>(alloc, &mut self.require, text),
+            HeaderName::Supported => read_list::<Token, TokenListRow>(
                 alloc,
                 &mut self.supported,
                 text,
             ),
-            HeaderName::RSeq => meet::<NumberRow>(alloc, &mut self.rseq, text),
-            HeaderName::RAck => meet::<RAckRow>(alloc, &mut self.rack, text),
-            HeaderName::ContentLength => meet::<NumberRow>(alloc, &mut self.content_length, text),
+            HeaderName::RSeq => read_once::<NumberRow>(alloc, &mut self.rseq, text),
+            HeaderName::RAck => read_once::<RAckRow>(alloc, &mut self.rack, text),
+            HeaderName::ContentLength => read_once::<NumberRow>(
+                alloc,
+                &mut self.content_length,
+                text,
+            ),
         }
     }
 
     fn add_other(&mut self, alloc: Global, name: &[u8], value: &[u8]) -> Result<(), AllocError>
         ensures { OnOk result (self.new ≡ drafts.with_other self.old name.now value.now) }
     {
-        let header = other_in(alloc, name, value)?;
-        self.others = listed(self.others.take(), header)?;
+        let Some(header) = other_in(alloc, name, value)? else {
+            self.others = None;
+            return Ok(());
+        };
+        if let Some(others) = &mut self.others {
+            others.push(header)?;
+        }
         Ok(())
     }
 
@@ -214,8 +224,9 @@ impl<T: Drop> Slot<T> {
 }
 
 /// A list of the one header.
-fn other_in(alloc: Global, name: &[u8], value: &[u8]) -> Result<Option<Series<Header>>, AllocError>
-    ensures { IfOk result (λ made. made ≡ drafts.other_from name.now value.now) }
+fn other_in(alloc: Global, name: &[u8], value: &[u8]) -> Result<Option<Header>, AllocError>
+    ensures { IfOk result (λ made. option_map (λ header. header ∷ []) made
+        ≡ drafts.other_from name.now value.now) }
 {
     let Some(name) = OtherName::new(Text::copy_of(alloc, long_name(name))?) else {
         return Ok(None);
@@ -223,9 +234,7 @@ fn other_in(alloc: Global, name: &[u8], value: &[u8]) -> Result<Option<Series<He
     let Some(value) = HeaderValue::new(Text::copy_of(alloc, value)?) else {
         return Ok(None);
     };
-    let mut one = Series::new(alloc);
-    one.push(Header { name, value })?;
-    Ok(Some(one))
+    Ok(Some(Header { name, value }))
 }
 
 /// The long name where the name is one of three compact names.

@@ -17,4 +17,4 @@ pub use folding::{Whole, gather, whole_line};
 pub use header_line::{LineClass, class_of};
 pub use laws::{what_headers_are, what_is_gathered, what_is_missing, what_is_repeated};
 pub use numbers::{Numbers, with_ports};
-pub use slot::{Slot, meet, meet_list};
+pub use slot::{Slot, read_list, read_once};

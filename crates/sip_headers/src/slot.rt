@@ -5,7 +5,6 @@ ghost use Rattle.sip_headers.specs.Slot as slots;
 use sip_text::Series;
 use sip_values::Row;
 use std::alloc::{AllocError, Global};
-use std::mem;
 
 /// The value of a header that stands at most once, as far as its lines were met.
 #[derive(Drop)]
@@ -20,31 +19,28 @@ pub enum Slot<T> {
     Bad,
 }
 
-impl<T: Drop> Slot<T> {
-    /// One more line, and its value where it is in the form.
-    fn met(self, value: Option<T>) -> Slot<T>
-        ensures { result ≡ slots.met self value }
-    {
-        match (self, value) {
-            (Slot::Bad, _) | (_, None) => Slot::Bad,
-            (Slot::Absent, Some(value)) => Slot::Once(value),
-            (Slot::Once(_), Some(_)) | (Slot::Twice, Some(_)) => Slot::Twice,
-        }
-    }
-}
-
 /// Reads one more line of a header that stands at most once.
-pub fn meet<R: Row>(alloc: Global, slot: &mut Slot<R::Value>, text: &[u8]) -> Result<(), AllocError>
+pub fn read_once<R: Row>(
+    alloc: Global,
+    slot: &mut Slot<R::Value>,
+    text: &[u8],
+) -> Result<(), AllocError>
     ensures { OnOk result (slot.new ≡ slots.met slot.old (R.reads text.now)) }
 {
-    let value = R::read(alloc, text)?;
-    let before = mem::replace(slot, Slot::Absent);
-    *slot = before.met(value);
+    let Some(value) = R::read(alloc, text)? else {
+        *slot = Slot::Bad;
+        return Ok(());
+    };
+    match slot {
+        Slot::Absent => *slot = Slot::Once(value),
+        Slot::Once(_) | Slot::Twice => *slot = Slot::Twice,
+        Slot::Bad => {}
+    }
     Ok(())
 }
 
 /// Reads one more line of a list. None where a line isn't in the form.
-pub fn meet_list<T: Drop, R: Row<Value = Series<T>>>(
+pub fn read_list<T: Drop, R: Row<Value = Series<T>>>(
     alloc: Global,
     values: &mut Option<Series<T>>,
     text: &[u8],
@@ -57,7 +53,7 @@ pub fn meet_list<T: Drop, R: Row<Value = Series<T>>>(
 }
 
 /// Both lists, or None where one of them is None.
-pub(crate) fn listed<T: Drop>(
+fn listed<T: Drop>(
     before: Option<Series<T>>,
     more: Option<Series<T>>,
 ) -> Result<Option<Series<T>>, AllocError>
