@@ -1,5 +1,5 @@
 -- Lines are read one after the other, with those that go on with them.
-use Rattle.std.proofs.Common.{◌≡◌, ℕ, zero, suc, Bool, true, false, cond, eqb, ◌&&◌, List, [], ◌∷◌, ◌++◌, length, take, Option, Some, None, fold, refl, sym, subst, ap, ◌∙◌, ◌-◌, slice_index, arith}
+use Rattle.std.proofs.Common.{◌≡◌, ℕ, zero, suc, Bool, true, false, cond, eqb, ◌&&◌, List, [], ◌∷◌, ◌++◌, length, take, Option, Some, None, refl, sym, subst, ap, ◌∙◌, ◌-◌, slice_index, arith}
 use Rattle.std.specs.List.{list_all, slice_split, onto_first, join_with_byte}
 use Rattle.std.specs.Option.{option_map}
 use Rattle.std.specs.Str.Lines.{strip_carriage_return}
@@ -14,7 +14,7 @@ use Rattle.sip_text.specs.Unfolded.{begins_blank, joined}
 use Rattle.sip_text.proofs.LineParts.{at_lf, longer, split_at, slice_split-cut_at}
 use Rattle.sip_text.proofs.Separators.{mapped}
 use Rattle.sip_headers.specs.Draft.{with_line}
-use Rattle.sip_headers.specs.Folding.{Section, with_line_of, section_from, section_at, whole_section, onto_section, behind_line}
+use Rattle.sip_headers.specs.Folding.{Section, with_line_of, section_from, section_at, whole_section, onto_section, behind_line, drafted_on}
 use Rattle.sip_headers.specs.declared.draft.Draft.{Draft}
 
 -- ---- the lines of a text
@@ -105,9 +105,6 @@ pub ends_unended : (line text : List ℕ) → line_at text ≡ None
 ends_unended line text e = rw (no_line text e) refl
 
 -- ---- the header lines
-
-abbrev pub drafted_on : Draft → Option Section → Option (Draft × List ℕ)
-drafted_on draft section = option_map (λ s. (fold with_line draft s.0, s.1)) section
 
 pub section_ends : (draft : Draft) (text line after : List ℕ) (total : Option (Draft × List ℕ))
     → line_at text ≡ Some (line, after) → line ≡ []

@@ -17,7 +17,7 @@ use Rattle.sip_headers.specs.Headers.{AreHeaders, Headers, IsOther}
 use Rattle.sip_headers.specs.HeaderLine.{IsHeaderLine}
 use Rattle.sip_headers.specs.Named.{IsSomeHeaderLine}
 use Rattle.sip_headers.specs.Presence.{slot_presence, list_presence, presence_of, is_unfit, has_bad_header, missing, repeated}
-use Rattle.sip_headers.specs.Section.{IsDraftOf, has_bad_line, has_no_values, others_of, values}
+use Rattle.sip_headers.specs.Section.{IsDraftOf, has_bad_line, has_no_values, values}
 use Rattle.sip_headers.specs.Slot.{HasBad, IsSlot, IsList}
 use Rattle.sip_headers.specs.declared.draft.Draft.{Draft}
 use Rattle.sip_headers.specs.declared.slot.Slot.{Slot}

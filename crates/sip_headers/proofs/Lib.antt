@@ -1,6 +1,7 @@
 mod Names
 pub mod Drafts
 pub mod Folds
+pub mod PlainLines
 pub mod Presences
 pub mod Completes
 pub mod Eaches

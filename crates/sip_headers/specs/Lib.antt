@@ -1,5 +1,6 @@
 pub mod Slot
 pub mod HeaderLine
+pub mod PlainLine
 pub mod Named
 pub mod Draft
 pub mod Section

@@ -3,6 +3,7 @@ ghost use Rattle.std.specs.Prelude.{◌≡◌, [], ◌∷◌, IfOk, OnOk, Some, 
 ghost use Rattle.std.specs.Option.{option_map};
 ghost use Rattle.sip_headers.specs.Complete as complete;
 ghost use Rattle.sip_headers.specs.Draft as drafts;
+ghost use Rattle.sip_headers.specs.HeaderLine.{class_now};
 ghost use Rattle.sip_headers.specs.Numbers as numbered;
 
 use crate::header_line::{LineClass, class_of};
@@ -91,7 +92,18 @@ impl Draft {
     pub fn add(&mut self, alloc: Global, line: &[u8]) -> Result<(), AllocError>
         ensures { OnOk result (self.new ≡ drafts.with_line self.old line.now) }
     {
-        match class_of(line) {
+        self.add_class(alloc, class_of(line))
+    }
+
+    /// Adds what a line of this class says.
+    pub(crate) fn add_class(
+        &mut self,
+        alloc: Global,
+        class: LineClass<'_>,
+    ) -> Result<(), AllocError>
+        ensures { OnOk result (self.new ≡ drafts.with_class self.old (class_now class.entry)) }
+    {
+        match class {
             LineClass::Bad => {
                 self.is_bad = true;
                 Ok(())

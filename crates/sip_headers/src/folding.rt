@@ -7,6 +7,7 @@ ghost use Rattle.sip_headers.specs.Folding as folding;
 ghost use Rattle.sip_headers.specs.Whole.{whole_now};
 
 use crate::draft::Draft;
+use crate::header_line::plain_line;
 use sip_text::{begins_blank, next_line, trimmed_end, trimmed_start};
 use std::alloc::{AllocError, Global};
 
@@ -95,14 +96,29 @@ pub fn gather(alloc: Global, text: &[u8]) -> Result<Option<(Draft, &[u8])>, Allo
         ≡ folding.gathered_at text.now) }
 {
     let mut draft = Draft::new(alloc);
-    let mut rest = text;
+    let mut rest = add_plain(alloc, &mut draft, text)?;
     while let Some((line, after)) = next_line(rest) {
         if line.is_empty() {
             return Ok(Some((draft, after)));
         }
         let (whole, after) = whole_line(alloc, line, after)?;
         draft.add(alloc, whole.as_slice())?;
-        rest = after;
+        rest = add_plain(alloc, &mut draft, after)?;
     }
     Ok(None)
+}
+
+/// Adds the header lines that stand in the text as they are, as far as one follows another, and gives
+/// the text behind them.
+fn add_plain<'a>(alloc: Global, draft: &mut Draft, text: &'a [u8]) -> Result<&'a [u8], AllocError>
+    ensures same { IfOk result (λ rest. folding.drafted_at draft.new rest.now
+        ≡ folding.drafted_at draft.old text.now) }
+    ensures shorter { IfOk result (λ rest. length rest.now ≤ length text.now) }
+{
+    let mut rest = text;
+    while let Some((class, after)) = plain_line(rest) {
+        draft.add_class(alloc, class)?;
+        rest = after;
+    }
+    Ok(rest)
 }

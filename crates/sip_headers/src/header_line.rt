@@ -1,10 +1,14 @@
 //! Header lines (RFC 3261, sections 7.3.1 and 7.3.3).
-ghost use Rattle.std.specs.Prelude.{◌≡◌};
+ghost use Rattle.std.specs.Prelude.{◌≡◌, IfSome, Some};
+ghost use Rattle.std.specs.Option.{option_copied};
 ghost use Rattle.sip_headers.specs.HeaderLine as header_lines;
+ghost use Rattle.sip_headers.specs.PlainLine as plain;
+ghost use Rattle.sip_parts.specs.HeaderEntry.{header_named};
 ghost use Rattle.sip_text.specs.Cut.{both_now};
 
+use memchr::memchr2;
 use sip_parts::{HeaderName, has_no_line_byte};
-use sip_text::{Separator, TokenBytes, is_token, run_before, trimmed, trimmed_end};
+use sip_text::{Separator, TokenBytes, begins_blank, is_token, run_before, trimmed, trimmed_end};
 
 /// What a header line is.
 #[derive(Clone, Copy)]
@@ -23,10 +27,83 @@ pub fn class_of(line: &[u8]) -> LineClass<'_>
 {
     match parts_of(line) {
         None => LineClass::Bad,
-        Some((name, value)) => match HeaderName::of(name) {
-            None => LineClass::Other(name, value),
-            Some(header) => LineClass::Known(header, value),
-        },
+        Some((name, value)) => class_named(name, value),
+    }
+}
+
+fn class_named<'a>(name: &'a [u8], value: &'a [u8]) -> LineClass<'a>
+    ensures { header_lines.class_now result
+        ≡ header_lines.class_by_name name.now value.now (header_named name.now) }
+{
+    match header_of(name) {
+        None => LineClass::Other(name, value),
+        Some(header) => LineClass::Known(header, value),
+    }
+}
+
+fn header_of(name: &[u8]) -> Option<HeaderName>
+    ensures { result ≡ header_named name.now }
+{
+    match short_header(name) {
+        Some(header) => Some(header),
+        None => HeaderName::of(name),
+    }
+}
+
+/// The header whose long name is written so, where it is one of four short ones.
+#[tactic(auto, unfolding(sip_parts::specs::HeaderEntry::is_named))]
+fn short_header(name: &[u8]) -> Option<HeaderName>
+    ensures { IfSome result (λ header. header_named name.now ≡ Some header) }
+{
+    match name {
+        [b'V', b'i', b'a'] => Some(HeaderName::Via),
+        [b'F', b'r', b'o', b'm'] => Some(HeaderName::From),
+        [b'T', b'o'] => Some(HeaderName::To),
+        [b'C', b'S', b'e', b'q'] => Some(HeaderName::CSeq),
+        _ => None,
+    }
+}
+
+/// What the first line of the text is, and what follows it, where it is a header line that stands in
+/// the text as it is. None where it is none, or has to be looked at more closely.
+pub(crate) fn plain_line(text: &[u8]) -> Option<(LineClass<'_>, &[u8])>
+    ensures { IfSome result (λ found.
+        plain.IsPlainLine text.now (header_lines.class_now found.0) found.1.now) }
+{
+    let (name, rest) = run_before::<TokenBytes>(b':', text)?;
+    let (value, after) = before_line_end(rest)?;
+    if begins_blank(after) {
+        return None;
+    }
+    Some((class_named(name, trimmed(value)), after))
+}
+
+/// What stands before the first CR or LF, and the text behind it, where it ends a line.
+fn before_line_end(text: &[u8]) -> Option<(&[u8], &[u8])>
+    ensures { IfSome result (λ parts. plain.IsPlainEnd text.now parts.0.now parts.1.now) }
+{
+    let place = memchr2(b'\r', b'\n', text)?;
+    let (line, rest) = text.split_at(place);
+    let after = behind_line_end(rest)?;
+    Some((line, after))
+}
+
+/// What stands behind CR LF or LF, with which the text begins.
+fn behind_line_end(text: &[u8]) -> Option<&[u8]>
+    ensures { option_copied result ≡ plain.behind_line_end text.now }
+{
+    match text {
+        [b'\r', after @ ..] => behind_feed(after),
+        _ => behind_feed(text),
+    }
+}
+
+fn behind_feed(text: &[u8]) -> Option<&[u8]>
+    ensures { option_copied result ≡ plain.behind_feed text.now }
+{
+    match text {
+        [b'\n', after @ ..] => Some(after),
+        _ => None,
     }
 }
 

@@ -1,7 +1,14 @@
-use Rattle.std.proofs.Common.{sym, ◌∙◌}
+use Rattle.std.proofs.Common.{ap, sym, ◌∙◌}
+use Rattle.sip_headers.specs.Folding.{drafted_at}
 use Rattle.sip_headers.specs.Whole.{whole_now}
+use Rattle.sip_headers.specs.declared.draft.Draft.{Draft}
 use Rattle.sip_headers.proofs.Folds.{section_ends, section_goes_on, section_stops, is_empty_text, is_full_text}
 use Rattle.sip_headers.proofs.folding.gather.Goals as goal
+
+pub loop-line-init : goal.loop-line-init
+loop-line-init c =
+    c.in_ok-rest.ensures.same
+    ∙ ap (λ (d : Draft). drafted_at d c.args.text.now) c.new-draft.ensures
 
 pub returns-then-is_empty : goal.returns-then-is_empty
 returns-then-is_empty c =
@@ -11,7 +18,8 @@ returns-then-is_empty c =
 
 pub loop-line-preserved : goal.loop-line-preserved
 loop-line-preserved c =
-    rw (c.in_ok-add.ensures, c.as_slice.ensures)
+    c.in_ok-rest-2.ensures.same
+    ∙ rw (c.in_ok-add.ensures, c.as_slice.ensures)
     (section_goes_on c.loop-line.draft c.loop-line.rest.now c.in-Some.line.now c.in-Some.after.now
     (whole_now c.in_ok-whole.whole) c.in_ok-whole.after.now _ (sym c.in-Some.ensures.parts)
     (is_full_text c.in-Some.line.now (sym c.is_empty.ensures ∙ c.if-is_empty.false))
