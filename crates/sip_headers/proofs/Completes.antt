@@ -107,7 +107,7 @@ headers_there d bad none single =
       },
     )
 
-complete_with : (h : Headers) → IsComplete (draft_with h)
+pub complete_with : (h : Headers) → IsComplete (draft_with h)
 complete_with h = record {
   vias = refl;
   from = refl;

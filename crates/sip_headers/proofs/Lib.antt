@@ -8,6 +8,7 @@ pub mod Eaches
 pub mod NamedLines
 pub mod OthersFit
 pub mod HeaderSets
+pub mod OneLooks
 pub mod HeaderNumbers
 pub mod HeaderFaults
 pub mod WrittenValues

@@ -10,5 +10,6 @@ pub mod Whole
 pub mod Presence
 pub mod Headers
 pub mod Complete
+pub mod OneLook
 pub mod Numbers
 pub mod Faults

@@ -15,10 +15,10 @@ use std::alloc::Global;
 use std::marker::Model;
 use std::mem;
 
-/// A draft without a fault. A contract sees it as the draft.
+/// A draft without a fault, on the heap. A contract sees it as the draft.
 #[derive(Drop)]
 pub struct Faultless {
-    draft: Draft,
+    draft: Box<Draft>,
 }
 
 impl Model for Faultless {
@@ -27,29 +27,27 @@ impl Model for Faultless {
 
     ghost Value = { Draft };
 
-    ghost view = { λ a. a.draft };
+    ghost view = { λ a. a.draft.value };
 
-    ghost invariant = { λ a. IsComplete a.draft };
+    ghost invariant = { λ a. IsComplete a.draft.value };
 }
 
-impl Draft {
+impl Faultless {
     /// The draft, where it has no fault.
     ///
     /// # Errors
     ///
     /// BadHeader where a line is no header line, or a value isn't in its header's form; Missing for
     /// the first header that isn't there; Repeated for the first that is there twice.
-    pub fn into_faultless(self) -> Result<Faultless, ReadFault>
-        ensures { result ≡ complete.faultless self }
+    pub fn new(draft: Box<Draft>) -> Result<Faultless, ReadFault>
+        ensures { result ≡ complete.faultless draft.value }
     {
-        match self.fault() {
+        match draft.fault() {
             Some(fault) => Err(fault),
-            None => Ok(Faultless { draft: self }),
+            None => Ok(Faultless { draft }),
         }
     }
-}
 
-impl Faultless {
     /// The numbers, or None where a word in a number's place isn't one.
     pub fn numbers(&self) -> Option<Numbers>
         ensures { result ≡ numbered.numbers_in self.now }
@@ -79,6 +77,6 @@ impl Faultless {
     pub fn into_message(self, start: StartLine, vias: Vias, numbers: Numbers, body: Text) -> Message
         ensures { numbered.message_with start vias numbers self body ≡ Some result }
     {
-        self.draft.into_message(start, vias, numbers, body)
+        Box::into_inner(self.draft).into_message(start, vias, numbers, body)
     }
 }

@@ -1,6 +1,7 @@
 //! Headers that are missing, or stand in a message more often than they may.
-ghost use Rattle.std.specs.Prelude.{◌≡◌, find, ◌&&◌, IfNone};
+ghost use Rattle.std.specs.Prelude.{◌≡◌, find, ◌&&◌, IfNone, is_some};
 ghost use Rattle.sip_headers.specs.Complete as complete;
+ghost use Rattle.sip_headers.specs.OneLook as one_look;
 ghost use Rattle.std.specs.List.{list_any};
 ghost use Rattle.sip_parts.specs.HeaderEntry as table;
 ghost use Rattle.sip_headers.specs.Presence as presence;
@@ -54,6 +55,19 @@ impl<T> Slot<T> {
             Slot::Twice => Presence::Repeated,
             Slot::Bad => Presence::Unfit,
         }
+    }
+
+    fn is_once(&self) -> bool
+        ensures { result ≡ is_some (complete.once self.now) }
+    {
+        matches!(self, Slot::Once(_))
+    }
+
+    /// Whether it stands at most once, in its form.
+    fn is_at_most_once(&self) -> bool
+        ensures { result ≡ one_look.is_at_most_once self.now }
+    {
+        matches!(self, Slot::Absent | Slot::Once(_))
     }
 }
 
@@ -117,6 +131,9 @@ impl Draft {
         ensures first { result ≡ complete.fault_in self.now }
         ensures complete { IfNone result (complete.IsComplete self.now) }
     {
+        if self.is_whole() {
+            return None;
+        }
         if self.has_bad_header() {
             return Some(ReadFault::BadHeader);
         }
@@ -127,6 +144,34 @@ impl Draft {
                 None => None,
             },
         }
+    }
+
+    /// Whether each line is a header line, and each header stands as it may, in one look at each.
+    fn is_whole(&self) -> bool
+        ensures { result ≡ one_look.is_whole self.now }
+    {
+        !self.is_bad
+            && self.others.is_some()
+            && self.has_needed()
+            && self.max_forwards.is_at_most_once()
+            && self.content_length.is_at_most_once()
+            && self.rseq.is_at_most_once()
+            && self.rack.is_at_most_once()
+            && self.contacts.is_some()
+            && self.record_routes.is_some()
+            && self.routes.is_some()
+            && self.require.is_some()
+            && self.supported.is_some()
+    }
+
+    fn has_needed(&self) -> bool
+        ensures { result ≡ one_look.has_needed self.now }
+    {
+        matches!(list_presence(&self.vias), Presence::Fitting)
+            && self.from.is_once()
+            && self.to.is_once()
+            && self.call_id.is_once()
+            && self.cseq.is_once()
     }
 
     /// The first header that each message has and that isn't there.

@@ -89,21 +89,36 @@ fn without_blank_end(mut line: Vec<u8>) -> Vec<u8>
     line
 }
 
-/// What the header lines say, and the text behind the empty line that ends them. None without an
-/// empty line.
-pub fn gather(alloc: Global, text: &[u8]) -> Result<Option<(Draft, &[u8])>, AllocError>
-    ensures { IfOk result (λ found. option_map (λ g. (g.0, g.1.now)) found
+/// What the header lines say, on the heap, and the text behind the empty line that ends them. None
+/// without an empty line.
+pub fn gather(alloc: Global, text: &[u8]) -> Result<Option<(Box<Draft>, &[u8])>, AllocError>
+    ensures { IfOk result (λ found. option_map (λ g. (g.0.value, g.1.now)) found
         ≡ folding.gathered_at text.now) }
 {
-    let mut draft = Draft::new(alloc);
-    let mut rest = add_plain(alloc, &mut draft, text)?;
+    let mut draft = Box::new(alloc, Draft::new(alloc))?;
+    let Some(rest) = add_section(alloc, &mut draft, text)? else {
+        return Ok(None);
+    };
+    Ok(Some((draft, rest)))
+}
+
+/// Adds the header lines, and gives the text behind the empty line that ends them.
+fn add_section<'a>(
+    alloc: Global,
+    draft: &mut Draft,
+    text: &'a [u8],
+) -> Result<Option<&'a [u8]>, AllocError>
+    ensures { IfOk result (λ found. option_map (λ after. (draft.new, after.now)) found
+        ≡ folding.drafted_at draft.old text.now) }
+{
+    let mut rest = add_plain(alloc, draft, text)?;
     while let Some((line, after)) = next_line(rest) {
         if line.is_empty() {
-            return Ok(Some((draft, after)));
+            return Ok(Some(after));
         }
         let (whole, after) = whole_line(alloc, line, after)?;
         draft.add(alloc, whole.as_slice())?;
-        rest = add_plain(alloc, &mut draft, after)?;
+        rest = add_plain(alloc, draft, after)?;
     }
     Ok(None)
 }

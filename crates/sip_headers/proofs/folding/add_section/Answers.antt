@@ -1,14 +1,10 @@
-use Rattle.std.proofs.Common.{ap, sym, ◌∙◌}
-use Rattle.sip_headers.specs.Folding.{drafted_at}
+use Rattle.std.proofs.Common.{sym, ◌∙◌}
 use Rattle.sip_headers.specs.Whole.{whole_now}
-use Rattle.sip_headers.specs.declared.draft.Draft.{Draft}
 use Rattle.sip_headers.proofs.Folds.{section_ends, section_goes_on, section_stops, is_empty_text, is_full_text}
-use Rattle.sip_headers.proofs.folding.gather.Goals as goal
+use Rattle.sip_headers.proofs.folding.add_section.Goals as goal
 
 pub loop-line-init : goal.loop-line-init
-loop-line-init c =
-    c.in_ok-rest.ensures.same
-    ∙ ap (λ (d : Draft). drafted_at d c.args.text.now) c.new-draft.ensures
+loop-line-init c = c.in_ok-rest.ensures.same
 
 pub returns-then-is_empty : goal.returns-then-is_empty
 returns-then-is_empty c =

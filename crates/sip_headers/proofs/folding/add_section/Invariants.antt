@@ -1,9 +1,9 @@
 use Rattle.std.proofs.Common.{◌≡◌, length}
-use Rattle.sip_headers.specs.Folding.{drafted_at, gathered_at}
-use Rattle.sip_headers.proofs.folding.gather.Given as goal
+use Rattle.sip_headers.specs.Folding.{drafted_at}
+use Rattle.sip_headers.proofs.folding.add_section.Given as goal
 
 abbrev pub invariant-loop-line : goal.invariant-loop-line
-invariant-loop-line l = drafted_at l.draft l.rest ≡ gathered_at l.text
+invariant-loop-line l = drafted_at l.draft l.rest ≡ drafted_at l.fn.draft l.text
 
 abbrev pub decreases-loop-line : goal.decreases-loop-line
 decreases-loop-line l = length l.rest
