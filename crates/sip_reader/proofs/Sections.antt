@@ -1,12 +1,19 @@
 -- What is gathered of the lines behind the start line.
-use Rattle.std.proofs.Common.{◌≡◌, ℕ, List, Option, Some, None, Err, refl, sym, ap, ◌∙◌}
+use Rattle.std.proofs.Common.{◌≡◌, ℕ, false, List, length, Option, Some, None, Err, refl, sym, ap, ◌∙◌}
+use Rattle.std.specs.Prelude.{nat_lt}
 use Rattle.std.specs.Option.{option_map}
 use Rattle.sip_text.specs.Line.{line_at}
 use Rattle.sip_message.specs.declared.fault.ReadFault.TheVariants as fault
 use Rattle.sip_headers.specs.Draft.{draft_of}
 use Rattle.sip_headers.specs.Folding.{Section, section_at, onto_section, behind_line, whole_section, gathered_at}
 use Rattle.sip_headers.specs.declared.draft.Draft.{Draft}
-use Rattle.sip_reader.specs.ReadMessage.{◌>>=◌, or_fault, message_of_lines, message_of_section, message_in}
+use Rattle.sip_reader.specs.ReadMessage.{◌>>=◌, or_fault, message_of_lines, message_of_section, message_in, message_at}
+use Rattle.sip_reader.specs.SkippedEnds.{without_line_ends}
+
+-- a text that isn't too long, without the line ends before it
+pub short_text : (text front : List ℕ) → nat_lt 65535 (length text) ≡ false
+    → front ≡ without_line_ends text → message_at text ≡ message_in front
+short_text text front short is = rw (short, is) refl
 
 abbrev drafted : Section → Draft × List ℕ
 drafted s = (draft_of s.0, s.1)

@@ -7,7 +7,6 @@ ghost use Rattle.sip_reader.specs.Faults.{TellsFault};
 ghost use Rattle.sip_reader.specs.ReadMessage as reading;
 ghost use Rattle.sip_reader.specs.Spells.{Spells, Answers};
 
-use crate::first_line::FirstLine;
 use crate::layout::without_line_ends;
 use crate::start_reader::start_of;
 use sip_headers::{Draft, Faultless, Numbers, gather, whole_line, with_ports};
@@ -37,13 +36,21 @@ pub fn read(alloc: Global, text: &[u8]) -> Result<Message, ReadFault>
     read_text(alloc, text)
 }
 
+#[tactic(auto, unfolding(crate::specs::ReadMessage::message_in))]
 fn read_text(alloc: Global, text: &[u8]) -> Result<Message, ReadFault>
     ensures { reading.Gives result (reading.message_at text.now) }
 {
     if is_too_long(text) {
         return Err(ReadFault::TooLong);
     }
-    read_lines(alloc, without_line_ends(text))
+    let Some((line, after)) = next_line(without_line_ends(text)) else {
+        return Err(ReadFault::NoEmptyLine);
+    };
+    let (start_line, after) = whole_line(alloc, line, after)?;
+    let Some((draft, rest)) = gather(alloc, after)? else {
+        return Err(ReadFault::NoEmptyLine);
+    };
+    message_of(alloc, start_line.as_slice(), draft, rest)
 }
 
 fn is_too_long(text: &[u8]) -> bool
@@ -52,44 +59,25 @@ fn is_too_long(text: &[u8]) -> bool
     text.len() > MAX_BYTES
 }
 
-#[tactic(auto, unfolding(crate::specs::ReadMessage::message_in))]
-fn read_lines(alloc: Global, text: &[u8]) -> Result<Message, ReadFault>
-    ensures { reading.Gives result (reading.message_in text.now) }
-{
-    let Some((line, after)) = next_line(text) else {
-        return Err(ReadFault::NoEmptyLine);
-    };
-    let (start_line, after) = whole_line(alloc, line, after)?;
-    let Some((draft, rest)) = gather(alloc, after)? else {
-        return Err(ReadFault::NoEmptyLine);
-    };
-    read_section(alloc, start_line.as_slice(), draft, rest)
-}
-
-#[tactic(auto, unfolding(crate::specs::ReadMessage::message_of_lines))]
-fn read_section(
+#[tactic(
+    auto,
+    unfolding(
+        crate::specs::ReadMessage::message_of_lines,
+        crate::specs::ReadMessage::message_of_draft,
+    )
+)]
+fn message_of(
     alloc: Global,
     start_line: &[u8],
-    draft: Draft,
+    draft: Box<Draft>,
     rest: &[u8],
 ) -> Result<Message, ReadFault>
-    ensures { reading.Gives result (reading.message_of_lines start_line.now draft rest.now) }
+    ensures { reading.Gives result (reading.message_of_lines start_line.now draft.value rest.now) }
 {
     let Some(start) = start_of(alloc, start_line)? else {
         return Err(ReadFault::BadStartLine);
     };
-    message_of(alloc, start, draft.into_faultless()?, rest)
-}
-
-#[tactic(auto, unfolding(crate::specs::ReadMessage::message_of_draft))]
-fn message_of(
-    alloc: Global,
-    start: FirstLine,
-    mut draft: Faultless,
-    rest: &[u8],
-) -> Result<Message, ReadFault>
-    ensures { reading.Gives result (reading.message_of_draft start draft rest.now) }
-{
+    let mut draft = Faultless::new(draft)?;
     let numbers = numbers_of(&draft)?;
     let vias = vias_of(alloc, draft.take_vias(alloc))?;
     let start = start.fitting(draft.method())?;

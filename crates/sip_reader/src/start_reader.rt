@@ -2,14 +2,14 @@
 ghost use Rattle.std.specs.Prelude.{◌≡◌, ◌≤◌, IfOk};
 ghost use Rattle.sip_reader.specs.ReadStart as reading;
 
-use crate::first_line::FirstLine;
-use sip_parts::{Reason, RequestUri, StatusCode, Token};
-use sip_text::{Text, cut, number_u32, token_eq};
+use crate::first_line::{FirstLine, Method};
+use sip_parts::{Reason, RequestUri, StatusCode};
+use sip_text::{Text, cut, is_token, number_u32, token_eq};
 use std::alloc::{AllocError, Global};
 
 /// What the start line says, or None where it is neither a request line nor a status line.
 #[tactic(auto, unfolding(crate::specs::ReadStart::start_at))]
-pub(crate) fn start_of(alloc: Global, line: &[u8]) -> Result<Option<FirstLine>, AllocError>
+pub(crate) fn start_of(alloc: Global, line: &[u8]) -> Result<Option<FirstLine<'_>>, AllocError>
     ensures { IfOk result (λ start. start ≡ reading.start_at line.now) }
 {
     let Some((first, rest)) = cut(b' ', line) else {
@@ -23,7 +23,11 @@ pub(crate) fn start_of(alloc: Global, line: &[u8]) -> Result<Option<FirstLine>, 
 }
 
 #[tactic(auto, unfolding(crate::specs::ReadStart::request_at))]
-fn request_line(alloc: Global, method: &[u8], rest: &[u8]) -> Result<Option<FirstLine>, AllocError>
+fn request_line<'a>(
+    alloc: Global,
+    method: &'a [u8],
+    rest: &[u8],
+) -> Result<Option<FirstLine<'a>>, AllocError>
     ensures { IfOk result (λ start. start ≡ reading.request_at method.now rest.now) }
 {
     let Some((uri, version)) = cut(b' ', rest) else {
@@ -32,17 +36,20 @@ fn request_line(alloc: Global, method: &[u8], rest: &[u8]) -> Result<Option<Firs
     if !token_eq(version, b"SIP/2.0") {
         return Ok(None);
     }
-    let Some(method) = Token::new(Text::copy_of(alloc, method)?) else {
+    if !is_token(method) {
         return Ok(None);
-    };
+    }
     let Some(uri) = RequestUri::new(Text::copy_of(alloc, uri)?) else {
         return Ok(None);
     };
-    Ok(Some(FirstLine::Request { method, uri }))
+    Ok(Some(FirstLine::Request {
+        method: Method::new(method),
+        uri,
+    }))
 }
 
 #[tactic(auto, unfolding(crate::specs::ReadStart::status_at))]
-fn status_line(alloc: Global, text: &[u8]) -> Result<Option<FirstLine>, AllocError>
+fn status_line<'a>(alloc: Global, text: &[u8]) -> Result<Option<FirstLine<'a>>, AllocError>
     ensures { IfOk result (λ start. start ≡ reading.status_at text.now) }
 {
     let (code, after) = text.split_at(text.len().min(3));
