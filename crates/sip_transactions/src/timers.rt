@@ -7,6 +7,7 @@ ghost use Rattle.sip_transactions.specs.Timers.{interval, rearmed, first_due, Is
 use crate::step::{Due, Pace};
 use sip_timers::{LIFETIME, T1, earlier};
 use std::marker::Model;
+use std::mem::replace;
 
 /// T2, the greatest interval where intervals are capped, in ms (RFC 3261, section 17.1.2.2; so is
 /// T4).
@@ -68,6 +69,16 @@ impl Timers {
         ensures { result ≡ is_due now self.now.repeat }
     {
         is_due(now, self.repeat)
+    }
+
+    /// Takes the due moments after a row at a moment.
+    pub fn rearm(&mut self, due: Due, now: u64)
+        requires bound { now ≤ 2 ^ 62 }
+        requires timely { IsTimely due now self.old }
+        ensures { self.new ≡ rearmed due now self.old }
+    {
+        let before = replace(self, Timers::new());
+        *self = before.rearmed(due, now);
     }
 
     /// The due moments after a row at a moment.
