@@ -1,6 +1,6 @@
 //! The machine of one key, as code.
 
-ghost use Rattle.std.specs.Prelude.{◌≡◌, ◌≤◌, ◌^◌, ℕ, List, Option, IfOk, IsOk, Some};
+ghost use Rattle.std.specs.Prelude.{◌≡◌, ◌≤◌, ◌^◌, ℕ, List, Option, IfOk, IsOk, Some, None, if◌then◌else◌};
 ghost use Rattle.std.proofs.lemmas.Map.Lookups.{CmpEqualImpliesEq};
 ghost use Rattle.sip_timers.specs.Queue.{IsClonedAlike};
 ghost use Rattle.sip_model.specs.Machine.{Machine, Timed, IsIdle, given_at, next, adds, tick_at};
@@ -17,7 +17,7 @@ pub trait StateMachine {
 
     type Output: Drop;
 
-    /// The machine that `step` and `tick` compute.
+    /// The machine that `begin`, `step` and `tick` compute.
     ghost machine: { Self → Machine Self.Key Self.State (Timed Self.Input) Self.Output };
 
     /// The moment in ms at which something is due of a state, if ever.
@@ -26,20 +26,35 @@ pub trait StateMachine {
     fn due_of(&self, state: &Self::State) -> Option<u64>
         ensures { result ≡ due state.now };
 
-    /// What an input at a moment in ms makes of a key's state, and what it adds.
-    fn step(
+    /// What an input at a moment in ms makes of a key without a state, and what it adds.
+    fn begin(
         &self,
         alloc: Global,
         key: &Self::Key,
-        state: Option<Self::State>,
         moment: u64,
         input: Self::Input,
     ) -> Result<(Option<Self::State>, Vec<Self::Output>), AllocError>
         requires { moment ≤ 2 ^ 62 }
         ensures next { IfOk result (λ after. after.0
-            ≡ next (machine self.now) key.now state (given_at moment input)) }
+            ≡ next (machine self.now) key.now None (given_at moment input)) }
         ensures adds { IfOk result (λ after. after.1.items
-            ≡ adds (machine self.now) key.now state (given_at moment input)) };
+            ≡ adds (machine self.now) key.now None (given_at moment input)) };
+
+    /// Changes a key's state, where it stands, as an input at a moment in ms does. Gives whether
+    /// there is a state after it, and what it adds.
+    fn step(
+        &self,
+        alloc: Global,
+        key: &Self::Key,
+        state: &mut Self::State,
+        moment: u64,
+        input: Self::Input,
+    ) -> Result<(bool, Vec<Self::Output>), AllocError>
+        requires { moment ≤ 2 ^ 62 }
+        ensures next { IfOk result (λ after. (if after.0 then Some state.new else None)
+            ≡ next (machine self.now) key.now (Some state.old) (given_at moment input)) }
+        ensures adds { IfOk result (λ after. after.1.items
+            ≡ adds (machine self.now) key.now (Some state.old) (given_at moment input)) };
 
     /// What a moment in ms makes of a key's state, and what it adds, where time alone goes on.
     fn tick(

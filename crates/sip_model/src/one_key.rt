@@ -1,7 +1,6 @@
 //! One input of one key, among the states that are held and their due moments.
 
-ghost use Rattle.std.specs.Prelude.{◌≡◌, ◌≤◌, ◌^◌, ℕ, Option, None, Some, true, IfOk, IfSome, OnOk, cond};
-ghost use Rattle.std.specs.declared.cmp.Ordering.TheVariants.{Equal};
+ghost use Rattle.std.specs.Prelude.{◌≡◌, ◌≤◌, ◌^◌, ℕ, Option, None, Some, true, IfOk, OnOk, cond};
 ghost use Rattle.std.specs.Option.{option_copied};
 ghost use Rattle.std.specs.BTreeMap.{get, is_at};
 ghost use Rattle.sip_timers.specs.Index.{IsIndexOf, with_moment};
@@ -33,10 +32,43 @@ pub(crate) fn step_key<M: StateMachine>(
     ensures added { IfOk result (λ outputs. outputs.items
         ≡ adds (M.machine machine.now) key (get M.Key.cmp states.old key) (given_at now input)) }
 {
-    let (held, state) = taken(states, &key);
-    let former = due_moment(machine, state.as_ref());
-    let (after, outputs) = machine.step(alloc, &key, state, now, input)?;
-    put_back(machine, states, dues, key, held, former, after)?;
+    let Some(state) = states.get_mut(&key) else {
+        return begin_key(alloc, machine, states, dues, key, now, input);
+    };
+    let former = machine.due_of(state);
+    let (stays, outputs) = machine.step(alloc, &key, state, now, input)?;
+    let due = if stays { machine.due_of(state) } else { None };
+    if !stays {
+        states.remove(&key);
+    }
+    set_due(dues, key, former, due)?;
+    Ok(outputs)
+}
+
+// Gives a key that isn't held an input at a moment in ms, and answers what its machine says.
+fn begin_key<M: StateMachine>(
+    alloc: Global,
+    machine: &M,
+    states: &mut BTreeMap<M::Key, M::State>,
+    dues: &mut Schedule<M::Key>,
+    key: M::Key,
+    now: u64,
+    input: M::Input,
+) -> Result<Vec<M::Output>, AllocError>
+    requires moment { now ≤ 2 ^ 62 }
+    requires armed { AreDues M.Key.cmp M.due (get M.Key.cmp states.old) dues.old }
+    requires absent { (q : M.Key) → is_at (M.Key.cmp key) q ≡ true
+        → get M.Key.cmp states.old q ≡ None }
+    ensures states { OnOk result ((q : M.Key) → get M.Key.cmp states.new q
+        ≡ cond (is_at (M.Key.cmp key) q)
+        (next (M.machine machine.now) key None (given_at now input))
+        (get M.Key.cmp states.old q)) }
+    ensures armed { OnOk result (AreDues M.Key.cmp M.due (get M.Key.cmp states.new) dues.new) }
+    ensures added { IfOk result (λ outputs. outputs.items
+        ≡ adds (M.machine machine.now) key None (given_at now input)) }
+{
+    let (after, outputs) = machine.begin(alloc, &key, now, input)?;
+    put_back(machine, states, dues, key, None, after)?;
     Ok(outputs)
 }
 
@@ -89,37 +121,31 @@ pub(crate) fn hold_key<M: StateMachine>(
         (get M.Key.cmp states.old q)) }
     ensures armed { OnOk result (AreDues M.Key.cmp M.due (get M.Key.cmp states.new) dues.new) }
 {
-    let (held, before) = taken(states, &key);
+    let before = taken(states, &key);
     let former = due_moment(machine, before.as_ref());
-    put_back(machine, states, dues, key, held, former, Some(state))?;
+    put_back(machine, states, dues, key, former, Some(state))?;
     Ok(())
 }
 
-// The key and the state that are held for a key, taken out.
-fn taken<K: Ord, S>(states: &mut BTreeMap<K, S>, key: &K) -> (Option<K>, Option<S>)
-    ensures key { IfSome result.0 (λ held. K.cmp key.now held ≡ Equal) }
-    ensures state { result.1 ≡ get K.cmp states.old key.now }
+// The state that is held for a key, taken out.
+fn taken<K: Ord + Drop, S>(states: &mut BTreeMap<K, S>, key: &K) -> Option<S>
+    ensures state { result ≡ get K.cmp states.old key.now }
     ensures states { (q : K) → get K.cmp states.new q
         ≡ cond (is_at (K.cmp key.now) q) None (get K.cmp states.old q) }
 {
-    match states.remove_entry(key) {
-        None => (None, None),
-        Some((held, state)) => (Some(held), Some(state)),
-    }
+    states.remove(key)
 }
 
 // Holds the state that a key is left with, if there is one, and arms it for the moment at which
-// something is due of it, in place of the former. The key is copied where its state begins.
+// something is due of it, in place of the former. The key is copied where that moment is another.
 fn put_back<M: StateMachine>(
     machine: &M,
     states: &mut BTreeMap<M::Key, M::State>,
     dues: &mut Schedule<M::Key>,
     key: M::Key,
-    held: Option<M::Key>,
     former: Option<u64>,
     state: Option<M::State>,
 ) -> Result<(), AllocError>
-    requires same { IfSome held (λ held. M.Key.cmp key held ≡ Equal) }
     requires absent { (q : M.Key) → is_at (M.Key.cmp key) q ≡ true
         → get M.Key.cmp states.old q ≡ None }
     ensures states { OnOk result ((q : M.Key)
@@ -133,18 +159,10 @@ fn put_back<M: StateMachine>(
         return set_due(dues, key, former, None);
     };
     let due = machine.due_of(&state);
-    match held {
-        Some(held) => {
-            set_due(dues, key, former, due)?;
-            states.insert(held, state)?;
-        }
-        None => {
-            if former != due {
-                set_due(dues, copy_of::<M>(&key)?, former, due)?;
-            }
-            states.insert(key, state)?;
-        }
+    if former != due {
+        set_due(dues, copy_of::<M>(&key)?, former, due)?;
     }
+    states.insert(key, state)?;
     Ok(())
 }
 

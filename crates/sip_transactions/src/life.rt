@@ -1,8 +1,8 @@
 //! What is held of a transaction.
 
-ghost use Rattle.std.specs.Prelude.{◌≡◌, ◌≤◌, ◌^◌, None};
+ghost use Rattle.std.specs.Prelude.{◌≡◌, ◌≤◌, ◌^◌, None, Some, if◌then◌else◌};
 ghost use Rattle.std.specs.Option.{option_copied};
-ghost use Rattle.sip_transactions.specs.Life.{life_by, life_after, entered, last_of};
+ghost use Rattle.sip_transactions.specs.Life.{life_by, life_after};
 ghost use Rattle.sip_transactions.specs.Timers.{IsTimely, no_dues};
 
 use crate::state::State;
@@ -55,37 +55,24 @@ impl Life {
         }
     }
 
-    /// The life after a row that made a message of these bytes, if it goes on.
+    /// Goes on by a row that made a message of these bytes. Says whether the life goes on.
     #[tactic(auto, unfolding(crate::specs::Life::life_after))]
-    pub(crate) fn after(self, step: Step, now: u64, made: Option<Text>) -> Option<Life>
+    pub(crate) fn go_on(&mut self, step: Step, now: u64, made: Option<Text>) -> bool
         requires bound { now ≤ 2 ^ 62 }
-        requires timely { IsTimely step.due now self.timers }
-        ensures { result ≡ life_after self step now made }
+        requires timely { IsTimely step.due now self.old.timers }
+        ensures { (if result then Some self.new else None) ≡ life_after self.old step now made }
     {
-        let life = with_last(made, self);
-        let timers = life.timers.rearmed(step.due, now);
-        entered(step.next, Life { timers, ..life })
-    }
-}
-
-fn with_last(made: Option<Text>, life: Life) -> Life
-    ensures { result ≡ last_of made life }
-{
-    match made {
-        None => life,
-        Some(bytes) => Life {
-            last: Some(bytes),
-            ..life
-        },
-    }
-}
-
-fn entered(next: Next, life: Life) -> Option<Life>
-    ensures { result ≡ entered next life }
-{
-    match next {
-        Next::Same => Some(life),
-        Next::Ended => None,
-        Next::Become(state) => Some(Life { state, ..life }),
+        if let Some(bytes) = made {
+            self.last = Some(bytes);
+        }
+        self.timers.rearm(step.due, now);
+        match step.next {
+            Next::Same => true,
+            Next::Ended => false,
+            Next::Become(state) => {
+                self.state = state;
+                true
+            }
+        }
     }
 }

@@ -55,7 +55,7 @@ fn act(
     alloc: Global,
     key: &Key,
     now: u64,
-    life: Life,
+    mut life: Life,
     step: Step,
     made: Option<Text>,
     arrived: Option<(Boxed<Message>, Addr)>,
@@ -66,10 +66,31 @@ fn act(
     ensures adds { IfOk result (λ after. after.1.items
         ≡ outputs_of key.now life step made arrived) }
 {
+    let (goes_on, outputs) = act_on(alloc, key, now, &mut life, step, made, arrived)?;
+    Ok((if goes_on { Some(life) } else { None }, outputs))
+}
+
+// The same at a life where it stands. Gives whether it goes on, and what the row says.
+fn act_on(
+    alloc: Global,
+    key: &Key,
+    now: u64,
+    life: &mut Life,
+    step: Step,
+    made: Option<Text>,
+    arrived: Option<(Boxed<Message>, Addr)>,
+) -> Result<(bool, Vec<Out>), AllocError>
+    requires bound { now ≤ 2 ^ 62 }
+    requires timely { IsTimely step.due now life.old.timers }
+    ensures next { IfOk result (λ after. (if after.0 then Some life.new else None)
+        ≡ life_after life.old step now made) }
+    ensures adds { IfOk result (λ after. after.1.items
+        ≡ outputs_of key.now life.old step made arrived) }
+{
     // The copy has no spare room, which what is written has.
     let kept = made.clone()?;
-    let outputs = said(alloc, key, &life, step, made, arrived)?;
-    Ok((life.after(step, now, kept), outputs))
+    let outputs = said(alloc, key, life, step, made, arrived)?;
+    Ok((life.go_on(step, now, kept), outputs))
 }
 
 // A row at the life that is held.
@@ -78,17 +99,18 @@ fn go_on(
     key: &Key,
     now: u64,
     input: Input,
-    life: Life,
+    life: &mut Life,
     step: Step,
-) -> Result<After, AllocError>
+) -> Result<(bool, Vec<Out>), AllocError>
     requires bound { now ≤ 2 ^ 62 }
-    requires timely { IsTimely step.due now life.timers }
-    ensures next { IfOk result (λ after. after.0 ≡ (acted key.now now (Some input) life step).0) }
+    requires timely { IsTimely step.due now life.old.timers }
+    ensures next { IfOk result (λ after. (if after.0 then Some life.new else None)
+        ≡ (acted key.now now (Some input) life.old step).0) }
     ensures adds { IfOk result (λ after. after.1.items
-        ≡ (acted key.now now (Some input) life step).1) }
+        ≡ (acted key.now now (Some input) life.old step).1) }
 {
     let made = made_bytes(alloc, life.request(), step.sent, input.message())?;
-    act(alloc, key, now, life, step, made, input.into_arrived())
+    act_on(alloc, key, now, life, step, made, input.into_arrived())
 }
 
 // A row where no life is held.
@@ -234,27 +256,44 @@ impl StateMachine for Transactions {
     }
 
     #[tactic(auto, unfolding(crate::specs::Life::stepped))]
-    fn step(
+    fn begin(
         &self,
         alloc: Global,
         key: &Key,
-        state: Option<Life>,
         moment: u64,
         input: Input,
     ) -> Result<(Option<Life>, Vec<Out>), AllocError>
         requires { moment ≤ 2 ^ 62 }
         ensures next { IfOk result (λ after. after.0
-            ≡ (stepped key.now state (given_at moment input)).0) }
+            ≡ (stepped key.now None (given_at moment input)).0) }
         ensures adds { IfOk result (λ after. after.1.items
-            ≡ (stepped key.now state (given_at moment input)).1) }
+            ≡ (stepped key.now None (given_at moment input)).1) }
     {
-        let Some(step) = step_for(key, state.as_ref(), moment, Some(&input)) else {
-            return Ok((state, Vec::new(alloc)));
+        let Some(step) = step_for(key, None, moment, Some(&input)) else {
+            return Ok((None, Vec::new(alloc)));
         };
-        match state {
-            None => begin(alloc, key, moment, input, step),
-            Some(life) => go_on(alloc, key, moment, input, life, step),
-        }
+        begin(alloc, key, moment, input, step)
+    }
+
+    #[tactic(auto, unfolding(crate::specs::Life::stepped))]
+    fn step(
+        &self,
+        alloc: Global,
+        key: &Key,
+        state: &mut Life,
+        moment: u64,
+        input: Input,
+    ) -> Result<(bool, Vec<Out>), AllocError>
+        requires { moment ≤ 2 ^ 62 }
+        ensures next { IfOk result (λ after. (if after.0 then Some state.new else None)
+            ≡ (stepped key.now (Some state.old) (given_at moment input)).0) }
+        ensures adds { IfOk result (λ after. after.1.items
+            ≡ (stepped key.now (Some state.old) (given_at moment input)).1) }
+    {
+        let Some(step) = step_for(key, Some(state), moment, Some(&input)) else {
+            return Ok((true, Vec::new(alloc)));
+        };
+        go_on(alloc, key, moment, input, state, step)
     }
 
     #[tactic(auto, unfolding(crate::specs::Life::stepped))]

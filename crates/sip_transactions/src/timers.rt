@@ -70,35 +70,39 @@ impl Timers {
         is_due(now, self.repeat)
     }
 
-    /// The due moments after a row at a moment.
-    pub fn rearmed(self, due: Due, now: u64) -> Self
+    /// Takes the due moments after a row at a moment.
+    pub fn rearm(&mut self, due: Due, now: u64)
         requires bound { now ≤ 2 ^ 62 }
-        requires timely { IsTimely due now self }
-        ensures { result ≡ rearmed due now self }
+        requires timely { IsTimely due now self.old }
+        ensures { self.new ≡ rearmed due now self.old }
     {
         match due {
-            Due::Keep => self,
-            Due::Clear => Timers::new(),
-            Due::Ending(after) => Timers {
-                repeat: None,
-                fired: 0,
-                ending: Some(now + u64::from(after)),
-            },
-            Due::Both => Timers {
-                repeat: Some(now + u64::from(T1)),
-                fired: 0,
-                ending: Some(now + u64::from(LIFETIME)),
-            },
-            Due::Again(pace) => self.again(pace, now),
+            Due::Keep => {}
+            Due::Clear => *self = Timers::new(),
+            Due::Ending(after) => {
+                *self = Timers {
+                    repeat: None,
+                    fired: 0,
+                    ending: Some(now + u64::from(after)),
+                };
+            }
+            Due::Both => {
+                *self = Timers {
+                    repeat: Some(now + u64::from(T1)),
+                    fired: 0,
+                    ending: Some(now + u64::from(LIFETIME)),
+                };
+            }
+            Due::Again(pace) => *self = self.again(pace, now),
         }
     }
 
-    // The repeat fires.
-    fn again(self, pace: Pace, now: u64) -> Self
+    // The due moments once the repeat fires.
+    fn again(&self, pace: Pace, now: u64) -> Self
         requires bound { now ≤ 2 ^ 62 }
-        requires due { is_due now self.repeat ≡ true }
-        requires before_end { is_due now self.ending ≡ false }
-        ensures { result ≡ rearmed (Due.Again pace) now self }
+        requires due { is_due now self.now.repeat ≡ true }
+        requires before_end { is_due now self.now.ending ≡ false }
+        ensures { result ≡ rearmed (Due.Again pace) now self.now }
     {
         let fired = self.fired + 1;
         Timers {

@@ -1,4 +1,4 @@
-use Rattle.std.proofs.Common.{◌≡◌, Some, rules}
+use Rattle.std.proofs.Common.{◌≡◌, Some, refl, rules}
 use Rattle.std.specs.BTreeMap.{get}
 use Rattle.sip_model.specs.Machine.{due_of}
 use Rattle.sip_model.proofs.OneKey.{dues_after}
@@ -10,7 +10,7 @@ returns-clause-armed g c =
     let due = g.M.StateMachine.due in
     let old = get cmp c.args.states.now in
     let former : due_of due (old c.args.key) ≡ c.due_moment-former.result = search rules in
-    dues_after cmp due c.args.key (Some c.args.state) old (get cmp c.taken-held.new.states)
-    (get cmp c.put_back.new.states) c.put_back.new.dues c.taken-held.ensures.states
-    c.in_ok-put_back.ensures.states
+    dues_after cmp due c.args.key (Some c.args.state) (due c.args.state) old
+    (get cmp c.put_back.new.states) c.put_back.new.dues refl
+    (λ q. search rules)
     (c.in_ok-put_back.ensures.dues (λ q. due_of due (old q)) c.requires former)

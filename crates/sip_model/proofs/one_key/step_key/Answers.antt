@@ -1,16 +1,22 @@
-use Rattle.std.proofs.Common.{◌≡◌, ap, sym, ◌∙◌, rules}
+use Rattle.std.proofs.Common.{◌≡◌, rules}
 use Rattle.std.specs.BTreeMap.{get}
-use Rattle.sip_model.specs.Machine.{due_of}
+use Rattle.sip_model.specs.Machine.{due_of, given_at, next}
 use Rattle.sip_model.proofs.OneKey.{dues_after}
 use Rattle.sip_model.proofs.one_key.step_key.Goals as goal
+use Rattle.sip_model.proofs.one_key.step_key.Goals.{then-stays, else-stays}
 
 pub returns-clause-armed : goal.returns-clause-armed
 returns-clause-armed g c =
     let cmp = g.M.Key.Ord.cmp in
     let due = g.M.StateMachine.due in
+    let key = c.args.key in
     let old = get cmp c.args.states.now in
-    let former : due_of due (old c.args.key) ≡ c.due_moment-former.result = search rules in
-    dues_after cmp due c.args.key c.in_ok-after.after old (get cmp c.taken-held.new.states)
-    (get cmp c.put_back.new.states) c.put_back.new.dues c.taken-held.ensures.states
-    c.in_ok-put_back.ensures.states
-    (c.in_ok-put_back.ensures.dues (λ q. due_of due (old q)) c.requires.armed former)
+    let after = next (g.M.StateMachine.machine c.args.machine.now) key (old key)
+    (given_at c.args.now c.args.input) in
+    let former : due_of due (old key) ≡ c.due_of-former.result = search rules in
+    let same : c.if-stays.due ≡ due_of due after =
+    elim c.if-stays.branch [ then-stays w ↦ search rules | else-stays w ↦ search rules ] in
+    dues_after cmp due key after c.if-stays.due old
+    (get cmp c.if-not-stays.states) c.set_due.new.dues same
+    (λ q. search rules)
+    (c.in_ok-set_due.ensures (λ q. due_of due (old q)) c.requires.armed former)

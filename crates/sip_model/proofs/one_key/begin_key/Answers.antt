@@ -1,0 +1,16 @@
+use Rattle.std.proofs.Common.{◌≡◌, None, refl, rules}
+use Rattle.std.specs.BTreeMap.{get}
+use Rattle.sip_model.specs.Machine.{due_of}
+use Rattle.sip_model.proofs.OneKey.{dues_after}
+use Rattle.sip_model.proofs.one_key.begin_key.Goals as goal
+
+pub returns-clause-armed : goal.returns-clause-armed
+returns-clause-armed g c =
+    let cmp = g.M.Key.Ord.cmp in
+    let due = g.M.StateMachine.due in
+    let old = get cmp c.args.states.now in
+    let former : due_of due (old c.args.key) ≡ None = search rules in
+    dues_after cmp due c.args.key c.in_ok-after.after (due_of due c.in_ok-after.after) old
+    (get cmp c.put_back.new.states) c.put_back.new.dues refl
+    c.in_ok-put_back.ensures.states
+    (c.in_ok-put_back.ensures.dues (λ q. due_of due (old q)) c.requires.armed former)
