@@ -1,5 +1,5 @@
 //! Header lines (RFC 3261, sections 7.3.1 and 7.3.3).
-ghost use Rattle.std.specs.Prelude.{◌≡◌, IfSome, Some};
+ghost use Rattle.std.specs.Prelude.{◌≡◌, IfSome};
 ghost use Rattle.std.specs.Option.{option_copied};
 ghost use Rattle.sip_headers.specs.HeaderLine as header_lines;
 ghost use Rattle.sip_headers.specs.PlainLine as plain;
@@ -35,32 +35,9 @@ fn class_named<'a>(name: &'a [u8], value: &'a [u8]) -> LineClass<'a>
     ensures { header_lines.class_now result
         ≡ header_lines.class_by_name name.now value.now (header_named name.now) }
 {
-    match header_of(name) {
+    match HeaderName::of(name) {
         None => LineClass::Other(name, value),
         Some(header) => LineClass::Known(header, value),
-    }
-}
-
-fn header_of(name: &[u8]) -> Option<HeaderName>
-    ensures { result ≡ header_named name.now }
-{
-    match short_header(name) {
-        Some(header) => Some(header),
-        None => HeaderName::of(name),
-    }
-}
-
-/// The header whose long name is written so, where it is one of four short ones.
-#[tactic(auto, unfolding(sip_parts::specs::HeaderEntry::is_named))]
-fn short_header(name: &[u8]) -> Option<HeaderName>
-    ensures { IfSome result (λ header. header_named name.now ≡ Some header) }
-{
-    match name {
-        [b'V', b'i', b'a'] => Some(HeaderName::Via),
-        [b'F', b'r', b'o', b'm'] => Some(HeaderName::From),
-        [b'T', b'o'] => Some(HeaderName::To),
-        [b'C', b'S', b'e', b'q'] => Some(HeaderName::CSeq),
-        _ => None,
     }
 }
 

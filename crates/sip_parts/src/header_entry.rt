@@ -1,6 +1,7 @@
 //! The table of the headers that are read into fields of their own (RFC 3261, sections 7.3.3 and
 //! 20; RFC 3262, section 7).
 ghost use Rattle.std.specs.Prelude.{◌≡◌, ◌==◌, IfNone, IfSome, true};
+ghost use Rattle.std.specs.Option.{option_map};
 ghost use Rattle.sip_parts.specs.HeaderEntry as table;
 
 use crate::header_name::HeaderName;
@@ -24,8 +25,8 @@ pub enum HeaderKind {
 pub struct HeaderEntry {
     /// Its long name, as it is written.
     pub name: &'static str,
-    /// Its compact name: empty where it has none.
-    pub compact: &'static str,
+    /// Its compact name, where it has one.
+    pub compact: Option<&'static str>,
     pub kind: HeaderKind,
 }
 
@@ -54,20 +55,20 @@ impl HeaderName {
         ensures { table.entry_now result ≡ table.entry self }
     {
         let (name, compact, kind) = match self {
-            HeaderName::Via => ("Via", "v", HeaderKind::NeededList),
-            HeaderName::MaxForwards => ("Max-Forwards", "", HeaderKind::AtMostOnce),
-            HeaderName::From => ("From", "f", HeaderKind::Once),
-            HeaderName::To => ("To", "t", HeaderKind::Once),
-            HeaderName::CallId => ("Call-ID", "i", HeaderKind::Once),
-            HeaderName::CSeq => ("CSeq", "", HeaderKind::Once),
-            HeaderName::Contact => ("Contact", "m", HeaderKind::List),
-            HeaderName::RecordRoute => ("Record-Route", "", HeaderKind::List),
-            HeaderName::Route => ("Route", "", HeaderKind::List),
-            HeaderName::Require => ("Require", "", HeaderKind::List),
-            HeaderName::Supported => ("Supported", "k", HeaderKind::List),
-            HeaderName::RSeq => ("RSeq", "", HeaderKind::AtMostOnce),
-            HeaderName::RAck => ("RAck", "", HeaderKind::AtMostOnce),
-            HeaderName::ContentLength => ("Content-Length", "l", HeaderKind::AtMostOnce),
+            HeaderName::Via => ("Via", Some("v"), HeaderKind::NeededList),
+            HeaderName::MaxForwards => ("Max-Forwards", None, HeaderKind::AtMostOnce),
+            HeaderName::From => ("From", Some("f"), HeaderKind::Once),
+            HeaderName::To => ("To", Some("t"), HeaderKind::Once),
+            HeaderName::CallId => ("Call-ID", Some("i"), HeaderKind::Once),
+            HeaderName::CSeq => ("CSeq", None, HeaderKind::Once),
+            HeaderName::Contact => ("Contact", Some("m"), HeaderKind::List),
+            HeaderName::RecordRoute => ("Record-Route", None, HeaderKind::List),
+            HeaderName::Route => ("Route", None, HeaderKind::List),
+            HeaderName::Require => ("Require", None, HeaderKind::List),
+            HeaderName::Supported => ("Supported", Some("k"), HeaderKind::List),
+            HeaderName::RSeq => ("RSeq", None, HeaderKind::AtMostOnce),
+            HeaderName::RAck => ("RAck", None, HeaderKind::AtMostOnce),
+            HeaderName::ContentLength => ("Content-Length", Some("l"), HeaderKind::AtMostOnce),
         };
         HeaderEntry {
             name,
@@ -82,7 +83,7 @@ impl HeaderName {
         ensures { result ≡ table.is_named self name.now }
     {
         let entry = self.entry();
-        token_eq(name, entry.name.as_bytes()) || token_eq(name, entry.compact.as_bytes())
+        token_eq(name, entry.name.as_bytes()) || is_word_of(name, entry.compact)
     }
 
     /// The header of this name, or None where the name is another one.
@@ -102,6 +103,16 @@ impl HeaderName {
             .iter()
             .copied()
             .find(|header| header.is_named(name))
+    }
+}
+
+/// Whether the text is this word, in any case of the letters.
+fn is_word_of(name: &[u8], word: Option<&str>) -> bool
+    ensures { result ≡ table.is_word_of name.now (option_map (λ w. w.now) word.entry) }
+{
+    match word {
+        None => false,
+        Some(word) => token_eq(name, word.as_bytes()),
     }
 }
 
