@@ -91,23 +91,23 @@ whole_draft d whole =
         others = others.0;
       },
       λ i. record {
-          is_bad = not_true d.is_bad first.0 i;
-          vias = vias.1 i;
-          max_forwards = max_forwards.1 i;
-          from = from.1 i;
-          to = to.1 i;
-          call_id = call_id.1 i;
-          cseq = cseq.1 i;
-          contacts = contacts.1 i;
-          record_routes = record_routes.1 i;
-          routes = routes.1 i;
-          require = require.1 i;
-          supported = supported.1 i;
-          rseq = rseq.1 i;
-          rack = rack.1 i;
-          content_length = content_length.1 i;
-          others = others.1 i;
-        },
+        is_bad = not_true d.is_bad first.0 i;
+        vias = vias.1 i;
+        max_forwards = max_forwards.1 i;
+        from = from.1 i;
+        to = to.1 i;
+        call_id = call_id.1 i;
+        cseq = cseq.1 i;
+        contacts = contacts.1 i;
+        record_routes = record_routes.1 i;
+        routes = routes.1 i;
+        require = require.1 i;
+        supported = supported.1 i;
+        rseq = rseq.1 i;
+        rack = rack.1 i;
+        content_length = content_length.1 i;
+        others = others.1 i;
+      },
       vias.2,
     )
 
@@ -120,6 +120,6 @@ whole_faultless d whole =
     let all = whole_draft d whole in
     subst (λ (e : Draft). (fault_in e ≡ None) × IsComplete e) (sym all.1) (
       none_told (fault_in (draft_with all.0)) (draft_with all.0) (draft_with all.0)
-      (no_fault all.0 all.2),
+          (no_fault all.0 all.2),
       complete_with all.0,
     )

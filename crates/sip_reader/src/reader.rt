@@ -59,13 +59,7 @@ fn is_too_long(text: &[u8]) -> bool
     text.len() > MAX_BYTES
 }
 
-#[tactic(
-    auto,
-    unfolding(
-        crate::specs::ReadMessage::message_of_lines,
-        crate::specs::ReadMessage::message_of_draft,
-    )
-)]
+#[tactic(auto, unfolding(crate::specs::ReadMessage::message_of_lines, crate::specs::ReadMessage::message_of_draft,))]
 fn message_of(
     alloc: Global,
     start_line: &[u8],
