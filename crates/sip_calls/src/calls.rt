@@ -1,6 +1,6 @@
 //! The machine of one call: what each of its inputs makes of it, and what it gives.
 
-ghost use Rattle.std.specs.Prelude.{◌≡◌, ◌≤◌, ◌^◌, IfOk, None, Some};
+ghost use Rattle.std.specs.Prelude.{◌≡◌, ◌≤◌, ◌^◌, IfOk, None, Some, if◌then◌else◌};
 ghost use Rattle.sip_calls.specs.Call as spec;
 ghost use Rattle.sip_calls.specs.Call.{call_due, call_machine, call_step};
 ghost use Rattle.sip_calls.specs.Idle.{ticks_are_idle};
@@ -55,33 +55,42 @@ impl StateMachine for Calls {
         }
     }
 
-    fn step(
+    fn begin(
         &self,
         alloc: Global,
-        key: &CallId,
-        state: Option<Call>,
+        _key: &CallId,
         moment: u64,
         input: (Id, Item),
     ) -> Result<(Option<Call>, Vec<CallOut>), AllocError>
         requires { moment ≤ 2 ^ 62 }
         ensures next { IfOk result (λ after. after.0
-            ≡ (call_step self.now state (Some input) moment).0) }
+            ≡ (call_step self.now None (Some input) moment).0) }
         ensures adds { IfOk result (λ after. after.1.items
-            ≡ (call_step self.now state (Some input) moment).1) }
+            ≡ (call_step self.now None (Some input) moment).1) }
     {
         let (id, item) = input;
-        let event = self.event(id, moment);
-        match state {
-            None => {
-                let mut call = self.new_call(alloc);
-                let outs = take_first(alloc, &mut call, event, item)?;
-                Ok((kept(call), outs))
-            }
-            Some(mut call) => {
-                let outs = take_next(alloc, &mut call, event, item)?;
-                Ok((kept(call), outs))
-            }
-        }
+        let mut call = self.new_call(alloc);
+        let outs = take_first(alloc, &mut call, self.event(id, moment), item)?;
+        Ok((kept(call), outs))
+    }
+
+    fn step(
+        &self,
+        alloc: Global,
+        _key: &CallId,
+        state: &mut Call,
+        moment: u64,
+        input: (Id, Item),
+    ) -> Result<(bool, Vec<CallOut>), AllocError>
+        requires { moment ≤ 2 ^ 62 }
+        ensures next { IfOk result (λ after. (if after.0 then Some state.new else None)
+            ≡ (call_step self.now (Some state.old) (Some input) moment).0) }
+        ensures adds { IfOk result (λ after. after.1.items
+            ≡ (call_step self.now (Some state.old) (Some input) moment).1) }
+    {
+        let (id, item) = input;
+        let outs = take_next(alloc, state, self.event(id, moment), item)?;
+        Ok((state.holds(), outs))
     }
 
     fn tick(
