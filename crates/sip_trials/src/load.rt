@@ -17,16 +17,17 @@ const OK: u16 = 200;
 
 const REASON: &[u8] = b"OK";
 
-/// The most shards and workers that an agent has.
-const MOST_SHARDS: usize = 256;
+/// The most shards that an agent has.
+pub const MOST_SHARDS: usize = 256;
 
-const MOST_WORKERS: usize = 64;
+/// The most workers that a round has.
+pub const MOST_WORKERS: usize = 64;
 
 /// What each answer begins with.
 const ANSWER: &[u8] = b"SIP/2.0 200 ";
 
 /// What the agent is started with.
-const CONFIG: Config = Config {
+pub const CONFIG: Config = Config {
     local: Addr {
         ip: [127, 0, 0, 1],
         port: 5060,

@@ -1,14 +1,14 @@
 //! Large numbers: what is held in one shard, shards, workers, and events of a round.
 
 use crate::fault::TrialFault;
-use crate::load::Load;
+use crate::load::{CONFIG, Load, MOST_SHARDS, MOST_WORKERS};
 use crate::open::Open;
 use crate::options::options_of;
 use crate::tally::{Tally, expect};
 use sip_calls::CallShard;
-use sip_message::{Addr, Id, Message, Spread};
+use sip_message::{Id, Message, Spread};
 use sip_reader::read;
-use sip_round::{Agent, Config, Event, Output, Round};
+use sip_round::{Agent, Event, Output, Round};
 use sip_served::Item;
 use sip_text::Series;
 use sip_transactions::{Out, Shard};
@@ -21,10 +21,6 @@ const HELD: u64 = 5_000;
 /// How long a transaction is held once it is answered, in ms: 64 T1.
 const LIFE: u64 = 32_000;
 
-const MOST_SHARDS: usize = 256;
-
-const MOST_WORKERS: usize = 64;
-
 /// How many requests come in a round to the most shards and workers.
 const REQUESTS: u64 = 1_000;
 
@@ -32,15 +28,6 @@ const REQUESTS: u64 = 1_000;
 const MOST_EVENTS: u64 = 65_536;
 
 const REQUESTS_AT_MOST: u64 = 512;
-
-const CONFIG: Config = Config {
-    local: Addr {
-        ip: [127, 0, 0, 1],
-        port: 5060,
-    },
-    seed: [7; 32],
-    first: 0,
-};
 
 /// Holds much in one shard, moves it to the most shards and back, runs rounds in the most shards on
 /// the most workers, and a round of the most events.
