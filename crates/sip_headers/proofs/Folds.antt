@@ -14,7 +14,8 @@ use Rattle.sip_text.specs.Unfolded.{begins_blank, joined}
 use Rattle.sip_text.proofs.LineParts.{at_lf, longer, split_at, slice_split-cut_at}
 use Rattle.sip_text.proofs.Separators.{mapped}
 use Rattle.sip_headers.specs.Draft.{with_line}
-use Rattle.sip_headers.specs.Folding.{Section, with_line_of, section_from, section_at, whole_section, onto_section, behind_line, drafted_on}
+use Rattle.sip_headers.specs.Folding.{Section, with_line_of, section_from, section_at, whole_section, onto_section, behind_line}
+use Rattle.sip_headers.specs.Steps.Drafted.{drafted_on}
 use Rattle.sip_headers.specs.declared.draft.Draft.{Draft}
 
 -- ---- the lines of a text

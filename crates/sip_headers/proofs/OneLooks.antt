@@ -5,7 +5,7 @@ use Rattle.std.proofs.lemmas.Bool.{and_parts}
 use Rattle.sip_message.specs.declared.fault.ReadFault.{ReadFault}
 use Rattle.sip_headers.specs.Complete.{slot_of, once, fault_in, unless_fault, draft_with, IsComplete}
 use Rattle.sip_headers.specs.Headers.{Headers}
-use Rattle.sip_headers.specs.OneLook.{is_fitting, is_at_most_once, is_whole}
+use Rattle.sip_headers.specs.Steps.OneLook.{is_fitting, is_at_most_once, is_whole}
 use Rattle.sip_headers.specs.Presence.{list_presence}
 use Rattle.sip_headers.specs.declared.draft.Draft.{Draft}
 use Rattle.sip_headers.specs.declared.slot.Slot.{Slot}

@@ -26,9 +26,9 @@ use Rattle.sip_values.proofs.Passing.{cut_here, token_passes}
 use Rattle.sip_values.proofs.PlainRuns.{token_is}
 use Rattle.sip_values.proofs.WrittenBytes.{no_lf, solid_end, solid_line, token_solid}
 use Rattle.sip_headers.specs.Draft.{with_class}
-use Rattle.sip_headers.specs.Folding.{drafted_at}
+use Rattle.sip_headers.specs.Steps.Drafted.{drafted_at}
 use Rattle.sip_headers.specs.HeaderLine.{Class, class_by_name, class_from}
-use Rattle.sip_headers.specs.PlainLine.{IsPlainEnd, IsPlainLine, behind_feed, behind_line_end}
+use Rattle.sip_headers.specs.Steps.PlainLine.{IsPlainEnd, IsPlainLine, behind_feed, behind_line_end}
 use Rattle.sip_headers.specs.declared.draft.Draft.{Draft}
 use Rattle.sip_headers.proofs.Folds.{ends_plain, section_goes_on}
 

@@ -1,10 +1,10 @@
 -- The lines of a header section (RFC 3261, section 7), and folded lines (section 7.3.1).
-use Rattle.std.specs.Prelude.{ℕ, List, [], ◌∷◌, Option, Some, None, fold, ◌==◌, if◌then◌else◌}
+use Rattle.std.specs.Prelude.{ℕ, List, [], ◌∷◌, Option, Some, None, ◌==◌, if◌then◌else◌}
 use Rattle.std.specs.Option.{option_map}
 use Rattle.std.specs.List.{slice_split, join_with_byte}
 use Rattle.std.specs.Str.Lines.{strip_carriage_return}
 use Rattle.sip_text.specs.Unfolded.{begins_blank, joined}
-use Rattle.sip_headers.specs.Draft.{draft_of, with_line}
+use Rattle.sip_headers.specs.Draft.{draft_of}
 use Rattle.sip_headers.specs.declared.draft.Draft.{Draft}
 
 -- lines, and the text that follows the empty line after them
@@ -55,11 +55,3 @@ behind_line line section = option_map (λ s. (line ∷ s.0, s.1)) section
 -- what the header lines of a text say, and what follows the empty line
 abbrev pub gathered_at : List ℕ → Option (Draft × List ℕ)
 gathered_at text = option_map (λ s. (draft_of s.0, s.1)) (whole_section (section_at text))
-
--- what the lines of a section say behind those of a draft, and what follows the empty line
-abbrev pub drafted_on : Draft → Option Section → Option (Draft × List ℕ)
-drafted_on draft section = option_map (λ s. (fold with_line draft s.0, s.1)) section
-
--- the same of the header lines of a text
-abbrev pub drafted_at : Draft → List ℕ → Option (Draft × List ℕ)
-drafted_at draft text = drafted_on draft (whole_section (section_at text))

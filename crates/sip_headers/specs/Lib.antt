@@ -1,6 +1,5 @@
 pub mod Slot
 pub mod HeaderLine
-pub mod PlainLine
 pub mod Named
 pub mod Draft
 pub mod Section
@@ -10,6 +9,6 @@ pub mod Whole
 pub mod Presence
 pub mod Headers
 pub mod Complete
-pub mod OneLook
 pub mod Numbers
 pub mod Faults
+pub mod Steps

@@ -1,7 +1,7 @@
 //! Headers that are missing, or stand in a message more often than they may.
 ghost use Rattle.std.specs.Prelude.{◌≡◌, find, ◌&&◌, IfNone, is_some};
 ghost use Rattle.sip_headers.specs.Complete as complete;
-ghost use Rattle.sip_headers.specs.OneLook as one_look;
+ghost use Rattle.sip_headers.specs.Steps.OneLook as one_look;
 ghost use Rattle.std.specs.List.{list_any};
 ghost use Rattle.sip_parts.specs.HeaderEntry as table;
 ghost use Rattle.sip_headers.specs.Presence as presence;

@@ -4,6 +4,7 @@ ghost use Rattle.std.specs.Option.{option_map};
 ghost use Rattle.sip_text.specs.Trimmed as trims;
 ghost use Rattle.sip_text.specs.Unfolded as folds;
 ghost use Rattle.sip_headers.specs.Folding as folding;
+ghost use Rattle.sip_headers.specs.Steps.Drafted as steps;
 ghost use Rattle.sip_headers.specs.Whole.{whole_now};
 
 use crate::draft::Draft;
@@ -109,7 +110,7 @@ fn add_section<'a>(
     text: &'a [u8],
 ) -> Result<Option<&'a [u8]>, AllocError>
     ensures { IfOk result (λ found. option_map (λ after. (draft.new, after.now)) found
-        ≡ folding.drafted_at draft.old text.now) }
+        ≡ steps.drafted_at draft.old text.now) }
 {
     let mut rest = add_plain(alloc, draft, text)?;
     while let Some((line, after)) = next_line(rest) {
@@ -126,8 +127,8 @@ fn add_section<'a>(
 /// Adds the header lines that stand in the text as they are, as far as one follows another, and gives
 /// the text behind them.
 fn add_plain<'a>(alloc: Global, draft: &mut Draft, text: &'a [u8]) -> Result<&'a [u8], AllocError>
-    ensures same { IfOk result (λ rest. folding.drafted_at draft.new rest.now
-        ≡ folding.drafted_at draft.old text.now) }
+    ensures same { IfOk result (λ rest. steps.drafted_at draft.new rest.now
+        ≡ steps.drafted_at draft.old text.now) }
     ensures shorter { IfOk result (λ rest. length rest.now ≤ length text.now) }
 {
     let mut rest = text;

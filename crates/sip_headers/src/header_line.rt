@@ -2,7 +2,7 @@
 ghost use Rattle.std.specs.Prelude.{◌≡◌, IfSome};
 ghost use Rattle.std.specs.Option.{option_copied};
 ghost use Rattle.sip_headers.specs.HeaderLine as header_lines;
-ghost use Rattle.sip_headers.specs.PlainLine as plain;
+ghost use Rattle.sip_headers.specs.Steps.PlainLine as plain;
 ghost use Rattle.sip_parts.specs.HeaderEntry.{header_named};
 ghost use Rattle.sip_text.specs.Cut.{both_now};
 

@@ -24,7 +24,8 @@ use Rattle.sip_parts.specs.declared.header_name.HeaderName.TheVariants as name
 use Rattle.sip_message.specs.declared.header.Header.{Header}
 use Rattle.sip_message.specs.Written.{header_line, other_line}
 use Rattle.sip_headers.specs.Draft.{with_value, with_class, with_line, long_name, other_from}
-use Rattle.sip_headers.specs.Folding.{drafted_on, section_at, whole_section}
+use Rattle.sip_headers.specs.Folding.{section_at, whole_section}
+use Rattle.sip_headers.specs.Steps.Drafted.{drafted_on}
 use Rattle.sip_headers.specs.HeaderLine.{Class, known, other, class_by_name, class_by_parts, class_from}
 use Rattle.sip_headers.specs.Slot.{listed}
 use Rattle.sip_headers.specs.declared.draft.Draft.{Draft}

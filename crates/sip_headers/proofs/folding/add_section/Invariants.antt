@@ -1,5 +1,5 @@
 use Rattle.std.proofs.Common.{◌≡◌, length}
-use Rattle.sip_headers.specs.Folding.{drafted_at}
+use Rattle.sip_headers.specs.Steps.Drafted.{drafted_at}
 use Rattle.sip_headers.proofs.folding.add_section.Given as goal
 
 abbrev pub invariant-loop-line : goal.invariant-loop-line
