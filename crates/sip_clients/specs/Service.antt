@@ -47,16 +47,20 @@ abbrev pub numbered : Option DialogFault → HeldDialog → HeldDialog
 numbered None held = record held { dialog = with_next_number held.dialog }
 numbered (Some fault) held = held
 
--- a request of this method, with a RAck where it is a PRACK
+-- a request of this method as it goes out, with a RAck where it is a PRACK
+abbrev pub sending_in : Event → List ℕ → Option RAck → List ℕ → HeldDialog → Sending
+sending_in event method rack body held = record {
+  message = with_rack rack (request_in held.dialog method (held.dialog.local_cseq + 1) body
+      (branch_of event) event.local);
+  to = hop_of held.dialog held.address;
+  born = held.born;
+}
+
+-- it is sent, or refused as the dialog does
 abbrev pub requested : Event → List ℕ → Option RAck → List ℕ → HeldDialog → Outcome
 requested event method rack body held = (
   numbered (request_fault held.dialog method) held,
-  service_by (request_fault held.dialog method) record {
-    message = with_rack rack (request_in held.dialog method (held.dialog.local_cseq + 1) body
-        (branch_of event) event.local);
-    to = hop_of held.dialog held.address;
-    born = held.born;
-  },
+  service_by (request_fault held.dialog method) (sending_in event method rack body held),
 )
 
 -- the PRACK of a response of this RSeq to the INVITE of this number

@@ -29,7 +29,8 @@ use Rattle.sip_served.specs.declared.provisionals.NumberedResponse.{NumberedResp
 use Rattle.sip_common.specs.declared.refusal.Refusal.{Refusal}
 use Rattle.sip_served.specs.declared.tick.SuccessDue.{SuccessDue}
 use Rattle.sip_served.specs.declared.tick.SuccessDue.TheVariants as repeat
-use Rattle.sip_served.specs.Acknowledgment.{ack_noted, acked, acknowledged_invite}
+use Rattle.sip_served.specs.Acknowledgment.{ack_noted, acknowledged_invite, success_ended}
+use Rattle.sip_served.specs.declared.held_request.SuccessEnd.TheVariants.{Acknowledged}
 use Rattle.sip_served.specs.Arrival.{new_request, by_case, bye_taken, case_of, noted, pracked, request_held}
 use Rattle.sip_served.specs.Cancel.{by_cancelled, cancelled_request, invite_terminated, is_unanswered_invite, request_terminated}
 use Rattle.sip_common.specs.Dialogs.{confirmed, is_named, visited, Dialogs}
@@ -198,7 +199,7 @@ module _ (call_id : List ℕ) where
   ack_is state its_call ack None of_call its = (its, tt)
   ack_is state its_call ack (Some invite) of_call its = (
     record {
-      requests = request_changed invite acked (λ held. refl) state.requests its.requests;
+      requests = request_changed invite (success_ended Acknowledged) (λ held. refl) state.requests its.requests;
       dialogs = its.dialogs;
     },
     (of_call, tt),

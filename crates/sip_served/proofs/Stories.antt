@@ -51,7 +51,8 @@ use Rattle.sip_timers.specs.declared.estimate.TheConstants.{LIFETIME}
 use Rattle.sip_transactions.specs.declared.timers.TheConstants.{T2}
 use Rattle.sip_served.specs.declared.tick.SuccessDue.{SuccessDue}
 use Rattle.sip_served.specs.declared.tick.SuccessDue.TheVariants as repeat
-use Rattle.sip_served.specs.Acknowledgment.{ack_noted, acked, acknowledged_invite}
+use Rattle.sip_served.specs.Acknowledgment.{ack_noted, acknowledged_invite, success_ended}
+use Rattle.sip_served.specs.declared.held_request.SuccessEnd.TheVariants.{Acknowledged}
 use Rattle.sip_served.specs.Arrival.{first_rseq, new_request, by_case, case_of, noted, pracked, bye_taken, request_held}
 use Rattle.sip_served.specs.Cancel.{by_cancelled, cancelled_request, invite_terminated, is_unanswered_invite, request_terminated}
 use Rattle.sip_common.specs.Dialogs.{own_dialog, confirmed, dialog_changed, early_ended, ended_at, is_early_of, is_named, numbered, refreshed, retargeted, takes, visited, Dialogs}
@@ -63,7 +64,7 @@ use Rattle.sip_served.specs.State.{State, Taken, changed_at, has_id}
 use Rattle.sip_served.specs.Step.{arrival_taken, command_taken, kind_taken}
 use Rattle.sip_served.specs.Story.{DialogStories, DialogStory, RequestStory, Story, SuccessStory, dialog_of, dialogs_of, greatest_accepted, held_by, ledger_of, next_sending, request_of, responses_of, success_of}
 use Rattle.sip_served.specs.Telling.{ack_told, answer_told, arrival_told, cancel_told, terminates, answers, at_dialog, at_request, begins, begun, command_told, ends_at, ends_early, event_told, finishes, acks, confirms, holds_one, notes, numbers, refreshes, retargets, visits, kind_told, provisionals_go, provisionals_pass, request_passes, sends, story_after, success_goes, success_passes, takes_dialog, tick_told, told_by_case, told_by_refusal, told_by_request}
-use Rattle.sip_served.specs.Tick.{tick_taken, is_kept_at, next_retransmission, provisionals_ticked, request_ticked, retransmission_after, success_after, success_answer, success_of as success_at, success_ticked, with_retransmission}
+use Rattle.sip_served.specs.Tick.{tick_taken, is_kept_at, next_retransmission, provisionals_ticked, request_ticked, success_answer, success_by, success_of as success_at, success_ticked}
 use Rattle.sip_served.proofs.Mapped.{append_mapped, changed_mapped, entry_mapped, filter_mapped, found_mapped, inserted_mapped, map_mapped, removed_mapped}
 use Rattle.sip_served.proofs.FewWait.{IsKept, IsKeptEach, event_keeps, kept_after}
 
@@ -145,18 +146,15 @@ sent_next story now =
     }
 
 goes : (t : SuccessDue) (now : ℕ) (story : SuccessStory)
-    → success_of (success_goes t now story)
-    ≡ with_retransmission (success_of story)
-    (retransmission_after t now (success_of story).retransmission)
+    → success_of (success_goes t now story) ≡ success_by t now (success_of story)
 goes repeat.Nothing now story = refl
 goes repeat.Again now story =
-    by_bool story.is_over (λ e. rw e refl)
-    (λ e. rw e (ap (λ r. with_retransmission (success_of story) (Some r))
-    (sent_next story now)))
+    ap (λ r. record (success_of story) { retransmission = r }) (sent_next story now)
 goes repeat.GivenUp now story = refl
 
 passes : (now : ℕ) (story : SuccessStory)
-    → success_of (success_passes now story) ≡ success_after now (success_of story)
+    → success_of (success_passes now story)
+    ≡ success_by (success_answer now (success_of story)) now (success_of story)
 passes now story = goes (success_answer now (success_of story)) now story
 
 -- ---- the reliable provisional responses
@@ -245,11 +243,12 @@ one_more responses low next response has_body now (p ∷ ps) rise =
 
 -- ---- what happens to a request
 
-acked_on : (request : RequestStory) → request_of (acks request) ≡ acked (request_of request)
+acked_on : (request : RequestStory)
+    → request_of (acks request) ≡ success_ended Acknowledged (request_of request)
 acked_on request = over request.success
   where
     over : (o : Option SuccessStory) → request_of (acks (record request { success = o }))
-        ≡ acked (request_of (record request { success = o }))
+        ≡ success_ended Acknowledged (request_of (record request { success = o }))
     over None = refl
     over (Some success) = refl
 
@@ -325,7 +324,7 @@ finishes_on response status now request =
       response = response;
       sent = now;
       repeats = [];
-      is_over = false;
+      over = None;
     })) (Some (now + LIFETIME))))
     (λ e. rw e (λ i. held_so held (sym ledger i) (stays i) held.success (Some (now + LIFETIME))))
 
@@ -526,7 +525,8 @@ ack_on : (story : Story) (call_id : List ℕ) (ack : Message) (o : Option Id)
 ack_on story call_id ack None = refl
 ack_on story call_id ack (Some invite) =
     ap (λ requests. state_with story.local requests (held_by story).dialogs)
-    (changed_mapped request_of (has_id invite) acked acks acked_on story.requests)
+    (changed_mapped request_of (has_id invite) (success_ended Acknowledged) acks acked_on
+    story.requests)
 
 dialogs_on : (event : Id) (held : HeldRequest) (r : Answer) (response : Message)
     (stories : DialogStories) (fresh success rejected : Bool)

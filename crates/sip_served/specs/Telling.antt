@@ -1,5 +1,5 @@
 -- What each event adds to the story of a call. Which case it is, is read from what the story holds.
-use Rattle.std.specs.Prelude.{ℕ, true, false, not, ◌&&◌, nat_lt, List, [], ◌∷◌, ◌++◌, length, map, filter, find, fold, Option, None, Some, is_some, if◌then◌else◌}
+use Rattle.std.specs.Prelude.{ℕ, not, ◌&&◌, nat_lt, List, [], ◌∷◌, ◌++◌, length, map, filter, find, fold, Option, None, Some, is_some, if◌then◌else◌}
 use Rattle.std.specs.Map.{lookup, remove_entry, set_value}
 use Rattle.std.specs.Option.{option_map, option_map_or}
 use Rattle.indexmap.specs.IndexMap.{insert_entry}
@@ -31,6 +31,8 @@ use Rattle.sip_common.specs.Requests.{dialog_name, is_bye, is_cancel, is_final, 
 use Rattle.sip_served.specs.Respond.{answer_to, confirms_dialog, is_sent_reliably, makes_dialog, refusal_for, rejects}
 use Rattle.sip_served.specs.Run.{Event, Takes, Ticks}
 use Rattle.sip_served.specs.State.{changed_first, has_id}
+use Rattle.sip_served.specs.declared.held_request.SuccessEnd.{SuccessEnd}
+use Rattle.sip_served.specs.declared.held_request.SuccessEnd.TheVariants.{Acknowledged, GivenUp}
 use Rattle.sip_served.specs.Story.{DialogStories, DialogStory, RequestStory, Story, SuccessStory, dialog_of, held_by, ledger_of, request_of, success_of}
 use Rattle.sip_served.specs.declared.tick.SuccessDue.{SuccessDue}
 use Rattle.sip_served.specs.declared.tick.SuccessDue.TheVariants as repeat
@@ -107,13 +109,15 @@ abbrev pub provisionals_go : List reliable.Happening → RequestStory → Reques
 provisionals_go happenings request =
     record request { provisionals = request.provisionals ++ happenings }
 
--- its 2xx isn't sent again
-abbrev pub success_ends : SuccessStory → SuccessStory
-success_ends story = record story { is_over = true }
+-- its 2xx is sent no more
+abbrev pub success_ends : SuccessEnd → SuccessStory → SuccessStory
+success_ends end story = record story { over = Some end }
 
 -- its ACK comes
 abbrev pub acks : RequestStory → RequestStory
-acks request = record request { success = option_map success_ends request.success }
+acks request = record request {
+  success = option_map (success_ends Acknowledged) request.success;
+}
 
 -- a reliable provisional response is sent, with the next number
 abbrev pub sends : Message → ℕ → RequestStory → RequestStory
@@ -130,7 +134,7 @@ finishes response status now request =
     record (provisionals_go (reliable.Closes ∷ []) request) {
       success =
           if is_invite request.arrival.request && is_success status
-          then Some record { response = response; sent = now; repeats = []; is_over = false }
+          then Some record { response = response; sent = now; repeats = []; over = None }
           else request.success;
       answered = Some now;
     }
@@ -260,7 +264,7 @@ told_by_request story event respond now (Some held) =
 abbrev pub success_goes : SuccessDue → ℕ → SuccessStory → SuccessStory
 success_goes repeat.Nothing now story = story
 success_goes repeat.Again now story = record story { repeats = story.repeats ++ now ∷ [] }
-success_goes repeat.GivenUp now story = success_ends story
+success_goes repeat.GivenUp now story = success_ends GivenUp story
 
 abbrev pub success_passes : ℕ → SuccessStory → SuccessStory
 success_passes now story = success_goes (success_answer now (success_of story)) now story
