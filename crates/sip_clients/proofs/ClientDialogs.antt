@@ -29,25 +29,19 @@ use Rattle.sip_clients.specs.Commands.{bye_ended, request_in, request_refusals, 
 use Rattle.sip_clients.specs.Debts.{dropped_if_sent, kept_unless_sent, owed, paid}
 use Rattle.sip_clients.specs.Dialogs.{accepted, accepted_in, ended_with, hearing, opened, own_ended, served_at}
 use Rattle.sip_clients.specs.Replied.{ack_owed, by_case, heard_first, offer_to, prack_owed, with_dialog}
-use Rattle.sip_clients.specs.Service.{Outcome, numbered, discharged, sending_in}
-use Rattle.sip_common.proofs.Keeps.{confirmed_keeps, retargeted_keeps}
+use Rattle.sip_clients.specs.Service.{Outcome, discharged, sending_in}
 use Rattle.sip_common.proofs.Entries as entries
 use Rattle.sip_clients.proofs.Served.{served_dialogs}
 use Rattle.sip_common.proofs.Heard.{AreApart, Goes, Keeps, Leads, Stays, goes_then, keeps_then, leads_changed, leads_filtered, leads_removed, leads_same, leads_then, name_laws, stays_same}
 
 -- ---- what is sent in a dialog, owed and paid
 
-numbered_keeps : (found : Option DialogFault) (held : HeldDialog) → Keeps held (numbered found held)
-numbered_keeps None held = (refl, refl)
-numbered_keeps (Some fault) held = (refl, refl)
-
 served_keeps : (event : Event) (debt : Debt) (offer : Option (List ℕ)) (held : HeldDialog)
     → Keeps held (discharged event debt offer held).0
 unfolding discharged
 served_keeps event debt None held = (refl, refl)
 served_keeps event (Ack invite number) (Some body) held = (refl, refl)
-served_keeps event (Prack rseq number) (Some body) held =
-    numbered_keeps (request_fault held.dialog (codes "PRACK")) held
+served_keeps event (Prack rseq number) (Some body) held = (refl, refl)
 
 unless_sent_keeps : (debt : Debt) (service : Service) (held : HeldDialog)
     → Keeps held (kept_unless_sent debt service held)
@@ -164,8 +158,8 @@ module _ (Makes : Id → Type 0) (client : Client) (answer : Answer)
 
   accepted_keeps : (kind : RequestKind) (held : HeldDialog)
       → Keeps held (accepted_in kind answer.response held)
-  accepted_keeps First held = confirmed_keeps answer.response held
-  accepted_keeps (Again life) held = retargeted_keeps (contact_uri answer.response) held
+  accepted_keeps First held = (refl, refl)
+  accepted_keeps (Again life) held = (refl, refl)
   accepted_keeps (Inside life) held = (refl, refl)
   accepted_keeps Plain held = (refl, refl)
 

@@ -20,7 +20,8 @@ use Rattle.sip_common.specs.declared.item.CallOut.{CallOut}
 use Rattle.sip_common.specs.declared.refusal.Refusal.TheVariants.{BadMethod, NoSuchDialog}
 use Rattle.sip_common.specs.Dialogs.{dialog_at, early_ended, ended_at, is_named, lives, Dialogs}
 use Rattle.sip_common.proofs.Each.{both, each_changed, each_set}
-use Rattle.sip_common.proofs.OwnDialogs.{AreEndedOf, confirmed_keeps, dialog_own, early_own, ended_own, retargeted_keeps}
+use Rattle.sip_common.proofs.OwnDialogs.{AreEndedOf, dialog_own, early_own, ended_own, lived_keeps}
+use Rattle.sip_common.specs.Dialogs.{confirms, retargets}
 use Rattle.sip_clients.specs.declared.client.RequestKind.{RequestKind}
 use Rattle.sip_clients.specs.declared.client.RequestKind.TheVariants.{First, Again, Inside, Plain}
 use Rattle.sip_clients.specs.declared.client.Client.{Client}
@@ -36,7 +37,7 @@ use Rattle.sip_clients.proofs.Served.{bad_request, good_request, is_bad, served_
 use Rattle.sip_clients.specs.Event.{branch_of}
 use Rattle.sip_clients.specs.OwnCall.{AreDialogsOf, IsDialogOf, IsNoticeOf, IsRequestOf}
 use Rattle.sip_clients.specs.Replied.{heard_first}
-use Rattle.sip_clients.specs.Service.{Outcome, acked, numbered, requested, discharged, service_by}
+use Rattle.sip_clients.specs.Service.{Outcome, acked, sends, requested, discharged, service_by}
 
 pub body_kept : (message : Message) (body : List ℕ)
     → (with_body_of message body).call_id ≡ message.call_id
@@ -59,11 +60,6 @@ module _ (call_id : List ℕ) where
 
   -- ---- what is sent in a dialog
 
-  numbered_own : (fault : Option DialogFault) (held : HeldDialog) → IsDialogOf call_id held
-      → IsDialogOf call_id (numbered fault held)
-  numbered_own None held own = own
-  numbered_own (Some fault) held own = own
-
   service_own : (fault : Option DialogFault) (sending : Sending)
       → sending.message.call_id ≡ call_id → IsServiceOf (service_by fault sending)
   service_own None sending own = own
@@ -73,7 +69,7 @@ module _ (call_id : List ℕ) where
       (held : HeldDialog) → IsDialogOf call_id held
       → IsOutcomeOf (requested event method rack body held)
   requested_own event method rack body held own = (
-    numbered_own (request_fault held.dialog method) held own,
+    lived_keeps held.dialog (sends method (request_fault held.dialog method)) ∙ own,
     service_own (request_fault held.dialog method) _
         (body_kept (bare_request_in held.dialog method (held.dialog.local_cseq + 1)
         (branch_of event) event.local) body ∙ own),
@@ -209,9 +205,10 @@ module _ (call_id : List ℕ) where
 
   accepted_in_own : (kind : RequestKind) (response : Message) (held : HeldDialog)
       → IsDialogOf call_id held → IsDialogOf call_id (accepted_in kind response held)
-  accepted_in_own First response held own = confirmed_keeps response held ∙ own
+  accepted_in_own First response held own =
+      lived_keeps held.dialog (confirms response held) ∙ own
   accepted_in_own (Again life) response held own =
-      retargeted_keeps (contact_uri response) held ∙ own
+      lived_keeps held.dialog (retargets (contact_uri response) held) ∙ own
   accepted_in_own (Inside life) response held own = own
   accepted_in_own Plain response held own = own
 

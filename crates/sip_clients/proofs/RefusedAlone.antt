@@ -8,7 +8,7 @@ use Rattle.std.proofs.lemmas.Bool.{false≢true}
 use Rattle.sip_message.specs.declared.rack.RAck.{RAck}
 use Rattle.sip_dialog.specs.declared.fault.DialogFault.{DialogFault}
 use Rattle.sip_message.specs.declared.id.Id.{Id}
-use Rattle.sip_common.specs.Dialogs.{dialog_at, ended_notice, Dialogs}
+use Rattle.sip_common.specs.Dialogs.{dialog_at, ended_notice, lived, Dialogs}
 use Rattle.sip_common.specs.Notices.{refused}
 use Rattle.sip_common.specs.Refusal.{first_refusal}
 use Rattle.sip_common.specs.declared.command.Cancel.{Cancel}
@@ -28,7 +28,7 @@ use Rattle.sip_clients.specs.Commands.{bye_ended, name_in, request_in, request_r
 use Rattle.sip_clients.specs.Dialogs.{paid_at}
 use Rattle.sip_clients.specs.Debts.{dropped_if_sent, paid}
 use Rattle.sip_clients.specs.Outputs.{ack_said, request_said, start_command}
-use Rattle.sip_clients.specs.Service.{numbered, requested, discharged, sending_in, service_by}
+use Rattle.sip_clients.specs.Service.{sends, requested, discharged, sending_in, service_by}
 use Rattle.sip_clients.specs.declared.cancel.CancelCase.{CancelCase}
 use Rattle.sip_clients.specs.declared.cancel.CancelCase.TheVariants as cancel
 use Rattle.sip_clients.specs.declared.client.Client.{Client}
@@ -71,7 +71,7 @@ requested_same : (event : Event) (method : List ℕ) (rack : Option RAck) (body 
 requested_same event method rack body held refusal e = by_fault _ _ e
   where
     by_fault : (fault : Option DialogFault) (sending : Sending)
-        → service_by fault sending ≡ Refused refusal → numbered fault held ≡ held
+        → service_by fault sending ≡ Refused refusal → lived (sends method fault) held ≡ held
     by_fault None sending is = absurd cc
     by_fault (Some fault) sending is = refl
 

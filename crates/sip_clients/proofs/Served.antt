@@ -10,7 +10,7 @@ use Rattle.sip_dialog.specs.declared.fault.DialogFault.TheVariants as fault
 use Rattle.sip_dialog.specs.Dialog.{is_early, is_ended}
 use Rattle.sip_dialog.specs.Fault.{request_fault}
 use Rattle.sip_dialog.specs.Route.{is_strict}
-use Rattle.sip_common.specs.Dialogs.{dialog_at, dialog_changed, is_named, Dialogs}
+use Rattle.sip_common.specs.Dialogs.{dialog_at, dialog_changed, is_named, lived, Dialogs}
 use Rattle.sip_common.specs.Refusal.{first_refusal}
 use Rattle.sip_common.specs.declared.held_dialog.DialogName.{DialogName}
 use Rattle.sip_common.specs.declared.held_dialog.HeldDialog.{HeldDialog}
@@ -18,7 +18,7 @@ use Rattle.sip_common.specs.declared.refusal.Refusal.{Refusal}
 use Rattle.sip_common.specs.declared.refusal.Refusal.TheVariants.{BadMethod, DialogEnded, StrictRoute, SequenceUsedUp}
 use Rattle.sip_clients.specs.Commands.{is_bad_early, is_callee, is_own_kind, request_in, request_refusals, sent_unless}
 use Rattle.sip_clients.specs.Dialogs.{served_at}
-use Rattle.sip_clients.specs.Service.{Outcome, numbered, refusal_of, requested, sending_in, service_by}
+use Rattle.sip_clients.specs.Service.{Outcome, refusal_of, requested, sending_in, sends, service_by}
 use Rattle.sip_clients.specs.declared.event.Event.{Event}
 use Rattle.sip_clients.specs.declared.service.Sending.{Sending}
 use Rattle.sip_clients.specs.declared.service.Service.{Service}
@@ -87,11 +87,11 @@ by_dialog false false invite bye false true used is = refl
 by_dialog false false invite bye false false true is = refl
 by_dialog false false invite bye false false false is = refl
 
-sent_by : (fault : Option DialogFault) (sending : Sending) (held : HeldDialog)
+sent_by : (method : List ℕ) (fault : Option DialogFault) (sending : Sending) (held : HeldDialog)
     → sent_unless (option_map refusal_of fault) sending held
-    ≡ (numbered fault held, service_by fault sending)
-sent_by None sending held = refl
-sent_by (Some fault) sending held = refl
+    ≡ (lived (sends method fault) held, service_by fault sending)
+sent_by method None sending held = refl
+sent_by method (Some fault) sending held = refl
 
 module _ (event : Event) (method body : List ℕ) (held : HeldDialog) where
   -- its method isn't the user's to send in this dialog
@@ -120,4 +120,5 @@ module _ (event : Event) (method body : List ℕ) (held : HeldDialog) where
       (is_callee (held.dialog).side && bytes_eq method (codes "BYE"))
       (is_ended (held.dialog).state)
       (is_strict (held.dialog).route_set) (nat_le 2147483647 (held.dialog).local_cseq) is)
-      ∙ sent_by (request_fault held.dialog method) (sending_in event method None body held) held
+      ∙ sent_by method (request_fault held.dialog method)
+      (sending_in event method None body held) held

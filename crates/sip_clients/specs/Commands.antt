@@ -8,7 +8,7 @@ use Rattle.sip_dialog.specs.declared.dialog.Side.TheVariants.{Caller, Callee}
 use Rattle.sip_dialog.specs.declared.dialog.Dialog.{Dialog}
 use Rattle.sip_dialog.specs.Dialog.{is_early, is_ended}
 use Rattle.sip_dialog.specs.Route.{is_strict}
-use Rattle.sip_dialog.specs.Step.{with_next_number}
+use Rattle.sip_dialog.specs.Life.{Requests}
 use Rattle.sip_common.specs.declared.command.DialogBody.{DialogBody}
 use Rattle.sip_common.specs.declared.command.DialogRequest.{DialogRequest}
 use Rattle.sip_common.specs.declared.debt.Debt.{Debt}
@@ -17,7 +17,7 @@ use Rattle.sip_common.specs.declared.held_dialog.HeldDialog.{HeldDialog}
 use Rattle.sip_common.specs.declared.item.CallOut.{CallOut}
 use Rattle.sip_common.specs.declared.refusal.Refusal.{Refusal}
 use Rattle.sip_common.specs.declared.refusal.Refusal.TheVariants.{NoSuchDialog, BadMethod, DialogEnded, StrictRoute, SequenceUsedUp, NothingToAck, NothingToPrack}
-use Rattle.sip_common.specs.Dialogs.{dialog_at, ended_at, tag_text, Dialogs}
+use Rattle.sip_common.specs.Dialogs.{dialog_at, ended_at, lived, tag_text, Dialogs}
 use Rattle.sip_common.specs.Refusal.{first_refusal}
 use Rattle.sip_common.specs.Requests.{name_of_tags}
 use Rattle.sip_clients.specs.declared.answers.SentAck.{SentAck}
@@ -71,7 +71,7 @@ request_refusals dialog method =
 abbrev pub sent_unless : Option Refusal → Sending → HeldDialog → Outcome
 sent_unless (Some refusal) sending held = (held, Refused refusal)
 sent_unless None sending held =
-    (record held { dialog = with_next_number held.dialog }, Sent sending)
+    (lived (Requests ((sending.message).cseq).method ∷ []) held, Sent sending)
 
 -- in this dialog
 unfoldable pub request_in : Event → List ℕ → List ℕ → HeldDialog → Outcome

@@ -13,7 +13,7 @@ use Rattle.sip_transactions.specs.declared.input.Command.TheVariants.{Answer as 
 use Rattle.sip_transactions.specs.declared.output.Kind.{Kind}
 use Rattle.sip_transactions.specs.declared.output.Kind.TheVariants.{Request, Ack, Response, Timeout, Failed}
 use Rattle.sip_transactions.specs.declared.output.Up.{Up}
-use Rattle.sip_common.proofs.OwnDialogs.{changed_dialog, confirmed_keeps, early_own, ended_own, visited_keeps}
+use Rattle.sip_common.proofs.OwnDialogs.{changed_dialog, early_own, ended_own, lived_keeps}
 use Rattle.sip_served.specs.declared.arrival.ArrivalCase.{ArrivalCase}
 use Rattle.sip_served.specs.declared.arrival.ArrivalCase.TheVariants.{Merged, BadExtension, NoDialog, OutOfOrder, Acknowledges, AcknowledgesNothing, ForUser}
 use Rattle.sip_common.specs.declared.command.Respond.{Respond as Answer}
@@ -33,7 +33,7 @@ use Rattle.sip_served.specs.Acknowledgment.{ack_noted, acknowledged_invite, succ
 use Rattle.sip_served.specs.declared.held_request.SuccessEnd.TheVariants.{Acknowledged}
 use Rattle.sip_served.specs.Arrival.{new_request, by_case, bye_taken, case_of, noted, pracked, request_held}
 use Rattle.sip_served.specs.Cancel.{by_cancelled, cancelled_request, invite_terminated, is_unanswered_invite, request_terminated}
-use Rattle.sip_common.specs.Dialogs.{confirmed, is_named, visited, Dialogs}
+use Rattle.sip_common.specs.Dialogs.{confirmed, confirms, is_named, visited, visits, Dialogs}
 use Rattle.sip_common.specs.OwnCall.{AreDialogsOf, AreNoticesOf, IsDialogOf, IsItemOf, IsKindOf, IsNoticeOf}
 use Rattle.sip_served.specs.OwnCall.{AreRequestsOf, IsEventOf, IsStateOf}
 use Rattle.sip_served.specs.Provisionals.{of_numbers}
@@ -109,7 +109,8 @@ module _ (call_id : List ℕ) where
       by_bool (is_inside request)
       (λ e. rw e record {
         requests = its.requests;
-        dialogs = changed_dialog call_id name (visited request) (visited_keeps request)
+        dialogs = changed_dialog call_id name (visited request)
+            (λ held. lived_keeps held.dialog (visits request held))
             state.dialogs its.dialogs;
       })
       (λ e. rw e its)
@@ -221,7 +222,8 @@ module _ (call_id : List ℕ) where
       ))
       (λ e. by_bool (confirms_dialog held r.status)
       (λ f. rw (e, f) (
-        changed_dialog call_id name (confirmed response) (confirmed_keeps response) dialogs
+        changed_dialog call_id name (confirmed response)
+            (λ held. lived_keeps held.dialog (confirms response held)) dialogs
             all,
         tt,
       ))
