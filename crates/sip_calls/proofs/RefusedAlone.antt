@@ -43,70 +43,71 @@ answered_told event held respond response dialogs =
     (λ rejected. rw rejected (ends_told (filter (is_early_of held.id) (values_of dialogs)))) (λ no. rw no refl)))))
 
 respond_alone : (state : State) (event : Id) (respond : ARespond) (now : ℕ)
-    → IsRefusedAlone state respond.call_id event.place (respond_taken state event respond now)
+    → IsRefusedAlone state respond.call_id event (respond_taken state event respond now)
 respond_alone state event respond now = by_held (find (has_id respond.id) state.requests)
   where
     by_fault : (held : HeldRequest) (refusal : Option Refusal)
-        → IsRefusedAlone state respond.call_id event.place
+        → IsRefusedAlone state respond.call_id event
         (by_refusal state event respond now held refusal)
-    by_fault held (Some refusal) = told_alone state respond.call_id event.place refusal
+    by_fault held (Some refusal) = told_alone state respond.call_id event refusal
     by_fault held None =
-        silent state respond.call_id event.place (by_refusal state event respond now held None)
+        silent state respond.call_id event (by_refusal state event respond now held None)
         (answered_told event held respond _ state.dialogs)
 
     by_held : (held : Option HeldRequest)
-        → IsRefusedAlone state respond.call_id event.place (by_request state event respond now held)
-    by_held None = told_alone state respond.call_id event.place NoSuchRequest
+        → IsRefusedAlone state respond.call_id event (by_request state event respond now held)
+    by_held None = told_alone state respond.call_id event NoSuchRequest
     by_held (Some held) = by_fault held (refusal_for state.dialogs respond held)
 
 -- ---- a whole call
 
-by_clients_alone : (call : Call) (call_id : List ℕ) (place : ℕ) (taken : ClientTaken)
-    → IsRefusedAlone (side_of call) call_id place taken → IsRefusedAlone call call_id place (by_clients call taken)
-by_clients_alone call call_id place taken alone some =
+by_clients_alone : (call : Call) (call_id : List ℕ) (event : Id) (taken : ClientTaken)
+    → IsRefusedAlone (side_of call) call_id event taken
+    → IsRefusedAlone call call_id event (by_clients call taken)
+by_clients_alone call call_id event taken alone some =
     let m = alone some in (m.0, ap (by_clients call) m.1)
 
 plain_alone : (call : Call) (event : Event) (plain : APlain)
-    → IsRefusedAlone call plain.call_id (event.id).place (first_command_taken call event (Plain plain))
+    → IsRefusedAlone call plain.call_id event.id (first_command_taken call event (Plain plain))
 unfolding start_command
 plain_alone call event plain = by_bool (is_bad_outside plain.method)
-    (λ bad. rw bad (told_alone call plain.call_id (event.id).place BadMethod))
+    (λ bad. rw bad (told_alone call plain.call_id event.id BadMethod))
     (λ good. rw good (λ some. absurd (false≢true some)))
 
 first_alone : (call : Call) (event : Event) (command : UserCommand)
-    → IsRefusedAlone call (call_of_command command) (event.id).place
+    → IsRefusedAlone call (call_of_command command) event.id
     (first_command_taken call event command)
 unfolding start_command
 first_alone call event (Invite invite) = λ some. absurd (false≢true some)
 first_alone call event (Plain plain) = plain_alone call event plain
 first_alone call event (Request request) =
-    told_alone call request.call_id (event.id).place NoSuchCall
+    told_alone call request.call_id event.id NoSuchCall
 first_alone call event (Respond respond) =
-    told_alone call respond.call_id (event.id).place NoSuchCall
-first_alone call event (Ack ack) = told_alone call ack.call_id (event.id).place NoSuchCall
-first_alone call event (Prack prack) = told_alone call prack.call_id (event.id).place NoSuchCall
+    told_alone call respond.call_id event.id NoSuchCall
+first_alone call event (Ack ack) = told_alone call ack.call_id event.id NoSuchCall
+first_alone call event (Prack prack) = told_alone call prack.call_id event.id NoSuchCall
 first_alone call event (Cancel cancel) =
-    told_alone call cancel.call_id (event.id).place NoSuchCall
+    told_alone call cancel.call_id event.id NoSuchCall
 
 later_alone : (call : Call) (event : Event) (command : UserCommand)
-    → IsRefusedAlone call (call_of_command command) (event.id).place (command_taken call event command)
+    → IsRefusedAlone call (call_of_command command) event.id (command_taken call event command)
 later_alone call event (Invite invite) =
-    told_alone call invite.call_id (event.id).place CallInUse
-later_alone call event (Plain plain) = told_alone call plain.call_id (event.id).place CallInUse
+    told_alone call invite.call_id event.id CallInUse
+later_alone call event (Plain plain) = told_alone call plain.call_id event.id CallInUse
 later_alone call event (Request request) =
-    by_clients_alone call request.call_id (event.id).place
+    by_clients_alone call request.call_id event.id
     (request_taken event request (side_of call)) (request_alone event (side_of call) request)
 later_alone call event (Respond respond) = λ some.
     let m = respond_alone (call.served).state event.id respond event.moment some in
     (m.0, ap (by_server call) m.1)
 later_alone call event (Ack ack) =
-    by_clients_alone call ack.call_id (event.id).place (ack_taken event ack (side_of call))
+    by_clients_alone call ack.call_id event.id (ack_taken event ack (side_of call))
     (ack_alone event (side_of call) ack)
 later_alone call event (Prack prack) =
-    by_clients_alone call prack.call_id (event.id).place
+    by_clients_alone call prack.call_id event.id
     (prack_taken event prack (side_of call)) (prack_alone event (side_of call) prack)
 later_alone call event (Cancel cancel) =
-    by_clients_alone call cancel.call_id (event.id).place
+    by_clients_alone call cancel.call_id event.id
     (cancel_taken event cancel (side_of call)) (cancel_alone event (side_of call) cancel)
 
 pub refused_alone : RefusedAlone

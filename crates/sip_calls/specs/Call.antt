@@ -21,8 +21,8 @@ use Rattle.sip_common.specs.declared.item.Item.TheVariants.{Up, User}
 use Rattle.sip_common.specs.declared.item.CallOut.{CallOut}
 use Rattle.sip_common.specs.declared.item.CallOut.TheVariants.{Notice}
 use Rattle.sip_common.specs.declared.notice.Notice.{Notice as ANotice}
-use Rattle.sip_common.specs.declared.notice.Notice.TheVariants.{Refused, Timeout, Failed}
-use Rattle.sip_common.specs.declared.refusal.Refusal.{Refusal}
+use Rattle.sip_common.specs.declared.notice.Notice.TheVariants.{Timeout, Failed}
+use Rattle.sip_common.specs.Notices.{refused}
 use Rattle.sip_common.specs.declared.refusal.Refusal.TheVariants.{CallInUse, NoSuchCall}
 use Rattle.sip_clients.specs.Cancel.{cancel_taken}
 use Rattle.sip_clients.specs.Client.{Clients}
@@ -82,10 +82,6 @@ up_taken call event up kind.Failed = lost_taken call up.id (Failed up.call_id up
 
 -- ---- commands of the user
 
--- the user is told that a command is refused
-abbrev pub refused : Event → List ℕ → Refusal → List CallOut
-refused event call_id refusal = Notice (Refused call_id (event.id).place refusal) ∷ []
-
 -- the client requests after it, and what it gives
 abbrev pub with_clients : Call → Clients × List CallOut → CallTaken
 with_clients call taken = (record call { clients = taken.0 }, taken.1)
@@ -96,16 +92,16 @@ first_command_taken call event (Invite invite) =
     with_clients call (invite_taken event invite call.clients)
 first_command_taken call event (Plain plain) =
     with_clients call (plain_taken event plain call.clients)
-first_command_taken call event (Request request) = (call, refused event request.call_id NoSuchCall)
-first_command_taken call event (Respond respond) = (call, refused event respond.call_id NoSuchCall)
-first_command_taken call event (Ack ack) = (call, refused event ack.call_id NoSuchCall)
-first_command_taken call event (Prack prack) = (call, refused event prack.call_id NoSuchCall)
-first_command_taken call event (Cancel cancel) = (call, refused event cancel.call_id NoSuchCall)
+first_command_taken call event (Request request) = (call, refused event.id request.call_id NoSuchCall)
+first_command_taken call event (Respond respond) = (call, refused event.id respond.call_id NoSuchCall)
+first_command_taken call event (Ack ack) = (call, refused event.id ack.call_id NoSuchCall)
+first_command_taken call event (Prack prack) = (call, refused event.id prack.call_id NoSuchCall)
+first_command_taken call event (Cancel cancel) = (call, refused event.id cancel.call_id NoSuchCall)
 
 -- where something is held, no first request is
 abbrev pub command_taken : Call → Event → UserCommand → CallTaken
-command_taken call event (Invite invite) = (call, refused event invite.call_id CallInUse)
-command_taken call event (Plain plain) = (call, refused event plain.call_id CallInUse)
+command_taken call event (Invite invite) = (call, refused event.id invite.call_id CallInUse)
+command_taken call event (Plain plain) = (call, refused event.id plain.call_id CallInUse)
 command_taken call event (Request request) =
     by_clients call (request_taken event request (side_of call))
 command_taken call event (Respond respond) =

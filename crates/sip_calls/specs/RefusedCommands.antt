@@ -14,5 +14,5 @@ use Rattle.sip_calls.specs.Call.{call_step, kept_call}
 -- place of its event, and nothing else changes.
 abbrev pub RefusedAlone : Type 0
 RefusedAlone = (calls : Calls) (call : Option Call) (id : Id) (command : UserCommand) (now : ℕ)
-    → IsRefusedAlone (option_and_then kept_call call) (call_of_command command) id.place
+    → IsRefusedAlone (option_and_then kept_call call) (call_of_command command) id
     (call_step calls call (Some (id, User command)) now)

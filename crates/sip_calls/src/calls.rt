@@ -1,6 +1,7 @@
 //! The machine of one call: what each of its inputs makes of it, and what it gives.
 
 ghost use Rattle.std.specs.Prelude.{◌≡◌, ◌≤◌, ◌^◌, IfOk, None, Some, if◌then◌else◌};
+ghost use Rattle.sip_common.specs.Notices.{refused};
 ghost use Rattle.sip_calls.specs.Call as spec;
 ghost use Rattle.sip_calls.specs.Call.{call_due, call_machine, call_step};
 ghost use Rattle.sip_calls.specs.Idle.{ticks_are_idle};
@@ -8,6 +9,7 @@ ghost use Rattle.std.proofs.lemmas.Map.Lookups.{exact_bytes};
 
 use crate::call::Call;
 use sip_clients::{Clients, Event, made_name};
+use sip_common::outputs;
 use sip_common::request::own_tag;
 use sip_message::{Addr, CallId, Id, Message, Token};
 use sip_model::StateMachine;
@@ -272,13 +274,7 @@ fn refuse(
     call_id: &CallId,
     refusal: Refusal,
 ) -> Result<Vec<CallOut>, AllocError>
-    ensures { IfOk result (λ outs. outs.items ≡ spec.refused event call_id.now refusal) }
+    ensures { IfOk result (λ outs. outs.items ≡ refused event.id call_id.now refusal) }
 {
-    let mut outs = Vec::new(alloc);
-    outs.push(CallOut::Notice(Notice::Refused {
-        call_id: call_id.clone()?,
-        place: event.id.place,
-        refusal,
-    }))?;
-    Ok(outs)
+    outputs::refused(alloc, event.id, call_id.clone()?, refusal)
 }

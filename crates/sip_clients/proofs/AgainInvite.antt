@@ -37,9 +37,10 @@ use Rattle.sip_clients.specs.declared.service.Service.TheVariants.{Sent, Waits, 
 use Rattle.sip_clients.specs.Cancel.{asked, cancel_case, cancel_client, cancel_taken, cancellation, cancelled_as, cancelled_of, sent_beside}
 use Rattle.sip_clients.specs.Client.{Clients, Side, client_at, client_changed, client_for, with_client, without}
 use Rattle.sip_clients.specs.Clients.{ack_noted, ack_paid, ack_taken, acked_with, invite_taken, lost_of, paid_or_refused, plain_taken, prack_paid, prack_taken, request_taken, settled}
-use Rattle.sip_clients.specs.Commands.{ack_told, debt_for, is_bad_outside, name_in, requested_by}
+use Rattle.sip_clients.specs.Commands.{ack_told, debt_for, is_bad_outside, name_in, requested_at}
 use Rattle.sip_clients.specs.Dialogs.{paid_at}
-use Rattle.sip_clients.specs.Outputs.{refused_notice, request_said, start_command}
+use Rattle.sip_common.specs.Notices.{refused}
+use Rattle.sip_clients.specs.Outputs.{request_said, start_command}
 use Rattle.sip_clients.specs.Outside.{invite_of, plain_of}
 use Rattle.sip_clients.specs.Provisionals.{in_life, told_of}
 use Rattle.sip_clients.specs.Tick.{clients_left, is_over}
@@ -267,7 +268,7 @@ module _ (life : DialogLife) (invite : Id) (event : Option Id) where
   keeps_plain of command made clients apart =
       let client = client_for of.id Plain (plain_of of command) command.address in
       keeps_either (is_bad_outside command.method)
-      (refused_notice of command.call_id BadMethod ∷ []) (start_command of client ∷ []) clients
+      (refused of.id command.call_id BadMethod) (start_command of client ∷ []) clients
       (with_client of.id client clients)
       (keeps_same clients apart) (keeps_started of.id client made refl clients apart)
 
@@ -275,7 +276,7 @@ module _ (life : DialogLife) (invite : Id) (event : Option Id) where
       → AreApart side.clients → Keeps side.clients ((request_taken of command side).0).clients
   keeps_request of command made side apart =
       let name = name_in command.local_tag command.remote_tag in
-      let service = (requested_by name of command side.dialogs).1 in
+      let service = (requested_at name of command side.dialogs).1 in
       keeps_settled of of.id (request_said of command.call_id name service).1 made
       (said_unheard of command.call_id name service) side.clients apart
 

@@ -32,13 +32,13 @@ use Rattle.sip_clients.specs.Answers.{has_answer}
 use Rattle.sip_clients.specs.Cancel.{noted}
 use Rattle.sip_clients.specs.Client.{Clients, Side, client_at, client_changed}
 use Rattle.sip_clients.specs.Clients.{settled}
-use Rattle.sip_clients.specs.Debts.{owing}
+use Rattle.sip_clients.specs.Debts.{owed}
 use Rattle.sip_clients.specs.Dialogs.{opened}
 use Rattle.sip_clients.specs.Provisionals.{in_life, is_response, provisional_number, told_of}
 use Rattle.sip_clients.specs.Replied.{Replied, after_dialog, by_case, finished, heard_again, notice, offer_to, prack_owed, replied_in, reply_taken}
 use Rattle.sip_clients.specs.Reply.{is_last, is_there, offer_case, reliable_case, reply_case, rseq_of, success_case}
 use Rattle.sip_clients.proofs.AgainInvite.{AgainResult, AreApart, Keeps, StartsUnheard, asks_ear, client_ear, ear_of, keeps_settled, said_unheard, silent_then}
-use Rattle.sip_clients.proofs.ClientDialogs.{owing_keeps}
+use Rattle.sip_clients.proofs.ClientDialogs.{owed_keeps}
 use Rattle.sip_clients.proofs.FirstInvite.{id_exact, no_number}
 use Rattle.sip_clients.proofs.FirstReply.{Decided, Unheard, decided, number_by, told_once}
 use Rattle.sip_clients.proofs.Hearing.{Listens, Silent}
@@ -178,8 +178,8 @@ lives_owed life own number client dialogs answer None is there = absurd cc
 lives_owed life own number client dialogs answer (Some held) is there =
     let debt = Prack number ((client.request).cseq).number in
     let offer = offer_to client answer.response in
-    lives_put life answer.name held (owing answer.event debt offer held) dialogs is
-    (owing_keeps answer.event debt offer held).0
+    lives_put life answer.name held (owed answer.event debt offer held).0 dialogs is
+    (owed_keeps answer.event debt offer held).0
 
 -- ---- one response
 

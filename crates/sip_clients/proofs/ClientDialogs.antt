@@ -23,29 +23,25 @@ use Rattle.sip_clients.specs.declared.reply.ReplyCase.{ReplyCase}
 use Rattle.sip_clients.specs.declared.reply.ReplyCase.TheVariants as reply
 use Rattle.sip_clients.specs.declared.service.Service.{Service}
 use Rattle.sip_clients.specs.declared.service.Service.TheVariants.{Sent, Waits, Refused}
-use Rattle.sip_common.specs.declared.refusal.Refusal.TheVariants.{BadMethod}
-use Rattle.sip_clients.specs.Commands.{bye_ended, is_bad_in, requesting}
-use Rattle.sip_clients.specs.Debts.{dropped_if_sent, kept_unless_sent, owing, paying}
-use Rattle.sip_clients.specs.Dialogs.{accepted, accepted_in, ended_with, hearing, opened, own_ended}
+use Rattle.sip_common.specs.declared.refusal.Refusal.{Refusal as ARefusal}
+use Rattle.sip_common.specs.Refusal.{first_refusal}
+use Rattle.sip_clients.specs.Commands.{bye_ended, request_in, request_refusals, sent_unless}
+use Rattle.sip_clients.specs.Debts.{dropped_if_sent, kept_unless_sent, owed, paid}
+use Rattle.sip_clients.specs.Dialogs.{accepted, accepted_in, ended_with, hearing, opened, own_ended, served_at}
 use Rattle.sip_clients.specs.Replied.{ack_owed, by_case, heard_first, offer_to, prack_owed, with_dialog}
-use Rattle.sip_clients.specs.Service.{Outcome, numbered, requested, discharged}
-use Rattle.sip_common.proofs.Keeps.{confirmed_keeps, retargeted_keeps}
+use Rattle.sip_clients.specs.Service.{Outcome, discharged, sending_in}
 use Rattle.sip_common.proofs.Entries as entries
-use Rattle.sip_common.proofs.Heard.{AreApart, Goes, Keeps, Leads, Stays, goes_then, keeps_then, leads_filtered, leads_removed, leads_same, leads_then, name_laws, stays_same}
+use Rattle.sip_clients.proofs.Served.{served_dialogs}
+use Rattle.sip_common.proofs.Heard.{AreApart, Goes, Keeps, Leads, Stays, goes_then, keeps_then, leads_changed, leads_filtered, leads_removed, leads_same, leads_then, name_laws, stays_same}
 
 -- ---- what is sent in a dialog, owed and paid
-
-numbered_keeps : (found : Option DialogFault) (held : HeldDialog) → Keeps held (numbered found held)
-numbered_keeps None held = (refl, refl)
-numbered_keeps (Some fault) held = (refl, refl)
 
 served_keeps : (event : Event) (debt : Debt) (offer : Option (List ℕ)) (held : HeldDialog)
     → Keeps held (discharged event debt offer held).0
 unfolding discharged
 served_keeps event debt None held = (refl, refl)
 served_keeps event (Ack invite number) (Some body) held = (refl, refl)
-served_keeps event (Prack rseq number) (Some body) held =
-    numbered_keeps (request_fault held.dialog (codes "PRACK")) held
+served_keeps event (Prack rseq number) (Some body) held = (refl, refl)
 
 unless_sent_keeps : (debt : Debt) (service : Service) (held : HeldDialog)
     → Keeps held (kept_unless_sent debt service held)
@@ -59,36 +55,43 @@ if_sent_keeps debt (Sent sending) held = (refl, refl)
 if_sent_keeps debt Waits held = (refl, refl)
 if_sent_keeps debt (Refused refusal) held = (refl, refl)
 
-pub owing_keeps : (event : Event) (debt : Debt) (offer : Option (List ℕ)) (held : HeldDialog)
-    → Keeps held (owing event debt offer held)
-unfolding owing
-owing_keeps event debt offer held =
+pub owed_keeps : (event : Event) (debt : Debt) (offer : Option (List ℕ)) (held : HeldDialog)
+    → Keeps held (owed event debt offer held).0
+unfolding owed
+owed_keeps event debt offer held =
     let done = discharged event debt offer held in
     keeps_then held done.0 (kept_unless_sent debt done.1 done.0)
     (served_keeps event debt offer held) (unless_sent_keeps debt done.1 done.0)
 
-pub paying_keeps : (event : Event) (debt : Debt) (body : List ℕ) (held : HeldDialog)
-    → Keeps held (paying event debt body held)
-unfolding paying
-paying_keeps event debt body held =
+pub paid_keeps : (event : Event) (debt : Debt) (body : List ℕ) (held : HeldDialog)
+    → Keeps held (paid event debt body held).0
+unfolding paid
+paid_keeps event debt body held =
     let done = discharged event debt (Some body) held in
     keeps_then held done.0 (dropped_if_sent debt done.1 done.0)
     (served_keeps event debt (Some body) held) (if_sent_keeps debt done.1 done.0)
 
-pub requesting_keeps : (event : Event) (method body : List ℕ) (held : HeldDialog)
-    → Keeps held (requesting event method body held)
-unfolding requesting
-requesting_keeps event method body held =
-    elim (is_bad_in held method) as (λ b.
-    Keeps held (cond {A = Outcome} b (held, Refused BadMethod)
-    (requested event method None body held)).0) [
-      | true ↦ (refl, refl)
-      | false ↦ numbered_keeps (request_fault held.dialog method) held
-    ]
-
--- ---- what ends dialogs
+pub request_keeps : (event : Event) (method body : List ℕ) (held : HeldDialog)
+    → Keeps held (request_in event method body held).0
+unfolding request_in
+request_keeps event method body held =
+    unless (first_refusal (request_refusals held.dialog method) None)
+  where
+    unless : (refusal : Option ARefusal)
+        → Keeps held (sent_unless refusal (sending_in event method None body held) held).0
+    unless None = (refl, refl)
+    unless (Some refusal) = (refl, refl)
 
 module _ (Makes : Id → Type 0) where
+  pub served_leads : (name : DialogName) (serve : HeldDialog → Outcome) (otherwise : Service)
+      → ((held : HeldDialog) → Keeps held (serve held).0) → (dialogs : Dialogs) → AreApart dialogs
+      → Leads Makes dialogs (served_at name serve otherwise dialogs).0
+  served_leads name serve otherwise keeps dialogs apart =
+      subst (Leads Makes dialogs) (sym (served_dialogs name serve otherwise dialogs))
+      (leads_changed Makes name (λ held. (serve held).0) keeps dialogs apart)
+
+  -- ---- what ends dialogs
+
   removed_or_same : (b : Bool) (name : DialogName) (dialogs : Dialogs) → AreApart dialogs
       → Leads Makes dialogs (cond {A = Dialogs × List CallOut} b (ended_at name dialogs)
       (dialogs, [])).0
@@ -155,8 +158,8 @@ module _ (Makes : Id → Type 0) (client : Client) (answer : Answer)
 
   accepted_keeps : (kind : RequestKind) (held : HeldDialog)
       → Keeps held (accepted_in kind answer.response held)
-  accepted_keeps First held = confirmed_keeps answer.response held
-  accepted_keeps (Again life) held = retargeted_keeps (contact_uri answer.response) held
+  accepted_keeps First held = (refl, refl)
+  accepted_keeps (Again life) held = (refl, refl)
   accepted_keeps (Inside life) held = (refl, refl)
   accepted_keeps Plain held = (refl, refl)
 
@@ -172,27 +175,27 @@ module _ (Makes : Id → Type 0) (client : Client) (answer : Answer)
       let held = accepted client answer found in
       let debt = Ack client.id ((client.request).cseq).number in
       let offer = offer_to client answer.response in
-      goes_then Makes found (Some held) (Some (owing answer.event debt offer held))
-      (accepted_goes found) (inl (owing_keeps answer.event debt offer held))
+      goes_then Makes found (Some held) (Some (owed answer.event debt offer held).0)
+      (accepted_goes found) (inl (owed_keeps answer.event debt offer held))
 
-  owing_goes : (debt : Debt) (offer : Option (List ℕ)) (found : Option HeldDialog)
-      → Goes Makes found (Some (owing answer.event debt offer (opened client answer found)))
-  owing_goes debt offer found =
+  owed_goes : (debt : Debt) (offer : Option (List ℕ)) (found : Option HeldDialog)
+      → Goes Makes found (Some (owed answer.event debt offer (opened client answer found)).0)
+  owed_goes debt offer found =
       let held = opened client answer found in
-      goes_then Makes found (Some held) (Some (owing answer.event debt offer held))
-      (opened_goes found) (inl (owing_keeps answer.event debt offer held))
+      goes_then Makes found (Some held) (Some (owed answer.event debt offer held).0)
+      (opened_goes found) (inl (owed_keeps answer.event debt offer held))
 
   -- a reliable provisional response
   prack_heard : (kind : RequestKind) (number : ℕ) (debt : Debt) (offer : Option (List ℕ))
       (found : Option HeldDialog)
       → HeardAt Makes (heard_number (reply.Reliable number) kind true) found
-      (Some (owing answer.event debt offer (heard_first kind number (opened client answer found))))
+      (Some (owed answer.event debt offer (heard_first kind number (opened client answer found))).0)
   prack_heard First number debt offer found =
       let held = opened client answer found in
-      (Some held, opened_goes found, owing_keeps answer.event debt offer (hearing number held))
-  prack_heard (Again life) number debt offer found = owing_goes debt offer found
-  prack_heard (Inside life) number debt offer found = owing_goes debt offer found
-  prack_heard Plain number debt offer found = owing_goes debt offer found
+      (Some held, opened_goes found, owed_keeps answer.event debt offer (hearing number held))
+  prack_heard (Again life) number debt offer found = owed_goes debt offer found
+  prack_heard (Inside life) number debt offer found = owed_goes debt offer found
+  prack_heard Plain number debt offer found = owed_goes debt offer found
 
   -- ---- all dialogs
 

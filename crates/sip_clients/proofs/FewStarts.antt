@@ -51,10 +51,11 @@ use Rattle.sip_clients.specs.Answers.{ack_of}
 use Rattle.sip_clients.specs.Cancel.{asked as with_cancel, cancel_case, cancel_client, cancel_command, cancel_freed, cancel_taken, cancellation, cancelled_as, cancelled_of, cancelling_after, freed_by, noted, sent_beside}
 use Rattle.sip_clients.specs.Client.{Clients, Side, Taken as ClientTaken, client_at, client_changed, client_for, with_client, without}
 use Rattle.sip_clients.specs.Clients.{ack_noted, ack_paid, ack_taken, acked_with, found_taken, invite_taken, lost_of, paid_or_refused, plain_taken, prack_paid, prack_taken, reply_name, reply_of, reply_settled, request_taken, response_taken, settled, started, status_of}
-use Rattle.sip_clients.specs.Commands.{ack_told, bye_ended, debt_for, is_bad_outside, name_in, requested_by}
+use Rattle.sip_clients.specs.Commands.{ack_told, bye_ended, debt_for, is_bad_outside, name_in, requested_at}
 use Rattle.sip_clients.specs.Dialogs.{accepted, ended_with, opened, own_ended, paid_at}
 use Rattle.sip_clients.specs.Event.{branch_of}
-use Rattle.sip_clients.specs.Outputs.{ack_said, direct, refused_notice, request_said, start_command}
+use Rattle.sip_common.specs.Notices.{refused}
+use Rattle.sip_clients.specs.Outputs.{ack_said, direct, request_said, start_command}
 use Rattle.sip_clients.specs.Outside.{invite_of, plain_of}
 use Rattle.sip_clients.specs.Replied.{Replied, ack_owed, after_dialog, by_case, ends_dialog, finished, heard_again, prack_owed, replied_in, reply_taken}
 use Rattle.sip_clients.specs.Reply.{is_last, reply_case}
@@ -538,7 +539,7 @@ module _ (event : Event) where
   plain_fits command clients =
       plain_by (is_bad_outside command.method)
       (client_for event.id Plain (plain_of event command) command.address) clients
-      (refused_notice event command.call_id BadMethod ∷ []) refl refl
+      (refused event.id command.call_id BadMethod) refl refl
 
   -- what is told, and what becomes of the requests
   said_fits : (call_id : List ℕ) (name : DialogName) (service : Service) (clients : Clients)
@@ -582,7 +583,7 @@ module _ (event : Event) where
       → OnSide side (request_taken event command side)
   request_fits command side =
       let name = name_in command.local_tag command.remote_tag in
-      let done = requested_by name event command side.dialogs in
+      let done = requested_at name event command side.dialogs in
       let said = request_said event command.call_id name done.1 in
       let ends = bye_ended name command.method done.1 done.0 in
       let after = settled event event.id said.1 side.clients in
@@ -605,7 +606,7 @@ module _ (event : Event) where
       → OnSide side (paid_or_refused event command
       (ack_paid event command (name_in command.local_tag command.remote_tag)) o side)
   ack_by command side (Err refusal) =
-      quiet_fits side.clients (refused_notice event command.call_id refusal ∷ []) refl
+      quiet_fits side.clients (refused event.id command.call_id refusal) refl
   ack_by command side (Ok debt) =
       let name = name_in command.local_tag command.remote_tag in
       let told = ack_told event name debt command side.dialogs in
@@ -624,7 +625,7 @@ module _ (event : Event) where
       → OnSide side (paid_or_refused event command
       (prack_paid event command (name_in command.local_tag command.remote_tag)) o side)
   prack_by command side (Err refusal) =
-      quiet_fits side.clients (refused_notice event command.call_id refusal ∷ []) refl
+      quiet_fits side.clients (refused event.id command.call_id refusal) refl
   prack_by command side (Ok debt) =
       let name = name_in command.local_tag command.remote_tag in
       said_fits command.call_id name
@@ -650,7 +651,7 @@ module _ (event : Event) where
   cancel_by : (as_case : CancelCase) (command : Cancel) (invite : Client) (clients : Clients)
       → OwnOf clients (cancelled_as as_case event command invite clients)
   cancel_by (asked.Refused refusal) command invite clients =
-      quiet_fits clients (refused_notice event command.call_id refusal ∷ []) refl
+      quiet_fits clients (refused event.id command.call_id refusal) refl
   cancel_by asked.Repeated command invite clients = quiet_fits clients [] refl
   cancel_by asked.Waits command invite clients =
       let after = client_changed command.id (with_cancel (cancel.Waits event.id)) clients in
@@ -673,7 +674,7 @@ module _ (event : Event) where
   cancel_found : (o : Option Client) (command : Cancel) (clients : Clients)
       → OwnOf clients (cancelled_of o event command clients)
   cancel_found None command clients =
-      quiet_fits clients (refused_notice event command.call_id NoSuchRequest ∷ []) refl
+      quiet_fits clients (refused event.id command.call_id NoSuchRequest) refl
   cancel_found (Some invite) command clients = cancel_by (cancel_case invite) command invite clients
 
   pub cancel_fits : (command : Cancel) (side : Side)

@@ -11,6 +11,8 @@ use Rattle.sip_common.specs.declared.debt.Debt.{Debt}
 use Rattle.sip_common.specs.declared.held_dialog.DialogLife.{DialogLife}
 use Rattle.sip_common.specs.declared.item.CallOut.{CallOut}
 use Rattle.sip_common.specs.declared.refusal.Refusal.{Refusal}
+use Rattle.sip_common.specs.declared.refusal.Refusal.TheVariants.{NoSuchDialog}
+use Rattle.sip_clients.specs.declared.service.Service.TheVariants.{Refused, Waits}
 use Rattle.sip_common.specs.Dialogs.{dialog_at, is_named, lives, Dialogs}
 use Rattle.sip_common.specs.Requests.{is_final}
 use Rattle.sip_common.specs.Ids.{is_id}
@@ -25,14 +27,14 @@ use Rattle.sip_clients.specs.Cancel.{cancel_command, cancellation, freed_by, not
 use Rattle.sip_clients.specs.Client.{Clients, Side, Taken as ClientTaken, client_at}
 use Rattle.sip_clients.specs.Clients.{ack_paid, ack_taken, found_taken, lost_of, paid_or_refused, prack_paid, prack_taken, reply_name, reply_of, reply_settled, request_taken, settled, side_after, response_taken, status_of}
 use Rattle.sip_clients.specs.declared.debts.DebtKind.TheVariants as kind
-use Rattle.sip_clients.specs.Commands.{bye_ended, debt_for, name_in, requested_by, requesting}
-use Rattle.sip_clients.specs.Debts.{paying}
+use Rattle.sip_clients.specs.Commands.{bye_ended, debt_for, name_in, request_in, requested_at}
+use Rattle.sip_clients.specs.Debts.{paid}
 use Rattle.sip_clients.specs.Replied.{Replied, reply_taken}
 use Rattle.sip_clients.specs.Provisionals.{OfTheCall, in_life, is_for, number_for, provisional_number, told_of}
-use Rattle.sip_clients.proofs.ClientDialogs.{bye_leads, ended_leads, heard_number, paying_keeps, requesting_keeps}
+use Rattle.sip_clients.proofs.ClientDialogs.{bye_leads, ended_leads, heard_number, paid_keeps, request_keeps, served_leads}
 use Rattle.sip_clients.proofs.FirstInvite.{ear_in, no_number, none_in_life, silent_from, told_more}
 use Rattle.sip_clients.proofs.FirstReply.{first, first_replied, other_replied}
-use Rattle.sip_common.proofs.Heard.{AreApart, Leads, leads_changed, leads_same, leads_then}
+use Rattle.sip_common.proofs.Heard.{AreApart, Leads, leads_same, leads_then}
 use Rattle.sip_clients.proofs.Hearing.{Listens}
 
 -- nothing is heard of a request by which no reliable provisional response is heard
@@ -176,13 +178,13 @@ module _ (Makes : Id → Type 0) where
   pub request_leads : (event : Event) (command : DialogRequest) (side : Side)
       → AreApart side.dialogs → Leads Makes side.dialogs
       ((request_taken event command side).0).dialogs
-  unfolding requested_by
+  unfolding requested_at
   request_leads event command side apart =
       let name = name_in command.local_tag command.remote_tag in
-      let done = requested_by name event command side.dialogs in
+      let done = requested_at name event command side.dialogs in
       leads_then Makes side.dialogs done.0 (bye_ended name command.method done.1 done.0).0
-      (leads_changed Makes name (requesting event command.method command.body)
-      (requesting_keeps event command.method command.body) side.dialogs apart)
+      (served_leads Makes name (request_in event command.method command.body)
+      (Refused NoSuchDialog) (request_keeps event command.method command.body) side.dialogs apart)
       (bye_leads Makes name command.method done.1 done.0)
 
   by_ack : (event : Event) (command : DialogBody) (side : Side) (o : Result Debt Refusal)
@@ -191,8 +193,8 @@ module _ (Makes : Id → Type 0) where
       (ack_paid event command (name_in command.local_tag command.remote_tag)) o side).0).dialogs
   by_ack event command side (Err refusal) apart = leads_same Makes side.dialogs apart
   by_ack event command side (Ok debt) apart =
-      leads_changed Makes (name_in command.local_tag command.remote_tag)
-      (paying event debt command.body) (paying_keeps event debt command.body) side.dialogs apart
+      served_leads Makes (name_in command.local_tag command.remote_tag)
+      (paid event debt command.body) Waits (paid_keeps event debt command.body) side.dialogs apart
 
   pub ack_leads : (event : Event) (command : DialogBody) (side : Side) → AreApart side.dialogs
       → Leads Makes side.dialogs ((ack_taken event command side).0).dialogs
@@ -207,8 +209,8 @@ module _ (Makes : Id → Type 0) where
       side).0).dialogs
   by_prack event command side (Err refusal) apart = leads_same Makes side.dialogs apart
   by_prack event command side (Ok debt) apart =
-      leads_changed Makes (name_in command.local_tag command.remote_tag)
-      (paying event debt command.body) (paying_keeps event debt command.body) side.dialogs apart
+      served_leads Makes (name_in command.local_tag command.remote_tag)
+      (paid event debt command.body) Waits (paid_keeps event debt command.body) side.dialogs apart
 
   pub prack_leads : (event : Event) (command : DialogBody) (side : Side) → AreApart side.dialogs
       → Leads Makes side.dialogs ((prack_taken event command side).0).dialogs

@@ -14,5 +14,6 @@ pub mod NoRequests
 pub mod OwnCall
 pub mod OwnDialogs
 pub mod Results
+pub mod Served
 pub mod RefusedAlone
 pub mod Tally

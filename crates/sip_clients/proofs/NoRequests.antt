@@ -42,9 +42,10 @@ use Rattle.sip_clients.specs.Answers.{ack_of}
 use Rattle.sip_clients.specs.Cancel.{asked, cancel_case, cancel_command, cancel_taken, cancellation, cancelled_as, cancelled_of, freed_by, noted, sent_beside}
 use Rattle.sip_clients.specs.Client.{Clients, Side, Taken, client_at, client_changed, client_for}
 use Rattle.sip_clients.specs.Clients.{ack_paid, ack_taken, found_taken, invite_taken, lost, lost_of, paid_or_refused, plain_taken, prack_paid, prack_taken, reply_name, reply_of, reply_settled, request_taken, response_taken, settled, started, status_of}
-use Rattle.sip_clients.specs.Commands.{bye_ended, debt_for, is_bad_outside, name_in, requested_by}
+use Rattle.sip_clients.specs.Commands.{bye_ended, debt_for, is_bad_outside, name_in, requested_at}
 use Rattle.sip_clients.specs.Dialogs.{accepted, ended_with, opened, own_ended, paid_at}
-use Rattle.sip_clients.specs.Outputs.{ack_said, direct, refused_notice, request_said, start_command}
+use Rattle.sip_common.specs.Notices.{refused}
+use Rattle.sip_clients.specs.Outputs.{ack_said, direct, request_said, start_command}
 use Rattle.sip_clients.specs.Outside.{plain_of}
 use Rattle.sip_clients.specs.Replied.{Replied, ack_owed, after_dialog, by_case, ends_dialog, finished, prack_owed, replied_in, reply_taken}
 use Rattle.sip_clients.specs.Reply.{is_last, reply_case}
@@ -201,7 +202,7 @@ invite_asks event invite clients = refl
 
 plain_by : (b : Bool) (event : Event) (plain : PlainCommand) (clients : Clients)
     → shown (cond {A = Clients × List CallOut} b
-    (clients, refused_notice event plain.call_id BadMethod ∷ [])
+    (clients, refused event.id plain.call_id BadMethod)
     (started event (client_for event.id Plain (plain_of event plain) plain.address) clients)).1
     ≡ []
 plain_by true event plain clients = refl
@@ -216,7 +217,7 @@ pub request_asks : (event : Event) (command : DialogRequest) (side : Side)
     → shown (request_taken event command side).1 ≡ []
 request_asks event command side =
     let name = name_in command.local_tag command.remote_tag in
-    let done = requested_by name event command side.dialogs in
+    let done = requested_at name event command side.dialogs in
     let said = request_said event command.call_id name done.1 in
     let after = settled event event.id said.1 side.clients in
     let bye = bye_ended name command.method done.1 done.0 in

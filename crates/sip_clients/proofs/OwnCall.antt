@@ -43,9 +43,10 @@ use Rattle.sip_clients.specs.Answers.{ack_of}
 use Rattle.sip_clients.specs.Cancel.{asked, cancel_case, cancel_client, cancel_command, cancel_taken, cancellation, cancelled_as, cancelled_of, freed_by, noted, sent_beside}
 use Rattle.sip_clients.specs.Client.{Clients, Side, Taken as ClientTaken, client_at, client_changed, client_for}
 use Rattle.sip_clients.specs.Clients.{ack_noted, ack_paid, ack_taken, acked_with, found_taken, invite_taken, lost, lost_of, paid_or_refused, plain_taken, prack_paid, prack_taken, reply_name, reply_of, reply_settled, request_taken, response_taken, settled, started, status_of}
-use Rattle.sip_clients.specs.Commands.{ack_told, bye_ended, debt_for, is_bad_outside, name_in, requested_by}
+use Rattle.sip_clients.specs.Commands.{ack_told, bye_ended, debt_for, is_bad_outside, name_in, requested_at}
 use Rattle.sip_clients.specs.Dialogs.{accepted, opened, paid_at}
-use Rattle.sip_clients.specs.Outputs.{ack_said, direct, refused_notice, request_said, start_command}
+use Rattle.sip_common.specs.Notices.{refused}
+use Rattle.sip_clients.specs.Outputs.{ack_said, direct, request_said, start_command}
 use Rattle.sip_clients.specs.Outside.{bare_invite, bare_plain, bare_request, invite_of, plain_of, supporting}
 use Rattle.sip_clients.specs.OwnCall.{AreClientsOf, AreDialogsOf, AreNoticesOf, IsDialogOf, IsNoticeOf, IsRequestOf, IsSideOf, KeepsTo, on_side}
 use Rattle.sip_clients.specs.Replied.{InDialog, Replied, ack_owed, after_dialog, by_case, ends_dialog, finished, heard_again, heard_first, offer_to, prack_owed, replied_in, reply_taken, with_dialog}
@@ -53,7 +54,7 @@ use Rattle.sip_clients.specs.Reply.{is_last, reply_case}
 use Rattle.sip_clients.specs.Tick.{ends_at, is_over, notices_of, tick_taken}
 use Rattle.sip_common.proofs.Each.{all_of_each, both, each_but_one, each_changed, each_inserted, each_left, each_set, found_one}
 use Rattle.sip_common.proofs.OwnDialogs.{dialog_own, early_own}
-use Rattle.sip_clients.proofs.OwnDialogs.{IsOutcomeOf, IsServiceOf, accepted_own, body_kept, bye_own, ended_with_own, heard_own, opened_own, owed_own, paid_own, requested_by_own}
+use Rattle.sip_clients.proofs.OwnDialogs.{IsOutcomeOf, IsServiceOf, accepted_own, body_kept, bye_own, ended_with_own, heard_own, opened_own, owed_own, paid_own, requested_at_own}
 
 supporting_kept : (asked_for : ProvisionalSupport) (message : Message)
     → (supporting asked_for message).call_id ≡ message.call_id
@@ -344,7 +345,7 @@ invite_own event invite side own =
 plain_by : (b : Bool) (event : Event) (plain : PlainCommand) (clients : Clients)
     → AreClientsOf plain.call_id clients
     → AreSettledOf plain.call_id (cond {A = Clients × List CallOut} b
-    (clients, refused_notice event plain.call_id BadMethod ∷ [])
+    (clients, refused event.id plain.call_id BadMethod)
     (started event (client_for event.id Plain (plain_of event plain) plain.address) clients))
 plain_by true event plain clients own = (own, (refl, tt))
 plain_by false event plain clients own =
@@ -365,8 +366,8 @@ pub dialog_request_own : (event : Event) (command : DialogRequest)
 dialog_request_own event command side own =
     let call_id = command.call_id in
     let name = name_in command.local_tag command.remote_tag in
-    let done = requested_by name event command side.dialogs in
-    let so = requested_by_own call_id name event command side.dialogs own.dialogs in
+    let done = requested_at name event command side.dialogs in
+    let so = requested_at_own call_id name event command side.dialogs own.dialogs in
     let said = request_said event call_id name done.1 in
     let says = request_said_own call_id event call_id refl name done.1 so.1 in
     let ends = bye_own call_id name command.method done.1 done.0 so.0 in

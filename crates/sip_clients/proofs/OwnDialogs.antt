@@ -1,9 +1,10 @@
 -- A held dialog stays of its own Call-ID, and so do the requests that are sent in it and its end.
-use Rattle.std.proofs.Common.{◌≡◌, ℕ, ◌+◌, Bool, true, false, cond, List, [], ◌∷◌, refl, ◌∙◌}
+use Rattle.std.proofs.Common.{◌≡◌, ℕ, ◌+◌, Bool, true, false, cond, List, [], ◌∷◌, refl, sym, subst, ◌∙◌}
 use Rattle.std.specs.Prelude.{Option, None, Some, IfSome, codes}
 use Rattle.std.specs.Option.{option_map_or}
 use Rattle.std.specs.Str.{bytes_eq}
 use Rattle.sip_message.specs.Message.{with_body_of}
+use Rattle.sip_model.proofs.Ordered.{by_bool}
 use Rattle.sip_message.specs.declared.message.Message.{Message}
 use Rattle.sip_message.specs.declared.rack.RAck.{RAck}
 use Rattle.sip_dialog.specs.declared.fault.DialogFault.{DialogFault}
@@ -18,8 +19,9 @@ use Rattle.sip_common.specs.declared.held_dialog.HeldDialog.{HeldDialog}
 use Rattle.sip_common.specs.declared.item.CallOut.{CallOut}
 use Rattle.sip_common.specs.declared.refusal.Refusal.TheVariants.{BadMethod, NoSuchDialog}
 use Rattle.sip_common.specs.Dialogs.{dialog_at, early_ended, ended_at, is_named, lives, Dialogs}
-use Rattle.sip_common.proofs.Each.{both, each_changed}
-use Rattle.sip_common.proofs.OwnDialogs.{AreEndedOf, confirmed_keeps, dialog_own, early_own, ended_own, retargeted_keeps}
+use Rattle.sip_common.proofs.Each.{both, each_changed, each_set}
+use Rattle.sip_common.proofs.OwnDialogs.{AreEndedOf, dialog_own, early_own, ended_own, lived_keeps}
+use Rattle.sip_common.specs.Dialogs.{confirms, retargets}
 use Rattle.sip_clients.specs.declared.client.RequestKind.{RequestKind}
 use Rattle.sip_clients.specs.declared.client.RequestKind.TheVariants.{First, Again, Inside, Plain}
 use Rattle.sip_clients.specs.declared.client.Client.{Client}
@@ -28,13 +30,14 @@ use Rattle.sip_clients.specs.declared.reply.Reply.{Reply as Answer}
 use Rattle.sip_clients.specs.declared.service.Sending.{Sending}
 use Rattle.sip_clients.specs.declared.service.Service.{Service}
 use Rattle.sip_clients.specs.declared.service.Service.TheVariants.{Sent, Waits, Refused}
-use Rattle.sip_clients.specs.Commands.{bye_ended, is_bad_in, request_in, requested_by, requesting}
-use Rattle.sip_clients.specs.Debts.{dropped_if_sent, kept_unless_sent, owed, owing, paying}
-use Rattle.sip_clients.specs.Dialogs.{accepted, accepted_in, ended_with, opened, own_ended, paid_at}
+use Rattle.sip_clients.specs.Commands.{bye_ended, request_in, requested_at}
+use Rattle.sip_clients.specs.Debts.{dropped_if_sent, kept_unless_sent, owed, paid}
+use Rattle.sip_clients.specs.Dialogs.{accepted, accepted_in, ended_with, opened, own_ended, paid_at, served_at}
+use Rattle.sip_clients.proofs.Served.{bad_request, good_request, is_bad, served_in}
 use Rattle.sip_clients.specs.Event.{branch_of}
 use Rattle.sip_clients.specs.OwnCall.{AreDialogsOf, IsDialogOf, IsNoticeOf, IsRequestOf}
 use Rattle.sip_clients.specs.Replied.{heard_first}
-use Rattle.sip_clients.specs.Service.{Outcome, acked, numbered, requested, discharged, service_by}
+use Rattle.sip_clients.specs.Service.{Outcome, acked, sends, requested, discharged, service_by}
 
 pub body_kept : (message : Message) (body : List ℕ)
     → (with_body_of message body).call_id ≡ message.call_id
@@ -57,11 +60,6 @@ module _ (call_id : List ℕ) where
 
   -- ---- what is sent in a dialog
 
-  numbered_own : (fault : Option DialogFault) (held : HeldDialog) → IsDialogOf call_id held
-      → IsDialogOf call_id (numbered fault held)
-  numbered_own None held own = own
-  numbered_own (Some fault) held own = own
-
   service_own : (fault : Option DialogFault) (sending : Sending)
       → sending.message.call_id ≡ call_id → IsServiceOf (service_by fault sending)
   service_own None sending own = own
@@ -71,7 +69,7 @@ module _ (call_id : List ℕ) where
       (held : HeldDialog) → IsDialogOf call_id held
       → IsOutcomeOf (requested event method rack body held)
   requested_own event method rack body held own = (
-    numbered_own (request_fault held.dialog method) held own,
+    lived_keeps held.dialog (sends method (request_fault held.dialog method)) ∙ own,
     service_own (request_fault held.dialog method) _
         (body_kept (bare_request_in held.dialog method (held.dialog.local_cseq + 1)
         (branch_of event) event.local) body ∙ own),
@@ -102,7 +100,7 @@ module _ (call_id : List ℕ) where
 
   pub owed_own : (event : Event) (debt : Debt) (offer : Option (List ℕ)) (held : HeldDialog)
       → IsDialogOf call_id held → IsOutcomeOf (owed event debt offer held)
-  unfolding owing
+  unfolding owed
   owed_own event debt offer held own =
       let done = discharged event debt offer held in
       let so = served_own event debt offer held own in
@@ -114,60 +112,56 @@ module _ (call_id : List ℕ) where
   dropped_own debt Waits held own = own
   dropped_own debt (Refused refusal) held own = own
 
-  paying_own : (event : Event) (debt : Debt) (body : List ℕ) (held : HeldDialog)
-      → IsDialogOf call_id held → IsDialogOf call_id (paying event debt body held)
-  unfolding paying
-  paying_own event debt body held own =
+  debt_paid_own : (event : Event) (debt : Debt) (body : List ℕ) (held : HeldDialog)
+      → IsDialogOf call_id held → IsOutcomeOf (paid event debt body held)
+  unfolding paid
+  debt_paid_own event debt body held own =
       let done = discharged event debt (Some body) held in
-      dropped_own debt done.1 done.0 (served_own event debt (Some body) held own).0
+      let so = served_own event debt (Some body) held own in
+      (dropped_own debt done.1 done.0 so.0, so.1)
 
   request_own : (event : Event) (method body : List ℕ) (held : HeldDialog)
       → IsDialogOf call_id held → IsOutcomeOf (request_in event method body held)
   request_own event method body held own =
-      elim (is_bad_in held method) as (λ b. IsOutcomeOf (cond {A = Outcome} b
-      (held, Refused BadMethod) (requested event method None body held))) [
-        | true ↦ (own, tt)
-        | false ↦ requested_own event method None body held own
-      ]
+      by_bool (is_bad event method body held)
+      (λ bad. subst IsOutcomeOf (sym (bad_request event method body held bad)) (own, tt))
+      (λ good. subst IsOutcomeOf (sym (good_request event method body held good))
+      (requested_own event method None body held own))
 
-  requesting_own : (event : Event) (method body : List ℕ) (held : HeldDialog)
-      → IsDialogOf call_id held → IsDialogOf call_id (requesting event method body held)
-  unfolding requesting
-  requesting_own event method body held own = (request_own event method body held own).0
-
-  found_service : (serve : HeldDialog → Service) (otherwise : Service)
-      → ((held : HeldDialog) → IsDialogOf call_id held → IsServiceOf (serve held))
-      → IsServiceOf otherwise → (found : Option HeldDialog)
-      → IfSome found (IsDialogOf call_id) → IsServiceOf (option_map_or serve found otherwise)
-  found_service serve otherwise serves other None own = other
-  found_service serve otherwise serves other (Some held) own = serves held own
+  served_at_own : (name : DialogName) (serve : HeldDialog → Outcome) (otherwise : Service)
+      → ((held : HeldDialog) → IsDialogOf call_id held → IsOutcomeOf (serve held))
+      → IsServiceOf otherwise → (dialogs : Dialogs) → AreDialogsOf call_id dialogs
+      → AreDialogsOf call_id (served_at name serve otherwise dialogs).0
+      × IsServiceOf (served_at name serve otherwise dialogs).1
+  served_at_own name serve otherwise serves other dialogs own =
+      by_found (dialog_at name dialogs) (dialog_own call_id name dialogs own)
+    where
+      by_found : (found : Option HeldDialog) → IfSome found (IsDialogOf call_id)
+          → AreDialogsOf call_id (served_in name serve otherwise dialogs found).0
+          × IsServiceOf (served_in name serve otherwise dialogs found).1
+      by_found None its = (own, other)
+      by_found (Some held) its = (
+        each_set (IsDialogOf call_id) (is_named name) dialogs (serve held).0
+            (serves held its).0 own,
+        (serves held its).1,
+      )
 
   pub paid_own : (name : DialogName) (event : Event) (debt : Debt) (body : List ℕ)
       (dialogs : Dialogs) → AreDialogsOf call_id dialogs
       → AreDialogsOf call_id (paid_at name event debt body dialogs).0
       × IsServiceOf (paid_at name event debt body dialogs).1
-  paid_own name event debt body dialogs own = (
-    each_changed (IsDialogOf call_id) (is_named name) (paying event debt body)
-        (paying_own event debt body) dialogs own,
-    found_service (λ held. (discharged event debt (Some body) held).1) Waits
-        (λ held its. (served_own event debt (Some body) held its).1) tt
-        (dialog_at name dialogs) (dialog_own call_id name dialogs own),
-  )
+  paid_own name event debt body dialogs own =
+      served_at_own name (paid event debt body) Waits (debt_paid_own event debt body) tt dialogs
+      own
 
-  pub requested_by_own : (name : DialogName) (event : Event) (command : DialogRequest)
+  pub requested_at_own : (name : DialogName) (event : Event) (command : DialogRequest)
       (dialogs : Dialogs) → AreDialogsOf call_id dialogs
-      → AreDialogsOf call_id (requested_by name event command dialogs).0
-      × IsServiceOf (requested_by name event command dialogs).1
-  unfolding requested_by
-  requested_by_own name event command dialogs own = (
-    each_changed (IsDialogOf call_id) (is_named name)
-        (requesting event command.method command.body)
-        (requesting_own event command.method command.body) dialogs own,
-    found_service (λ held. (request_in event command.method command.body held).1)
-        (Refused NoSuchDialog)
-        (λ held its. (request_own event command.method command.body held its).1) tt
-        (dialog_at name dialogs) (dialog_own call_id name dialogs own),
-  )
+      → AreDialogsOf call_id (requested_at name event command dialogs).0
+      × IsServiceOf (requested_at name event command dialogs).1
+  unfolding requested_at
+  requested_at_own name event command dialogs own =
+      served_at_own name (request_in event command.method command.body) (Refused NoSuchDialog)
+      (request_own event command.method command.body) tt dialogs own
 
   -- ---- what ends
 
@@ -211,9 +205,10 @@ module _ (call_id : List ℕ) where
 
   accepted_in_own : (kind : RequestKind) (response : Message) (held : HeldDialog)
       → IsDialogOf call_id held → IsDialogOf call_id (accepted_in kind response held)
-  accepted_in_own First response held own = confirmed_keeps response held ∙ own
+  accepted_in_own First response held own =
+      lived_keeps held.dialog (confirms response held) ∙ own
   accepted_in_own (Again life) response held own =
-      retargeted_keeps (contact_uri response) held ∙ own
+      lived_keeps held.dialog (retargets (contact_uri response) held) ∙ own
   accepted_in_own (Inside life) response held own = own
   accepted_in_own Plain response held own = own
 

@@ -2,14 +2,15 @@
 use Rattle.std.proofs.Common.{◌≡◌, ℕ, Bool, true, false, cond, List, [], ◌∷◌, ◌++◌, map, refl, sym, ◌∙◌, ap}
 use Rattle.std.specs.Prelude.{Option, None, Some, Result, Ok, Err, codes}
 use Rattle.std.specs.List.{list_any}
-use Rattle.std.specs.Map.{set_value}
 use Rattle.std.specs.Option.{option_map_or}
 use Rattle.std.specs.Str.{bytes_eq}
 use Rattle.std.proofs.lemmas.Bool.{false≢true}
-use Rattle.std.proofs.lemmas.Map.Steps.{set_value_same}
 use Rattle.sip_message.specs.declared.rack.RAck.{RAck}
 use Rattle.sip_dialog.specs.declared.fault.DialogFault.{DialogFault}
-use Rattle.sip_common.specs.Dialogs.{dialog_at, dialog_changed, ended_notice, is_named, Dialogs}
+use Rattle.sip_message.specs.declared.id.Id.{Id}
+use Rattle.sip_common.specs.Dialogs.{dialog_at, ended_notice, lived, Dialogs}
+use Rattle.sip_common.specs.Notices.{refused}
+use Rattle.sip_common.specs.Refusal.{first_refusal}
 use Rattle.sip_common.specs.declared.command.Cancel.{Cancel}
 use Rattle.sip_common.specs.declared.command.DialogBody.{DialogBody}
 use Rattle.sip_common.specs.declared.command.DialogRequest.{DialogRequest}
@@ -19,15 +20,15 @@ use Rattle.sip_common.specs.declared.held_dialog.DialogName.{DialogName}
 use Rattle.sip_common.specs.declared.held_dialog.HeldDialog.{HeldDialog}
 use Rattle.sip_common.specs.declared.item.CallOut.{CallOut}
 use Rattle.sip_common.specs.declared.refusal.Refusal.{Refusal}
-use Rattle.sip_common.specs.declared.refusal.Refusal.TheVariants.{BadMethod, NoSuchDialog, NoSuchRequest}
+use Rattle.sip_common.specs.declared.refusal.Refusal.TheVariants.{NoSuchDialog, NoSuchRequest}
 use Rattle.sip_clients.specs.Cancel.{cancel_case, cancel_command, cancel_taken, cancelled_as, cancelled_of}
 use Rattle.sip_clients.specs.Client.{Clients, Side, client_at, Taken as ClientTaken}
 use Rattle.sip_clients.specs.Clients.{ack_noted, ack_paid, ack_taken, paid_or_refused, prack_paid, prack_taken, request_settled, request_taken, settled}
-use Rattle.sip_clients.specs.Commands.{bye_ended, is_bad_in, name_in, request_in, requested_by, requesting}
-use Rattle.sip_clients.specs.Dialogs.{paid_at, service_at}
-use Rattle.sip_clients.specs.Debts.{dropped_if_sent, paying}
-use Rattle.sip_clients.specs.Outputs.{ack_said, refused_notice, request_said, start_command}
-use Rattle.sip_clients.specs.Service.{numbered, requested, discharged, service_by}
+use Rattle.sip_clients.specs.Commands.{bye_ended, name_in, request_in, request_refusals, requested_at, sent_unless}
+use Rattle.sip_clients.specs.Dialogs.{paid_at}
+use Rattle.sip_clients.specs.Debts.{dropped_if_sent, paid}
+use Rattle.sip_clients.specs.Outputs.{ack_said, request_said, start_command}
+use Rattle.sip_clients.specs.Service.{sends, requested, discharged, sending_in, service_by}
 use Rattle.sip_clients.specs.declared.cancel.CancelCase.{CancelCase}
 use Rattle.sip_clients.specs.declared.cancel.CancelCase.TheVariants as cancel
 use Rattle.sip_clients.specs.declared.client.Client.{Client}
@@ -35,15 +36,16 @@ use Rattle.sip_clients.specs.declared.event.Event.{Event}
 use Rattle.sip_clients.specs.declared.service.Sending.{Sending}
 use Rattle.sip_clients.specs.declared.service.Service.{Service}
 use Rattle.sip_clients.specs.declared.service.Service.TheVariants.{Sent, Waits, Refused}
-use Rattle.sip_clients.specs.RefusedCommands.{is_refusal, only_refused, IsRefusedAlone}
+use Rattle.sip_clients.specs.RefusedCommands.{is_refusal, IsRefusedAlone}
+use Rattle.sip_clients.proofs.Served.{refused_same}
 
-pub told_alone : {S : Type 0} (before : S) (call_id : List ℕ) (place : ℕ) (refusal : Refusal)
-    → IsRefusedAlone before call_id place (before, only_refused call_id place refusal)
-told_alone before call_id place refusal some = (refusal, refl)
+pub told_alone : {S : Type 0} (before : S) (call_id : List ℕ) (event : Id) (refusal : Refusal)
+    → IsRefusedAlone before call_id event (before, refused event call_id refusal)
+told_alone before call_id event refusal some = (refusal, refl)
 
-pub silent : {S : Type 0} (before : S) (call_id : List ℕ) (place : ℕ) (taken : S × List CallOut)
-    → list_any is_refusal taken.1 ≡ false → IsRefusedAlone before call_id place taken
-silent before call_id place taken none some = absurd (false≢true (sym none ∙ some))
+pub silent : {S : Type 0} (before : S) (call_id : List ℕ) (event : Id) (taken : S × List CallOut)
+    → list_any is_refusal taken.1 ≡ false → IsRefusedAlone before call_id event taken
+silent before call_id event taken none some = absurd (false≢true (sym none ∙ some))
 
 pub by_bool : {G : Type 0} (b : Bool) → (b ≡ true → G) → (b ≡ false → G) → G
 by_bool true t f = t refl
@@ -69,22 +71,24 @@ requested_same : (event : Event) (method : List ℕ) (rack : Option RAck) (body 
 requested_same event method rack body held refusal e = by_fault _ _ e
   where
     by_fault : (fault : Option DialogFault) (sending : Sending)
-        → service_by fault sending ≡ Refused refusal → numbered fault held ≡ held
+        → service_by fault sending ≡ Refused refusal → lived (sends method fault) held ≡ held
     by_fault None sending is = absurd cc
     by_fault (Some fault) sending is = refl
 
-requesting_same : (event : Event) (method body : List ℕ) (held : HeldDialog) (refusal : Refusal)
+request_same : (event : Event) (method body : List ℕ) (held : HeldDialog) (refusal : Refusal)
     → (request_in event method body held).1 ≡ Refused refusal
-    → requesting event method body held ≡ held
-unfolding requesting
-requesting_same event method body held refusal e = by_method (is_bad_in held method) e
+    → (request_in event method body held).0 ≡ held
+unfolding request_in
+request_same event method body held refusal e =
+    unless (first_refusal (request_refusals held.dialog method) None) e
   where
-    by_method : (bad : Bool)
-        → (cond bad (held, Refused BadMethod) (requested event method None body held)).1
-        ≡ Refused refusal
-        → (cond bad (held, Refused BadMethod) (requested event method None body held)).0 ≡ held
-    by_method true is = refl
-    by_method false is = requested_same event method None body held refusal is
+    sending : Sending
+    sending = sending_in event method None body held
+
+    unless : (first : Option Refusal) → (sent_unless first sending held).1 ≡ Refused refusal
+        → (sent_unless first sending held).0 ≡ held
+    unless None is = absurd cc
+    unless (Some first) is = refl
 
 served_same : (event : Event) (owed : Debt) (body : List ℕ) (held : HeldDialog)
     (refusal : Refusal) → (discharged event owed (Some body) held).1 ≡ Refused refusal
@@ -94,35 +98,19 @@ served_same event (debt.Ack invite number) body held refusal e = refl
 served_same event (debt.Prack rseq number) body held refusal e =
     requested_same event (codes "PRACK") _ body held refusal e
 
-paying_same : (event : Event) (owed : Debt) (body : List ℕ) (held : HeldDialog)
-    (refusal : Refusal) → (discharged event owed (Some body) held).1 ≡ Refused refusal
-    → paying event owed body held ≡ held
-unfolding paying
-paying_same event owed body held refusal e =
+debt_same : (event : Event) (owed : Debt) (body : List ℕ) (held : HeldDialog)
+    (refusal : Refusal) → (paid event owed body held).1 ≡ Refused refusal
+    → (paid event owed body held).0 ≡ held
+unfolding paid
+debt_same event owed body held refusal e =
     ap (λ service. dropped_if_sent owed service (discharged event owed (Some body) held).0) e
     ∙ served_same event owed body held refusal e
-
-unchanged_at : (name : DialogName) (change : HeldDialog → HeldDialog)
-    (serve : HeldDialog → Service) (otherwise : Service) (dialogs : Dialogs) (refusal : Refusal)
-    → ((held : HeldDialog) → serve held ≡ Refused refusal → change held ≡ held)
-    → service_at name serve otherwise dialogs ≡ Refused refusal
-    → dialog_changed name change dialogs ≡ dialogs
-unchanged_at name change serve otherwise dialogs refusal same e =
-    by_held (dialog_at name dialogs) refl e
-  where
-    by_held : (held : Option HeldDialog) → dialog_at name dialogs ≡ held
-        → option_map_or serve held otherwise ≡ Refused refusal
-        → option_map_or (λ h. set_value (is_named name) dialogs (change h)) held dialogs ≡ dialogs
-    by_held None found is = refl
-    by_held (Some held) found is =
-        ap (set_value (is_named name) dialogs) (same held is)
-        ∙ set_value_same (is_named name) dialogs held found
 
 -- ---- a request in a dialog, an ACK and a PRACK
 
 module _ (event : Event) (side : Side) where
   abbrev Lonely : List ℕ → ClientTaken → Type 0
-  Lonely call_id taken = IsRefusedAlone side call_id (event.id).place taken
+  Lonely call_id taken = IsRefusedAlone side call_id event.id taken
 
   -- where the request isn't sent, the dialogs are as they were
   abbrev Keeps : Dialogs → Service → Type 0
@@ -147,40 +135,36 @@ module _ (event : Event) (side : Side) where
       → Lonely command.call_id (request_done name command dialogs service)
   unfolding start_command
   request_by name command dialogs (Sent sending) same =
-      silent side command.call_id (event.id).place
+      silent side command.call_id event.id
       (request_done name command dialogs (Sent sending))
       (bye_told name command.method sending dialogs)
   request_by name command dialogs Waits same =
-      silent side command.call_id (event.id).place (request_done name command dialogs Waits) refl
+      silent side command.call_id event.id (request_done name command dialogs Waits) refl
   request_by name command dialogs (Refused refusal) same = λ some. (
     refusal,
     ap (λ (kept : Dialogs). (
       record { dialogs = kept; clients = side.clients },
-      refused_notice event command.call_id refusal ∷ [],
+      refused event.id command.call_id refusal,
     )) (same refusal refl),
   )
 
   pub request_alone : (command : DialogRequest)
       → Lonely command.call_id (request_taken event command side)
-  unfolding requested_by
+  unfolding requested_at
   request_alone command =
       let name = name_in command.local_tag command.remote_tag in
-      request_by name command
-      (dialog_changed name (requesting event command.method command.body) side.dialogs)
-      (service_at name (λ held. (request_in event command.method command.body held).1)
-      (Refused NoSuchDialog) side.dialogs)
-      (λ refusal e. unchanged_at name (requesting event command.method command.body)
-      (λ held. (request_in event command.method command.body held).1) (Refused NoSuchDialog)
-      side.dialogs refusal
-      (λ held is. requesting_same event command.method command.body held refusal is) e)
+      let serve = request_in event command.method command.body in
+      let done = requested_at name event command side.dialogs in
+      request_by name command done.0 done.1
+      (λ refusal. refused_same name serve (Refused NoSuchDialog) side.dialogs refusal
+      (λ held. request_same event command.method command.body held refusal))
 
   paid_same : (name : DialogName) (owed : Debt) (body : List ℕ)
       → Keeps (paid_at name event owed body side.dialogs).0
       (paid_at name event owed body side.dialogs).1
-  paid_same name owed body refusal e =
-      unchanged_at name (paying event owed body) (λ held. (discharged event owed (Some body) held).1)
-      Waits side.dialogs refusal
-      (λ held is. paying_same event owed body held refusal is) e
+  paid_same name owed body refusal =
+      refused_same name (paid event owed body) Waits side.dialogs refusal
+      (λ held. debt_same event owed body held refusal)
 
   abbrev ack_done : DialogName → DialogBody → Debt → Dialogs → Service → ClientTaken
   ack_done name command owed dialogs service =
@@ -196,19 +180,19 @@ module _ (event : Event) (side : Side) where
       (service : Service) → Keeps dialogs service
       → Lonely command.call_id (ack_done name command owed dialogs service)
   ack_by name command owed dialogs (Sent sending) same =
-      silent side command.call_id (event.id).place
+      silent side command.call_id event.id
       (ack_done name command owed dialogs (Sent sending)) refl
   ack_by name command owed dialogs Waits same =
-      silent side command.call_id (event.id).place (ack_done name command owed dialogs Waits) refl
+      silent side command.call_id event.id (ack_done name command owed dialogs Waits) refl
   ack_by name command owed dialogs (Refused refusal) same = λ some. (
     refusal,
     ap (λ (kept : Dialogs). (
       record { dialogs = kept; clients = ack_noted owed name None side.clients },
-      refused_notice event command.call_id refusal ∷ [],
+      refused event.id command.call_id refusal,
     )) (same refusal refl)
         ∙ ap (λ (kept : Clients). (
           record { dialogs = side.dialogs; clients = kept },
-          refused_notice event command.call_id refusal ∷ [],
+          refused event.id command.call_id refusal,
         )) (none_noted owed name side.clients),
   )
 
@@ -223,15 +207,15 @@ module _ (event : Event) (side : Side) where
       → Lonely command.call_id (prack_done name command dialogs service)
   unfolding start_command
   prack_by name command dialogs (Sent sending) same =
-      silent side command.call_id (event.id).place
+      silent side command.call_id event.id
       (prack_done name command dialogs (Sent sending)) refl
   prack_by name command dialogs Waits same =
-      silent side command.call_id (event.id).place (prack_done name command dialogs Waits) refl
+      silent side command.call_id event.id (prack_done name command dialogs Waits) refl
   prack_by name command dialogs (Refused refusal) same = λ some. (
     refusal,
     ap (λ (kept : Dialogs). (
       record { dialogs = kept; clients = side.clients },
-      refused_notice event command.call_id refusal ∷ [],
+      refused event.id command.call_id refusal,
     )) (same refusal refl),
   )
 
@@ -239,7 +223,7 @@ module _ (event : Event) (side : Side) where
       → ((owed : Debt) → Lonely command.call_id (pay owed side)) → (owed : Result Debt Refusal)
       → Lonely command.call_id (paid_or_refused event command pay owed side)
   paid_alone command pay alone (Err refusal) =
-      told_alone side command.call_id (event.id).place refusal
+      told_alone side command.call_id event.id refusal
   paid_alone command pay alone (Ok owed) = alone owed
 
   pub ack_alone : (command : DialogBody) → Lonely command.call_id (ack_taken event command side)
@@ -261,26 +245,26 @@ module _ (event : Event) (side : Side) where
   -- ---- CANCEL
 
   cancel_by : (way : CancelCase) (command : Cancel) (invite : Client)
-      → IsRefusedAlone side.clients command.call_id (event.id).place
+      → IsRefusedAlone side.clients command.call_id event.id
       (cancelled_as way event command invite side.clients)
   unfolding cancel_command
   cancel_by (cancel.Refused refusal) command invite =
-      told_alone side.clients command.call_id (event.id).place refusal
+      told_alone side.clients command.call_id event.id refusal
   cancel_by cancel.Repeated command invite =
-      silent side.clients command.call_id (event.id).place
+      silent side.clients command.call_id event.id
       (cancelled_as cancel.Repeated event command invite side.clients) refl
   cancel_by cancel.Waits command invite =
-      silent side.clients command.call_id (event.id).place
+      silent side.clients command.call_id event.id
       (cancelled_as cancel.Waits event command invite side.clients) refl
   cancel_by cancel.Starts command invite =
-      silent side.clients command.call_id (event.id).place
+      silent side.clients command.call_id event.id
       (cancelled_as cancel.Starts event command invite side.clients) refl
 
   cancel_found : (command : Cancel) (invite : Option Client)
-      → IsRefusedAlone side.clients command.call_id (event.id).place
+      → IsRefusedAlone side.clients command.call_id event.id
       (cancelled_of invite event command side.clients)
   cancel_found command None =
-      told_alone side.clients command.call_id (event.id).place NoSuchRequest
+      told_alone side.clients command.call_id event.id NoSuchRequest
   cancel_found command (Some invite) = cancel_by (cancel_case invite) command invite
 
   pub cancel_alone : (command : Cancel) → Lonely command.call_id (cancel_taken event command side)

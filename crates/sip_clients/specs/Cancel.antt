@@ -8,6 +8,7 @@ use Rattle.sip_common.specs.declared.command.Cancel.{Cancel}
 use Rattle.sip_common.specs.declared.item.CallOut.{CallOut}
 use Rattle.sip_common.specs.declared.refusal.Refusal.{Refusal}
 use Rattle.sip_common.specs.declared.refusal.Refusal.TheVariants.{AlreadyFinal, NoSuchRequest}
+use Rattle.sip_common.specs.Notices.{refused}
 use Rattle.sip_clients.specs.declared.cancel.CancelCase.{CancelCase}
 use Rattle.sip_clients.specs.declared.cancel.CancelCase.TheVariants as case
 use Rattle.sip_clients.specs.declared.cancel.Cancellation.{Cancellation}
@@ -17,7 +18,7 @@ use Rattle.sip_clients.specs.declared.client.Cancelling.TheVariants.{NotAsked, W
 use Rattle.sip_clients.specs.declared.client.Client.{Client}
 use Rattle.sip_clients.specs.declared.event.Event.{Event}
 use Rattle.sip_clients.specs.Client.{Clients, Side, Taken, client_at, client_changed, client_for, with_client}
-use Rattle.sip_clients.specs.Outputs.{refused_notice, start_under}
+use Rattle.sip_clients.specs.Outputs.{start_under}
 use Rattle.sip_clients.specs.Reply.{is_inviting}
 
 -- ---- the CANCEL
@@ -63,7 +64,7 @@ asked cancel client = record client { cancel = cancel }
 -- the command is refused, and nothing changes
 abbrev pub refusing : Event → Cancel → Refusal → Clients → Clients × List CallOut
 refusing event command refusal clients =
-    (clients, refused_notice event command.call_id refusal ∷ [])
+    (clients, refused event.id command.call_id refusal)
 
 -- case by case: refused; asked before; it waits for a provisional response; it goes out
 abbrev pub cancelled_as : CancelCase → Event → Cancel → Client → Clients → Clients × List CallOut

@@ -19,6 +19,7 @@ use Rattle.sip_common.specs.declared.item.CallOut.{CallOut}
 use Rattle.sip_common.specs.declared.refusal.Refusal.{Refusal}
 use Rattle.sip_common.specs.declared.refusal.Refusal.TheVariants.{BadMethod}
 use Rattle.sip_common.specs.Dialogs.{is_named}
+use Rattle.sip_common.specs.Notices.{refused}
 use Rattle.sip_common.specs.Requests.{is_final, name_of_tags}
 use Rattle.sip_common.specs.Ids.{is_id}
 use Rattle.sip_clients.specs.declared.answers.SentAck.{SentAck}
@@ -35,7 +36,7 @@ use Rattle.sip_clients.specs.Cancel.{cancel_freed, noted, sent_beside}
 use Rattle.sip_clients.specs.Client.{Clients, Side, Taken, client_at, client_changed, client_for, quiet, with_client, without}
 use Rattle.sip_clients.specs.Commands.{ack_told, debt_for, is_bad_outside, name_in, prack_told, request_told}
 use Rattle.sip_clients.specs.Dialogs.{ended_with}
-use Rattle.sip_clients.specs.Outputs.{refused_notice, start_command}
+use Rattle.sip_clients.specs.Outputs.{start_command}
 use Rattle.sip_clients.specs.Outside.{invite_of, plain_of}
 use Rattle.sip_clients.specs.Replied.{Replied, reply_taken}
 
@@ -133,7 +134,7 @@ invite_taken event invite clients =
 -- the command Plain: a request outside of dialogs, unless its method is none of a user's
 abbrev pub plain_taken : Event → PlainCommand → Clients → Clients × List CallOut
 plain_taken event plain clients =
-    if is_bad_outside plain.method then (clients, refused_notice event plain.call_id BadMethod ∷ [])
+    if is_bad_outside plain.method then (clients, refused event.id plain.call_id BadMethod)
     else started event (client_for event.id Plain (plain_of event plain) plain.address) clients
 
 -- ---- commands in a dialog
@@ -181,7 +182,7 @@ prack_paid event command name debt side =
 abbrev pub paid_or_refused : Event → DialogBody → (Debt → Side → Taken) → Result Debt Refusal → Side
     → Taken
 paid_or_refused event command pay (Err refusal) side =
-    (side, refused_notice event command.call_id refusal ∷ [])
+    (side, refused event.id command.call_id refusal)
 paid_or_refused event command pay (Ok debt) side = pay debt side
 
 -- each serves the oldest response of the dialog that is owed one

@@ -1,11 +1,14 @@
 -- The user's commands that send a request in a dialog (RFC 3261, sections 12.2.1.1, 13.2.2.4 and
 -- 15.1.1; RFC 3262, section 4).
-use Rattle.std.specs.Prelude.{ℕ, Bool, true, false, ◌&&◌, ◌||◌, List, [], Option, None, Some, Result, Ok, Err, codes, find, if◌then◌else◌}
+use Rattle.std.specs.Prelude.{ℕ, Bool, true, false, ◌&&◌, ◌||◌, nat_le, List, [], ◌∷◌, Option, None, Some, Result, Ok, Err, codes, find, if◌then◌else◌}
 use Rattle.std.specs.Option.{option_map_or}
 use Rattle.std.specs.Str.{bytes_eq}
 use Rattle.sip_dialog.specs.declared.dialog.Side.{Side}
 use Rattle.sip_dialog.specs.declared.dialog.Side.TheVariants.{Caller, Callee}
-use Rattle.sip_dialog.specs.Dialog.{is_early}
+use Rattle.sip_dialog.specs.declared.dialog.Dialog.{Dialog}
+use Rattle.sip_dialog.specs.Dialog.{is_early, is_ended}
+use Rattle.sip_dialog.specs.Route.{is_strict}
+use Rattle.sip_dialog.specs.Life.{Requests}
 use Rattle.sip_common.specs.declared.command.DialogBody.{DialogBody}
 use Rattle.sip_common.specs.declared.command.DialogRequest.{DialogRequest}
 use Rattle.sip_common.specs.declared.debt.Debt.{Debt}
@@ -13,20 +16,22 @@ use Rattle.sip_common.specs.declared.held_dialog.DialogName.{DialogName}
 use Rattle.sip_common.specs.declared.held_dialog.HeldDialog.{HeldDialog}
 use Rattle.sip_common.specs.declared.item.CallOut.{CallOut}
 use Rattle.sip_common.specs.declared.refusal.Refusal.{Refusal}
-use Rattle.sip_common.specs.declared.refusal.Refusal.TheVariants.{NoSuchDialog, BadMethod, NothingToAck, NothingToPrack}
-use Rattle.sip_common.specs.Dialogs.{dialog_at, dialog_changed, ended_at, tag_text, Dialogs}
+use Rattle.sip_common.specs.declared.refusal.Refusal.TheVariants.{NoSuchDialog, BadMethod, DialogEnded, StrictRoute, SequenceUsedUp, NothingToAck, NothingToPrack}
+use Rattle.sip_common.specs.Dialogs.{dialog_at, ended_at, lived, tag_text, Dialogs}
+use Rattle.sip_common.specs.Refusal.{first_refusal}
 use Rattle.sip_common.specs.Requests.{name_of_tags}
 use Rattle.sip_clients.specs.declared.answers.SentAck.{SentAck}
 use Rattle.sip_clients.specs.declared.debts.DebtKind.{DebtKind}
 use Rattle.sip_clients.specs.declared.debts.DebtKind.TheVariants as kind
 use Rattle.sip_clients.specs.declared.event.Event.{Event}
 use Rattle.sip_clients.specs.declared.outputs.ClientChange.{ClientChange}
+use Rattle.sip_clients.specs.declared.service.Sending.{Sending}
 use Rattle.sip_clients.specs.declared.service.Service.{Service}
 use Rattle.sip_clients.specs.declared.service.Service.TheVariants.{Sent, Waits, Refused}
 use Rattle.sip_clients.specs.Debts.{is_of}
-use Rattle.sip_clients.specs.Dialogs.{paid_at, service_at}
+use Rattle.sip_clients.specs.Dialogs.{paid_at, served_at}
 use Rattle.sip_clients.specs.Outputs.{ack_said, request_said}
-use Rattle.sip_clients.specs.Service.{Outcome, requested}
+use Rattle.sip_clients.specs.Service.{Outcome, sending_in}
 
 -- ---- methods
 
@@ -50,35 +55,34 @@ abbrev pub is_bad_early : Side → List ℕ → Bool
 is_bad_early side method =
     bytes_eq method (codes "INVITE") || (is_callee side && bytes_eq method (codes "BYE"))
 
--- a method that isn't the user's to send in this dialog
-abbrev pub is_bad_in : HeldDialog → List ℕ → Bool
-is_bad_in held method =
-    is_own_kind method || (is_early (held.dialog).state && is_bad_early (held.dialog).side method)
-
 -- ---- a request
 
--- the request, where its method may be sent
-abbrev pub request_in : Event → List ℕ → List ℕ → HeldDialog → Outcome
+-- the conditions under which one of this method is refused, in the order in which they are looked at
+abbrev pub request_refusals : Dialog → List ℕ → List (Bool × Refusal)
+request_refusals dialog method =
+    (is_own_kind method, BadMethod)
+    ∷ (is_early dialog.state && is_bad_early dialog.side method, BadMethod)
+    ∷ (is_ended dialog.state, DialogEnded)
+    ∷ (is_strict dialog.route_set, StrictRoute)
+    ∷ (nat_le 2147483647 dialog.local_cseq, SequenceUsedUp)
+    ∷ []
+
+-- it is refused, or sent and takes the next number
+abbrev pub sent_unless : Option Refusal → Sending → HeldDialog → Outcome
+sent_unless (Some refusal) sending held = (held, Refused refusal)
+sent_unless None sending held =
+    (lived (Requests ((sending.message).cseq).method ∷ []) held, Sent sending)
+
+-- in this dialog
+unfoldable pub request_in : Event → List ℕ → List ℕ → HeldDialog → Outcome
 request_in event method body held =
-    if is_bad_in held method then (held, Refused BadMethod)
-    else requested event method None body held
+    sent_unless (first_refusal (request_refusals held.dialog method) None)
+    (sending_in event method None body held) held
 
--- the dialog after it
-unfoldable pub requesting : Event → List ℕ → List ℕ → HeldDialog → HeldDialog
-requesting event method body held = (request_in event method body held).0
-
--- the same, in the dialog of this name
-abbrev pub requested_at : DialogName → Event → List ℕ → List ℕ → Dialogs → Dialogs × Service
-requested_at name event method body dialogs = (
-  dialog_changed name (requesting event method body) dialogs,
-  service_at name (λ held. (request_in event method body held).1)
-      (Refused NoSuchDialog) dialogs,
-)
-
--- the same, as a command asks for it
-unfoldable pub requested_by : DialogName → Event → DialogRequest → Dialogs → Dialogs × Service
-requested_by name event command dialogs =
-    requested_at name event command.method command.body dialogs
+-- in the dialog of this name
+unfoldable pub requested_at : DialogName → Event → DialogRequest → Dialogs → Dialogs × Service
+requested_at name event command dialogs =
+    served_at name (request_in event command.method command.body) (Refused NoSuchDialog) dialogs
 
 -- a BYE that is sent ends its dialog at once
 abbrev pub bye_ended : DialogName → List ℕ → Service → Dialogs → Dialogs × List CallOut
@@ -91,7 +95,7 @@ bye_ended name method (Refused refusal) dialogs = (dialogs, [])
 abbrev pub request_told : Event → DialogName → DialogRequest → Dialogs
     → Dialogs × List CallOut × ClientChange × List CallOut
 request_told event name command dialogs =
-    let done = requested_by name event command dialogs in
+    let done = requested_at name event command dialogs in
     let bye = bye_ended name command.method done.1 done.0 in
     let said = request_said event command.call_id name done.1 in
     (bye.0, said.0, said.1, bye.1)

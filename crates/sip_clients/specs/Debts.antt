@@ -10,7 +10,7 @@ use Rattle.sip_clients.specs.declared.debts.DebtKind.TheVariants as kind
 use Rattle.sip_clients.specs.declared.event.Event.{Event}
 use Rattle.sip_clients.specs.declared.service.Service.{Service}
 use Rattle.sip_clients.specs.declared.service.Service.TheVariants.{Sent, Waits, Refused}
-use Rattle.sip_clients.specs.Service.{discharged}
+use Rattle.sip_clients.specs.Service.{Outcome, discharged}
 
 -- a debt of this kind
 abbrev pub is_of : DebtKind → Debt → Bool
@@ -36,14 +36,10 @@ kept_unless_sent debt (Sent sending) held = held
 kept_unless_sent debt Waits held = record held { owed = held.owed ++ debt ∷ [] }
 kept_unless_sent debt (Refused refusal) held = record held { owed = held.owed ++ debt ∷ [] }
 
--- the dialog after it
-unfoldable pub owing : Event → Debt → Option (List ℕ) → HeldDialog → HeldDialog
-owing event debt offer held =
-    let done = discharged event debt offer held in kept_unless_sent debt done.1 done.0
-
 -- the dialog after it, and what becomes of what is to be sent
-abbrev pub owed : Event → Debt → Option (List ℕ) → HeldDialog → HeldDialog × Service
-owed event debt offer held = (owing event debt offer held, (discharged event debt offer held).1)
+unfoldable pub owed : Event → Debt → Option (List ℕ) → HeldDialog → Outcome
+owed event debt offer held =
+    let done = discharged event debt offer held in (kept_unless_sent debt done.1 done.0, done.1)
 
 -- ---- the user serves it: it is owed no more where it is sent
 
@@ -57,7 +53,7 @@ dropped_if_sent debt (Sent sending) held = without debt held
 dropped_if_sent debt Waits held = held
 dropped_if_sent debt (Refused refusal) held = held
 
--- the dialog after it
-unfoldable pub paying : Event → Debt → List ℕ → HeldDialog → HeldDialog
-paying event debt body held =
-    let done = discharged event debt (Some body) held in dropped_if_sent debt done.1 done.0
+-- the dialog after it, and what becomes of it
+unfoldable pub paid : Event → Debt → List ℕ → HeldDialog → Outcome
+paid event debt body held =
+    let done = discharged event debt (Some body) held in (dropped_if_sent debt done.1 done.0, done.1)

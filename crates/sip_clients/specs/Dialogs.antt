@@ -1,6 +1,7 @@
 -- What a response, or the end of a client request, does to the held dialogs (RFC 3261, sections
 -- 12.1.2, 12.2.1.2 and 13.2.2).
 use Rattle.std.specs.Prelude.{ℕ, Bool, List, [], ◌++◌, Option, None, Some, if◌then◌else◌}
+use Rattle.std.specs.Map.{set_value}
 use Rattle.std.specs.Option.{option_map_or}
 use Rattle.sip_dialog.specs.Opening.{contact_uri, opened_by_response}
 use Rattle.sip_message.specs.declared.message.Message.{Message}
@@ -10,7 +11,7 @@ use Rattle.sip_common.specs.declared.held_dialog.DialogLife.{DialogLife}
 use Rattle.sip_common.specs.declared.held_dialog.DialogName.{DialogName}
 use Rattle.sip_common.specs.declared.held_dialog.HeldDialog.{HeldDialog}
 use Rattle.sip_common.specs.declared.item.CallOut.{CallOut}
-use Rattle.sip_common.specs.Dialogs.{confirmed, dialog_at, dialog_changed, early_ended, ended_at, lives, retargeted, Dialogs}
+use Rattle.sip_common.specs.Dialogs.{confirmed, dialog_at, early_ended, ended_at, is_named, lives, retargeted, Dialogs}
 use Rattle.sip_clients.specs.declared.client.RequestKind.{RequestKind}
 use Rattle.sip_clients.specs.declared.client.RequestKind.TheVariants.{First, Again, Inside, Plain}
 use Rattle.sip_clients.specs.declared.client.Client.{Client}
@@ -18,8 +19,8 @@ use Rattle.sip_clients.specs.declared.event.Event.{Event}
 use Rattle.sip_clients.specs.declared.reply.Reply.{Reply as Answer}
 use Rattle.sip_clients.specs.declared.service.Service.{Service}
 use Rattle.sip_clients.specs.declared.service.Service.TheVariants.{Waits}
-use Rattle.sip_clients.specs.Debts.{paying}
-use Rattle.sip_clients.specs.Service.{discharged}
+use Rattle.sip_clients.specs.Debts.{paid}
+use Rattle.sip_clients.specs.Service.{Outcome}
 
 -- ---- how a dialog is made (RFC 3261, section 12.1.2)
 
@@ -64,16 +65,16 @@ accepted client reply (Some held) = accepted_in client.kind reply.response held
 abbrev pub hearing : ℕ → HeldDialog → HeldDialog
 hearing rseq held = record held { heard = latest_after (offered held.heard rseq) held.heard rseq }
 
--- what becomes of what is to be sent in the dialog of this name, if it is held
-abbrev pub service_at : DialogName → (HeldDialog → Service) → Service → Dialogs → Service
-service_at name serve otherwise dialogs = option_map_or serve (dialog_at name dialogs) otherwise
+-- something is to be sent in the dialog of this name, if it is held: the dialogs after it, and what
+-- becomes of it
+abbrev pub served_at : DialogName → (HeldDialog → Outcome) → Service → Dialogs → Dialogs × Service
+served_at name serve otherwise dialogs =
+    option_map_or (λ held. (set_value (is_named name) dialogs (serve held).0, (serve held).1))
+    (dialog_at name dialogs) (dialogs, otherwise)
 
--- in the dialog of this name: the dialogs after it, and what becomes of the request
+-- what is owed in it
 abbrev pub paid_at : DialogName → Event → Debt → List ℕ → Dialogs → Dialogs × Service
-paid_at name event debt body dialogs = (
-  dialog_changed name (paying event debt body) dialogs,
-  service_at name (λ held. (discharged event debt (Some body) held).1) Waits dialogs,
-)
+paid_at name event debt body dialogs = served_at name (paid event debt body) Waits dialogs
 
 -- ---- what ends with a client request
 

@@ -10,7 +10,7 @@ use Rattle.sip_common.specs.declared.held_dialog.DialogName.{DialogName}
 use Rattle.sip_common.specs.declared.item.CallOut.{CallOut}
 use Rattle.sip_common.specs.declared.item.CallOut.TheVariants as out
 use Rattle.sip_common.specs.declared.notice.Notice.TheVariants as notice
-use Rattle.sip_common.specs.declared.refusal.Refusal.{Refusal}
+use Rattle.sip_common.specs.Notices.{refused}
 use Rattle.sip_common.specs.Requests.{is_invite}
 use Rattle.sip_transactions.specs.declared.input.Command.TheVariants.{Start}
 use Rattle.sip_clients.specs.declared.answers.SentAck.{SentAck}
@@ -33,10 +33,6 @@ response_notice reply =
     out.Notice (notice.Response reply.call_id reply.id reply.status (tag_of reply.response.from)
     (tag_of reply.response.to) reply.response.body)
 
--- the user is told that a command is refused, and why
-abbrev pub refused_notice : Event → List ℕ → Refusal → CallOut
-refused_notice event call_id refusal = out.Notice (notice.Refused call_id (event.id).place refusal)
-
 -- ---- a request in a dialog
 
 -- what a request in a dialog is for
@@ -54,7 +50,7 @@ abbrev pub request_said : Event → List ℕ → DialogName → Service → List
 request_said event call_id name (Sent sending) = ([], Starts (client_of event name sending))
 request_said event call_id name Waits = ([], Stays)
 request_said event call_id name (Refused refusal) =
-    (refused_notice event call_id refusal ∷ [], Stays)
+    (refused event.id call_id refusal, Stays)
 
 -- a request is sent through a transaction of its own, under this id and with this branch
 abbrev pub start_under : Id → List ℕ → Client → CallOut
@@ -80,4 +76,4 @@ direct ack = out.Direct ack.to ack.bytes
 abbrev pub ack_said : Event → List ℕ → Service → List CallOut × Option SentAck
 ack_said event call_id (Sent sending) = (direct (sent_ack sending) ∷ [], Some (sent_ack sending))
 ack_said event call_id Waits = ([], None)
-ack_said event call_id (Refused refusal) = (refused_notice event call_id refusal ∷ [], None)
+ack_said event call_id (Refused refusal) = (refused event.id call_id refusal, None)

@@ -1,17 +1,18 @@
 -- What becomes of a request that is to be sent in a dialog (RFC 3261, sections 12.2.1 and 13.2.2.4;
 -- RFC 3262, section 4).
-use Rattle.std.specs.Prelude.{ℕ, ◌+◌, List, Option, None, Some, codes}
+use Rattle.std.specs.Prelude.{ℕ, ◌+◌, List, [], ◌∷◌, Option, None, Some, codes}
 use Rattle.sip_dialog.specs.declared.fault.DialogFault.{DialogFault}
 use Rattle.sip_dialog.specs.declared.fault.DialogFault.TheVariants as fault
 use Rattle.sip_dialog.specs.Fault.{ack_fault, request_fault}
+use Rattle.sip_dialog.specs.Life.{Happening, Requests}
 use Rattle.sip_dialog.specs.Request.{ack_in, request_in}
 use Rattle.sip_dialog.specs.Route.{hop_of}
-use Rattle.sip_dialog.specs.Step.{with_next_number}
 use Rattle.sip_message.specs.declared.message.Message.{Message}
 use Rattle.sip_message.specs.declared.rack.RAck.{RAck}
 use Rattle.sip_common.specs.declared.debt.Debt.{Debt}
 use Rattle.sip_common.specs.declared.debt.Debt.TheVariants.{Ack, Prack}
 use Rattle.sip_common.specs.declared.held_dialog.HeldDialog.{HeldDialog}
+use Rattle.sip_common.specs.Dialogs.{lived}
 use Rattle.sip_common.specs.declared.refusal.Refusal.{Refusal}
 use Rattle.sip_common.specs.declared.refusal.Refusal.TheVariants as refusal
 use Rattle.sip_clients.specs.declared.event.Event.{Event}
@@ -42,21 +43,25 @@ service_by (Some fault) sending = Refused (refusal_of fault)
 abbrev pub with_rack : Option RAck → Message → Message
 with_rack rack message = record message { rack = rack }
 
--- a request that is sent takes the next number
-abbrev pub numbered : Option DialogFault → HeldDialog → HeldDialog
-numbered None held = record held { dialog = with_next_number held.dialog }
-numbered (Some fault) held = held
+-- a request of this method takes the next number, where it is sent
+abbrev pub sends : List ℕ → Option DialogFault → List Happening
+sends method None = Requests method ∷ []
+sends method (Some fault) = []
 
--- a request of this method, with a RAck where it is a PRACK
+-- a request of this method as it goes out, with a RAck where it is a PRACK
+abbrev pub sending_in : Event → List ℕ → Option RAck → List ℕ → HeldDialog → Sending
+sending_in event method rack body held = record {
+  message = with_rack rack (request_in held.dialog method (held.dialog.local_cseq + 1) body
+      (branch_of event) event.local);
+  to = hop_of held.dialog held.address;
+  born = held.born;
+}
+
+-- it is sent, or refused as the dialog does
 abbrev pub requested : Event → List ℕ → Option RAck → List ℕ → HeldDialog → Outcome
 requested event method rack body held = (
-  numbered (request_fault held.dialog method) held,
-  service_by (request_fault held.dialog method) record {
-    message = with_rack rack (request_in held.dialog method (held.dialog.local_cseq + 1) body
-        (branch_of event) event.local);
-    to = hop_of held.dialog held.address;
-    born = held.born;
-  },
+  lived (sends method (request_fault held.dialog method)) held,
+  service_by (request_fault held.dialog method) (sending_in event method rack body held),
 )
 
 -- the PRACK of a response of this RSeq to the INVITE of this number

@@ -1,8 +1,12 @@
 //! The user's commands that send a request in a dialog.
 
-ghost use Rattle.std.specs.Prelude.{◌≡◌, IfOk, OnOk};
+ghost use Rattle.std.specs.Prelude.{◌≡◌, ◌&&◌, ◌||◌, IfOk, OnOk};
+ghost use Rattle.sip_dialog.specs.Dialog.{is_early};
 ghost use Rattle.sip_common.specs.Dialogs.{tag_text};
+ghost use Rattle.sip_common.specs.declared.refusal.Refusal.TheVariants.{NoSuchDialog};
 ghost use Rattle.sip_clients.specs.Commands as spec;
+ghost use Rattle.sip_clients.specs.Dialogs.{served_at};
+ghost use Rattle.sip_clients.specs.declared.service.Service.TheVariants.{Refused};
 
 use crate::answers::SentAck;
 use crate::debts::{DebtKind, oldest};
@@ -66,7 +70,7 @@ pub(crate) fn request_told(
     Ok((outs, change, ends))
 }
 
-#[tactic(auto, unfolding(crate::specs::Commands::requested_by))]
+#[tactic(auto, unfolding(crate::specs::Commands::requested_at))]
 fn request_by(
     alloc: Global,
     dialogs: &mut Dialogs,
@@ -75,9 +79,9 @@ fn request_by(
     command: &DialogRequest,
 ) -> Result<Service, AllocError>
     ensures service { IfOk result (λ service. service
-        ≡ (spec.requested_by name.now event command.now dialogs.old.entries).1) }
+        ≡ (spec.requested_at name.now event command.now dialogs.old.entries).1) }
     ensures dialogs { OnOk result (dialogs.new.entries
-        ≡ (spec.requested_by name.now event command.now dialogs.old.entries).0) }
+        ≡ (spec.requested_at name.now event command.now dialogs.old.entries).0) }
 {
     let method = command.method.clone()?;
     let body = command.body.clone()?;
@@ -93,9 +97,11 @@ fn request_at(
     body: Text,
 ) -> Result<Service, AllocError>
     ensures service { IfOk result (λ service. service
-        ≡ (spec.requested_at name.now event method body dialogs.old.entries).1) }
+        ≡ (served_at name.now (spec.request_in event method body) (Refused NoSuchDialog)
+        dialogs.old.entries).1) }
     ensures dialogs { OnOk result (dialogs.new.entries
-        ≡ (spec.requested_at name.now event method body dialogs.old.entries).0) }
+        ≡ (served_at name.now (spec.request_in event method body) (Refused NoSuchDialog)
+        dialogs.old.entries).0) }
 {
     let Some(held) = dialogs.get_mut(name) else {
         return Ok(Service::Refused(Refusal::NoSuchDialog));
@@ -103,7 +109,6 @@ fn request_at(
     request_in(alloc, held, event, method, body)
 }
 
-#[tactic(auto, unfolding(crate::specs::Commands::requesting))]
 fn request_in(
     alloc: Global,
     held: &mut HeldDialog,
@@ -113,7 +118,7 @@ fn request_in(
 ) -> Result<Service, AllocError>
     ensures service { IfOk result (λ service. service
         ≡ (spec.request_in event method body held.old).1) }
-    ensures held { OnOk result (held.new ≡ spec.requesting event method body held.old) }
+    ensures held { OnOk result (held.new ≡ (spec.request_in event method body held.old).0) }
 {
     if is_bad_in(held, &method) {
         return Ok(Service::Refused(Refusal::BadMethod));
@@ -122,7 +127,8 @@ fn request_in(
 }
 
 fn is_bad_in(held: &HeldDialog, method: &Token) -> bool
-    ensures { result ≡ spec.is_bad_in held.now method.now }
+    ensures { result ≡ (spec.is_own_kind method.now
+        || (is_early held.now.dialog.state && spec.is_bad_early held.now.dialog.side method.now)) }
 {
     is_own_kind(method)
         || (held.dialog.state() == DialogState::Early && is_bad_early(held.dialog.side(), method))

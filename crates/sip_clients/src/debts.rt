@@ -1,9 +1,8 @@
 //! What is owed in a dialog, and how it is discharged.
 
-ghost use Rattle.std.specs.Prelude.{◌≡◌, IfOk, OnOk, Some, filter, find, not};
+ghost use Rattle.std.specs.Prelude.{◌≡◌, IfOk, OnOk, filter, find, not};
 ghost use Rattle.std.specs.Option.{option_copied};
 ghost use Rattle.sip_clients.specs.Debts as spec;
-ghost use Rattle.sip_clients.specs.Service.{discharged};
 
 use crate::event::Event;
 use crate::service::{Service, discharge};
@@ -20,7 +19,7 @@ pub(crate) enum DebtKind {
 }
 
 /// Discharges what a response asks for; it stays owed where it isn't sent.
-#[tactic(auto, unfolding(crate::specs::Debts::owing))]
+#[tactic(auto, unfolding(crate::specs::Debts::owed))]
 pub(crate) fn owe(
     alloc: Global,
     held: &mut HeldDialog,
@@ -28,8 +27,8 @@ pub(crate) fn owe(
     debt: Debt,
     offer: Option<Text>,
 ) -> Result<Service, AllocError>
-    ensures service { IfOk result (λ service. service ≡ (discharged event debt offer held.old).1) }
-    ensures held { OnOk result (held.new ≡ spec.owing event debt offer held.old) }
+    ensures service { IfOk result (λ service. service ≡ (spec.owed event debt offer held.old).1) }
+    ensures held { OnOk result (held.new ≡ (spec.owed event debt offer held.old).0) }
 {
     let service = discharge(alloc, held, event, debt, offer)?;
     keep_unless_sent(held, debt, &service)?;
@@ -46,7 +45,7 @@ fn keep_unless_sent(held: &mut HeldDialog, debt: Debt, service: &Service) -> Res
 }
 
 /// Serves what is owed by the user's command; it is owed no more where it is sent.
-#[tactic(auto, unfolding(crate::specs::Debts::paying))]
+#[tactic(auto, unfolding(crate::specs::Debts::paid))]
 pub(crate) fn pay(
     alloc: Global,
     held: &mut HeldDialog,
@@ -54,9 +53,8 @@ pub(crate) fn pay(
     debt: Debt,
     body: Text,
 ) -> Result<Service, AllocError>
-    ensures service { IfOk result (λ service. service
-        ≡ (discharged event debt (Some body) held.old).1) }
-    ensures held { OnOk result (held.new ≡ spec.paying event debt body held.old) }
+    ensures service { IfOk result (λ service. service ≡ (spec.paid event debt body held.old).1) }
+    ensures held { OnOk result (held.new ≡ (spec.paid event debt body held.old).0) }
 {
     let service = discharge(alloc, held, event, debt, Some(body))?;
     drop_if_sent(alloc, held, debt, &service);

@@ -1,6 +1,7 @@
 //! What the user is told of a client request, and what is sent for it.
 
 ghost use Rattle.std.specs.Prelude.{◌≡◌, ◌∷◌, [], IfOk};
+ghost use Rattle.sip_common.specs.Notices.{refused};
 ghost use Rattle.sip_clients.specs.Outputs as spec;
 
 use crate::answers::SentAck;
@@ -40,28 +41,16 @@ pub(crate) fn response_notice(alloc: Global, reply: &Reply) -> Result<CallOut, A
     }))
 }
 
-// How the user is told that a request of an event isn't sent.
-fn refused_notice(event: Event, call_id: &CallId, refusal: Refusal) -> Result<CallOut, AllocError>
-    ensures { IfOk result (λ out. out ≡ spec.refused_notice event call_id.now refusal) }
-{
-    Ok(CallOut::Notice(Notice::Refused {
-        call_id: call_id.clone()?,
-        place: event.id.place,
-        refusal,
-    }))
-}
-
-/// The same, alone.
+/// The notice that the command of an event is refused.
 pub(crate) fn refused(
     alloc: Global,
     event: Event,
     call_id: &CallId,
     refusal: Refusal,
 ) -> Result<Vec<CallOut>, AllocError>
-    ensures { IfOk result (λ outs. outs.items ≡ spec.refused_notice event call_id.now refusal
-        ∷ []) }
+    ensures { IfOk result (λ outs. outs.items ≡ refused event.id call_id.now refusal) }
 {
-    one(alloc, refused_notice(event, call_id, refusal)?)
+    sip_common::outputs::refused(alloc, event.id, call_id.clone()?, refusal)
 }
 
 /// What is told of a request in the dialog of this name, and the request that is sent.

@@ -1,10 +1,11 @@
 //! What becomes of a request that is to be sent in a dialog.
 
-ghost use Rattle.std.specs.Prelude.{◌≡◌, ◌∷◌, ◌++◌, [], IfOk, OnOk, Option, Some, codes};
+ghost use Rattle.std.specs.Prelude.{◌≡◌, ◌∷◌, ◌++◌, [], ℕ, IfOk, List, OnOk, Option, Some, codes};
 ghost use Rattle.sip_dialog.specs.declared.fault.DialogFault.{DialogFault};
 ghost use Rattle.sip_dialog.specs.Fault.{or_no_memory};
 ghost use Rattle.sip_clients.specs.declared.service.Sending.{Sending};
 ghost use Rattle.sip_common.specs.declared.held_dialog.HeldDialog.{HeldDialog};
+ghost use Rattle.sip_common.specs.Dialogs.{lived};
 ghost use Rattle.sip_clients.specs.Service as spec;
 
 use crate::event::Event;
@@ -138,8 +139,8 @@ fn prack(
 fn refused_by(fault: DialogFault) -> Result<Service, AllocError>
     ensures service { (found : Option DialogFault) (sending : Sending) → fault ≡ or_no_memory found
         → IfOk result (λ service. service ≡ spec.service_by found sending) }
-    ensures held { (found : Option DialogFault) (held : HeldDialog) → fault ≡ or_no_memory found
-        → OnOk result (held ≡ spec.numbered found held) }
+    ensures held { (found : Option DialogFault) (method : List ℕ) (held : HeldDialog)
+        → fault ≡ or_no_memory found → OnOk result (held ≡ lived (spec.sends method found) held) }
 {
     match fault {
         DialogFault::NoMemory => Err(AllocError),

@@ -2,7 +2,6 @@ pub mod Dues
 pub mod Each
 pub mod Entries
 pub mod Heard
-pub mod Keeps
 pub mod OwnDialogs
 pub mod ToldRequests
 pub mod Starts

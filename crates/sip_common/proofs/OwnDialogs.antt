@@ -1,59 +1,42 @@
 -- What happens to the dialogs of a Call-ID keeps them of it, and tells what is of it.
 use Rattle.std.proofs.Common.{◌≡◌, ℕ, List, [], ◌∷◌, not, refl, ◌∙◌}
-use Rattle.std.specs.Prelude.{Option, None, Some, IfSome, filter}
+use Rattle.std.specs.Prelude.{Option, None, Some, IfSome, filter, fold}
 use Rattle.std.specs.Map.{values_of}
-use Rattle.std.specs.Option.{is_some, option_map_or}
-use Rattle.sip_model.proofs.Ordered.{by_bool}
+use Rattle.std.specs.Option.{option_map_or}
 use Rattle.sip_message.specs.declared.id.Id.{Id}
 use Rattle.sip_message.specs.declared.message.Message.{Message}
 use Rattle.sip_dialog.specs.declared.dialog.Dialog.{Dialog}
 use Rattle.sip_dialog.specs.declared.dialog.Side.{Side}
 use Rattle.sip_dialog.specs.declared.dialog.Side.TheVariants.{Caller, Callee}
-use Rattle.sip_dialog.specs.Fault.{ended_fault}
-use Rattle.sip_dialog.specs.Opening.{contact_uri}
+use Rattle.sip_dialog.specs.Life.{Happening, Requests, Acknowledges, Accepts, Refreshes, Confirms, Ends}
 use Rattle.sip_dialog.specs.Step.{confirmed_at}
 use Rattle.sip_common.specs.declared.held_dialog.DialogName.{DialogName}
 use Rattle.sip_common.specs.declared.held_dialog.HeldDialog.{HeldDialog}
 use Rattle.sip_common.specs.declared.item.CallOut.{CallOut}
-use Rattle.sip_common.specs.Dialogs.{Dialogs, confirmed, dialog_at, dialog_changed, early_ended, ended_at, ended_notice, is_early_of, is_named, numbered, refreshed, retargeted, takes, visited}
+use Rattle.sip_common.specs.Dialogs.{Dialogs, dialog_at, dialog_changed, early_ended, ended_at, ended_notice, happened, is_early_of, is_named}
 use Rattle.sip_common.specs.OwnCall.{AreDialogsOf, AreNoticesOf, IsDialogOf, IsNoticeOf}
-use Rattle.sip_common.specs.Requests.{is_invite}
 use Rattle.sip_common.proofs.Each as each
 
 -- ---- one dialog
-
-numbered_keeps : (number : ℕ) (held : HeldDialog)
-    → (numbered number held).dialog.call_id ≡ held.dialog.call_id
-numbered_keeps number held = by_bool (takes held number) (λ e. rw e refl) (λ e. rw e refl)
-
-pub retargeted_keeps : (o : Option (List ℕ)) (held : HeldDialog)
-    → (retargeted o held).dialog.call_id ≡ held.dialog.call_id
-retargeted_keeps None held = refl
-retargeted_keeps (Some uri) held =
-    by_bool (is_some (ended_fault held.dialog)) (λ e. rw e refl) (λ e. rw e refl)
-
-refreshed_keeps : (request : Message) (held : HeldDialog)
-    → (refreshed request held).dialog.call_id ≡ held.dialog.call_id
-refreshed_keeps request held =
-    by_bool (is_invite request) (λ e. rw e (retargeted_keeps (contact_uri request) held))
-    (λ e. rw e refl)
-
-pub visited_keeps : (request : Message) (held : HeldDialog)
-    → (visited request held).dialog.call_id ≡ held.dialog.call_id
-visited_keeps request held =
-    refreshed_keeps request (numbered request.cseq.number held)
-    ∙ numbered_keeps request.cseq.number held
 
 confirmed_so : (side : Side) (dialog : Dialog) (response : Message)
     → (confirmed_at side dialog response).call_id ≡ dialog.call_id
 confirmed_so Callee dialog response = refl
 confirmed_so Caller dialog response = refl
 
-pub confirmed_keeps : (response : Message) (held : HeldDialog)
-    → (confirmed response held).dialog.call_id ≡ held.dialog.call_id
-confirmed_keeps response held =
-    by_bool (is_some (ended_fault held.dialog)) (λ e. rw e refl)
-    (λ e. rw e (confirmed_so held.dialog.side held.dialog response))
+happened_so : (dialog : Dialog) (one : Happening) → (happened dialog one).call_id ≡ dialog.call_id
+happened_so dialog (Requests method) = refl
+happened_so dialog (Acknowledges number) = refl
+happened_so dialog (Accepts number) = refl
+happened_so dialog (Refreshes uri) = refl
+happened_so dialog (Confirms response) = confirmed_so dialog.side dialog response
+happened_so dialog Ends = refl
+
+pub lived_keeps : (dialog : Dialog) (life : List Happening)
+    → (fold happened dialog life).call_id ≡ dialog.call_id
+lived_keeps dialog [] = refl
+lived_keeps dialog (one ∷ life) =
+    lived_keeps (happened dialog one) life ∙ happened_so dialog one
 
 -- ---- all dialogs
 

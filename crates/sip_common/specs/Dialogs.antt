@@ -1,5 +1,5 @@
 -- The held dialogs (RFC 3261, section 12).
-use Rattle.std.specs.Prelude.{ℕ, Bool, false, not, ◌&&◌, List, [], ◌∷◌, Option, None, Some, map, filter, if◌then◌else◌}
+use Rattle.std.specs.Prelude.{ℕ, Bool, false, not, ◌&&◌, List, [], ◌∷◌, ◌++◌, Option, None, Some, map, filter, fold, if◌then◌else◌}
 use Rattle.std.specs.Option.{is_some, option_map, option_map_or}
 use Rattle.std.specs.Map.{lookup, set_value, remove_entry, values_of}
 use Rattle.std.specs.Cmp.Lexicographic.{pointwise}
@@ -9,7 +9,9 @@ use Rattle.sip_message.specs.declared.message.Message.{Message}
 use Rattle.sip_dialog.specs.Dialog.{is_early}
 use Rattle.sip_dialog.specs.Fault.{accept_fault, ended_fault}
 use Rattle.sip_dialog.specs.Opening.{contact_uri}
-use Rattle.sip_dialog.specs.Step.{with_accepted, with_target, confirmed_by}
+use Rattle.sip_dialog.specs.declared.dialog.Dialog.{Dialog}
+use Rattle.sip_dialog.specs.Life.{Happening, Requests, Acknowledges, Accepts, Refreshes, Confirms, Ends}
+use Rattle.sip_dialog.specs.Step.{confirmed_by, ended_now, with_accepted, with_next_number, with_target}
 use Rattle.sip_common.specs.declared.held_dialog.DialogLife.{DialogLife}
 use Rattle.sip_common.specs.declared.held_dialog.DialogName.{DialogName}
 use Rattle.sip_common.specs.declared.held_dialog.HeldDialog.{HeldDialog}
@@ -52,39 +54,57 @@ life_at name dialogs =
 abbrev pub own_dialog : Message → DialogName → Dialogs → Option DialogLife
 own_dialog request name dialogs = if is_inside request then life_at name dialogs else None
 
--- ---- what a request that comes up in a dialog does to it
+-- ---- what happens in a dialog
+
+-- the dialog after something happened in it
+abbrev pub happened : Dialog → Happening → Dialog
+happened dialog (Requests method) = with_next_number dialog
+happened dialog (Acknowledges number) = dialog
+happened dialog (Accepts number) = with_accepted dialog number
+happened dialog (Refreshes uri) = with_target dialog uri
+happened dialog (Confirms response) = confirmed_by dialog response
+happened dialog Ends = ended_now dialog
+
+-- after one thing after another
+abbrev pub lived : List Happening → HeldDialog → HeldDialog
+lived life held = record held { dialog = fold happened held.dialog life }
 
 -- its number is above those that came before (RFC 3261, section 12.2.2)
 abbrev pub takes : HeldDialog → ℕ → Bool
 takes held number = not (is_some (accept_fault held.dialog number))
 
--- the greatest CSeq that came is noted (RFC 3261, section 12.2.2)
-abbrev pub numbered : ℕ → HeldDialog → HeldDialog
-numbered number held =
-    if takes held number then record held { dialog = with_accepted held.dialog number } else held
+-- then it is the greatest that came
+abbrev pub numbers : ℕ → HeldDialog → List Happening
+numbers number held = if takes held number then Accepts number ∷ [] else []
 
--- the dialog of which it is told that it isn't over, with another target
-abbrev pub retargeted : Option (List ℕ) → HeldDialog → HeldDialog
-retargeted None held = held
-retargeted (Some uri) held =
-    if is_some (ended_fault held.dialog) then held
-    else record held { dialog = with_target held.dialog uri }
+-- a dialog that isn't over gets another target
+abbrev pub retargets : Option (List ℕ) → HeldDialog → List Happening
+retargets None held = []
+retargets (Some uri) held = if is_some (ended_fault held.dialog) then [] else Refreshes uri ∷ []
 
--- a re-INVITE with a Contact refreshes the target
-abbrev pub refreshed : Message → HeldDialog → HeldDialog
-refreshed request held = if is_invite request then retargeted (contact_uri request) held else held
+-- a re-INVITE with a Contact gives it another
+abbrev pub refreshes : Message → HeldDialog → List Happening
+refreshes request held = if is_invite request then retargets (contact_uri request) held else []
 
--- a request in a dialog: its number is noted, and it refreshes the target where its method does
+-- a request in it: its number is noted, and it refreshes the target where its method does
+abbrev pub visits : Message → HeldDialog → List Happening
+visits request held = numbers request.cseq.number held ++ refreshes request held
+
+-- a 2xx confirms a dialog that isn't over
+abbrev pub confirms : Message → HeldDialog → List Happening
+confirms response held = if is_some (ended_fault held.dialog) then [] else Confirms response ∷ []
+
+-- the dialog after that
 abbrev pub visited : Message → HeldDialog → HeldDialog
-visited request held = refreshed request (numbered request.cseq.number held)
+visited request held = lived (visits request held) held
 
--- ---- how it is confirmed and how it ends
+abbrev pub retargeted : Option (List ℕ) → HeldDialog → HeldDialog
+retargeted uri held = lived (retargets uri held) held
 
--- a 2xx confirms a dialog that hasn't ended
 abbrev pub confirmed : Message → HeldDialog → HeldDialog
-confirmed response held =
-    if is_some (ended_fault held.dialog) then held
-    else record held { dialog = confirmed_by held.dialog response }
+confirmed response held = lived (confirms response held) held
+
+-- ---- how it ends
 
 -- a tag, empty where there is none
 abbrev pub tag_text : Option (List ℕ) → List ℕ

@@ -1,10 +1,16 @@
--- The request that an output tells the user of.
-use Rattle.std.specs.Prelude.{Option, None, Some}
+-- Notices that more than one part of a call gives or is asked for.
+use Rattle.std.specs.Prelude.{ℕ, List, [], ◌∷◌, Option, None, Some}
 use Rattle.sip_message.specs.declared.id.Id.{Id}
 use Rattle.sip_common.specs.declared.item.CallOut.{CallOut}
 use Rattle.sip_common.specs.declared.item.CallOut.TheVariants.{Notice}
-use Rattle.sip_common.specs.declared.notice.Notice.TheVariants.{Request}
+use Rattle.sip_common.specs.declared.notice.Notice.TheVariants.{Refused, Request}
+use Rattle.sip_common.specs.declared.refusal.Refusal.{Refusal}
 
+-- the request that an output tells the user of
 abbrev pub request_in : CallOut → Option Id
 request_in (Notice (Request call_id id method local_tag remote_tag body)) = Some id
 request_in _ = None
+
+-- the user is told that the command of an event is refused, and why
+abbrev pub refused : Id → List ℕ → Refusal → List CallOut
+refused event call_id refusal = Notice (Refused call_id event.place refusal) ∷ []

@@ -1,8 +1,15 @@
--- The numbers of the refusals in an output file.
-use Rattle.std.specs.Prelude.{ℕ}
+-- Refusals: the first that fits, and their numbers in an output file.
+use Rattle.std.specs.Prelude.{ℕ, Bool, List, [], ◌∷◌, Option, Some, if◌then◌else◌}
 use Rattle.sip_common.specs.declared.refusal.Refusal.{Refusal}
 use Rattle.sip_common.specs.declared.refusal.Refusal.TheVariants.{CallInUse, NoSuchCall, NoSuchDialog, NoSuchRequest, AlreadyFinal, BadStatus, ReliablePending, NotSupported, NothingToAck, NothingToPrack, SequenceUsedUp, StrictRoute, DialogEnded, BadMethod}
 
+-- the refusal of the first condition that holds, and otherwise this
+abbrev pub first_refusal : List (Bool × Refusal) → Option Refusal → Option Refusal
+first_refusal [] otherwise = otherwise
+first_refusal ((holds, refusal) ∷ others) otherwise =
+    if holds then Some refusal else first_refusal others otherwise
+
+-- the number of a refusal
 abbrev pub number_of : Refusal → ℕ
 number_of CallInUse = 1
 number_of NoSuchCall = 2

@@ -85,14 +85,15 @@ fn visit_dialog(held: &mut HeldDialog, request: &Message) -> Result<(), AllocErr
 }
 
 fn number(held: &mut HeldDialog, cseq: u32)
-    ensures { held.new ≡ spec.numbered cseq held.old }
+    ensures { held.new ≡ spec.lived (spec.numbers cseq held.old) held.old }
 {
     let _ = held.dialog.accept(cseq);
 }
 
 // A re-INVITE with a Contact refreshes the target.
 fn refresh(held: &mut HeldDialog, request: &Message) -> Result<(), AllocError>
-    ensures { OnOk result (held.new ≡ spec.refreshed request.now held.old) }
+    ensures { OnOk result (held.new
+        ≡ spec.lived (spec.refreshes request.now held.old) held.old) }
 {
     if !is_invite(request) {
         return Ok(());

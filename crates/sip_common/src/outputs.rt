@@ -2,9 +2,12 @@
 
 ghost use Rattle.std.specs.Prelude.{◌≡◌, ◌∷◌, ◌++◌, [], IfOk};
 ghost use Rattle.sip_common.specs.declared.item.CallOut.TheVariants as call_out;
+ghost use Rattle.sip_common.specs.Notices as spec;
 
 use crate::item::CallOut;
 use crate::notice::Notice;
+use crate::refusal::Refusal;
+use sip_message::{CallId, Id};
 use std::alloc::{AllocError, Global};
 
 /// One output.
@@ -29,4 +32,23 @@ pub fn tell(alloc: Global, notice: Notice) -> Result<Vec<CallOut>, AllocError>
     ensures { IfOk result (λ outs. outs.items ≡ call_out.Notice notice ∷ []) }
 {
     one(alloc, CallOut::Notice(notice))
+}
+
+/// The notice that the command of this event is refused.
+pub fn refused(
+    alloc: Global,
+    event: Id,
+    call_id: CallId,
+    refusal: Refusal,
+) -> Result<Vec<CallOut>, AllocError>
+    ensures { IfOk result (λ outs. outs.items ≡ spec.refused event call_id refusal) }
+{
+    tell(
+        alloc,
+        Notice::Refused {
+            call_id,
+            place: event.place,
+            refusal,
+        },
+    )
 }

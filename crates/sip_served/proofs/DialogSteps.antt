@@ -9,7 +9,6 @@ use Rattle.sip_message.specs.declared.message.Message.{Message}
 use Rattle.sip_transactions.specs.declared.output.Kind.{Kind}
 use Rattle.sip_transactions.specs.declared.output.Kind.TheVariants.{Request, Ack, Response, Timeout, Failed}
 use Rattle.sip_transactions.specs.declared.output.Up.{Up}
-use Rattle.sip_common.proofs.Keeps.{confirmed_keeps, visited_keeps}
 use Rattle.sip_served.specs.declared.arrival.ArrivalCase.{ArrivalCase}
 use Rattle.sip_served.specs.declared.arrival.ArrivalCase.TheVariants.{Merged, BadExtension, NoDialog, OutOfOrder, Acknowledges, AcknowledgesNothing, ForUser}
 use Rattle.sip_common.specs.declared.command.Respond.{Respond as Answer}
@@ -38,7 +37,7 @@ module _ (Makes : Id → Type 0) where
       then record state { dialogs = dialog_changed name (visited request) state.dialogs }
       else state).dialogs) [
         | true ↦ leads_changed Makes name (visited request)
-            (visited_keeps request) state.dialogs apart
+            (λ held. (refl, refl)) state.dialogs apart
         | false ↦ leads_same Makes state.dialogs apart
       ]
 
@@ -122,7 +121,7 @@ module _ (Makes : Id → Type 0) (event : Id) (makes : Makes event) where
       (made_dialog event held r.status) makes refl dialogs apart
   dialogs_lead held r response dialogs false true rejected apart =
       leads_changed Makes (dialog_name held.request held.tag) (confirmed response)
-      (confirmed_keeps response) dialogs apart
+      (λ held. (refl, refl)) dialogs apart
   dialogs_lead held r response dialogs false false true apart =
       leads_filtered Makes (λ dialog. not (is_early_of held.id dialog)) dialogs apart
   dialogs_lead held r response dialogs false false false apart = leads_same Makes dialogs apart

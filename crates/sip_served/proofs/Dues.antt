@@ -2,7 +2,7 @@
 use Rattle.std.proofs.Common.{◌≡◌, ℕ, Bool, true, false, not, ◌||◌, min, nat_le, nat_lt, List, [], ◌∷◌, refl, sym, ap, ◌∙◌, arith}
 use Rattle.std.specs.Prelude.{Option, None, Some, fold, if◌then◌else◌}
 use Rattle.std.specs.List.{list_any}
-use Rattle.std.specs.Option.{option_and_then, option_map, option_map_or}
+use Rattle.std.specs.Option.{is_some, option_and_then, option_map_or}
 use Rattle.std.proofs.lemmas.Grind.{common_steps}
 use Rattle.sip_timers.specs.Queue.{is_due}
 use Rattle.sip_timers.specs.Earlier.{earlier}
@@ -11,11 +11,10 @@ use Rattle.sip_message.specs.declared.message.Message.{Message}
 use Rattle.sip_reliable.specs.Ledger.{next_moment}
 use Rattle.sip_common.proofs.Dues.{earlier_due, earliest, or_assoc, or_false}
 use Rattle.sip_served.specs.declared.held_request.HeldRequest.{HeldRequest}
-use Rattle.sip_served.specs.declared.held_request.Retransmission.{Retransmission}
 use Rattle.sip_served.specs.declared.held_request.Success.{Success}
 use Rattle.sip_served.specs.declared.tick.SuccessDue.{SuccessDue}
 use Rattle.sip_served.specs.declared.tick.SuccessDue.TheVariants as repeat
-use Rattle.sip_served.specs.Tick.{due_with, next_due_of, request_due, request_ticked, success_answer, success_moment, success_of, success_told}
+use Rattle.sip_served.specs.Tick.{next_due_of, request_due, request_ticked, success_answer, success_moment, success_of, success_told}
 
 -- ---- the 2xx
 
@@ -31,14 +30,18 @@ by_answer true repeated = refl
 by_answer false true = refl
 by_answer false false = refl
 
-two_due : (now end : ℕ) (r : Option Retransmission)
-    → is_due now (option_map (λ r. min end r.due) r) ≡ is_something (due_with now end r)
-two_due now end None = refl
-two_due now end (Some r) = earliest now end r.due ∙ by_answer (nat_le end now) (nat_le r.due now)
+two_due : (over : Bool) (now end due : ℕ)
+    → is_due now (if over then None else Some (min end due))
+    ≡ is_something (if over then repeat.Nothing
+    else (if nat_le end now then repeat.GivenUp
+    else (if nat_le due now then repeat.Again else repeat.Nothing)))
+two_due true now end due = refl
+two_due false now end due = earliest now end due ∙ by_answer (nat_le end now) (nat_le due now)
 
 pub success_due : (now : ℕ) (success : Success)
     → is_due now (success_moment success) ≡ is_something (success_answer now success)
-success_due now success = two_due now success.end success.retransmission
+success_due now success =
+    two_due (is_some success.over) now success.end (success.retransmission).due
 
 told_some : (t : SuccessDue) (held : HeldRequest) (response : Message)
     → speaks (success_told t held response) ≡ is_something t

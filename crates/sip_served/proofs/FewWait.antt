@@ -25,7 +25,8 @@ use Rattle.sip_served.specs.declared.held_request.HeldRequest.{HeldRequest}
 use Rattle.sip_served.specs.declared.held_request.Success.{Success}
 use Rattle.sip_common.specs.declared.item.Item.TheVariants as item
 use Rattle.sip_common.specs.declared.refusal.Refusal.{Refusal}
-use Rattle.sip_served.specs.Acknowledgment.{ack_noted, acked, acknowledged_invite}
+use Rattle.sip_served.specs.Acknowledgment.{ack_noted, acknowledged_invite, success_ended}
+use Rattle.sip_served.specs.declared.held_request.SuccessEnd.TheVariants.{Acknowledged}
 use Rattle.sip_served.specs.Arrival.{new_request, first_rseq, by_case, case_of, noted, pracked, bye_taken}
 use Rattle.sip_served.specs.Cancel.{by_cancelled, cancelled_request, is_unanswered_invite, request_terminated}
 use Rattle.sip_common.specs.Requests.{dialog_name, is_bye, is_cancel, is_inside, is_final}
@@ -146,7 +147,7 @@ ack_keeps : (state : State) (call_id : List ℕ) (ack : Message) (o : Option Id)
     → IsKeptEach (ack_noted state call_id ack o).0
 ack_keeps state call_id ack None all = all
 ack_keeps state call_id ack (Some invite) all =
-    first_changed IsKept (has_id invite) acked (λ held one. one) state.requests all
+    first_changed IsKept (has_id invite) (success_ended Acknowledged) (λ held one. one) state.requests all
 
 refusal_keeps : (state : State) (event : Id) (r : Answer) (now : ℕ) (held : HeldRequest)
     (o : Option Refusal) → IsKeptEach state → IsKeptEach (by_refusal state event r now held o).0

@@ -13,7 +13,7 @@ use Rattle.sip_transactions.specs.declared.input.Command.TheVariants.{Answer as 
 use Rattle.sip_transactions.specs.declared.output.Kind.{Kind}
 use Rattle.sip_transactions.specs.declared.output.Kind.TheVariants.{Request, Ack, Response, Timeout, Failed}
 use Rattle.sip_transactions.specs.declared.output.Up.{Up}
-use Rattle.sip_common.proofs.OwnDialogs.{changed_dialog, confirmed_keeps, early_own, ended_own, visited_keeps}
+use Rattle.sip_common.proofs.OwnDialogs.{changed_dialog, early_own, ended_own, lived_keeps}
 use Rattle.sip_served.specs.declared.arrival.ArrivalCase.{ArrivalCase}
 use Rattle.sip_served.specs.declared.arrival.ArrivalCase.TheVariants.{Merged, BadExtension, NoDialog, OutOfOrder, Acknowledges, AcknowledgesNothing, ForUser}
 use Rattle.sip_common.specs.declared.command.Respond.{Respond as Answer}
@@ -29,10 +29,11 @@ use Rattle.sip_served.specs.declared.provisionals.NumberedResponse.{NumberedResp
 use Rattle.sip_common.specs.declared.refusal.Refusal.{Refusal}
 use Rattle.sip_served.specs.declared.tick.SuccessDue.{SuccessDue}
 use Rattle.sip_served.specs.declared.tick.SuccessDue.TheVariants as repeat
-use Rattle.sip_served.specs.Acknowledgment.{ack_noted, acked, acknowledged_invite}
+use Rattle.sip_served.specs.Acknowledgment.{ack_noted, acknowledged_invite, success_ended}
+use Rattle.sip_served.specs.declared.held_request.SuccessEnd.TheVariants.{Acknowledged}
 use Rattle.sip_served.specs.Arrival.{new_request, by_case, bye_taken, case_of, noted, pracked, request_held}
 use Rattle.sip_served.specs.Cancel.{by_cancelled, cancelled_request, invite_terminated, is_unanswered_invite, request_terminated}
-use Rattle.sip_common.specs.Dialogs.{confirmed, is_named, visited, Dialogs}
+use Rattle.sip_common.specs.Dialogs.{confirmed, confirms, is_named, visited, visits, Dialogs}
 use Rattle.sip_common.specs.OwnCall.{AreDialogsOf, AreNoticesOf, IsDialogOf, IsItemOf, IsKindOf, IsNoticeOf}
 use Rattle.sip_served.specs.OwnCall.{AreRequestsOf, IsEventOf, IsStateOf}
 use Rattle.sip_served.specs.Provisionals.{of_numbers}
@@ -108,7 +109,8 @@ module _ (call_id : List ℕ) where
       by_bool (is_inside request)
       (λ e. rw e record {
         requests = its.requests;
-        dialogs = changed_dialog call_id name (visited request) (visited_keeps request)
+        dialogs = changed_dialog call_id name (visited request)
+            (λ held. lived_keeps held.dialog (visits request held))
             state.dialogs its.dialogs;
       })
       (λ e. rw e its)
@@ -198,7 +200,7 @@ module _ (call_id : List ℕ) where
   ack_is state its_call ack None of_call its = (its, tt)
   ack_is state its_call ack (Some invite) of_call its = (
     record {
-      requests = request_changed invite acked (λ held. refl) state.requests its.requests;
+      requests = request_changed invite (success_ended Acknowledged) (λ held. refl) state.requests its.requests;
       dialogs = its.dialogs;
     },
     (of_call, tt),
@@ -220,7 +222,8 @@ module _ (call_id : List ℕ) where
       ))
       (λ e. by_bool (confirms_dialog held r.status)
       (λ f. rw (e, f) (
-        changed_dialog call_id name (confirmed response) (confirmed_keeps response) dialogs
+        changed_dialog call_id name (confirmed response)
+            (λ held. lived_keeps held.dialog (confirms response held)) dialogs
             all,
         tt,
       ))

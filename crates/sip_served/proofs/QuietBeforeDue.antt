@@ -21,7 +21,7 @@ use Rattle.sip_served.specs.declared.held_request.Success.{Success}
 use Rattle.sip_common.specs.declared.item.CallOut.{CallOut}
 use Rattle.sip_served.specs.declared.tick.SuccessDue.TheVariants as repeat
 use Rattle.sip_served.specs.State.{State, Taken, quiet}
-use Rattle.sip_served.specs.Tick.{is_kept_at, next_due, provisionals_by, provisionals_ticked, provisionals_told, request_due, request_ticked, retransmission_after, success_answer, success_moment, success_of, success_ticked, success_told, tick_taken, with_retransmission}
+use Rattle.sip_served.specs.Tick.{is_kept_at, next_due, provisionals_by, provisionals_ticked, provisionals_told, request_due, request_ticked, success_answer, success_by, success_moment, success_of, success_ticked, success_told, tick_taken}
 use Rattle.sip_served.proofs.Dues.{nothing_from, removal_due, removal_kept, request_due_of, requests_due, success_due, success_keeps, success_says}
 
 neither : (x y : Bool) → (x || y) ≡ false → (x ≡ false) × (y ≡ false)
@@ -39,9 +39,7 @@ calm_success now held (Some success) is calm =
     let stays : success_of now held (Some success) ≡ (record held { success = Some success }, []) =
     λ i. (
       record held {
-        success = Some
-            (with_retransmission success (retransmission_after
-            (nothing i) now success.retransmission));
+        success = Some (success_by (nothing i) now success);
       },
       success_told (nothing i) held success.response,
     ) in

@@ -5,6 +5,7 @@ use Rattle.std.specs.List.{AllByRecursion, cons_option}
 use Rattle.std.specs.Map.{lookup, remove_entry}
 use Rattle.std.specs.Option.{option_map}
 use Rattle.std.proofs.Math.Nat.{two-pow-succ}
+use Rattle.std.proofs.lemmas.List.{append-nil, append_assoc}
 use Rattle.std.proofs.lemmas.List.Sums.{fold_push}
 use Rattle.std.proofs.lemmas.Bool.{eqb-true, true≢false}
 use Rattle.std.proofs.lemmas.Option.{same_Some}
@@ -14,11 +15,13 @@ use Rattle.sip_message.specs.declared.addr.Addr.{Addr}
 use Rattle.sip_message.specs.declared.id.Id.{Id}
 use Rattle.sip_message.specs.declared.message.Message.{Message}
 use Rattle.sip_dialog.specs.Fault.{accept_fault, ended_fault, ok_unless as dialog_ok}
-use Rattle.sip_dialog.specs.Life.{dialog_after}
-use Rattle.sip_dialog.specs.Opening.{contact_uri}
-use Rattle.sip_dialog.specs.Step.{with_accepted, with_target, confirmed_by}
+use Rattle.sip_dialog.specs.Life as happen
+use Rattle.sip_dialog.specs.Life.{Happening, dialog_after}
+use Rattle.sip_dialog.specs.Opening.{Opening, contact_uri}
+use Rattle.sip_dialog.specs.Step.{confirmed_by, ended_now, with_accepted, with_next_number, with_target}
 use Rattle.sip_dialog.specs.declared.dialog.Dialog.{Dialog}
-use Rattle.sip_dialog.proofs.Lives.{accept_stands, refresh_stands, confirm_stands}
+use Rattle.sip_dialog.specs.declared.fault.DialogFault.{DialogFault}
+use Rattle.sip_dialog.proofs.Lives.{accept_stands, ack_stands, confirm_stands, end_stands, refresh_stands, request_stands}
 use Rattle.sip_reliable.specs.declared.send_fault.SendFault.{SendFault}
 use Rattle.sip_reliable.specs.declared.tick.Tick.{Tick}
 use Rattle.sip_reliable.specs.declared.tick.Tick.TheVariants as tick
@@ -51,10 +54,11 @@ use Rattle.sip_timers.specs.declared.estimate.TheConstants.{LIFETIME}
 use Rattle.sip_transactions.specs.declared.timers.TheConstants.{T2}
 use Rattle.sip_served.specs.declared.tick.SuccessDue.{SuccessDue}
 use Rattle.sip_served.specs.declared.tick.SuccessDue.TheVariants as repeat
-use Rattle.sip_served.specs.Acknowledgment.{ack_noted, acked, acknowledged_invite}
+use Rattle.sip_served.specs.Acknowledgment.{ack_noted, acknowledged_invite, success_ended}
+use Rattle.sip_served.specs.declared.held_request.SuccessEnd.TheVariants.{Acknowledged}
 use Rattle.sip_served.specs.Arrival.{first_rseq, new_request, by_case, case_of, noted, pracked, bye_taken, request_held}
 use Rattle.sip_served.specs.Cancel.{by_cancelled, cancelled_request, invite_terminated, is_unanswered_invite, request_terminated}
-use Rattle.sip_common.specs.Dialogs.{own_dialog, confirmed, dialog_changed, early_ended, ended_at, is_early_of, is_named, numbered, refreshed, retargeted, takes, visited, Dialogs}
+use Rattle.sip_common.specs.Dialogs.{own_dialog, confirmed, confirms, dialog_changed, early_ended, ended_at, happened, is_early_of, is_named, lived, retargets, takes, visited, visits, Dialogs}
 use Rattle.sip_served.specs.Provisionals.{without}
 use Rattle.sip_common.specs.Requests.{dialog_name, is_bye, is_cancel, is_final, is_inside, is_invite, is_success, supports_100rel}
 use Rattle.sip_served.specs.Respond.{answer_given, answer_to, made_dialog, answered, by_refusal, by_request, confirms_dialog, finished, has_ended, is_of_dialog, is_reliable, is_sent_reliably, is_user_status, makes_dialog, sent_as, may_be_reliable, refusal_for, refusal_of_fault, rejects, sent_reliably, with_dialog}
@@ -62,8 +66,8 @@ use Rattle.sip_served.specs.Run.{Event, Takes, Ticks, event_taken, state_after}
 use Rattle.sip_served.specs.State.{State, Taken, changed_at, has_id}
 use Rattle.sip_served.specs.Step.{arrival_taken, command_taken, kind_taken}
 use Rattle.sip_served.specs.Story.{DialogStories, DialogStory, RequestStory, Story, SuccessStory, dialog_of, dialogs_of, greatest_accepted, held_by, ledger_of, next_sending, request_of, responses_of, success_of}
-use Rattle.sip_served.specs.Telling.{ack_told, answer_told, arrival_told, cancel_told, terminates, answers, at_dialog, at_request, begins, begun, command_told, ends_at, ends_early, event_told, finishes, acks, confirms, holds_one, notes, numbers, refreshes, retargets, visits, kind_told, provisionals_go, provisionals_pass, request_passes, sends, story_after, success_goes, success_passes, takes_dialog, tick_told, told_by_case, told_by_refusal, told_by_request}
-use Rattle.sip_served.specs.Tick.{tick_taken, is_kept_at, next_retransmission, provisionals_ticked, request_ticked, retransmission_after, success_after, success_answer, success_of as success_at, success_ticked, with_retransmission}
+use Rattle.sip_served.specs.Telling.{ack_told, answer_told, arrival_told, cancel_told, terminates, answers, at_dialog, at_request, begins, begun, command_told, ends_at, ends_early, event_told, finishes, acks, holds_one, lives_on, notes, kind_told, provisionals_go, provisionals_pass, request_passes, sends, story_after, success_goes, success_passes, takes_dialog, tick_told, told_by_case, told_by_refusal, told_by_request}
+use Rattle.sip_served.specs.Tick.{tick_taken, is_kept_at, next_retransmission, provisionals_ticked, request_ticked, success_answer, success_by, success_of as success_at, success_ticked}
 use Rattle.sip_served.proofs.Mapped.{append_mapped, changed_mapped, entry_mapped, filter_mapped, found_mapped, inserted_mapped, map_mapped, removed_mapped}
 use Rattle.sip_served.proofs.FewWait.{IsKept, IsKeptEach, event_keeps, kept_after}
 
@@ -80,50 +84,96 @@ negated : (b : Bool) → not b ≡ true → b ≡ false
 negated true e = absurd cc
 negated false e = refl
 
-numbered_on : (story : DialogStory) (number : ℕ)
-    → dialog_of (numbers number story) ≡ numbered number (dialog_of story)
-numbered_on story number =
-    by_bool (takes (dialog_of story) number)
-    (λ e.
-    let dialog = dialog_after story.opening story.life in
-    let fits : accept_fault dialog number ≡ None =
-    unfaulted (accept_fault dialog number)
-    (negated (is_some (accept_fault dialog number)) e) in
-    rw e (ap (with (dialog_of story))
-    (sym (accept_stands dialog (with_accepted dialog number) (Ok tt) number
-    (ap dialog_ok (sym fits)) refl story.opening story.life refl))))
-    (λ e. rw e refl)
+-- a happening that the dialog doesn't refuse
+abbrev Fits : Dialog → Happening → Type 0
+Fits dialog (happen.Requests method) = Unit {0}
+Fits dialog (happen.Acknowledges number) = Unit {0}
+Fits dialog (happen.Accepts number) = accept_fault dialog number ≡ None
+Fits dialog (happen.Refreshes uri) = Unit {0}
+Fits dialog (happen.Confirms response) = ended_fault dialog ≡ None
+Fits dialog happen.Ends = Unit {0}
 
-retargeted_on : (story : DialogStory) (o : Option (List ℕ))
-    → dialog_of (retargets o story) ≡ retargeted o (dialog_of story)
-retargeted_on story None = refl
-retargeted_on story (Some uri) =
-    let dialog = dialog_after story.opening story.life in
-    by_bool (is_some (ended_fault dialog)) (λ e. rw e refl)
-    (λ e. rw e (ap (with (dialog_of story))
-    (sym (refresh_stands dialog (with_target dialog uri)
-    (Ok tt) uri refl story.opening story.life refl))))
+abbrev AllFit : Dialog → List Happening → Type 0
+AllFit dialog [] = Unit {0}
+AllFit dialog (one ∷ life) = Fits dialog one × AllFit (happened dialog one) life
 
-confirmed_on : (story : DialogStory) (response : Message)
-    → dialog_of (confirms response story) ≡ confirmed response (dialog_of story)
-confirmed_on story response =
-    let dialog = dialog_after story.opening story.life in
-    by_bool (is_some (ended_fault dialog)) (λ e. rw e refl)
-    (λ e. rw e (ap (with (dialog_of story))
-    (sym (confirm_stands dialog (confirmed_by dialog response) (Ok tt) response
-    (unfaulted (ended_fault dialog) e) refl story.opening story.life refl))))
+happened_on : (opening : Opening) (life : List Happening) (one : Happening)
+    → Fits (dialog_after opening life) one
+    → happened (dialog_after opening life) one ≡ dialog_after opening (life ++ one ∷ [])
+happened_on opening life (happen.Requests method) fits =
+    let dialog = dialog_after opening life in
+    request_stands {A = Unit {0}} {E = DialogFault} dialog (with_next_number dialog) (Ok tt) method refl
+    opening life refl
+happened_on opening life (happen.Acknowledges number) fits =
+    ack_stands (dialog_after opening life) number opening life refl
+happened_on opening life (happen.Accepts number) fits =
+    let dialog = dialog_after opening life in
+    accept_stands dialog (with_accepted dialog number) (Ok tt) number (ap dialog_ok (sym fits)) refl
+    opening life refl
+happened_on opening life (happen.Refreshes uri) fits =
+    let dialog = dialog_after opening life in
+    refresh_stands dialog (with_target dialog uri) (Ok tt) uri refl opening life refl
+happened_on opening life (happen.Confirms response) fits =
+    let dialog = dialog_after opening life in
+    confirm_stands dialog (confirmed_by dialog response) (Ok tt) response fits refl opening life
+    refl
+happened_on opening life happen.Ends fits =
+    end_stands (dialog_after opening life) (ended_now (dialog_after opening life)) refl opening
+    life refl
 
-refreshed_on : (story : DialogStory) (request : Message)
-    → dialog_of (refreshes request story) ≡ refreshed request (dialog_of story)
-refreshed_on story request =
-    by_bool (is_invite request) (λ e. rw e (retargeted_on story (contact_uri request)))
-    (λ e. rw e refl)
+-- so the dialog after more is what more makes of the dialog
+all_on : (opening : Opening) (life more : List Happening)
+    → AllFit (dialog_after opening life) more
+    → dialog_after opening (life ++ more) ≡ fold happened (dialog_after opening life) more
+all_on opening life [] fit = ap (dialog_after opening) (append-nil life)
+all_on opening life (one ∷ more) fit =
+    let same = happened_on opening life one fit.0 in
+    ap (dialog_after opening) (sym (append_assoc life (one ∷ []) more))
+    ∙ all_on opening (life ++ one ∷ []) more (subst (λ dialog. AllFit dialog more) same fit.1)
+    ∙ ap (λ dialog. fold happened dialog more) (sym same)
+
+lived_on : (happens : HeldDialog → List Happening) (story : DialogStory)
+    → AllFit (dialog_of story).dialog (happens (dialog_of story))
+    → dialog_of (lives_on happens story) ≡ lived (happens (dialog_of story)) (dialog_of story)
+lived_on happens story fit =
+    ap (with (dialog_of story)) (all_on story.opening story.life (happens (dialog_of story)) fit)
+
+retargets_fit : (uri : Option (List ℕ)) (held : HeldDialog) (dialog : Dialog)
+    → AllFit dialog (retargets uri held)
+retargets_fit None held dialog = tt
+retargets_fit (Some uri) held dialog =
+    by_bool (is_some (ended_fault held.dialog)) (λ e. rw e tt) (λ e. rw e (tt, tt))
+
+refreshes_fit : (b : Bool) (uri : Option (List ℕ)) (held : HeldDialog) (dialog : Dialog)
+    → AllFit dialog (cond b (retargets uri held) [])
+refreshes_fit true uri held dialog = retargets_fit uri held dialog
+refreshes_fit false uri held dialog = tt
 
 visited_on : (request : Message) (story : DialogStory)
-    → dialog_of (visits request story) ≡ visited request (dialog_of story)
-visited_on request story =
-    refreshed_on (numbers request.cseq.number story) request
-    ∙ ap (refreshed request) (numbered_on story request.cseq.number)
+    → dialog_of (lives_on (visits request) story) ≡ visited request (dialog_of story)
+visited_on request story = lived_on (visits request) story (fits (dialog_of story))
+  where
+    fits : (held : HeldDialog) → AllFit held.dialog (visits request held)
+    fits held =
+        let number = request.cseq.number in
+        let invite = is_invite request in
+        let uri = contact_uri request in
+        by_bool (takes held number)
+        (λ e. rw e (
+          unfaulted (accept_fault held.dialog number)
+              (negated (is_some (accept_fault held.dialog number)) e),
+          refreshes_fit invite uri held (with_accepted held.dialog number),
+        ))
+        (λ e. rw e (refreshes_fit invite uri held held.dialog))
+
+confirmed_on : (story : DialogStory) (response : Message)
+    → dialog_of (lives_on (confirms response) story) ≡ confirmed response (dialog_of story)
+confirmed_on story response = lived_on (confirms response) story (fits (dialog_of story))
+  where
+    fits : (held : HeldDialog) → AllFit held.dialog (confirms response held)
+    fits held =
+        by_bool (is_some (ended_fault held.dialog)) (λ e. rw e tt)
+        (λ e. rw e (unfaulted (ended_fault held.dialog) e, tt))
 
 -- ---- the 2xx
 
@@ -145,18 +195,15 @@ sent_next story now =
     }
 
 goes : (t : SuccessDue) (now : ℕ) (story : SuccessStory)
-    → success_of (success_goes t now story)
-    ≡ with_retransmission (success_of story)
-    (retransmission_after t now (success_of story).retransmission)
+    → success_of (success_goes t now story) ≡ success_by t now (success_of story)
 goes repeat.Nothing now story = refl
 goes repeat.Again now story =
-    by_bool story.is_over (λ e. rw e refl)
-    (λ e. rw e (ap (λ r. with_retransmission (success_of story) (Some r))
-    (sent_next story now)))
+    ap (λ r. record (success_of story) { retransmission = r }) (sent_next story now)
 goes repeat.GivenUp now story = refl
 
 passes : (now : ℕ) (story : SuccessStory)
-    → success_of (success_passes now story) ≡ success_after now (success_of story)
+    → success_of (success_passes now story)
+    ≡ success_by (success_answer now (success_of story)) now (success_of story)
 passes now story = goes (success_answer now (success_of story)) now story
 
 -- ---- the reliable provisional responses
@@ -245,11 +292,12 @@ one_more responses low next response has_body now (p ∷ ps) rise =
 
 -- ---- what happens to a request
 
-acked_on : (request : RequestStory) → request_of (acks request) ≡ acked (request_of request)
+acked_on : (request : RequestStory)
+    → request_of (acks request) ≡ success_ended Acknowledged (request_of request)
 acked_on request = over request.success
   where
     over : (o : Option SuccessStory) → request_of (acks (record request { success = o }))
-        ≡ acked (request_of (record request { success = o }))
+        ≡ success_ended Acknowledged (request_of (record request { success = o }))
     over None = refl
     over (Some success) = refl
 
@@ -325,7 +373,7 @@ finishes_on response status now request =
       response = response;
       sent = now;
       repeats = [];
-      is_over = false;
+      over = None;
     })) (Some (now + LIFETIME))))
     (λ e. rw e (λ i. held_so held (sym ledger i) (stays i) held.success (Some (now + LIFETIME))))
 
@@ -420,7 +468,8 @@ noted_on : (story : Story) (name : DialogName) (request : Message)
     → held_by (notes name request story) ≡ noted (held_by story) name request
 noted_on story name request = by_bool (is_inside request)
     (λ e. rw e (ap (state_with story.local (held_by story).requests)
-    (entry_mapped dialog_of (is_named name) story.dialogs (visited request) (visits request)
+    (entry_mapped dialog_of (is_named name) story.dialogs (visited request)
+    (lives_on (visits request))
     (visited_on request))))
     (λ e. rw e refl)
 
@@ -526,13 +575,14 @@ ack_on : (story : Story) (call_id : List ℕ) (ack : Message) (o : Option Id)
 ack_on story call_id ack None = refl
 ack_on story call_id ack (Some invite) =
     ap (λ requests. state_with story.local requests (held_by story).dialogs)
-    (changed_mapped request_of (has_id invite) acked acks acked_on story.requests)
+    (changed_mapped request_of (has_id invite) (success_ended Acknowledged) acks acked_on
+    story.requests)
 
 dialogs_on : (event : Id) (held : HeldRequest) (r : Answer) (response : Message)
     (stories : DialogStories) (fresh success rejected : Bool)
     → let name = dialog_name held.request held.tag in
     dialogs_of (cond fresh (begins name (begun event held r.status) stories)
-    (cond success (at_dialog name (confirms response) stories)
+    (cond success (at_dialog name (lives_on (confirms response)) stories)
     (cond rejected (ends_early held.id stories) stories)))
     ≡ (cond {A = Dialogs × List CallOut} fresh
     (insert_entry is_named (dialogs_of stories) name (made_dialog event held r.status), [])
@@ -543,7 +593,8 @@ dialogs_on event held r response stories true success rejected =
     (begun event held r.status)
 dialogs_on event held r response stories false true rejected =
     entry_mapped dialog_of (is_named (dialog_name held.request held.tag)) stories
-    (confirmed response) (confirms response) (λ dialog. confirmed_on dialog response)
+    (confirmed response) (lives_on (confirms response))
+    (λ dialog. confirmed_on dialog response)
 dialogs_on event held r response stories false false true =
     sym (filter_mapped _ (λ entry. not (is_early_of held.id entry.1)) stories)
 dialogs_on event held r response stories false false false = refl

@@ -1,22 +1,24 @@
 -- The ACK of a 2xx (RFC 3261, section 13.3.1.4).
-use Rattle.std.specs.Prelude.{ℕ, Bool, false, ◌&&◌, ◌==◌, List, [], ◌∷◌, Option, None, Some, find}
-use Rattle.std.specs.Option.{is_some, option_map, option_map_or}
+use Rattle.std.specs.Prelude.{ℕ, Bool, false, ◌&&◌, ◌==◌, List, [], ◌∷◌, Option, None, Some, find, is_none}
+use Rattle.std.specs.Option.{option_map, option_map_or}
 use Rattle.std.specs.Str.{str_eq_ignore_ascii_case}
 use Rattle.sip_message.specs.declared.id.Id.{Id}
 use Rattle.sip_message.specs.declared.message.Message.{Message}
 use Rattle.sip_message.specs.Party.{tag_of}
 use Rattle.sip_served.specs.declared.held_request.HeldRequest.{HeldRequest}
 use Rattle.sip_served.specs.declared.held_request.Success.{Success}
+use Rattle.sip_served.specs.declared.held_request.SuccessEnd.{SuccessEnd}
+use Rattle.sip_served.specs.declared.held_request.SuccessEnd.TheVariants.{Acknowledged}
 use Rattle.sip_common.specs.declared.item.CallOut.TheVariants.{Notice}
 use Rattle.sip_common.specs.declared.notice.Notice.TheVariants.{Ack}
 use Rattle.sip_common.specs.Requests.{is_invite, local_tag_of}
 use Rattle.sip_served.specs.State.{State, Taken, changed_at, quiet}
 
--- an INVITE that was answered with a 2xx, whose ACK hasn't come
+-- an INVITE that was answered with a 2xx, whose ACK is awaited
 abbrev pub awaits_ack : HeldRequest → Bool
 awaits_ack held =
     is_invite held.request
-    && option_map_or (λ success. is_some success.retransmission) held.success false
+    && option_map_or (λ success. is_none success.over) held.success false
 
 -- the ACK is of the dialog and the number of the request
 abbrev pub is_ack_of : Message → HeldRequest → Bool
@@ -30,19 +32,17 @@ abbrev pub acknowledged_invite : Message → List HeldRequest → Option Id
 acknowledged_invite ack requests =
     option_map (λ held. held.id) (find (λ held. awaits_ack held && is_ack_of ack held) requests)
 
--- its 2xx isn't sent again
-abbrev pub stopped : Success → Success
-stopped success = record success { retransmission = None }
-
 -- its 2xx is sent no more
-abbrev pub acked : HeldRequest → HeldRequest
-acked held = record held { success = option_map stopped held.success }
+abbrev pub success_ended : SuccessEnd → HeldRequest → HeldRequest
+success_ended end held = record held {
+  success = option_map (λ (success : Success). record success { over = Some end }) held.success;
+}
 
 -- the ACK of the INVITE of this id, or of none: the user is told of the first
 abbrev pub ack_noted : State → List ℕ → Message → Option Id → Taken
 ack_noted state call_id ack None = quiet state
 ack_noted state call_id ack (Some invite) = (
-  record state { requests = changed_at invite acked state.requests },
+  record state { requests = changed_at invite (success_ended Acknowledged) state.requests },
   Notice (Ack call_id invite ack.body) ∷ [],
 )
 

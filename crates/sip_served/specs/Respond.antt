@@ -23,11 +23,12 @@ use Rattle.sip_common.specs.declared.held_dialog.HeldDialog.{HeldDialog}
 use Rattle.sip_served.specs.declared.held_request.HeldRequest.{HeldRequest}
 use Rattle.sip_served.specs.declared.held_request.Success.{Success}
 use Rattle.sip_common.specs.declared.item.CallOut.{CallOut}
-use Rattle.sip_common.specs.declared.item.CallOut.TheVariants.{Notice, Command}
-use Rattle.sip_common.specs.declared.notice.Notice.TheVariants.{Refused}
+use Rattle.sip_common.specs.declared.item.CallOut.TheVariants.{Command}
 use Rattle.sip_common.specs.declared.refusal.Refusal.{Refusal}
 use Rattle.sip_timers.specs.declared.estimate.TheConstants.{LIFETIME, T1}
 use Rattle.sip_common.specs.declared.refusal.Refusal.TheVariants.{NoSuchRequest, AlreadyFinal, BadStatus, ReliablePending, NotSupported, SequenceUsedUp, DialogEnded}
+use Rattle.sip_common.specs.Notices.{refused}
+use Rattle.sip_common.specs.Refusal.{first_refusal}
 use Rattle.sip_common.specs.Dialogs.{confirmed, dialog_changed, early_ended, is_named, lives, Dialogs}
 use Rattle.sip_common.specs.Requests.{dialog_name, is_final, is_inside, is_invite, is_provisional, is_success, requires_100rel, supports_100rel}
 use Rattle.sip_served.specs.State.{State, Taken, changed_at, has_id}
@@ -86,12 +87,6 @@ refusals dialogs respond held =
     ∷ (is_of_dialog held respond.status && has_ended dialogs held, DialogEnded)
     ∷ []
 
--- the refusal of the first condition that holds, and otherwise this
-abbrev pub first_refusal : List (Bool × Refusal) → Option Refusal → Option Refusal
-first_refusal [] otherwise = otherwise
-first_refusal ((holds, refusal) ∷ others) otherwise =
-    if holds then Some refusal else first_refusal others otherwise
-
 -- the first reason for which an answer is refused
 abbrev pub refusal_for : Dialogs → Respond → HeldRequest → Option Refusal
 refusal_for dialogs respond held =
@@ -143,7 +138,8 @@ success_sent response now =
     record {
       response = response;
       end = now + LIFETIME;
-      retransmission = Some record { due = now + T1; interval = T1 };
+      retransmission = record { due = now + T1; interval = T1 };
+      over = None;
     }
 
 -- a final response is the last one; 64*T1 later the request is removed (RFC 3261, section 17.2.2)
@@ -237,19 +233,15 @@ answer_given state event respond now held =
     answer_given_at (λ change. changed_at respond.id change state.requests) state event respond now
     held
 
--- a refusal is told, and nothing changes
-abbrev pub refused_notice : Id → Respond → Refusal → List CallOut
-refused_notice event respond refusal = Notice (Refused respond.call_id event.place refusal) ∷ []
-
--- refused, or given
+-- refused, and then nothing changes, or given
 abbrev pub by_refusal : State → Id → Respond → ℕ → HeldRequest → Option Refusal → Taken
 by_refusal state event respond now held (Some refusal) =
-    (state, refused_notice event respond refusal)
+    (state, refused event respond.call_id refusal)
 by_refusal state event respond now held None = answer_given state event respond now held
 
 -- an answer to the request that is held, or to none
 abbrev pub by_request : State → Id → Respond → ℕ → Option HeldRequest → Taken
-by_request state event respond now None = (state, refused_notice event respond NoSuchRequest)
+by_request state event respond now None = (state, refused event respond.call_id NoSuchRequest)
 by_request state event respond now (Some held) =
     by_refusal state event respond now held (refusal_for state.dialogs respond held)
 

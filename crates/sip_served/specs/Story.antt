@@ -1,6 +1,6 @@
 -- The server side of a call as a story: each held dialog by the message that it began with and what
 -- happened in it since, and each held request by what came for it.
-use Rattle.std.specs.Prelude.{ℕ, ◌+◌, ◌*◌, ◌==◌, Bool, List, [], length, map, fold, Option, None, Some, if◌then◌else◌}
+use Rattle.std.specs.Prelude.{ℕ, ◌+◌, ◌*◌, ◌==◌, List, [], length, map, fold, Option, None}
 use Rattle.std.specs.List.{filter_map}
 use Rattle.std.specs.Map.{lookup}
 use Rattle.std.specs.Option.{option_map}
@@ -20,6 +20,7 @@ use Rattle.sip_common.specs.declared.held_dialog.HeldDialog.{HeldDialog}
 use Rattle.sip_served.specs.declared.held_request.HeldRequest.{HeldRequest}
 use Rattle.sip_served.specs.declared.held_request.Retransmission.{Retransmission}
 use Rattle.sip_served.specs.declared.held_request.Success.{Success}
+use Rattle.sip_served.specs.declared.held_request.SuccessEnd.{SuccessEnd}
 use Rattle.sip_served.specs.declared.provisionals.NumberedResponse.{NumberedResponse}
 use Rattle.sip_timers.specs.declared.estimate.TheConstants.{T1}
 use Rattle.sip_served.specs.Arrival.{first_rseq}
@@ -54,13 +55,12 @@ greatest_accepted story =
 
 -- ---- the 2xx to an INVITE
 
--- when it was sent, when it was sent again, and whether that is over: its ACK came, or it was given
--- up
+-- when it was sent, when it was sent again, and why that is over
 pub record SuccessStory : Type 0 where
   pub response : Message
   pub sent : ℕ
   pub repeats : List ℕ
-  pub is_over : Bool
+  pub over : Option SuccessEnd
 
 -- it goes out again after the capped interval that follows on its last sending
 abbrev pub next_sending : SuccessStory → Retransmission
@@ -72,7 +72,8 @@ abbrev pub success_of : SuccessStory → Success
 success_of story = record {
   response = story.response;
   end = story.sent + 64 * T1;
-  retransmission = if story.is_over then None else Some (next_sending story);
+  retransmission = next_sending story;
+  over = story.over;
 }
 
 -- ---- a request

@@ -1,14 +1,13 @@
 -- What each event adds to the story of a call. Which case it is, is read from what the story holds.
-use Rattle.std.specs.Prelude.{ℕ, true, false, not, ◌&&◌, nat_lt, List, [], ◌∷◌, ◌++◌, length, map, filter, find, fold, Option, None, Some, is_some, if◌then◌else◌}
+use Rattle.std.specs.Prelude.{ℕ, not, ◌&&◌, nat_lt, List, [], ◌∷◌, ◌++◌, length, map, filter, find, fold, Option, None, Some, if◌then◌else◌}
 use Rattle.std.specs.Map.{lookup, remove_entry, set_value}
 use Rattle.std.specs.Option.{option_map, option_map_or}
 use Rattle.indexmap.specs.IndexMap.{insert_entry}
 use Rattle.sip_message.specs.declared.addr.Addr.{Addr}
 use Rattle.sip_message.specs.declared.id.Id.{Id}
 use Rattle.sip_message.specs.declared.message.Message.{Message}
-use Rattle.sip_dialog.specs.Fault.{ended_fault}
-use Rattle.sip_dialog.specs.Life.{Happening, Accepts, Refreshes, Confirms}
-use Rattle.sip_dialog.specs.Opening.{ByRequest, contact_uri}
+use Rattle.sip_dialog.specs.Life.{Happening}
+use Rattle.sip_dialog.specs.Opening.{ByRequest}
 use Rattle.sip_reliable.specs.Happening as reliable
 use Rattle.sip_reliable.specs.Ledger.{happenings_of, tick_answer}
 use Rattle.sip_transactions.specs.declared.output.Kind.{Kind}
@@ -20,17 +19,20 @@ use Rattle.sip_common.specs.declared.command.Respond.{Respond}
 use Rattle.sip_common.specs.declared.command.UserCommand.{UserCommand}
 use Rattle.sip_common.specs.declared.command.UserCommand.TheVariants as command
 use Rattle.sip_common.specs.declared.held_dialog.DialogName.{DialogName}
+use Rattle.sip_common.specs.declared.held_dialog.HeldDialog.{HeldDialog}
 use Rattle.sip_served.specs.declared.held_request.HeldRequest.{HeldRequest}
 use Rattle.sip_common.specs.declared.item.Item.TheVariants as item
 use Rattle.sip_common.specs.declared.refusal.Refusal.{Refusal}
 use Rattle.sip_served.specs.Acknowledgment.{acknowledged_invite}
-use Rattle.sip_common.specs.Dialogs.{own_dialog, is_early_of, is_named, takes}
+use Rattle.sip_common.specs.Dialogs.{confirms, own_dialog, is_early_of, is_named, visits}
 use Rattle.sip_served.specs.Arrival.{case_of, new_request}
 use Rattle.sip_served.specs.Cancel.{cancelled_request, is_unanswered_invite, request_terminated}
 use Rattle.sip_common.specs.Requests.{dialog_name, is_bye, is_cancel, is_final, is_inside, is_invite, is_success}
 use Rattle.sip_served.specs.Respond.{answer_to, confirms_dialog, is_sent_reliably, makes_dialog, refusal_for, rejects}
 use Rattle.sip_served.specs.Run.{Event, Takes, Ticks}
 use Rattle.sip_served.specs.State.{changed_first, has_id}
+use Rattle.sip_served.specs.declared.held_request.SuccessEnd.{SuccessEnd}
+use Rattle.sip_served.specs.declared.held_request.SuccessEnd.TheVariants.{Acknowledged, GivenUp}
 use Rattle.sip_served.specs.Story.{DialogStories, DialogStory, RequestStory, Story, SuccessStory, dialog_of, held_by, ledger_of, request_of, success_of}
 use Rattle.sip_served.specs.declared.tick.SuccessDue.{SuccessDue}
 use Rattle.sip_served.specs.declared.tick.SuccessDue.TheVariants as repeat
@@ -39,32 +41,8 @@ use Rattle.sip_served.specs.Tick.{is_kept_at, success_answer}
 -- ---- dialogs
 
 -- this happens in it
-abbrev pub lives_on : Happening → DialogStory → DialogStory
-lives_on happening story = record story { life = story.life ++ happening ∷ [] }
-
--- a request in it has a number above the last
-abbrev pub numbers : ℕ → DialogStory → DialogStory
-numbers number story =
-    if takes (dialog_of story) number then lives_on (Accepts number) story else story
-
--- a re-INVITE in it may have a Contact
-abbrev pub retargets : Option (List ℕ) → DialogStory → DialogStory
-retargets None story = story
-retargets (Some uri) story =
-    if is_some (ended_fault (dialog_of story).dialog) then story else lives_on (Refreshes uri) story
-
-abbrev pub refreshes : Message → DialogStory → DialogStory
-refreshes request story =
-    if is_invite request then retargets (contact_uri request) story else story
-
-abbrev pub visits : Message → DialogStory → DialogStory
-visits request story = refreshes request (numbers request.cseq.number story)
-
--- a 2xx confirms a dialog that hasn't ended
-abbrev pub confirms : Message → DialogStory → DialogStory
-confirms response story =
-    if is_some (ended_fault (dialog_of story).dialog) then story
-    else lives_on (Confirms response) story
+abbrev pub lives_on : (HeldDialog → List Happening) → DialogStory → DialogStory
+lives_on happens story = record story { life = story.life ++ happens (dialog_of story) }
 
 -- the dialog of a name goes on so
 abbrev pub at_dialog : DialogName → (DialogStory → DialogStory) → DialogStories → DialogStories
@@ -107,13 +85,15 @@ abbrev pub provisionals_go : List reliable.Happening → RequestStory → Reques
 provisionals_go happenings request =
     record request { provisionals = request.provisionals ++ happenings }
 
--- its 2xx isn't sent again
-abbrev pub success_ends : SuccessStory → SuccessStory
-success_ends story = record story { is_over = true }
+-- its 2xx is sent no more
+abbrev pub success_ends : SuccessEnd → SuccessStory → SuccessStory
+success_ends end story = record story { over = Some end }
 
 -- its ACK comes
 abbrev pub acks : RequestStory → RequestStory
-acks request = record request { success = option_map success_ends request.success }
+acks request = record request {
+  success = option_map (success_ends Acknowledged) request.success;
+}
 
 -- a reliable provisional response is sent, with the next number
 abbrev pub sends : Message → ℕ → RequestStory → RequestStory
@@ -130,7 +110,7 @@ finishes response status now request =
     record (provisionals_go (reliable.Closes ∷ []) request) {
       success =
           if is_invite request.arrival.request && is_success status
-          then Some record { response = response; sent = now; repeats = []; is_over = false }
+          then Some record { response = response; sent = now; repeats = []; over = None }
           else request.success;
       answered = Some now;
     }
@@ -157,7 +137,7 @@ takes_dialog event respond request =
 abbrev pub notes : DialogName → Message → Story → Story
 notes name request story =
     if is_inside request
-    then record story { dialogs = at_dialog name (visits request) story.dialogs }
+    then record story { dialogs = at_dialog name (lives_on (visits request)) story.dialogs }
     else story
 
 -- it is held, and nothing came for it
@@ -232,7 +212,7 @@ abbrev pub dialogs_told : Id → HeldRequest → Respond → Message → DialogS
 dialogs_told event held respond response dialogs =
     let name = dialog_name held.request held.tag in
     if makes_dialog held respond.status then begins name (begun event held respond.status) dialogs
-    else (if confirms_dialog held respond.status then at_dialog name (confirms response) dialogs
+    else (if confirms_dialog held respond.status then at_dialog name (lives_on (confirms response)) dialogs
     else (if rejects held respond.status then ends_early held.id dialogs
     else dialogs))
 
@@ -260,7 +240,7 @@ told_by_request story event respond now (Some held) =
 abbrev pub success_goes : SuccessDue → ℕ → SuccessStory → SuccessStory
 success_goes repeat.Nothing now story = story
 success_goes repeat.Again now story = record story { repeats = story.repeats ++ now ∷ [] }
-success_goes repeat.GivenUp now story = success_ends story
+success_goes repeat.GivenUp now story = success_ends GivenUp story
 
 abbrev pub success_passes : ℕ → SuccessStory → SuccessStory
 success_passes now story = success_goes (success_answer now (success_of story)) now story

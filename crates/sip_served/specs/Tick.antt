@@ -2,7 +2,7 @@
 -- section 13.3.1.4; RFC 3262, section 3). Moments are in ms.
 use Rattle.std.specs.Prelude.{ℕ, ◌+◌, ◌*◌, Bool, true, nat_le, nat_lt, min, List, [], ◌∷◌, ◌++◌, map, filter, fold, Option, None, Some, if◌then◌else◌}
 use Rattle.std.specs.List.{flat_map}
-use Rattle.std.specs.Option.{option_map, option_map_or, option_and_then}
+use Rattle.std.specs.Option.{is_some, option_map_or, option_and_then}
 use Rattle.sip_message.specs.declared.message.Message.{Message}
 use Rattle.sip_reliable.specs.declared.tick.Tick.{Tick}
 use Rattle.sip_reliable.specs.declared.tick.Tick.TheVariants as tick
@@ -12,6 +12,7 @@ use Rattle.sip_transactions.specs.declared.input.Command.TheVariants.{Answer}
 use Rattle.sip_served.specs.declared.held_request.HeldRequest.{HeldRequest}
 use Rattle.sip_served.specs.declared.held_request.Retransmission.{Retransmission}
 use Rattle.sip_served.specs.declared.held_request.Success.{Success}
+use Rattle.sip_served.specs.declared.held_request.SuccessEnd.TheVariants.{GivenUp}
 use Rattle.sip_common.specs.declared.item.CallOut.{CallOut}
 use Rattle.sip_common.specs.declared.item.CallOut.TheVariants as out
 use Rattle.sip_common.specs.declared.item.CallOut.TheVariants.{Command}
@@ -35,44 +36,31 @@ success_told repeat.Again held response = Command held.id (Answer held.key respo
 success_told repeat.GivenUp held response =
     out.Notice (NoAck held.request.call_id held.id) ∷ []
 
--- giving it up comes before sending it again
-abbrev pub due_with : ℕ → ℕ → Option Retransmission → SuccessDue
-due_with now end None = repeat.Nothing
-due_with now end (Some retransmission) =
-    if nat_le end now then repeat.GivenUp
-    else (if nat_le retransmission.due now then repeat.Again
-    else repeat.Nothing)
-
--- whether a 2xx is sent again or given up
+-- whether a 2xx is sent again or given up: giving it up comes first
 abbrev pub success_answer : ℕ → Success → SuccessDue
-success_answer now success = due_with now success.end success.retransmission
+success_answer now success =
+    if is_some success.over then repeat.Nothing
+    else (if nat_le success.end now then repeat.GivenUp
+    else (if nat_le success.retransmission.due now then repeat.Again
+    else repeat.Nothing))
 
 -- the next interval is twice the last, up to T2, and counts from this moment
 abbrev pub next_retransmission : ℕ → Retransmission → Retransmission
 next_retransmission now last =
     record { due = now + min (2 * last.interval) T2; interval = min (2 * last.interval) T2 }
 
--- when it is sent again after that
-abbrev pub retransmission_after : SuccessDue → ℕ → Option Retransmission → Option Retransmission
-retransmission_after repeat.Nothing now last = last
-retransmission_after repeat.Again now last = option_map (next_retransmission now) last
-retransmission_after repeat.GivenUp now last = None
-
--- with that
-abbrev pub with_retransmission : Success → Option Retransmission → Success
-with_retransmission success retransmission = record success { retransmission = retransmission }
-
--- the 2xx after a tick
-abbrev pub success_after : ℕ → Success → Success
-success_after now success =
-    with_retransmission success
-    (retransmission_after (success_answer now success) now success.retransmission)
+-- the 2xx after that
+abbrev pub success_by : SuccessDue → ℕ → Success → Success
+success_by repeat.Nothing now success = success
+success_by repeat.Again now success =
+    record success { retransmission = next_retransmission now success.retransmission }
+success_by repeat.GivenUp now success = record success { over = Some GivenUp }
 
 -- of a request that has its 2xx, or has none yet
 abbrev pub success_of : ℕ → HeldRequest → Option Success → Ticked
 success_of now held None = (held, [])
 success_of now held (Some success) = (
-  record held { success = Some (success_after now success) },
+  record held { success = Some (success_by (success_answer now success) now success) },
   success_told (success_answer now success) held success.response,
 )
 
@@ -132,7 +120,7 @@ tick_taken state now = (
 
 abbrev pub success_moment : Success → Option ℕ
 success_moment success =
-    option_map (λ retransmission. min success.end retransmission.due) success.retransmission
+    if is_some success.over then None else Some (min success.end success.retransmission.due)
 
 -- the first moment at which something of a request is due
 abbrev pub request_due : HeldRequest → Option ℕ

@@ -1,13 +1,14 @@
 //! The ACK of a 2xx, and PRACKs (RFC 3261, section 13.3.1.4; RFC 3262, section 3).
 
-ghost use Rattle.std.specs.Prelude.{◌≡◌, false};
-ghost use Rattle.std.specs.Option.{is_some, option_map_or};
+ghost use Rattle.std.specs.Prelude.{◌≡◌, false, is_none};
+ghost use Rattle.std.specs.Option.{option_map_or};
 ghost use Rattle.sip_reliable.specs.Ledger.{acknowledged};
 ghost use Rattle.sip_served.specs.Acknowledgment as spec;
 ghost use Rattle.sip_served.specs.Arrival.{pracked};
 ghost use Rattle.sip_served.specs.State.{changed_at};
+ghost use Rattle.sip_served.specs.declared.held_request.SuccessEnd.TheVariants.{Acknowledged};
 
-use crate::held_request::HeldRequest;
+use crate::held_request::{HeldRequest, SuccessEnd};
 use crate::requests::place_of;
 use sip_common::request::{is_invite, local_tag};
 use sip_message::{Id, Message};
@@ -27,15 +28,14 @@ pub(crate) fn acknowledged_invite(ack: &Message, requests: &[HeldRequest]) -> Op
 fn awaits_ack(held: &HeldRequest) -> bool
     ensures { result ≡ spec.awaits_ack held.now }
 {
-    is_invite(held.request.get()) && is_repeated(held)
+    is_invite(held.request.get()) && is_awaited(held)
 }
 
-fn is_repeated(held: &HeldRequest) -> bool
-    ensures { result
-        ≡ option_map_or (λ success. is_some success.retransmission) held.now.success false }
+fn is_awaited(held: &HeldRequest) -> bool
+    ensures { result ≡ option_map_or (λ success. is_none success.over) held.now.success false }
 {
     match &held.success {
-        Some(success) => success.retransmission.is_some(),
+        Some(success) => success.over.is_none(),
         None => false,
     }
 }
@@ -51,19 +51,20 @@ fn is_ack_of(ack: &Message, held: &HeldRequest) -> bool
 /// The ACK of the 2xx to the INVITE of this id came.
 #[tactic(auto, using(std::proofs::lemmas::Option::slice_get_read))]
 pub(crate) fn acknowledge(requests: &mut Vec<HeldRequest>, invite: Id)
-    ensures { requests.new.items ≡ changed_at invite spec.acked requests.old.items }
+    ensures { requests.new.items
+        ≡ changed_at invite (spec.success_ended Acknowledged) requests.old.items }
 {
     if let Some(index) = place_of(requests.as_slice(), invite) {
-        stop_success(&mut requests[index]);
+        end_success(&mut requests[index], SuccessEnd::Acknowledged);
     }
 }
 
-/// The 2xx isn't sent again.
-pub(crate) fn stop_success(held: &mut HeldRequest)
-    ensures { held.new ≡ spec.acked held.old }
+/// The 2xx is sent no more.
+pub(crate) fn end_success(held: &mut HeldRequest, end: SuccessEnd)
+    ensures { held.new ≡ spec.success_ended end held.old }
 {
     if let Some(success) = &mut held.success {
-        success.retransmission = None;
+        success.over = Some(end);
     }
 }
 

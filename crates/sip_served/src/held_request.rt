@@ -70,8 +70,19 @@ pub struct Success {
     pub response: Boxed<Message>,
     /// The moment in ms at which it is given up.
     pub end: u64,
-    /// None once its ACK came or it was given up.
-    pub retransmission: Option<Retransmission>,
+    /// When it is sent again, while its ACK is awaited.
+    pub retransmission: Retransmission,
+    /// None while its ACK is awaited.
+    pub over: Option<SuccessEnd>,
+}
+
+/// Why a 2xx is sent no more.
+#[derive(Clone, Copy)]
+pub enum SuccessEnd {
+    /// Its ACK came.
+    Acknowledged,
+    /// Its ACK didn't come in time.
+    GivenUp,
 }
 
 /// When a response is sent again, and the interval before it, both in ms.
@@ -104,6 +115,7 @@ impl Drop for Success {
             response: _,
             end: _,
             retransmission: _,
+            over: _,
         } = self;
     }
 }

@@ -25,7 +25,7 @@ use crate::respond::{answer_to, dialogs_answered, note_answer, note_dialog, refu
 use crate::tick::{is_kept, next_due, tick_requests};
 use indexmap::IndexMap;
 use sip_common::dialogs::{end, end_early, own_dialog, visit};
-use sip_common::outputs::{joined, one, tell};
+use sip_common::outputs::{joined, one, refused, tell};
 use sip_common::request::{dialog_name, is_bye, is_cancel, is_inside};
 use sip_common::{CallOut, DialogName, Dialogs, Item, Notice, Refusal, Respond, UserCommand};
 use sip_message::{Addr, CallId, Id, Message, Token};
@@ -338,10 +338,10 @@ impl Holdings {
             ≡ answers.respond_taken self.old event respond now) }
     {
         let Some(index) = place_of(self.requests.as_slice(), respond.id) else {
-            return refused(self.alloc, event, respond, Refusal::NoSuchRequest);
+            return refused(self.alloc, event, respond.call_id, Refusal::NoSuchRequest);
         };
         match refusal_for(&self.dialogs, &respond, &self.requests[index]) {
-            Some(refusal) => refused(self.alloc, event, respond, refusal),
+            Some(refusal) => refused(self.alloc, event, respond.call_id, refusal),
             None => self.give(index, event, respond, now),
         }
     }
@@ -393,24 +393,6 @@ impl Holdings {
         remove_over(&mut self.requests, now);
         Ok(outs)
     }
-}
-
-fn refused(
-    alloc: Global,
-    event: Id,
-    respond: Respond,
-    refusal: Refusal,
-) -> Result<Vec<CallOut>, AllocError>
-    ensures { IfOk result (λ outs. outs.items ≡ answers.refused_notice event respond refusal) }
-{
-    tell(
-        alloc,
-        Notice::Refused {
-            call_id: respond.call_id,
-            place: event.place,
-            refusal,
-        },
-    )
 }
 
 // What is due to be removed goes.

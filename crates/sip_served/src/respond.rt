@@ -239,10 +239,11 @@ fn success_sent(response: Boxed<Message>, now: u64) -> Success
     Success {
         response,
         end: now + u64::from(LIFETIME),
-        retransmission: Some(Retransmission {
+        retransmission: Retransmission {
             due: now + u64::from(T1),
             interval: u64::from(T1),
-        }),
+        },
+        over: None,
     }
 }
 

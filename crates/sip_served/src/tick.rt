@@ -5,10 +5,11 @@ ghost use Rattle.std.specs.List.{flat_map};
 ghost use Rattle.std.specs.Option.{option_and_then, option_map};
 ghost use Rattle.sip_reliable.specs.Happening.{is_among};
 ghost use Rattle.sip_served.specs.Tick as spec;
+ghost use Rattle.sip_served.specs.declared.tick.SuccessDue.TheVariants.{Again};
 ghost use Rattle.sip_common.specs.declared.notice.Notice.TheVariants as notices;
 
-use crate::acknowledgment::stop_success;
-use crate::held_request::{HeldRequest, Retransmission, Success};
+use crate::acknowledgment::end_success;
+use crate::held_request::{HeldRequest, Retransmission, Success, SuccessEnd};
 use crate::outputs::command_for;
 use sip_common::{CallOut, Notice};
 use sip_reliable::Tick;
@@ -85,7 +86,7 @@ fn tick_success(
         }
         SuccessDue::GivenUp => {
             outs.push(CallOut::Notice(no_ack(held)?))?;
-            stop_success(held);
+            end_success(held, SuccessEnd::GivenUp);
             Ok(())
         }
     }
@@ -94,12 +95,11 @@ fn tick_success(
 fn success_answer(success: &Success, now: u64) -> SuccessDue
     ensures { result ≡ spec.success_answer now success.now }
 {
-    let Some(retransmission) = success.retransmission else {
-        return SuccessDue::Nothing;
-    };
-    if success.end <= now {
+    if success.over.is_some() {
+        SuccessDue::Nothing
+    } else if success.end <= now {
         SuccessDue::GivenUp
-    } else if retransmission.due <= now {
+    } else if success.retransmission.due <= now {
         SuccessDue::Again
     } else {
         SuccessDue::Nothing
@@ -109,26 +109,23 @@ fn success_answer(success: &Success, now: u64) -> SuccessDue
 fn repeat_success(held: &mut HeldRequest, now: u64)
     requires { now ≤ 2 ^ 62 }
     ensures { held.new ≡ record held.old {
-      success = option_map
-          (λ success. spec.with_retransmission success
-          (option_map (spec.next_retransmission now) success.retransmission)) held.old.success;
+      success = option_map (spec.success_by Again now) held.old.success;
     } }
 {
     if let Some(success) = &mut held.success {
-        success.retransmission = next_of(success.retransmission, now);
+        success.retransmission = next_retransmission(success.retransmission, now);
     }
 }
 
-fn next_of(last: Option<Retransmission>, now: u64) -> Option<Retransmission>
+fn next_retransmission(last: Retransmission, now: u64) -> Retransmission
     requires { now ≤ 2 ^ 62 }
-    ensures { result ≡ option_map (spec.next_retransmission now) last }
+    ensures { result ≡ spec.next_retransmission now last }
 {
-    let last = last?;
     let interval = last.interval.saturating_mul(2).min(u64::from(T2));
-    Some(Retransmission {
+    Retransmission {
         due: now + interval,
         interval,
-    })
+    }
 }
 
 fn no_ack(held: &HeldRequest) -> Result<Notice, AllocError>
@@ -238,6 +235,8 @@ fn success_due(held: &HeldRequest) -> Option<u64>
     ensures { result ≡ option_and_then spec.success_moment held.now.success }
 {
     let success = held.success.as_ref()?;
-    let retransmission = success.retransmission?;
-    Some(success.end.min(retransmission.due))
+    if success.over.is_some() {
+        return None;
+    }
+    Some(success.end.min(success.retransmission.due))
 }

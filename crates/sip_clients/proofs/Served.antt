@@ -1,0 +1,124 @@
+-- What is to be sent in the dialog of a name, where that is held, and where it isn't.
+use Rattle.std.proofs.Common.{◌≡◌, Bool, true, false, ◌&&◌, ◌||◌, [], ◌∷◌, List, refl, ap, ◌∙◌}
+use Rattle.std.specs.Prelude.{Option, None, Some, if◌then◌else◌, codes, nat_le, ℕ}
+use Rattle.std.specs.Map.{set_value}
+use Rattle.std.specs.Option.{option_map, option_map_or}
+use Rattle.std.specs.Str.{bytes_eq}
+use Rattle.std.proofs.lemmas.Map.Steps.{set_value_same}
+use Rattle.sip_dialog.specs.declared.fault.DialogFault.{DialogFault}
+use Rattle.sip_dialog.specs.declared.fault.DialogFault.TheVariants as fault
+use Rattle.sip_dialog.specs.Dialog.{is_early, is_ended}
+use Rattle.sip_dialog.specs.Fault.{request_fault}
+use Rattle.sip_dialog.specs.Route.{is_strict}
+use Rattle.sip_common.specs.Dialogs.{dialog_at, dialog_changed, is_named, lived, Dialogs}
+use Rattle.sip_common.specs.Refusal.{first_refusal}
+use Rattle.sip_common.specs.declared.held_dialog.DialogName.{DialogName}
+use Rattle.sip_common.specs.declared.held_dialog.HeldDialog.{HeldDialog}
+use Rattle.sip_common.specs.declared.refusal.Refusal.{Refusal}
+use Rattle.sip_common.specs.declared.refusal.Refusal.TheVariants.{BadMethod, DialogEnded, StrictRoute, SequenceUsedUp}
+use Rattle.sip_clients.specs.Commands.{is_bad_early, is_callee, is_own_kind, request_in, request_refusals, sent_unless}
+use Rattle.sip_clients.specs.Dialogs.{served_at}
+use Rattle.sip_clients.specs.Service.{Outcome, refusal_of, requested, sending_in, sends, service_by}
+use Rattle.sip_clients.specs.declared.event.Event.{Event}
+use Rattle.sip_clients.specs.declared.service.Sending.{Sending}
+use Rattle.sip_clients.specs.declared.service.Service.{Service}
+use Rattle.sip_clients.specs.declared.service.Service.TheVariants.{Refused}
+
+-- ---- the dialogs after it
+
+module _ (name : DialogName) (serve : HeldDialog → Outcome) (otherwise : Service)
+    (dialogs : Dialogs) where
+  abbrev pub served_in : Option HeldDialog → Dialogs × Service
+  served_in found =
+      option_map_or (λ held. (set_value (is_named name) dialogs (serve held).0, (serve held).1))
+      found (dialogs, otherwise)
+
+  pub served_dialogs : (served_at name serve otherwise dialogs).0
+      ≡ dialog_changed name (λ held. (serve held).0) dialogs
+  served_dialogs = by_found (dialog_at name dialogs)
+    where
+      by_found : (found : Option HeldDialog) → (served_in found).0
+          ≡ option_map_or (λ held. set_value (is_named name) dialogs (serve held).0) found dialogs
+      by_found None = refl
+      by_found (Some held) = refl
+
+  -- where a dialog stays as it is that refuses, all do
+  pub refused_same : (refusal : Refusal)
+      → ((held : HeldDialog) → (serve held).1 ≡ Refused refusal → (serve held).0 ≡ held)
+      → (served_at name serve otherwise dialogs).1 ≡ Refused refusal
+      → (served_at name serve otherwise dialogs).0 ≡ dialogs
+  refused_same refusal same e = by_found (dialog_at name dialogs) refl e
+    where
+      by_found : (found : Option HeldDialog) → dialog_at name dialogs ≡ found
+          → (served_in found).1 ≡ Refused refusal → (served_in found).0 ≡ dialogs
+      by_found None at is = refl
+      by_found (Some held) at is =
+          ap (set_value (is_named name) dialogs) (same held is)
+          ∙ set_value_same (is_named name) dialogs held at
+
+-- ---- why a request isn't sent
+
+bad_method : (own early bad : Bool) (others : List (Bool × Refusal))
+    → (own || (early && bad)) ≡ true
+    → first_refusal ((own, BadMethod) ∷ (early && bad, BadMethod) ∷ others) None ≡ Some BadMethod
+bad_method true early bad others is = refl
+bad_method false true true others is = refl
+bad_method false true false others is = absurd cc
+bad_method false false bad others is = absurd cc
+
+by_dialog : (own early invite bye ended strict used : Bool)
+    → (own || (early && (invite || bye))) ≡ false
+    → first_refusal ((own, BadMethod) ∷ (early && (invite || bye), BadMethod)
+    ∷ (ended, DialogEnded) ∷ (strict, StrictRoute) ∷ (used, SequenceUsedUp) ∷ []) None
+    ≡ option_map refusal_of (if ended then Some fault.Ended
+    else (if early && invite then Some fault.NotConfirmed
+    else (if strict then Some fault.StrictRoute
+    else (if used then Some fault.SequenceUsedUp
+    else None))))
+by_dialog true early invite bye ended strict used is = absurd cc
+by_dialog false true true bye ended strict used is = absurd cc
+by_dialog false true false true ended strict used is = absurd cc
+by_dialog false true false false true strict used is = refl
+by_dialog false true false false false true used is = refl
+by_dialog false true false false false false true is = refl
+by_dialog false true false false false false false is = refl
+by_dialog false false invite bye true strict used is = refl
+by_dialog false false invite bye false true used is = refl
+by_dialog false false invite bye false false true is = refl
+by_dialog false false invite bye false false false is = refl
+
+sent_by : (method : List ℕ) (fault : Option DialogFault) (sending : Sending) (held : HeldDialog)
+    → sent_unless (option_map refusal_of fault) sending held
+    ≡ (lived (sends method fault) held, service_by fault sending)
+sent_by method None sending held = refl
+sent_by method (Some fault) sending held = refl
+
+module _ (event : Event) (method body : List ℕ) (held : HeldDialog) where
+  -- its method isn't the user's to send in this dialog
+  abbrev pub is_bad : Bool
+  is_bad = is_own_kind method
+      || (is_early (held.dialog).state && is_bad_early (held.dialog).side method)
+
+  pub bad_request : is_bad ≡ true → request_in event method body held ≡ (held, Refused BadMethod)
+  unfolding request_in
+  bad_request is =
+      ap (λ refusal. sent_unless refusal (sending_in event method None body held) held)
+      (bad_method (is_own_kind method) (is_early (held.dialog).state)
+      (is_bad_early (held.dialog).side method)
+      ((is_ended (held.dialog).state, DialogEnded)
+      ∷ (is_strict (held.dialog).route_set, StrictRoute)
+      ∷ (nat_le 2147483647 (held.dialog).local_cseq, SequenceUsedUp) ∷ []) is)
+
+  -- otherwise the dialog says whether it is sent
+  pub good_request : is_bad ≡ false
+      → request_in event method body held ≡ requested event method None body held
+  unfolding request_in
+  good_request is =
+      ap (λ refusal. sent_unless refusal (sending_in event method None body held) held)
+      (by_dialog (is_own_kind method) (is_early (held.dialog).state)
+      (bytes_eq method (codes "INVITE"))
+      (is_callee (held.dialog).side && bytes_eq method (codes "BYE"))
+      (is_ended (held.dialog).state)
+      (is_strict (held.dialog).route_set) (nat_le 2147483647 (held.dialog).local_cseq) is)
+      ∙ sent_by method (request_fault held.dialog method)
+      (sending_in event method None body held) held
