@@ -5,7 +5,6 @@ use Rattle.std.specs.List.{AllByRecursion, cons_option}
 use Rattle.std.specs.Map.{lookup, remove_entry}
 use Rattle.std.specs.Option.{option_map}
 use Rattle.std.proofs.Math.Nat.{two-pow-succ}
-use Rattle.std.proofs.lemmas.List.{append-nil, append_assoc}
 use Rattle.std.proofs.lemmas.List.Sums.{fold_push}
 use Rattle.std.proofs.lemmas.Bool.{eqb-true, true≢false}
 use Rattle.std.proofs.lemmas.Option.{same_Some}
@@ -14,12 +13,8 @@ use Rattle.indexmap.specs.IndexMap.{insert_entry}
 use Rattle.sip_message.specs.declared.addr.Addr.{Addr}
 use Rattle.sip_message.specs.declared.id.Id.{Id}
 use Rattle.sip_message.specs.declared.message.Message.{Message}
-use Rattle.sip_dialog.specs.Fault.{accept_fault, ended_fault, ok_unless as dialog_ok}
-use Rattle.sip_dialog.specs.Life.{Happening, dialog_after}
-use Rattle.sip_dialog.specs.Opening.{Opening, contact_uri}
-use Rattle.sip_dialog.specs.Step.{confirmed_by, ended_now, with_accepted, with_next_number, with_target}
+use Rattle.sip_dialog.specs.Life.{Happening}
 use Rattle.sip_dialog.specs.declared.dialog.Dialog.{Dialog}
-use Rattle.sip_dialog.specs.declared.fault.DialogFault.{DialogFault}
 use Rattle.sip_common.proofs.Lives.{all_on, cases_fit}
 use Rattle.sip_common.specs.Lives.{AllFit}
 use Rattle.sip_reliable.specs.declared.send_fault.SendFault.{SendFault}
@@ -58,7 +53,7 @@ use Rattle.sip_served.specs.Acknowledgment.{ack_noted, acknowledged_invite, succ
 use Rattle.sip_served.specs.declared.held_request.SuccessEnd.TheVariants.{Acknowledged}
 use Rattle.sip_served.specs.Arrival.{first_rseq, new_request, by_case, case_of, noted, pracked, bye_taken, request_held}
 use Rattle.sip_served.specs.Cancel.{by_cancelled, cancelled_request, invite_terminated, is_unanswered_invite, request_terminated}
-use Rattle.sip_common.specs.Dialogs.{own_dialog, confirmed, confirms, dialog_changed, early_ended, ended_at, happened, is_early_of, is_named, lived, retargets, takes, visited, visits, Dialogs}
+use Rattle.sip_common.specs.Dialogs.{own_dialog, confirmed, confirms, dialog_changed, early_ended, ended_at, is_early_of, is_named, lived, visited, visits, Dialogs}
 use Rattle.sip_served.specs.Provisionals.{without}
 use Rattle.sip_common.specs.Requests.{dialog_name, is_bye, is_cancel, is_final, is_inside, is_invite, is_success, supports_100rel}
 use Rattle.sip_served.specs.Respond.{answer_given, answer_to, made_dialog, answered, by_refusal, by_request, confirms_dialog, finished, has_ended, is_of_dialog, is_reliable, is_sent_reliably, is_user_status, makes_dialog, sent_as, may_be_reliable, refusal_for, refusal_of_fault, rejects, sent_reliably, with_dialog}
