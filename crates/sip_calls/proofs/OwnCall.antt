@@ -33,7 +33,7 @@ use Rattle.sip_calls.specs.declared.call.Call.{Call}
 use Rattle.sip_calls.specs.declared.calls.Calls.{Calls}
 use Rattle.sip_calls.specs.Call.{CallItem}
 use Rattle.sip_calls.specs.Call.{Taken, call_machine, call_step, command_taken, event_of, first_command_taken, kept, lost_taken, new_call, tag_of_answers, up_taken}
-use Rattle.sip_calls.specs.OwnCall.{AreSidesOf, EachNoticeIsOwn, IsCallOf, IsInputOf, IsItemOf, IsNoticeOf}
+use Rattle.sip_calls.specs.OwnCall.{AreSidesOf, EachNoticeIsOwn, IsCallOf, IsInputOf, IsNoticeOf}
 use Rattle.sip_calls.specs.Sides.{CallTaken, by_clients, by_server, followed, holds_any, side_of, ticked}
 
 -- a step that keeps to a Call-ID keeps to an equal one

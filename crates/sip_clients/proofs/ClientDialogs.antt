@@ -1,12 +1,9 @@
 -- What the client side does to the dialogs keeps what was heard in each, ends it or makes it anew,
 -- but for a reliable provisional response to the first INVITE.
 use Rattle.std.proofs.Common.{◌≡◌, inl, inr, ℕ, Bool, true, false, not, cond, List, [], refl, sym, subst}
-use Rattle.std.specs.Prelude.{Option, None, Some, codes, filter}
+use Rattle.std.specs.Prelude.{Option, None, Some, filter}
 use Rattle.std.specs.Option.{option_map}
 use Rattle.indexmap.specs.IndexMap.{insert_entry}
-use Rattle.sip_dialog.specs.declared.fault.DialogFault.{DialogFault}
-use Rattle.sip_dialog.specs.Fault.{request_fault}
-use Rattle.sip_dialog.specs.Opening.{contact_uri}
 use Rattle.sip_message.specs.declared.id.Id.{Id}
 use Rattle.sip_common.specs.declared.debt.Debt.{Debt}
 use Rattle.sip_common.specs.declared.debt.Debt.TheVariants.{Ack, Prack}

@@ -1,7 +1,6 @@
 -- A held dialog stays of its own Call-ID, and so do the requests that are sent in it and its end.
 use Rattle.std.proofs.Common.{◌≡◌, ℕ, ◌+◌, Bool, true, false, cond, List, [], ◌∷◌, refl, sym, subst, ◌∙◌}
 use Rattle.std.specs.Prelude.{Option, None, Some, IfSome, codes}
-use Rattle.std.specs.Option.{option_map_or}
 use Rattle.std.specs.Str.{bytes_eq}
 use Rattle.sip_message.specs.Message.{with_body_of}
 use Rattle.sip_model.proofs.Ordered.{by_bool}
@@ -17,9 +16,9 @@ use Rattle.sip_common.specs.declared.debt.Debt.TheVariants.{Ack, Prack}
 use Rattle.sip_common.specs.declared.held_dialog.DialogName.{DialogName}
 use Rattle.sip_common.specs.declared.held_dialog.HeldDialog.{HeldDialog}
 use Rattle.sip_common.specs.declared.item.CallOut.{CallOut}
-use Rattle.sip_common.specs.declared.refusal.Refusal.TheVariants.{BadMethod, NoSuchDialog}
+use Rattle.sip_common.specs.declared.refusal.Refusal.TheVariants.{NoSuchDialog}
 use Rattle.sip_common.specs.Dialogs.{dialog_at, early_ended, ended_at, is_named, lives, Dialogs}
-use Rattle.sip_common.proofs.Each.{both, each_changed, each_set}
+use Rattle.sip_common.proofs.Each.{both, each_set}
 use Rattle.sip_common.proofs.OwnDialogs.{AreEndedOf, dialog_own, early_own, ended_own, lived_keeps}
 use Rattle.sip_common.specs.Dialogs.{confirms, retargets}
 use Rattle.sip_clients.specs.declared.client.RequestKind.{RequestKind}

@@ -16,7 +16,7 @@ use Rattle.sip_common.specs.declared.held_dialog.DialogName.{DialogName}
 use Rattle.sip_common.specs.declared.held_dialog.HeldDialog.{HeldDialog}
 use Rattle.sip_common.specs.declared.refusal.Refusal.{Refusal}
 use Rattle.sip_common.specs.declared.refusal.Refusal.TheVariants.{BadMethod, DialogEnded, StrictRoute, SequenceUsedUp}
-use Rattle.sip_clients.specs.Commands.{is_bad_early, is_callee, is_own_kind, request_in, request_refusals, sent_unless}
+use Rattle.sip_clients.specs.Commands.{is_bad_early, is_callee, is_own_kind, request_in, sent_unless}
 use Rattle.sip_clients.specs.Dialogs.{served_at}
 use Rattle.sip_clients.specs.Service.{Outcome, refusal_of, requested, sending_in, sends, service_by}
 use Rattle.sip_clients.specs.declared.event.Event.{Event}

@@ -5,7 +5,6 @@ use Rattle.std.specs.List.{AllByRecursion, cons_option}
 use Rattle.std.specs.Map.{lookup, remove_entry}
 use Rattle.std.specs.Option.{option_map}
 use Rattle.std.proofs.Math.Nat.{two-pow-succ}
-use Rattle.std.proofs.lemmas.List.{append-nil, append_assoc}
 use Rattle.std.proofs.lemmas.List.Sums.{fold_push}
 use Rattle.std.proofs.lemmas.Bool.{eqb-true, true≢false}
 use Rattle.std.proofs.lemmas.Option.{same_Some}
@@ -14,14 +13,10 @@ use Rattle.indexmap.specs.IndexMap.{insert_entry}
 use Rattle.sip_message.specs.declared.addr.Addr.{Addr}
 use Rattle.sip_message.specs.declared.id.Id.{Id}
 use Rattle.sip_message.specs.declared.message.Message.{Message}
-use Rattle.sip_dialog.specs.Fault.{accept_fault, ended_fault, ok_unless as dialog_ok}
-use Rattle.sip_dialog.specs.Life as happen
-use Rattle.sip_dialog.specs.Life.{Happening, dialog_after}
-use Rattle.sip_dialog.specs.Opening.{Opening, contact_uri}
-use Rattle.sip_dialog.specs.Step.{confirmed_by, ended_now, with_accepted, with_next_number, with_target}
+use Rattle.sip_dialog.specs.Life.{Happening}
 use Rattle.sip_dialog.specs.declared.dialog.Dialog.{Dialog}
-use Rattle.sip_dialog.specs.declared.fault.DialogFault.{DialogFault}
-use Rattle.sip_dialog.proofs.Lives.{accept_stands, ack_stands, confirm_stands, end_stands, refresh_stands, request_stands}
+use Rattle.sip_common.proofs.Lives.{all_on, cases_fit}
+use Rattle.sip_common.specs.Lives.{AllFit}
 use Rattle.sip_reliable.specs.declared.send_fault.SendFault.{SendFault}
 use Rattle.sip_reliable.specs.declared.tick.Tick.{Tick}
 use Rattle.sip_reliable.specs.declared.tick.Tick.TheVariants as tick
@@ -58,7 +53,7 @@ use Rattle.sip_served.specs.Acknowledgment.{ack_noted, acknowledged_invite, succ
 use Rattle.sip_served.specs.declared.held_request.SuccessEnd.TheVariants.{Acknowledged}
 use Rattle.sip_served.specs.Arrival.{first_rseq, new_request, by_case, case_of, noted, pracked, bye_taken, request_held}
 use Rattle.sip_served.specs.Cancel.{by_cancelled, cancelled_request, invite_terminated, is_unanswered_invite, request_terminated}
-use Rattle.sip_common.specs.Dialogs.{own_dialog, confirmed, confirms, dialog_changed, early_ended, ended_at, happened, is_early_of, is_named, lived, retargets, takes, visited, visits, Dialogs}
+use Rattle.sip_common.specs.Dialogs.{own_dialog, confirmed, confirms, dialog_changed, early_ended, ended_at, is_early_of, is_named, lived, visited, visits, Dialogs}
 use Rattle.sip_served.specs.Provisionals.{without}
 use Rattle.sip_common.specs.Requests.{dialog_name, is_bye, is_cancel, is_final, is_inside, is_invite, is_success, supports_100rel}
 use Rattle.sip_served.specs.Respond.{answer_given, answer_to, made_dialog, answered, by_refusal, by_request, confirms_dialog, finished, has_ended, is_of_dialog, is_reliable, is_sent_reliably, is_user_status, makes_dialog, sent_as, may_be_reliable, refusal_for, refusal_of_fault, rejects, sent_reliably, with_dialog}
@@ -76,104 +71,22 @@ use Rattle.sip_served.proofs.FewWait.{IsKept, IsKeptEach, event_keeps, kept_afte
 abbrev with : HeldDialog → Dialog → HeldDialog
 with held dialog = record held { dialog = dialog }
 
-unfaulted : {F : Type 0} (o : Option F) → is_some o ≡ false → o ≡ None
-unfaulted None e = refl
-unfaulted (Some f) e = absurd cc
-
-negated : (b : Bool) → not b ≡ true → b ≡ false
-negated true e = absurd cc
-negated false e = refl
-
--- a happening that the dialog doesn't refuse
-abbrev Fits : Dialog → Happening → Type 0
-Fits dialog (happen.Requests method) = Unit {0}
-Fits dialog (happen.Acknowledges number) = Unit {0}
-Fits dialog (happen.Accepts number) = accept_fault dialog number ≡ None
-Fits dialog (happen.Refreshes uri) = Unit {0}
-Fits dialog (happen.Confirms response) = ended_fault dialog ≡ None
-Fits dialog happen.Ends = Unit {0}
-
-abbrev AllFit : Dialog → List Happening → Type 0
-AllFit dialog [] = Unit {0}
-AllFit dialog (one ∷ life) = Fits dialog one × AllFit (happened dialog one) life
-
-happened_on : (opening : Opening) (life : List Happening) (one : Happening)
-    → Fits (dialog_after opening life) one
-    → happened (dialog_after opening life) one ≡ dialog_after opening (life ++ one ∷ [])
-happened_on opening life (happen.Requests method) fits =
-    let dialog = dialog_after opening life in
-    request_stands {A = Unit {0}} {E = DialogFault} dialog (with_next_number dialog) (Ok tt) method refl
-    opening life refl
-happened_on opening life (happen.Acknowledges number) fits =
-    ack_stands (dialog_after opening life) number opening life refl
-happened_on opening life (happen.Accepts number) fits =
-    let dialog = dialog_after opening life in
-    accept_stands dialog (with_accepted dialog number) (Ok tt) number (ap dialog_ok (sym fits)) refl
-    opening life refl
-happened_on opening life (happen.Refreshes uri) fits =
-    let dialog = dialog_after opening life in
-    refresh_stands dialog (with_target dialog uri) (Ok tt) uri refl opening life refl
-happened_on opening life (happen.Confirms response) fits =
-    let dialog = dialog_after opening life in
-    confirm_stands dialog (confirmed_by dialog response) (Ok tt) response fits refl opening life
-    refl
-happened_on opening life happen.Ends fits =
-    end_stands (dialog_after opening life) (ended_now (dialog_after opening life)) refl opening
-    life refl
-
--- so the dialog after more is what more makes of the dialog
-all_on : (opening : Opening) (life more : List Happening)
-    → AllFit (dialog_after opening life) more
-    → dialog_after opening (life ++ more) ≡ fold happened (dialog_after opening life) more
-all_on opening life [] fit = ap (dialog_after opening) (append-nil life)
-all_on opening life (one ∷ more) fit =
-    let same = happened_on opening life one fit.0 in
-    ap (dialog_after opening) (sym (append_assoc life (one ∷ []) more))
-    ∙ all_on opening (life ++ one ∷ []) more (subst (λ dialog. AllFit dialog more) same fit.1)
-    ∙ ap (λ dialog. fold happened dialog more) (sym same)
-
 lived_on : (happens : HeldDialog → List Happening) (story : DialogStory)
     → AllFit (dialog_of story).dialog (happens (dialog_of story))
     → dialog_of (lives_on happens story) ≡ lived (happens (dialog_of story)) (dialog_of story)
 lived_on happens story fit =
-    ap (with (dialog_of story)) (all_on story.opening story.life (happens (dialog_of story)) fit)
-
-retargets_fit : (uri : Option (List ℕ)) (held : HeldDialog) (dialog : Dialog)
-    → AllFit dialog (retargets uri held)
-retargets_fit None held dialog = tt
-retargets_fit (Some uri) held dialog =
-    by_bool (is_some (ended_fault held.dialog)) (λ e. rw e tt) (λ e. rw e (tt, tt))
-
-refreshes_fit : (b : Bool) (uri : Option (List ℕ)) (held : HeldDialog) (dialog : Dialog)
-    → AllFit dialog (cond b (retargets uri held) [])
-refreshes_fit true uri held dialog = retargets_fit uri held dialog
-refreshes_fit false uri held dialog = tt
+    ap (with (dialog_of story))
+    (sym (all_on story.opening story.life (happens (dialog_of story)) fit))
 
 visited_on : (request : Message) (story : DialogStory)
     → dialog_of (lives_on (visits request) story) ≡ visited request (dialog_of story)
-visited_on request story = lived_on (visits request) story (fits (dialog_of story))
-  where
-    fits : (held : HeldDialog) → AllFit held.dialog (visits request held)
-    fits held =
-        let number = request.cseq.number in
-        let invite = is_invite request in
-        let uri = contact_uri request in
-        by_bool (takes held number)
-        (λ e. rw e (
-          unfaulted (accept_fault held.dialog number)
-              (negated (is_some (accept_fault held.dialog number)) e),
-          refreshes_fit invite uri held (with_accepted held.dialog number),
-        ))
-        (λ e. rw e (refreshes_fit invite uri held held.dialog))
+visited_on request story =
+    lived_on (visits request) story ((cases_fit (dialog_of story)).visits request)
 
 confirmed_on : (story : DialogStory) (response : Message)
     → dialog_of (lives_on (confirms response) story) ≡ confirmed response (dialog_of story)
-confirmed_on story response = lived_on (confirms response) story (fits (dialog_of story))
-  where
-    fits : (held : HeldDialog) → AllFit held.dialog (confirms response held)
-    fits held =
-        by_bool (is_some (ended_fault held.dialog)) (λ e. rw e tt)
-        (λ e. rw e (unfaulted (ended_fault held.dialog) e, tt))
+confirmed_on story response =
+    lived_on (confirms response) story ((cases_fit (dialog_of story)).confirms response)
 
 -- ---- the 2xx
 
