@@ -73,7 +73,7 @@ lived life held = record held { dialog = fold happened held.dialog life }
 abbrev pub takes : HeldDialog → ℕ → Bool
 takes held number = not (is_some (accept_fault held.dialog number))
 
--- then it is the greatest that came
+-- where that is so it is accepted, and is the greatest that came
 abbrev pub numbers : ℕ → HeldDialog → List Happening
 numbers number held = if takes held number then Accepts number ∷ [] else []
 
@@ -94,13 +94,15 @@ visits request held = numbers request.cseq.number held ++ refreshes request held
 abbrev pub confirms : Message → HeldDialog → List Happening
 confirms response held = if is_some (ended_fault held.dialog) then [] else Confirms response ∷ []
 
--- the dialog after that
+-- the dialog after a request in it
 abbrev pub visited : Message → HeldDialog → HeldDialog
 visited request held = lived (visits request held) held
 
+-- with another target
 abbrev pub retargeted : Option (List ℕ) → HeldDialog → HeldDialog
 retargeted uri held = lived (retargets uri held) held
 
+-- after a 2xx
 abbrev pub confirmed : Message → HeldDialog → HeldDialog
 confirmed response held = lived (confirms response held) held
 
