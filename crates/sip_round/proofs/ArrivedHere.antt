@@ -19,20 +19,17 @@ placed_from local round place [] = tt
 placed_from local round place (e ∷ es) = (refl, placed_from local round (suc place) es)
 
 pub arrived_here : (owner : ℕ → Key → ℕ) (n count : ℕ) (local : Addr) (round : ℕ)
-    (events given : List Event) (items : List (Item Key Input))
-    (parts : List (List (Item Key Input))) (waiting : List (Id × Waiting))
-    → n ≡ count → given ≡ events → items ≡ transaction_items (arrivals_from local round 1 given)
-    → waiting ≡ all_waiting (arrivals_from local round 1 given)
+    (events : List Event) (items : List (Item Key Input)) (parts : List (List (Item Key Input)))
+    (waiting : List (Id × Waiting)) → n ≡ count
+    → items ≡ transaction_items (arrivals_from local round 1 events)
+    → waiting ≡ all_waiting (arrivals_from local round 1 events)
     → parts ≡ cut_by (owner n) zero n items
     → IsArrived (owner count) count (arrivals_from local round 1 events) parts waiting
-arrived_here owner n count local round events given items parts waiting same_count same_events
-    items_are waiting_are parts_are =
-    let here = ap (arrivals_from local round 1) same_events in
-    record {
+arrived_here owner n count local round events items parts waiting same_count items_are waiting_are
+    parts_are = record {
       placed = placed_from local round 1 events;
-      parts_are = parts_are ∙ ap (cut_by (owner n) zero n)
-          (items_are ∙ ap transaction_items here)
+      parts_are = parts_are ∙ ap (cut_by (owner n) zero n) items_are
           ∙ ap (λ k. cut_by (owner k) zero k
           (transaction_items (arrivals_from local round 1 events))) same_count;
-      waiting_are = waiting_are ∙ ap all_waiting here;
+      waiting_are = waiting_are;
     }

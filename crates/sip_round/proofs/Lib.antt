@@ -24,6 +24,7 @@ pub mod OwnItems
 pub mod OwnNotices
 pub mod OwnRequests
 pub mod OwnSends
+pub mod Pieces
 pub mod Piled
 pub mod Placed
 pub mod RequestsOnce

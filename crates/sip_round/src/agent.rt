@@ -4,18 +4,21 @@ ghost use Rattle.std.specs.Prelude.{ℕ, ◌≡◌, ◌⊎◌, ◌+◌, ◌++◌
 ghost use Rattle.sip_message.specs.Key.{branch_in};
 ghost use Rattle.sip_round.specs.Arrivals.{arrivals_from};
 ghost use Rattle.sip_round.specs.Steps.Arrived.{IsArrived};
+ghost use Rattle.sip_round.specs.Steps.SetOut.{IsSetOut};
 ghost use Rattle.sip_round.specs.Parts.{owner_of};
 
 use crate::config::Config;
 use crate::output::Output;
 use crate::parts::parts_of;
 use crate::phase::tell_of_each;
-use crate::phases::{Arrived, PhaseRunner};
+use crate::phase_runner::PhaseRunner;
+use crate::phases::Arrived;
 use crate::reading::set_out_by;
 use crate::round::Round;
 use crate::round_fault::RoundFault;
 use crate::shards::Shards;
-use crate::waiting::SetOut;
+use crate::turn_runner::TurnRunner;
+use crate::waiting::{SetOut, set_out};
 use sip_calls::Calls;
 use sip_message::Cut;
 use sip_model::laws_of_phases;
@@ -197,6 +200,51 @@ impl<C: Cut + Drop> Agent<C> {
         }
     }
 
+    /// The same round on the thread that asks for it, shard after shard. It starts no thread, and
+    /// needs no handle.
+    ///
+    /// # Errors
+    ///
+    /// As `run_round`.
+    pub fn run_round_in_turn(&mut self, round: &Round) -> Result<Vec<Output>, RoundFault>
+        ensures refused { IfSome (refusal_of self.old round.now)
+            (λ fault. (result ≡ Err fault) × (self.new ≡ self.old)) }
+        ensures memory { refusal_of self.old round.now ≡ None
+            → OnErr result ((result ≡ Err (round_fault.NoMemory false))
+            ⊎ (result ≡ Err (round_fault.NoMemory true))) }
+        ensures unbroken { result ≡ Err (round_fault.NoMemory false) → self.new ≡ self.old }
+        ensures broken { result ≡ Err (round_fault.NoMemory true) → self.new.shards ≡ None }
+        ensures count { OnOk result (shard_count self.new ≡ shard_count self.old) }
+
+        // Whatever rounds the agent stood for, it stands for these and this one, and answers as
+        // this one is answered after them.
+        ensures answers { IfOk result (λ outputs. (config : Config) (rounds : List Round)
+            → StandsFor C.shard_of self.old config rounds
+            → StandsFor C.shard_of self.new config (rounds ++ round.now ∷ [])
+            × (answers config (rounds ++ round.now ∷ []) ≡ answers config rounds
+            ++ outputs.items ∷ [])) }
+    {
+        if let Some(refused) = self.refusal(round) {
+            return Err(refused);
+        }
+        if self.is_idle(round) {
+            self.next_round += 1;
+            self.last_moment = round.moment;
+            return Ok(Vec::new(self.alloc));
+        }
+        let Ok(arrived) = self.arrived_in_turn(round) else {
+            return Err(RoundFault::NoMemory { broken: false });
+        };
+        match self.deal_in_turn(round, arrived) {
+            Ok(outputs) => {
+                self.next_round += 1;
+                self.last_moment = round.moment;
+                Ok(outputs)
+            }
+            Err(_) => Err(RoundFault::NoMemory { broken: true }),
+        }
+    }
+
     /// Moves all that is held to so many shards. The agent stands for the same rounds as before.
     ///
     /// # Errors
@@ -284,7 +332,8 @@ impl<C: Cut + Drop> Agent<C> {
         }
     }
 
-    // What arrived in the round, read and stamped, and cut into the parts of the shards.
+    // What arrived in the round, read and stamped by so many workers, and cut into the parts of the
+    // shards.
     fn arrived<R: Threads + Sync>(
         &self,
         rt: &R,
@@ -301,17 +350,44 @@ impl<C: Cut + Drop> Agent<C> {
             (arrivals_from self.now.calls.local self.now.next_round 1 round.now.events)
             (map (λ part. part.items) arrived.0.items) arrived.1.items)) }
     {
+        let events = round.events.as_slice();
+        let (local, number) = (self.calls.local, self.next_round);
+        self.cut_up(
+            round,
+            set_out_by(rt, self.alloc, local, number, events, workers)?,
+        )
+    }
+
+    // The same, read on this thread.
+    fn arrived_in_turn(&self, round: &Round) -> Result<Arrived, NoMemory>
+        requires { length round.now.events ≤ 65536 }
+        ensures { IfOk result (λ arrived.
+            IfSome self.now.shards (λ shards.
+            IsArrived (owner_of (C.shard_of self.now.cut) branch_in (length shards.transactions))
+            (length shards.transactions)
+            (arrivals_from self.now.calls.local self.now.next_round 1 round.now.events)
+            (map (λ part. part.items) arrived.0.items) arrived.1.items)) }
+    {
+        let events = round.events.as_slice();
+        let (local, number) = (self.calls.local, self.next_round);
+        self.cut_up(round, set_out(self.alloc, local, number, 0, events)?)
+    }
+
+    // Events that were read and stamped, cut into the parts of the shards.
+    fn cut_up(&self, round: &Round, out: SetOut) -> Result<Arrived, NoMemory>
+        requires { IsSetOut (arrivals_from self.now.calls.local self.now.next_round 1
+            round.now.events) out }
+        ensures { IfOk result (λ arrived.
+            IfSome self.now.shards (λ shards.
+            IsArrived (owner_of (C.shard_of self.now.cut) branch_in (length shards.transactions))
+            (length shards.transactions)
+            (arrivals_from self.now.calls.local self.now.next_round 1 round.now.events)
+            (map (λ part. part.items) arrived.0.items) arrived.1.items)) }
+    {
         let Some(shards) = &self.shards else {
             return Err(NoMemory);
         };
-        let SetOut { items, waiting } = set_out_by(
-            rt,
-            self.alloc,
-            self.calls.local,
-            self.next_round,
-            round.events.as_slice(),
-            workers,
-        )?;
+        let SetOut { items, waiting } = out;
         let parts = parts_of(self.alloc, &self.cut, items, shards.count())?;
         Ok((parts, waiting))
     }
@@ -348,8 +424,6 @@ impl<C: Cut + Drop> Agent<C> {
         let Some(shards) = self.shards.take() else {
             return Err(NoMemory);
         };
-        let (transactions, calls) = shards.into_parts();
-        let (number, now) = (self.next_round, round.moment);
         let phases = PhaseRunner {
             rt,
             alloc: self.alloc,
@@ -357,15 +431,42 @@ impl<C: Cut + Drop> Agent<C> {
             workers,
             gate,
         };
-        let (transactions, mut outputs, items) = phases.first_phase(
-            transactions,
-            number,
-            now,
-            arrived,
-        )?;
-        let (calls, commands) = phases.second_phase(self.calls, calls, now, items, &mut outputs)?;
-        let transactions = phases.third_phase(transactions, now, commands, &mut outputs)?;
-        self.shards = Some(Shards::of(transactions, calls));
+        let (number, calls) = (self.next_round, self.calls);
+        let (shards, outputs) = phases.lead(shards, calls, number, round, arrived)?;
+        self.shards = Some(shards);
+        Ok(outputs)
+    }
+
+    // The same on this thread, shard after shard.
+    fn deal_in_turn(&mut self, round: &Round, arrived: Arrived) -> Result<Vec<Output>, NoMemory>
+        requires moment { round.now.moment ≤ 2 ^ 62 }
+        requires arrived { IfSome self.old.shards
+            (λ shards. IsArrived (owner_of (C.shard_of self.old.cut) branch_in
+            (length shards.transactions)) (length shards.transactions)
+            (arrivals_from self.old.calls.local self.old.next_round 1 round.now.events)
+            (map (λ part. part.items) arrived.0.items) arrived.1.items) }
+        ensures calls { self.new.calls ≡ self.old.calls }
+        ensures cut { self.new.cut ≡ self.old.cut }
+        ensures number { self.new.next_round ≡ self.old.next_round }
+        ensures moment { self.new.last_moment ≡ self.old.last_moment }
+        ensures lost { OnErr result (self.new.shards ≡ None) }
+        ensures count { OnOk result (shard_count self.new ≡ shard_count self.old) }
+        ensures deals { IfOk result (λ outputs. (shards : ShardTables)
+            → self.old.shards ≡ Some shards
+            → (led : ShardTables) × (self.new.shards ≡ Some led)
+            × Deals self.old.calls (C.shard_of self.old.cut) self.old.next_round round.now shards
+            led outputs.items) }
+    {
+        let Some(shards) = self.shards.take() else {
+            return Err(NoMemory);
+        };
+        let phases = TurnRunner {
+            alloc: self.alloc,
+            cut: &self.cut,
+        };
+        let (number, calls) = (self.next_round, self.calls);
+        let (shards, outputs) = phases.lead(shards, calls, number, round, arrived)?;
+        self.shards = Some(shards);
         Ok(outputs)
     }
 }

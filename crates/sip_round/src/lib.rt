@@ -12,6 +12,7 @@ mod output;
 mod outs;
 mod parts;
 mod phase;
+mod phase_runner;
 mod phases;
 mod reading;
 mod round;
@@ -19,6 +20,7 @@ mod round_fault;
 mod shard_work;
 mod shards;
 mod transfer;
+mod turn_runner;
 mod waiting;
 mod whole_run;
 

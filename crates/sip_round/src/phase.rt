@@ -1,67 +1,23 @@
-//! A phase of all shards.
+//! A phase of all shards: what begins it, and what ends it.
 
-ghost use Rattle.std.specs.Prelude.{◌≡◌, ◌<◌, ◌≤◌, ◌^◌, [], IfOk, IsTrue, map, vec_len};
-ghost use Rattle.std.specs.List.{AllByRecursion};
+ghost use Rattle.std.specs.Prelude.{◌≡◌, ◌≤◌, ◌^◌, [], IfOk, IsTrue, map, nat_eq, vec_len};
+ghost use Rattle.std.specs.List.{AllByRecursion, IsDistinct};
 ghost use Rattle.sip_model.specs.Groups.{groups};
 ghost use Rattle.sip_workers.specs.Ran.{IsNumbered};
-ghost use Rattle.sip_round.specs.Steps.AllShards.{DealsParts, IsApart, IsIdle};
+ghost use Rattle.sip_round.specs.Steps.AllShards.{DealsParts, IsApart, IsEnded, IsIdle};
 ghost use Rattle.sip_model.specs.Machine.{tick_at};
 
 use crate::shard_work::{ShardDone, ShardWork};
 use sip_model::{Item, PhaseOutputs, ShardFault, StateMachine, Table, laws_of_phases};
-use sip_workers::{Gate, NoMemory, Piece, dones_in_order, gather, run_pieces};
+use sip_workers::{Gate, NoMemory, Piece, gather};
 use std::alloc::{AllocError, Global};
-use std::thread::Threads;
 
-/// Deals with a phase at a moment in ms, with a tick or without: each shard with its part, on up to
-/// so many workers. Gives the tables back, in order, and what was said, in the order of keys and of
-/// places. The gate is told of each shard as its part begins.
+/// The phase of one shard, which has all items: what it says is in order.
 ///
 /// # Errors
 ///
 /// `NoMemory`, and then the tables are lost.
-pub(crate) fn deal_phase<R: Threads + Sync, M: StateMachine + Copy + Send, G: Gate>(
-    rt: &R,
-    alloc: Global,
-    machine: M,
-    tables: Vec<Table<M>>,
-    now: u64,
-    ticks: bool,
-    parts: Vec<Vec<Item<M::Key, M::Input>>>,
-    workers: usize,
-    gate: &G,
-) -> Result<(Vec<Table<M>>, PhaseOutputs<M::Key, M::Output>), NoMemory>
-where
-    M::Key: Send,
-    M::State: Send,
-    M::Input: Send,
-    M::Output: Send,
-    requires some { 0 < workers }
-    requires most { workers ≤ 64 }
-    requires moment { now ≤ 2 ^ 62 }
-    requires count { vec_len parts ≡ vec_len tables }
-    ensures { IfOk result (λ dealt. DealsParts M.Key.cmp (M.machine machine) tick_at now
-        ticks (map (λ part. part.items) parts.items) tables.items dealt.0.items
-        (groups dealt.1.ticks.items) (groups dealt.1.items.items)) }
-{
-    if tables.len() == 1 {
-        return deal_alone(machine, tables, now, ticks, parts, gate);
-    }
-    laws_of_phases(&machine);
-    if workers == 1 && have_no_items(&parts) && are_idle(&machine, now, ticks, &tables) {
-        tell_of_each(tables.len(), gate);
-        let (ticks, items) = (Vec::new(alloc), Vec::new(alloc));
-        return Ok((tables, PhaseOutputs { ticks, items }));
-    }
-    dones_in_order::<ShardWork<M>>();
-    let pieces = pieces_of(alloc, machine, tables, now, ticks, parts)?;
-    let dones = run_pieces(rt, alloc, pieces, workers, gate)?;
-    let (tables, replies) = into_parts(alloc, gather(alloc, dones)?)?;
-    Ok((tables, replies.in_order()))
-}
-
-// The phase of one shard, which has all items: what it says is in order.
-fn deal_alone<M: StateMachine + Copy, G: Gate>(
+pub(crate) fn deal_alone<M: StateMachine + Copy, G: Gate>(
     machine: M,
     mut tables: Vec<Table<M>>,
     now: u64,
@@ -94,6 +50,22 @@ pub(crate) fn tell_of_each<G: Gate>(shards: usize, gate: &G) {
     }
 }
 
+/// Whether nothing happens in a phase at this moment in ms: no shard has an item, and nothing is due.
+pub(crate) fn is_idle_phase<M: StateMachine>(
+    machine: &M,
+    now: u64,
+    ticks: bool,
+    tables: &Vec<Table<M>>,
+    parts: &Vec<Vec<Item<M::Key, M::Input>>>,
+) -> bool
+    requires count { vec_len parts.now ≡ vec_len tables.now }
+    ensures { IsTrue result → DealsParts M.Key.cmp (M.machine machine.now) tick_at now
+        ticks (map (λ part. part.items) parts.now.items) tables.now.items tables.now.items [] [] }
+{
+    laws_of_phases(machine);
+    have_no_items(parts) && are_idle(machine, now, ticks, tables)
+}
+
 /// Whether nothing is due in any of these tables at the moment in ms, or the phase has no tick.
 pub(crate) fn are_idle<M: StateMachine>(
     machine: &M,
@@ -122,8 +94,8 @@ fn have_no_items<K, I>(parts: &[Vec<Item<K, I>>]) -> bool
     }
 }
 
-// Each table with its part, under the number of its shard.
-fn pieces_of<M: StateMachine + Copy>(
+/// Begins a phase: each table with its part, under the number of its shard.
+pub(crate) fn pieces_of<M: StateMachine + Copy>(
     alloc: Global,
     machine: M,
     tables: Vec<Table<M>>,
@@ -160,6 +132,25 @@ fn pieces_of<M: StateMachine + Copy>(
         pieces.push(Piece { shard, job })?;
     }
     Ok(pieces)
+}
+
+/// Ends a phase whose pieces of work have run: the tables, in order, and what was said, in the order
+/// of keys and of places.
+///
+/// # Errors
+///
+/// `NoMemory`, and then the tables are lost.
+pub(crate) fn end_phase<M: StateMachine>(
+    alloc: Global,
+    dones: Vec<(usize, Result<ShardDone<M>, ShardFault>)>,
+) -> Result<(Vec<Table<M>>, PhaseOutputs<M::Key, M::Output>), NoMemory>
+    requires { IsDistinct nat_eq (map (λ done. done.0) dones.items) }
+    ensures { IfOk result (λ dealt. IsEnded M.Key.cmp (λ dealt. dealt.table)
+        (λ dealt. groups dealt.replies.ticks.items) (λ dealt. groups dealt.replies.items.items)
+        dones.items dealt.0.items (groups dealt.1.ticks.items) (groups dealt.1.items.items)) }
+{
+    let (tables, replies) = into_parts(alloc, gather(alloc, dones)?)?;
+    Ok((tables, replies.in_order()))
 }
 
 // The tables of the shards, and all that was said, shard by shard.

@@ -36,8 +36,8 @@ impl<'a> Job for EventRun<'a> {
     }
 }
 
-// The gate of a phase is told of shards, and no shard has begun.
-struct Unwatched;
+/// The gate of work that no one watches.
+pub(crate) struct Unwatched;
 
 impl Gate for Unwatched {
     fn begin(&self, _: usize) {}

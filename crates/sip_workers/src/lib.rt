@@ -16,4 +16,4 @@ pub use gathered::{dones_in_order, gather};
 pub use job::Job;
 pub use no_memory::NoMemory;
 pub use piece::Piece;
-pub use pieces::run_pieces;
+pub use pieces::{run_alone, run_pieces};

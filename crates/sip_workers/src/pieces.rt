@@ -41,6 +41,28 @@ where
     dones_of(rt, alloc, pieces, workers, gate)
 }
 
+/// Runs each piece once and in turn, on the thread that asks for it, as `run_pieces` with one
+/// worker does. It starts no thread, and needs no handle.
+///
+/// `gate` is told of each piece as it begins.
+///
+/// # Errors
+///
+/// `NoMemory`, and then some pieces may not have run.
+pub fn run_alone<J: Job + Drop, G: Gate>(
+    alloc: Global,
+    pieces: Vec<Piece<J>>,
+    gate: &G,
+) -> Result<Vec<(usize, J::Done)>, NoMemory>
+where
+    J::Done: Drop,
+    ensures each_once { IfOk result (λ dones. AllRan J.gives pieces.items dones.items) }
+    ensures differ { IsDistinct nat_eq (map (λ p. p.shard) pieces.items)
+        → IfOk result (λ dones. IsDistinct nat_eq (map (λ d. d.0) dones.items)) }
+{
+    in_turn(alloc, pieces, gate)
+}
+
 // Where there is nothing to share, no thread is started.
 fn dones_of<R: Threads + Sync, J: Job + Send + Drop, G: Gate>(
     rt: &R,

@@ -6,9 +6,11 @@ use Rattle.std.specs.Ordering.{nat_cmp}
 use Rattle.std.specs.declared.cmp.Ordering.{Ordering}
 use Rattle.sip_model.specs.Machine.{Machine, Timed}
 use Rattle.sip_model.specs.Table.{Held}
+use Rattle.sip_model.specs.Groups.{Sorts}
 use Rattle.sip_model.specs.Phase.{Phase, AddsPhase, by_place, phase_at, told_next}
 use Rattle.sip_model.specs.Shards.{HoldFrom}
 use Rattle.sip_model.specs.declared.item.Item.{Item}
+use Rattle.sip_workers.specs.Ran.{IsGathered}
 use Rattle.sip_round.specs.Parts.{cut_by}
 
 -- the tables of all shards before and after a phase, and what was said in it: they are as many as
@@ -51,3 +53,16 @@ pub record IsApart {D E T X Y : Type 0} (table : D → T) (ticks : D → List X)
   pub tables_are : tables ≡ map table dealt
   pub ticks_are : all_ticks ≡ flat_map ticks dealt
   pub items_are : all_items ≡ flat_map items dealt
+
+-- the dones of all shards, gathered and taken apart, and what was said put in order
+pub record IsEnded {D E T K O : Type 0} (cmp : K → K → Ordering) (table : D → T)
+    (ticks : D → List (K × List O)) (items : D → List (ℕ × List O))
+    (dones : List (ℕ × Result D E)) (tables : List T) (all_ticks : List (K × List O))
+    (all_items : List (ℕ × List O)) : Type 0 where
+  pub gathered : List (Result D E)
+  pub joined_ticks : List (K × List O)
+  pub joined_items : List (ℕ × List O)
+  pub is_gathered : IsGathered dones gathered
+  pub apart : IsApart table ticks items gathered tables joined_ticks joined_items
+  pub sorts_ticks : Sorts cmp joined_ticks all_ticks
+  pub sorts_items : Sorts nat_cmp joined_items all_items

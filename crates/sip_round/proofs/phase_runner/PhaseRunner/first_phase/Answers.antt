@@ -1,13 +1,11 @@
 use Rattle.std.proofs.Common.{length, arith}
 use Rattle.sip_message.specs.Key.{branch_in}
-use Rattle.sip_model.specs.Groups.{groups}
 use Rattle.sip_round.specs.Parts.{owner_of}
 use Rattle.sip_round.specs.Phases.{transaction_items}
-use Rattle.sip_round.proofs.Climbing.{climbs_in_order}
-use Rattle.sip_round.proofs.Leading.{led_first}
-use Rattle.sip_round.proofs.Numbered.{parts_counted}
 use Rattle.sip_round.proofs.ByEvent.{items_climb}
-use Rattle.sip_round.proofs.phases.PhaseRunner.first_phase.Goals as goal
+use Rattle.sip_round.proofs.Climbing.{climbs_in_order}
+use Rattle.sip_round.proofs.Numbered.{parts_counted}
+use Rattle.sip_round.proofs.phase_runner.PhaseRunner.first_phase.Goals as goal
 
 pub deal_phase-requires-clause-count : goal.deal_phase-requires-clause-count
 deal_phase-requires-clause-count g c = λ lives outlives.
@@ -22,13 +20,8 @@ pub returns : goal.returns
 returns g c = λ arrivals arrived.
     let n = length c.args.tables.items in
     let owner = owner_of (g.C.Cut.shard_of c.args.self.now.cut.now) branch_in n in
-    let dealt = c.in_ok-tables.ensures owner (transaction_items arrivals)
+    c.in_ok-outputs.ensures owner c.args.tables.items c.in_ok-tables.tables.items c.args.now
+    arrivals arrived.placed arrived.waiting_are
+    (c.in_ok-tables.ensures owner (transaction_items arrivals)
     (λ key. g.met.C.Cut.within c.args.self.now.cut.now (branch_in key) n c.requires.shards)
-    arrived.parts_are
-    (climbs_in_order 1 _ (items_climb 1 arrivals arrived.placed)) in
-    led_first owner c.args.tables.items c.in_ok-tables.tables.items c.args.number c.args.now
-    arrivals arrived.placed c.laws_of_phases.ensures.told_in_order
-    (groups c.in_ok-tables.replies.ticks.items) (groups c.in_ok-tables.replies.items.items) dealt
-    c.args.arrived.1.items c.in_ok-outputs.outputs.items c.in_ok-outputs.items.items
-    arrived.waiting_are
-    c.in_ok-outputs.ensures.outputs c.in_ok-outputs.ensures.items
+    arrived.parts_are (climbs_in_order 1 _ (items_climb 1 arrivals arrived.placed)))
