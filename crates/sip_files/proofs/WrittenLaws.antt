@@ -1,5 +1,5 @@
--- What is written of a configuration and rounds is their event file; and a line that says a command
--- is read as it.
+-- What is written of a configuration and rounds is their event file; and a line that says an event
+-- or a command is read as it.
 use Rattle.std.proofs.Common.{◌≡◌, ℕ, List, [], ◌∷◌, ◌++◌, Option, Some, None, map, refl, sym, ap, ◌∙◌, append_assoc, append-nil, inl, inr, codes}
 use Rattle.std.specs.Prelude.{IfNone, IfSome}
 use Rattle.std.specs.List.{flat_map, AllByRecursion, AllZip}
@@ -18,7 +18,7 @@ use Rattle.sip_files.specs.declared.event_line.EventLine.TheVariants as line
 use Rattle.sip_files.specs.Events.{SpellsClient, SpellsServer, SpellsEvent, SpellsLine}
 use Rattle.sip_files.specs.EventFile.{Head, SpellsEvents, file_lines, head_lines, round_lines, with_ends, version_line, file_text}
 use Rattle.sip_files.specs.ReadLine.{line_at}
-use Rattle.sip_files.specs.Written.{IsConfig, IsEvent, IsKey, IsRound, SpellsCommand, command_in, command_of, ended_text, events_text, failed_text, head_text, line_text, round_text}
+use Rattle.sip_files.specs.Written.{IsConfig, IsEvent, IsKey, IsRound, SpellsCommand, SpellsEventLine, command_of, ended_text, event_in, events_text, failed_text, head_text, line_text, round_text}
 use Rattle.sip_files.proofs.LineLaws.{line_took, line_again}
 
 -- ---- the lines are spelled
@@ -154,45 +154,57 @@ written_is_spelled config rounds fits each =
       },
     )
 
--- ---- a command by itself
+-- ---- an event or a command by itself
 
-in_event : (text : List ℕ) (event : Event) → SpellsLine Two text (line.Event event)
-    → IfSome (command_of event) (SpellsCommand text)
-in_event text (Datagram from bytes) s = tt
-in_event text (Failed key) s = tt
-in_event text (Command command) s = s
+one_event : (text : List ℕ) (event other : Event) → SpellsEventLine text event
+    → SpellsEventLine text other → Some (line.Event event) ≡ Some (line.Event other)
+one_event text event other s t =
+    sym (line_again Two text (line.Event event) s) ∙ line_again Two text (line.Event other) t
 
 in_line : (text : List ℕ) (item : EventLine) → SpellsLine Two text item
-    → IfSome (command_in item) (SpellsCommand text)
+    → IfSome (event_in item) (SpellsEventLine text)
 in_line text (line.Local address) s = tt
 in_line text (line.Seed seed) s = tt
 in_line text (line.First number) s = tt
 in_line text (line.Round moment) s = tt
-in_line text (line.Event event) s = in_event text event s
+in_line text (line.Event event) s = s
 
-pub says_command : (text : List ℕ) (item : EventLine) → Some item ≡ line_at Two text
-    → IfSome (command_in item) (SpellsCommand text)
-says_command text item e = in_line text item (line_took Two text item (sym e))
+pub says_event : (text : List ℕ) (item : EventLine) → Some item ≡ line_at Two text
+    → IfSome (event_in item) (SpellsEventLine text)
+says_event text item e = in_line text item (line_took Two text item (sym e))
 
-none_said : (text : List ℕ) (item : EventLine) (found : Option UserCommand)
-    → Some item ≡ line_at Two text → command_in item ≡ found
-    → IfNone found ((given : UserCommand) → ¬ SpellsCommand text given)
-none_said text item (Some command) e f = tt
+none_said : (text : List ℕ) (item : EventLine) (found : Option Event)
+    → Some item ≡ line_at Two text → event_in item ≡ found
+    → IfNone found ((given : Event) → ¬ SpellsEventLine text given)
+none_said text item (Some event) e f = tt
 none_said text item None e f =
     λ given s.
-    let other : Some item ≡ Some (line.Event (Command given)) =
-    e ∙ line_again Two text (line.Event (Command given)) s in
-    let same : item ≡ line.Event (Command given) = cc in
-    let no : Some given ≡ None = sym (ap command_in same) ∙ f in
+    let other : Some item ≡ Some (line.Event given) =
+    e ∙ line_again Two text (line.Event given) s in
+    let same : item ≡ line.Event given = cc in
+    let no : Some given ≡ None = sym (ap event_in same) ∙ f in
     absurd cc
 
-pub says_no_command : (text : List ℕ) (item : EventLine) → Some item ≡ line_at Two text
-    → IfNone (command_in item) ((given : UserCommand) → ¬ SpellsCommand text given)
-says_no_command text item e = none_said text item (command_in item) e refl
+pub says_no_event : (text : List ℕ) (item : EventLine) → Some item ≡ line_at Two text
+    → IfNone (event_in item) ((given : Event) → ¬ SpellsEventLine text given)
+says_no_event text item e = none_said text item (event_in item) e refl
 
 pub says_nothing : (text : List ℕ) → None ≡ line_at Two text
-    → (given : UserCommand) → ¬ SpellsCommand text given
+    → (given : Event) → ¬ SpellsEventLine text given
 says_nothing text e given s =
-    let no : None ≡ Some (line.Event (Command given)) =
-    e ∙ line_again Two text (line.Event (Command given)) s in
+    let no : None ≡ Some (line.Event given) = e ∙ line_again Two text (line.Event given) s in
     absurd cc
+
+pub is_command : (text : List ℕ) (event : Event) → SpellsEventLine text event
+    → IfSome (command_of event) (SpellsCommand text)
+is_command text (Datagram from bytes) s = tt
+is_command text (Failed key) s = tt
+is_command text (Command command) s = s
+
+pub is_no_command : (text : List ℕ) (event : Event) → SpellsEventLine text event
+    → IfNone (command_of event) ((given : UserCommand) → ¬ SpellsCommand text given)
+is_no_command text (Datagram from bytes) s = λ given t.
+    let no = one_event text (Datagram from bytes) (Command given) s t in absurd cc
+is_no_command text (Failed key) s = λ given t.
+    let no = one_event text (Failed key) (Command given) s t in absurd cc
+is_no_command text (Command command) s = tt

@@ -85,21 +85,25 @@ pub record IsRound (round : Round) : Type 0 where
   pub moment : round.moment ≤ 2 ^ 64 - 1
   pub events : AllByRecursion IsEvent round.events
 
--- ---- a command by itself
+-- ---- an event or a command by itself
+
+-- the event that a line says
+abbrev pub event_in : EventLine → Option Event
+event_in (line.Local address) = None
+event_in (line.Seed seed) = None
+event_in (line.First number) = None
+event_in (line.Round moment) = None
+event_in (line.Event event) = Some event
 
 abbrev pub command_of : Event → Option UserCommand
 command_of (Datagram from bytes) = None
 command_of (Failed key) = None
 command_of (Command command) = Some command
 
--- the command that a line says
-abbrev pub command_in : EventLine → Option UserCommand
-command_in (line.Local address) = None
-command_in (line.Seed seed) = None
-command_in (line.First number) = None
-command_in (line.Round moment) = None
-command_in (line.Event event) = command_of event
+-- the text is the line of this event
+abbrev pub SpellsEventLine : List ℕ → Event → Type 0
+SpellsEventLine text event = SpellsLine Two text (line.Event event)
 
 -- the text is the line of this command
 abbrev pub SpellsCommand : List ℕ → UserCommand → Type 0
-SpellsCommand text command = SpellsLine Two text (line.Event (Command command))
+SpellsCommand text command = SpellsEventLine text (Command command)

@@ -4,7 +4,8 @@ ghost use Rattle.std.specs.Prelude.{◌≡◌, IfNone, IfOk, IfSome};
 ghost use Rattle.sip_common.specs.declared.command.UserCommand as command;
 ghost use Rattle.sip_files.specs.ReadLine as reading;
 ghost use Rattle.sip_files.specs.Written as written;
-ghost use Rattle.sip_files.specs.Written.{SpellsCommand};
+ghost use Rattle.sip_files.specs.Written.{SpellsCommand, SpellsEventLine};
+ghost use Rattle.sip_round.specs.declared.round.Event as event;
 
 use crate::command_line::read_command;
 use crate::failed_line::read_failed;
@@ -50,6 +51,22 @@ pub(crate) fn read_line(
     read_keyword(alloc, version, keyword, fields)
 }
 
+/// The event that a line says, without its end, where it is the line of an event.
+///
+/// # Errors
+///
+/// Want of memory.
+pub fn read_event_line(alloc: Global, line: &[u8]) -> Result<Option<Event>, AllocError>
+    ensures some { IfOk result (λ found. IfSome found (SpellsEventLine line.now)) }
+    ensures none { IfOk result (λ found. IfNone found
+        ((given : event.Event) → ¬ SpellsEventLine line.now given)) }
+{
+    match read_line(alloc, Version::Two, line)? {
+        Some(said) => Ok(event_in(said)),
+        None => Ok(None),
+    }
+}
+
 /// The command that a line says, without its end, where it is the line of a command.
 ///
 /// # Errors
@@ -60,17 +77,17 @@ pub fn read_command_line(alloc: Global, line: &[u8]) -> Result<Option<UserComman
     ensures none { IfOk result (λ found. IfNone found
         ((given : command.UserCommand) → ¬ SpellsCommand line.now given)) }
 {
-    match read_line(alloc, Version::Two, line)? {
-        Some(said) => Ok(command_in(said)),
+    match read_event_line(alloc, line)? {
+        Some(event) => Ok(command_of(event)),
         None => Ok(None),
     }
 }
 
-fn command_in(line: EventLine) -> Option<UserCommand>
-    ensures { result ≡ written.command_in line }
+fn event_in(line: EventLine) -> Option<Event>
+    ensures { result ≡ written.event_in line }
 {
     match line {
-        EventLine::Event(event) => command_of(event),
+        EventLine::Event(event) => Some(event),
         EventLine::Local(_) | EventLine::Seed(_) | EventLine::First(_) | EventLine::Round(_) => {
             None
         }

@@ -20,7 +20,7 @@ mod version;
 mod words;
 
 pub use counted_read::CountedRead;
-pub use event_line::read_command_line;
+pub use event_line::{read_command_line, read_event_line};
 pub use events_fault::EventsFault;
 pub use events_file::{MAX_EVENTS, read_events};
 pub use events_writer::{write_head, write_round};
