@@ -1,0 +1,43 @@
+-- What a host is given of an output.
+use Rattle.std.specs.Prelude.{ℕ, List, [], ◌∷◌, ◌++◌, Option, None, Some, length, drop, nat_lt, if◌then◌else◌}
+use Rattle.sip_message.specs.declared.addr.Addr.{Addr}
+use Rattle.sip_message.specs.declared.key.Key.{Key}
+use Rattle.sip_round.specs.declared.output.Output.{Output}
+use Rattle.sip_round.specs.declared.output.Output.TheVariants.{Send, Dropped, Notice}
+use Rattle.sip_round.specs.declared.round.Event.{Event}
+use Rattle.sip_round.specs.declared.round.Event.TheVariants.{Failed}
+use Rattle.sip_files.specs.Outputs.{output_line}
+use Rattle.sip_host.specs.declared.next_output.NextOutput.{NextOutput}
+
+-- the datagram of a send, or the line of another output
+abbrev pub text_of : Output → List ℕ
+text_of (Send key to bytes) = bytes
+text_of (Dropped place reason) = output_line (Dropped place reason)
+text_of (Notice notice) = output_line (Notice notice)
+
+-- where a send goes
+abbrev pub target_of : Output → Option Addr
+target_of (Send key to bytes) = Some to
+target_of (Dropped place reason) = None
+target_of (Notice notice) = None
+
+abbrev pub head_of : ℕ → Output → NextOutput
+head_of index output =
+    record { index = index; to = target_of output; len = length (text_of output) }
+
+-- the buffer with the text at its head, where there is room
+abbrev pub put_in : List ℕ → List ℕ → List ℕ
+put_in text buffer = if nat_lt (length buffer) (length text) then buffer
+    else text ++ drop (length text) buffer
+
+-- the key of a send, if the output is one, which it may lack
+abbrev pub sent_key : Option Output → Option (Option Key)
+sent_key None = None
+sent_key (Some (Send key to bytes)) = Some key
+sent_key (Some (Dropped place reason)) = None
+sent_key (Some (Notice notice)) = None
+
+-- what the agent is told of a send that failed
+abbrev pub told_failure : Option Key → List Event
+told_failure None = []
+told_failure (Some key) = Failed key ∷ []

@@ -1,0 +1,70 @@
+//! What a host does with an output: its text goes into a buffer, and a send may fail.
+
+ghost use Rattle.std.specs.Prelude.{◌≡◌, Err, IfOk, IfSome, IsSomeAnd, None, OnErr, OnOk, Some};
+ghost use Rattle.std.specs.Option.{option_to_list};
+ghost use Rattle.sip_host.specs.Handing as handing;
+ghost use Rattle.sip_host.specs.declared.host_fault.HostFault.TheVariants as fault;
+
+use crate::host_fault::HostFault;
+use crate::next_output::NextOutput;
+use sip_files::write_output;
+use sip_round::{Event, Output};
+use std::alloc::{AllocError, Global};
+
+/// What the output of this index is, and its text at the head of the buffer, where there is room.
+pub(crate) fn put_output(
+    alloc: Global,
+    index: usize,
+    output: &Output,
+    buffer: &mut [u8],
+) -> Result<NextOutput, AllocError>
+    ensures head { IfOk result (λ head. head ≡ handing.head_of index output.now) }
+    ensures put { OnOk result (buffer.new ≡ handing.put_in (handing.text_of output.now)
+        buffer.old) }
+    ensures same { OnErr result (buffer.new ≡ buffer.old) }
+{
+    match output {
+        Output::Send { to, bytes, .. } => {
+            put(bytes.as_slice(), buffer);
+            let (to, len) = (Some(*to), bytes.len());
+            Ok(NextOutput { index, to, len })
+        }
+        Output::Dropped { .. } | Output::Notice(_) => {
+            let line = write_output(alloc, output)?;
+            put(line.as_slice(), buffer);
+            let (to, len) = (None, line.len());
+            Ok(NextOutput { index, to, len })
+        }
+    }
+}
+
+/// What the agent is told of an output that could not be sent; nothing, where no transaction stands
+/// behind the send.
+///
+/// # Errors
+///
+/// `NoSend` where the output is none, or `NoMemory`.
+pub(crate) fn failure_of(output: &Output) -> Result<Option<Event>, HostFault>
+    ensures no_send { handing.sent_key (Some output.now) ≡ None → result ≡ Err fault.NoSend }
+    ensures told { IfOk result (λ told. IsSomeAnd (handing.sent_key (Some output.now))
+        (λ key. option_to_list told ≡ handing.told_failure key)) }
+    ensures fault { IfSome (handing.sent_key (Some output.now))
+        (λ key. OnErr result (result ≡ Err fault.NoMemory)) }
+{
+    match output {
+        Output::Send { key: Some(key), .. } => Ok(Some(Event::Failed(key.clone()?))),
+        Output::Send { key: None, .. } => Ok(None),
+        Output::Dropped { .. } | Output::Notice(_) => Err(HostFault::NoSend),
+    }
+}
+
+// The text at the head of the buffer, where there is room.
+fn put(text: &[u8], buffer: &mut [u8])
+    ensures { buffer.new ≡ handing.put_in text.now buffer.old }
+{
+    if buffer.len() < text.len() {
+        return;
+    }
+    let (front, _) = buffer.split_at_mut(text.len());
+    front.copy_from_slice(text);
+}

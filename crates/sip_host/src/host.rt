@@ -1,0 +1,234 @@
+//! A host's agent: events in, rounds, outputs out.
+
+ghost use Rattle.std.specs.Prelude.{◌≡◌, ◌⊎◌, ◌<◌, ◌≤◌, ◌+◌, ◌++◌, ◌∷◌, [], ℕ, List, IfOk, IfSome, Err, None, Ok, OnErr, OnOk, Some, length, vec_len, false, true, nat_lt, if◌then◌else◌};
+ghost use Rattle.std.specs.List.{slice_get};
+ghost use Rattle.sip_timers.specs.Queue.{is_due};
+ghost use Rattle.sip_files.specs.Written.{SpellsEventLine};
+ghost use Rattle.sip_round.specs.AgentState.{refusal_of};
+ghost use Rattle.sip_round.specs.Answers.{StandsFor};
+ghost use Rattle.sip_round.specs.NextDue.{IsDueAfter, IsQuietAfter};
+ghost use Rattle.sip_round.specs.declared.config.Config.{Config as AConfig};
+ghost use Rattle.sip_round.specs.declared.round.Event.{Event as AnEvent};
+ghost use Rattle.sip_round.specs.declared.round.Event.TheVariants as event;
+ghost use Rattle.sip_round.specs.declared.round.Round.{Round as ARound};
+ghost use Rattle.sip_round.specs.declared.round_fault.RoundFault.TheVariants as round_fault;
+ghost use Rattle.sip_host.specs.Handing.{head_of, put_in, sent_key, text_of};
+ghost use Rattle.sip_host.specs.Hosting.{IsAnswered, Reports, SaysEvent, after_taking, round_at, shard_of, with_events};
+ghost use Rattle.sip_host.specs.declared.host_fault.HostFault.TheVariants as fault;
+
+use crate::handing::{failure_of, put_output};
+use crate::host_fault::HostFault;
+use crate::next_output::NextOutput;
+use sip_files::read_event_line;
+use sip_message::{Addr, Spread};
+use sip_round::{Agent, Config, Event, MAX_EVENTS_OF_ROUND, NoMemory, Output, Round};
+use sip_text::{Series, Text};
+use std::alloc::Global;
+use std::mem;
+
+/// One user agent, the events of its next round, and the outputs of its last one.
+#[derive(Drop)]
+pub struct Host {
+    alloc: Global,
+    agent: Agent<Spread>,
+    events: Series<Event>,
+    outputs: Vec<Output>,
+    taken: usize,
+}
+
+impl Host {
+    /// A host before its first round, whose agent has so many shards.
+    ///
+    /// # Errors
+    ///
+    /// `NoMemory`.
+    pub fn new(alloc: Global, config: Config, shards: usize) -> Result<Host, NoMemory>
+        requires some { 0 < shards }
+        requires most { shards ≤ 256 }
+        ensures stands { IfOk result (λ host. StandsFor shard_of host.agent config []) }
+        ensures no_events { IfOk result (λ host. host.events ≡ []) }
+        ensures no_outputs { IfOk result (λ host. host.outputs.items ≡ []) }
+    {
+        Ok(Host {
+            alloc,
+            agent: Agent::new(alloc, config, shards, Spread)?,
+            events: Series::new(alloc),
+            outputs: Vec::new(alloc),
+            taken: 0,
+        })
+    }
+
+    /// A datagram came in: an event of the next round.
+    ///
+    /// # Errors
+    ///
+    /// `TooManyEvents`, and else `NoMemory`. Nothing has changed then.
+    pub fn datagram(&mut self, from: Addr, bytes: &[u8]) -> Result<(), HostFault>
+        ensures added { OnOk result
+            (self.new ≡ with_events self.old (event.Datagram from bytes.now ∷ [])) }
+        ensures same { OnErr result (self.new ≡ self.old) }
+        ensures full { 65536 ≤ length self.old.events → result ≡ Err fault.TooManyEvents }
+        ensures fault { length self.old.events < 65536
+            → OnErr result (result ≡ Err fault.NoMemory) }
+    {
+        self.has_room()?;
+        let bytes = Text::copy_of(self.alloc, bytes)?;
+        self.events.push(Event::Datagram { from, bytes })?;
+        Ok(())
+    }
+
+    /// A line of an event file that says an event, as a command, without its end: an event of the
+    /// next round.
+    ///
+    /// # Errors
+    ///
+    /// `TooManyEvents`, and else `BadLine` where the line says no event, or `NoMemory`. Nothing has
+    /// changed then.
+    pub fn event_line(&mut self, line: &[u8]) -> Result<(), HostFault>
+        ensures added { OnOk result (SaysEvent line.now self.old self.new) }
+        ensures same { OnErr result (self.new ≡ self.old) }
+        ensures full { 65536 ≤ length self.old.events → result ≡ Err fault.TooManyEvents }
+        ensures fault { length self.old.events < 65536 → OnErr result
+            ((result ≡ Err fault.BadLine) ⊎ (result ≡ Err fault.NoMemory)) }
+        ensures bad { result ≡ Err fault.BadLine
+            → (given : AnEvent) → ¬ SpellsEventLine line.now given }
+    {
+        self.has_room()?;
+        let Some(event) = read_event_line(self.alloc, line)? else {
+            return Err(HostFault::BadLine);
+        };
+        self.events.push(event)?;
+        Ok(())
+    }
+
+    /// The send of this index, from 0, among the outputs of the last round could not be sent: an
+    /// event of the next round, where a transaction stands behind the send.
+    ///
+    /// # Errors
+    ///
+    /// `NoSend` where that output is no send, and else `TooManyEvents` or `NoMemory`. Nothing has
+    /// changed then.
+    pub fn failed(&mut self, output: usize) -> Result<(), HostFault>
+        ensures no_send { sent_key (slice_get self.old.outputs.items output) ≡ None
+            → result ≡ Err fault.NoSend }
+        ensures told { OnOk result (Reports output self.old self.new) }
+        ensures same { OnErr result (self.new ≡ self.old) }
+        ensures fault { IfSome (sent_key (slice_get self.old.outputs.items output))
+            (λ key. OnErr result ((result ≡ Err fault.NoMemory)
+            ⊎ ((result ≡ Err fault.TooManyEvents) × (65536 ≤ length self.old.events)))) }
+    {
+        let Some(output) = self.outputs.get(output) else {
+            return Err(HostFault::NoSend);
+        };
+        let Some(event) = failure_of(output)? else {
+            return Ok(());
+        };
+        self.add(event)?;
+        Ok(())
+    }
+
+    /// Deals with the events at a moment in ms, which is one round. The outputs of the round before
+    /// must have been taken.
+    ///
+    /// # Errors
+    ///
+    /// `OutputsLeft`, and else what the agent's round is refused for. All faults but
+    /// `Round(NoMemory)` with `broken` leave the host as it is, and its events with it.
+    pub fn run(&mut self, moment: u64) -> Result<(), HostFault>
+        ensures left { self.old.taken < length self.old.outputs.items
+            → (result ≡ Err fault.OutputsLeft) × (self.new ≡ self.old) }
+        ensures refused { length self.old.outputs.items ≤ self.old.taken
+            → IfSome (refusal_of self.old.agent (round_at moment self.old))
+            (λ why. (result ≡ Err (fault.Round why)) × (self.new ≡ self.old)) }
+        ensures memory { length self.old.outputs.items ≤ self.old.taken
+            → refusal_of self.old.agent (round_at moment self.old) ≡ None
+            → OnErr result ((result ≡ Err (fault.Round (round_fault.NoMemory false)))
+            ⊎ (result ≡ Err (fault.Round (round_fault.NoMemory true)))) }
+        ensures same { OnErr result (¬ (result ≡ Err (fault.Round (round_fault.NoMemory true)))
+            → self.new ≡ self.old) }
+        ensures broken { result ≡ Err (fault.Round (round_fault.NoMemory true))
+            → self.new.agent.shards ≡ None }
+
+        ensures answers { OnOk result (IsAnswered moment self.old self.new) }
+    {
+        if self.taken < self.outputs.len() {
+            return Err(HostFault::OutputsLeft);
+        }
+        let events = mem::replace(&mut self.events, Series::new(self.alloc));
+        let round = Round { moment, events };
+        match self.agent.run_round_in_turn(&round) {
+            Ok(outputs) => {
+                self.outputs = outputs;
+                self.taken = 0;
+                Ok(())
+            }
+            Err(fault) => {
+                self.events = round.events;
+                Err(HostFault::Round(fault))
+            }
+        }
+    }
+
+    /// The next output of the last round, if one is left. Its text goes to the head of the buffer,
+    /// and it is taken; where the buffer is too short, nothing is written, and it is left.
+    ///
+    /// # Errors
+    ///
+    /// `NoMemory`, and nothing has changed then.
+    pub fn next_output(&mut self, buffer: &mut [u8]) -> Result<Option<NextOutput>, HostFault>
+        ensures end { slice_get self.old.outputs.items self.old.taken ≡ None
+            → (result ≡ Ok None) × (self.new ≡ self.old) × (buffer.new ≡ buffer.old) }
+        ensures given { IfSome (slice_get self.old.outputs.items self.old.taken)
+            (λ output. OnOk result ((result ≡ Ok (Some (head_of self.old.taken output)))
+            × (buffer.new ≡ put_in (text_of output) buffer.old)
+            × (self.new ≡ after_taking self.old output (length buffer.old)))) }
+        ensures fault { OnErr result ((result ≡ Err fault.NoMemory) × (self.new ≡ self.old)
+            × (buffer.new ≡ buffer.old)) }
+    {
+        let index = self.taken;
+        let Some(output) = self.outputs.get(index) else {
+            return Ok(None);
+        };
+        let head = put_output(self.alloc, index, output, buffer)?;
+        if buffer.len() >= head.len {
+            self.taken += 1;
+        }
+        Ok(Some(head))
+    }
+
+    /// The first moment, in ms, at which something is due of what is held, if there is one: until
+    /// then a host without events may sleep. Takes no memory.
+    pub fn next_due(&self) -> Option<u64>
+        ensures before { (config : AConfig) (rounds : List ARound)
+            → StandsFor shard_of self.now.agent config rounds
+            → (moment : ℕ) → is_due moment result ≡ false → IsQuietAfter config rounds moment }
+        ensures due { IfSome result (λ due. (config : AConfig) (rounds : List ARound)
+            → StandsFor shard_of self.now.agent config rounds → IsDueAfter config rounds due) }
+    {
+        self.agent.next_due()
+    }
+
+    // Adds an event to those of the next round.
+    fn add(&mut self, event: Event) -> Result<(), HostFault>
+        ensures added { OnOk result (self.new ≡ with_events self.old (event ∷ [])) }
+        ensures same { OnErr result (self.new ≡ self.old) }
+        ensures fault { OnErr result ((result ≡ Err fault.NoMemory)
+            ⊎ ((result ≡ Err fault.TooManyEvents) × (65536 ≤ length self.old.events))) }
+    {
+        self.has_room()?;
+        self.events.push(event)?;
+        Ok(())
+    }
+
+    // Whether the next round can have one more event.
+    fn has_room(&self) -> Result<(), HostFault>
+        ensures { result ≡ (if nat_lt (length self.now.events) 65536 then Ok tt
+            else Err fault.TooManyEvents) }
+    {
+        if self.events.len() < MAX_EVENTS_OF_ROUND {
+            Ok(())
+        } else {
+            Err(HostFault::TooManyEvents)
+        }
+    }
+}

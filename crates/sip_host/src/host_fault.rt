@@ -1,0 +1,40 @@
+//! Why a call of a host was refused.
+
+ghost use Rattle.std.specs.Prelude.{◌≡◌};
+
+use sip_round::RoundFault;
+use std::alloc::AllocError;
+use thiserror::Error;
+
+/// Why a call was refused.
+#[derive(Clone, Copy, Debug, PartialEq, Eq, Error)]
+pub enum HostFault {
+    /// The line is not that of an event.
+    #[error("BadLine")]
+    BadLine,
+    /// The next round has 65,536 events already.
+    #[error("TooManyEvents")]
+    TooManyEvents,
+    /// The last round has no send of this index.
+    #[error("NoSend")]
+    NoSend,
+    /// Outputs of the last round were not taken yet.
+    #[error("OutputsLeft")]
+    OutputsLeft,
+    /// The agent refused the round, or met want of memory in it.
+    #[error("{0}")]
+    Round(RoundFault),
+    /// A growth was refused.
+    #[error("NoMemory")]
+    NoMemory,
+}
+
+impl From<AllocError> for HostFault {
+    ghost use Rattle.sip_host.specs.declared.host_fault.HostFault.TheVariants.{NoMemory};
+
+    ghost from_gives = { λ _ fault. fault ≡ NoMemory };
+
+    fn from(_error: AllocError) -> HostFault {
+        HostFault::NoMemory
+    }
+}
