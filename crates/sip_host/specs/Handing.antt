@@ -21,6 +21,7 @@ target_of (Send key to bytes) = Some to
 target_of (Dropped place reason) = None
 target_of (Notice notice) = None
 
+-- what is said of the output of this index
 abbrev pub head_of : ℕ → Output → NextOutput
 head_of index output =
     record { index = index; to = target_of output; len = length (text_of output) }

@@ -20,6 +20,7 @@ shard_of cut name shards = spread_shard name shards
 abbrev pub round_at : ℕ → Host → Round
 round_at moment host = record { moment = moment; events = host.events }
 
+-- the host with more events for its next round
 abbrev pub with_events : Host → List Event → Host
 with_events host more = record host { events = host.events ++ more }
 
