@@ -1,0 +1,192 @@
+"""A SIP user agent core for Python 3.8 and later, over ctypes: one file, no build step.
+
+The library is a static one; `cc -shared` makes it loadable (`bindings/run` shows how):
+
+    cc -shared -o libsip_ua.so -Wl,--whole-archive libsip_c.a -Wl,--no-whole-archive liblibc_c.a
+
+    agent = Agent("libsip_ua.so", ("192.0.2.1", 5060), seed=os.urandom(32))
+    agent.datagram(("192.0.2.9", 5060), b"OPTIONS ..")
+    for output in agent.run(moment):
+        if output.to is not None:
+            udp.sendto(output.text, output.to)
+
+An agent is used by one thread at a time. Moments are in ms and never go back.
+"""
+
+import ctypes
+import ipaddress
+from typing import List, NamedTuple, Optional, Tuple
+
+NOT_HELD = 1
+HELD = 2
+BAD_LINE = 3
+TOO_MANY_EVENTS = 4
+NO_SEND = 5
+OUTPUTS_LEFT = 6
+BACKWARDS = 7
+TOO_LARGE = 8
+USED_UP = 9
+NO_MEMORY = 10
+BROKEN = 11
+BAD_CONFIGURATION = 12
+
+_SEND = 1
+
+
+class Error(Exception):
+    """The library answered a fault; `status` is one of the numbers above."""
+
+    def __init__(self, status: int):
+        super().__init__(f"sip_ua status {status}")
+        self.status = status
+
+
+class Output(NamedTuple):
+    """An output of a round: a datagram with the address that it goes to, or a line without one."""
+
+    index: int
+    to: Optional[Tuple[str, int]]
+    text: bytes
+
+
+class _Agent(ctypes.Structure):
+    _fields_ = [("held", ctypes.c_bool), ("at", ctypes.c_void_p)]
+
+
+class _Address(ctypes.Structure):
+    _fields_ = [("ip", ctypes.c_uint8 * 4), ("port", ctypes.c_uint16)]
+
+
+class _Configuration(ctypes.Structure):
+    _fields_ = [("local", _Address), ("seed", ctypes.c_uint8 * 32), ("first", ctypes.c_uint64)]
+
+
+class _Output(ctypes.Structure):
+    _fields_ = [
+        ("kind", ctypes.c_uint32),
+        ("to", _Address),
+        ("index", ctypes.c_size_t),
+        ("len", ctypes.c_size_t),
+    ]
+
+
+class _Due(ctypes.Structure):
+    _fields_ = [("is_due", ctypes.c_bool), ("moment", ctypes.c_uint64)]
+
+
+_bytes = ctypes.c_char_p
+_size = ctypes.c_size_t
+_FUNCTIONS = {
+    "new": (ctypes.POINTER(_Configuration), _size),
+    "datagram": (ctypes.POINTER(_Address), _bytes, _size),
+    "event_line": (_bytes, _size),
+    "failed": (_size,),
+    "run": (ctypes.c_uint64,),
+    "next_output": (ctypes.POINTER(_Output), ctypes.c_void_p, _size),
+    "next_due": (ctypes.POINTER(_Due),),
+    "free": (),
+}
+
+
+def _functions(path: str):
+    library = ctypes.CDLL(path)
+    for name, kinds in _FUNCTIONS.items():
+        function = getattr(library, "sip_ua_raw_" + name)
+        function.argtypes = (ctypes.POINTER(_Agent),) + kinds
+        function.restype = ctypes.c_uint32
+    return library
+
+
+def _address(address: Tuple[str, int]) -> _Address:
+    ip, port = address
+    if not 0 <= port <= 65535:
+        raise ValueError("port")
+    return _Address((ctypes.c_uint8 * 4)(*ipaddress.IPv4Address(ip).packed), port)
+
+
+def _number(number: int, bits: int) -> int:
+    if not 0 <= number < 1 << bits:
+        raise ValueError("number")
+    return number
+
+
+class Agent:
+    """One user agent. Use it in a `with`, or end it by `close`."""
+
+    def __init__(
+        self,
+        library: str,
+        local: Tuple[str, int],
+        seed: bytes,
+        first: int = 0,
+        shards: int = 1,
+    ):
+        if len(seed) != 32:
+            raise ValueError("seed")
+        self._agent = _Agent()
+        self._library = _functions(library)
+        self._buffer = ctypes.create_string_buffer(65536)
+        start = _Configuration(_address(local), (ctypes.c_uint8 * 32)(*seed), _number(first, 64))
+        self._call("new", ctypes.byref(start), _number(shards, 64))
+
+    def _call(self, name: str, *words) -> None:
+        status = getattr(self._library, "sip_ua_raw_" + name)(ctypes.byref(self._agent), *words)
+        if status != 0:
+            raise Error(status)
+
+    def datagram(self, source: Tuple[str, int], data: bytes) -> None:
+        """A datagram came in."""
+        self._call("datagram", ctypes.byref(_address(source)), bytes(data), len(data))
+
+    def event_line(self, line: bytes) -> None:
+        """A line of an event file without its end, as a command of the user."""
+        self._call("event_line", bytes(line), len(line))
+
+    def failed(self, output: int) -> None:
+        """The send of this index of the last round could not be sent."""
+        self._call("failed", _number(output, 64))
+
+    def run(self, moment: int) -> List[Output]:
+        """A round at a moment in ms, and its outputs."""
+        self._call("run", _number(moment, 64))
+        outputs = []
+        while True:
+            output = self._next_output()
+            if output is None:
+                return outputs
+            outputs.append(output)
+
+    def _next_output(self) -> Optional[Output]:
+        told = _Output()
+        while True:
+            self._call("next_output", ctypes.byref(told), self._buffer, len(self._buffer))
+            if told.kind == 0 or told.len <= len(self._buffer):
+                break
+            self._buffer = ctypes.create_string_buffer(told.len)
+        if told.kind == 0:
+            return None
+        to = None
+        if told.kind == _SEND:
+            to = (str(ipaddress.IPv4Address(bytes(told.to.ip))), told.to.port)
+        return Output(told.index, to, ctypes.string_at(self._buffer, told.len))
+
+    def next_due(self) -> Optional[int]:
+        """The first moment at which something is due."""
+        due = _Due()
+        self._call("next_due", ctypes.byref(due))
+        return due.moment if due.is_due else None
+
+    def close(self) -> None:
+        """Ends the agent. A second time, and any call after it, is NOT_HELD."""
+        self._call("free")
+
+    def __enter__(self) -> "Agent":
+        return self
+
+    def __exit__(self, *_) -> None:
+        if self._agent.held:
+            self.close()
+
+    def __del__(self):
+        if getattr(self, "_library", None) is not None and self._agent.held:
+            self.close()

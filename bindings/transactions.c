@@ -1,0 +1,98 @@
+/* What `sip_trials transactions HELD MORE` does, through the library: requests come one a round, each
+ * is answered, and so many are held as soon as the first ends; then as many more; and all end.
+ * bindings/run counts its instructions. `transactions HELD MORE` */
+#include "sip_ua.h"
+
+#include <stdio.h>
+#include <stdlib.h>
+#include <string.h>
+
+/* How long a transaction is held after its answer, in ms. */
+#define LIFE 32000
+
+static sip_ua agent = SIP_UA_NONE;
+static uint8_t text[65537];
+static char answer[512];
+static int answer_length = 0;
+static unsigned long made = 0, told = 0, answered = 0;
+
+static void must(uint32_t status, const char *call)
+{
+    if (status != SIP_UA_OK) {
+        fprintf(stderr, "transactions: %s: status %u\n", call, (unsigned)status);
+        exit(1);
+    }
+}
+
+static void request(void)
+{
+    static const sip_ua_address peer = { { 127, 0, 0, 1 }, 5070 };
+    char datagram[512];
+    made++;
+    int length = snprintf(datagram, sizeof datagram,
+                          "OPTIONS sip:bob@127.0.0.1:5060 SIP/2.0\r\n"
+                          "Via: SIP/2.0/UDP 127.0.0.1:5070;rport;branch=z9hG4bK776asdhds%lu\r\n"
+                          "Max-Forwards: 70\r\n"
+                          "From: \"Alice\" <sip:alice@127.0.0.1:5070>;tag=1928301774\r\n"
+                          "To: <sip:bob@127.0.0.1:5060>\r\n"
+                          "Call-ID: a84b4c76e66710-%lu@127.0.0.1\r\n"
+                          "CSeq: 63104 OPTIONS\r\n\r\n",
+                          made, made);
+    must(sip_ua_datagram(&agent, &peer, (const uint8_t *)datagram, (size_t)length), "datagram");
+}
+
+/* What is told: `notice CALL-ID request ID ..`, and the answer of the next round. */
+static void take(const sip_ua_output *output)
+{
+    if (output->kind == SIP_UA_SEND) {
+        answered += memcmp(text, "SIP/2.0 200 ", 12) == 0;
+        return;
+    }
+    char *call_id = strchr((char *)text, ' ') + 1;
+    char *form = strchr(call_id, ' ') + 1;
+    if (strncmp(form, "request ", 8) != 0)
+        return;
+    char *id = form + 8;
+    told++;
+    answer_length = snprintf(answer, sizeof answer, "respond %.*s %.*s 200 plain - OK",
+                             (int)(form - 1 - call_id), call_id,
+                             (int)(strchr(id, ' ') - id), id);
+}
+
+static void run(uint64_t moment, int requests)
+{
+    sip_ua_output output;
+    if (answer_length > 0)
+        must(sip_ua_event_line(&agent, answer, (size_t)answer_length), "event_line");
+    answer_length = 0;
+    if (requests > 0)
+        request();
+    must(sip_ua_run(&agent, moment), "run");
+    for (;;) {
+        must(sip_ua_next_output(&agent, &output, text, sizeof text - 1), "next_output");
+        if (output.kind == SIP_UA_NOTHING)
+            return;
+        text[output.len] = '\0';
+        take(&output);
+    }
+}
+
+int main(int count, char **words)
+{
+    sip_ua_configuration start = { { { 127, 0, 0, 1 }, 5060 }, { 0 }, 0 };
+    if (count != 3)
+        return 2;
+    unsigned long held = strtoul(words[1], NULL, 10), more = strtoul(words[2], NULL, 10);
+    memset(start.seed, 7, sizeof start.seed);
+    must(sip_ua_new(&agent, &start, 1), "new");
+    if (held == 0)
+        return 2;
+    for (unsigned long turn = 0; turn < held + more; turn++)
+        run(turn * LIFE / held, 1);
+    uint64_t end = (held + more) * LIFE / held;
+    run(end, 0);
+    run(end + LIFE, 0);
+    must(sip_ua_free(&agent), "free");
+    printf("%lu made, %lu told, %lu answered\n", made, told, answered);
+    return made == told && told == answered ? 0 : 1;
+}

@@ -1,0 +1,93 @@
+-- What calls through a handle do.
+use Rattle.std.specs.Prelude.{◌≡◌, ◌⊎◌, ℕ, false, true, List, Option, None, Some, Result, Err, IsSomeAnd, OnOk, OnErr, length, replicate}
+use Rattle.std.specs.List.{slice_get}
+use Rattle.sip_message.specs.declared.addr.Addr.{Addr}
+use Rattle.sip_round.specs.NextDue.{IsDueAfter, IsQuietAfter}
+use Rattle.sip_round.specs.declared.config.Config.{Config}
+use Rattle.sip_round.specs.declared.output.Output.{Output}
+use Rattle.sip_round.specs.declared.round.Round.{Round}
+use Rattle.sip_round.specs.declared.round_fault.RoundFault.TheVariants.{NoMemory}
+use Rattle.sip_timers.specs.Queue.{is_due}
+use Rattle.sip_host.specs.Handing.{head_of, put_in, text_of}
+use Rattle.sip_host.specs.Hosting.{after_taking}
+use Rattle.sip_host.specs.declared.host.Host.{Host}
+use Rattle.sip_host.specs.declared.host_fault.HostFault.{HostFault}
+use Rattle.sip_host.specs.declared.host_fault.HostFault.TheVariants as fault
+use Rattle.sip_host.specs.declared.next_output.NextOutput.{NextOutput}
+use Rattle.sip_c.specs.Status.{number_of_answer}
+use Rattle.sip_c.specs.declared.values.Address.{Address}
+use Rattle.sip_c.specs.declared.values.Configuration.{Configuration}
+use Rattle.sip_c.specs.declared.values.Due.{Due}
+use Rattle.sip_c.specs.declared.values.Told.{Told}
+
+-- ---- values of C
+
+-- an address as C gives it
+abbrev pub addr_of : Address → Addr
+addr_of address = record { ip = address.ip; port = address.port }
+
+-- what an agent is started with, as C gives it
+abbrev pub config_of : Configuration → Config
+config_of given =
+    record { local = addr_of given.local; seed = given.seed; first = given.first }
+
+-- where a send goes, and zeros for a line
+abbrev pub address_of : Option Addr → Address
+address_of None = record { ip = replicate 4 0; port = 0 }
+address_of (Some to) = record { ip = to.ip; port = to.port }
+
+-- a send is of kind 1, a line of kind 2
+abbrev pub kind_of : Option Addr → ℕ
+kind_of None = 2
+kind_of (Some to) = 1
+
+-- what C is told of the next output, with zeros where there is none
+abbrev pub told_of : Option NextOutput → Told
+told_of None = record { kind = 0; to = address_of None; index = 0; len = 0 }
+told_of (Some next) =
+    record { kind = kind_of next.to; to = address_of next.to; index = next.index; len = next.len }
+
+-- a moment, with zeros where there is none
+abbrev pub due_of : Option ℕ → Due
+due_of None = record { is_due = false; moment = 0 }
+due_of (Some moment) = record { is_due = true; moment = moment }
+
+-- ---- calls
+
+-- without an agent nothing is done; else the number of the answer is given, and the agent is after
+-- a good answer what the call says, and after a fault as it was
+abbrev pub Answers : Option Host → Option Host → ℕ → (Host → Host → Type 0) → Type 0
+Answers None new number Does = (number ≡ 1) × (new ≡ None)
+Answers (Some old) new number Does = IsSomeAnd new (λ after.
+    (answer : Result (Unit {0}) HostFault) × (number ≡ number_of_answer answer)
+    × OnOk answer (Does old after) × OnErr answer (after ≡ old))
+
+-- the same of a call that may break the agent, for want of memory
+abbrev pub AnswersUnbroken : Option Host → Option Host → ℕ → (Host → Host → Type 0) → Type 0
+AnswersUnbroken None new number Does = (number ≡ 1) × (new ≡ None)
+AnswersUnbroken (Some old) new number Does = IsSomeAnd new (λ after.
+    (answer : Result (Unit {0}) HostFault) × (number ≡ number_of_answer answer)
+    × OnOk answer (Does old after)
+    × OnErr answer (¬ (answer ≡ Err (fault.Round (NoMemory true))) → after ≡ old))
+
+-- the next output is told, or that there is none; for want of memory nothing has changed
+abbrev pub Gives : Option Output → Host → Host → ℕ → Told → List ℕ → List ℕ → Type 0
+Gives None old new number told before after =
+    (number ≡ 0) × (told ≡ told_of None) × (new ≡ old) × (after ≡ before)
+Gives (Some output) old new number told before after =
+    ((number ≡ 0) × (told ≡ told_of (Some (head_of old.taken output)))
+    × (after ≡ put_in (text_of output) before)
+    × (new ≡ after_taking old output (length before)))
+    ⊎ ((number ≡ 10) × (told ≡ told_of None) × (new ≡ old) × (after ≡ before))
+
+-- the same through a handle, which may hold no agent
+abbrev pub GivesNext : Option Host → Option Host → ℕ → Told → List ℕ → List ℕ → Type 0
+GivesNext None new number told before after =
+    (number ≡ 1) × (new ≡ None) × (told ≡ told_of None) × (after ≡ before)
+GivesNext (Some old) new number told before after = IsSomeAnd new (λ host.
+    Gives (slice_get old.outputs.items old.taken) old host number told before after)
+
+-- before the moment that is told a round without events gives nothing, and at it something is due
+pub record IsNextDue (config : Config) (rounds : List Round) (due : Option ℕ) : Type 0 where
+  pub before : (moment : ℕ) → is_due moment due ≡ false → IsQuietAfter config rounds moment
+  pub at : (moment : ℕ) → due ≡ Some moment → IsDueAfter config rounds moment

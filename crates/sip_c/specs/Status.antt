@@ -1,0 +1,30 @@
+-- The numbers that calls answer.
+use Rattle.std.specs.Prelude.{ℕ, false, true, Result, Ok, Err}
+use Rattle.sip_host.specs.declared.host_fault.HostFault.{HostFault}
+use Rattle.sip_host.specs.declared.host_fault.HostFault.TheVariants as host
+use Rattle.sip_round.specs.declared.round_fault.RoundFault.{RoundFault}
+use Rattle.sip_round.specs.declared.round_fault.RoundFault.TheVariants as round
+
+-- of a round that is refused, or in which memory was
+abbrev pub number_of_round : RoundFault → ℕ
+number_of_round round.Broken = 11
+number_of_round round.MomentBackwards = 7
+number_of_round round.MomentTooLarge = 8
+number_of_round round.TooManyEvents = 4
+number_of_round round.RoundsUsedUp = 9
+number_of_round (round.NoMemory false) = 10
+number_of_round (round.NoMemory true) = 11
+
+-- of a call that is refused
+abbrev pub number_of : HostFault → ℕ
+number_of host.BadLine = 3
+number_of host.TooManyEvents = 4
+number_of host.NoSend = 5
+number_of host.OutputsLeft = 6
+number_of (host.Round fault) = number_of_round fault
+number_of host.NoMemory = 10
+
+-- of a call's answer: 0 where all is well
+abbrev pub number_of_answer : Result (Unit {0}) HostFault → ℕ
+number_of_answer (Ok done) = 0
+number_of_answer (Err fault) = number_of fault

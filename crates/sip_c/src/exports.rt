@@ -1,0 +1,165 @@
+//! The functions that C calls. Each takes the agent out of its handle, calls it, and puts it back.
+
+ghost use Rattle.std.specs.Prelude.{◌≡◌, ℕ, [], ◌∷◌, IfSome, IsSomeAnd, List, None, Option, is_some, if◌then◌else◌};
+ghost use Rattle.sip_round.specs.Answers.{StandsFor};
+ghost use Rattle.sip_round.specs.declared.round.Event.TheVariants as event;
+ghost use Rattle.sip_host.specs.Hosting.{IsAnswered, Reports, SaysEvent, shard_of, with_events};
+ghost use Rattle.sip_round.specs.declared.config.Config.{Config};
+ghost use Rattle.sip_round.specs.declared.round.Round.{Round};
+ghost use Rattle.sip_c.specs.Called.{Answers, AnswersUnbroken, GivesNext, IsNextDue, addr_of, config_of, due_of};
+
+use crate::handle::Handle;
+use crate::status::{
+    BAD_CONFIGURATION, HELD, NO_MEMORY, NOT_HELD, OK, number_of, number_of_answer,
+};
+use crate::values::{self, Address, Configuration, Due, Told};
+use sip_host::Host;
+use sip_round::MAX_MOMENT;
+use std::alloc::Global;
+
+/// The greatest number of shards.
+const MAX_SHARDS: usize = 256;
+
+/// Begins an agent of so many shards in a handle that holds none.
+#[unsafe(no_mangle)]
+pub extern "C" fn sip_ua_raw_new(
+    alloc: Global,
+    handle: &mut Handle,
+    configuration: &Configuration,
+    shards: usize,
+) -> u32
+    ensures made { result ≡ 0 → IsSomeAnd handle.new.owned.host (λ host.
+        StandsFor shard_of host.agent (config_of configuration.now) []) }
+    ensures refused { ¬ (result ≡ 0) → handle.new.owned.host ≡ handle.old.owned.host }
+{
+    if handle.is_held() {
+        return HELD;
+    }
+    if shards == 0 || shards > MAX_SHARDS || configuration.first > MAX_MOMENT {
+        return BAD_CONFIGURATION;
+    }
+    let Ok(host) = Host::new(alloc, configuration.config(), shards) else {
+        return NO_MEMORY;
+    };
+    let Ok(host) = Box::new(alloc, host) else {
+        return NO_MEMORY;
+    };
+    handle.put(host);
+    OK
+}
+
+/// A datagram came in.
+#[unsafe(no_mangle)]
+pub extern "C" fn sip_ua_raw_datagram(
+    alloc: Global,
+    handle: &mut Handle,
+    from: &Address,
+    bytes: &[u8],
+) -> u32
+    ensures { Answers handle.old.owned.host handle.new.owned.host result
+        (λ before after. after
+        ≡ with_events before (event.Datagram (addr_of from.now) bytes.now ∷ [])) }
+{
+    let Some(mut host) = handle.take(alloc) else {
+        return NOT_HELD;
+    };
+    let answer = host.datagram(from.addr(), bytes);
+    handle.put(host);
+    number_of_answer(answer)
+}
+
+/// A line of an event file that says an event, without its end.
+#[unsafe(no_mangle)]
+pub extern "C" fn sip_ua_raw_event_line(alloc: Global, handle: &mut Handle, line: &[u8]) -> u32
+    ensures { Answers handle.old.owned.host handle.new.owned.host result (SaysEvent line.now) }
+{
+    let Some(mut host) = handle.take(alloc) else {
+        return NOT_HELD;
+    };
+    let answer = host.event_line(line);
+    handle.put(host);
+    number_of_answer(answer)
+}
+
+/// The send of this index among the outputs of the last round could not be sent.
+#[unsafe(no_mangle)]
+pub extern "C" fn sip_ua_raw_failed(alloc: Global, handle: &mut Handle, output: usize) -> u32
+    ensures { Answers handle.old.owned.host handle.new.owned.host result (Reports output) }
+{
+    let Some(mut host) = handle.take(alloc) else {
+        return NOT_HELD;
+    };
+    let answer = host.failed(output);
+    handle.put(host);
+    number_of_answer(answer)
+}
+
+/// Deals with the events at a moment in ms.
+#[unsafe(no_mangle)]
+pub extern "C" fn sip_ua_raw_run(alloc: Global, handle: &mut Handle, moment: u64) -> u32
+    ensures { AnswersUnbroken handle.old.owned.host handle.new.owned.host result
+        (IsAnswered moment) }
+{
+    let Some(mut host) = handle.take(alloc) else {
+        return NOT_HELD;
+    };
+    let answer = host.run(moment);
+    handle.put(host);
+    number_of_answer(answer)
+}
+
+/// The next output of the last round, if one is left.
+#[unsafe(no_mangle)]
+pub extern "C" fn sip_ua_raw_next_output(
+    alloc: Global,
+    handle: &mut Handle,
+    told: &mut Told,
+    buffer: &mut [u8],
+) -> u32
+    ensures { GivesNext handle.old.owned.host handle.new.owned.host result told.new buffer.old
+        buffer.new }
+{
+    *told = values::told_of(None);
+    let Some(mut host) = handle.take(alloc) else {
+        return NOT_HELD;
+    };
+    let answer = host.next_output(buffer);
+    handle.put(host);
+    match answer {
+        Ok(next) => {
+            *told = values::told_of(next);
+            OK
+        }
+        Err(fault) => number_of(fault),
+    }
+}
+
+/// The first moment at which something is due, if there is one.
+#[unsafe(no_mangle)]
+pub extern "C" fn sip_ua_raw_next_due(alloc: Global, handle: &mut Handle, due: &mut Due) -> u32
+    ensures same { handle.new.owned.host ≡ handle.old.owned.host }
+    ensures none { handle.old.owned.host ≡ None → (result ≡ 1) × (due.new ≡ due_of None) }
+    ensures told { IfSome handle.old.owned.host (λ host. (moment : Option ℕ) × (result ≡ 0)
+        × (due.new ≡ due_of moment) × ((config : Config) (rounds : List Round)
+        → StandsFor shard_of host.agent config rounds → IsNextDue config rounds moment)) }
+{
+    let Some(host) = handle.take(alloc) else {
+        *due = values::due_of(None);
+        return NOT_HELD;
+    };
+    *due = values::due_of(host.next_due());
+    handle.put(host);
+    OK
+}
+
+/// Ends the agent of a handle, which holds none then.
+#[unsafe(no_mangle)]
+pub extern "C" fn sip_ua_raw_free(alloc: Global, handle: &mut Handle) -> u32
+    ensures none { handle.new.owned.host ≡ None }
+    ensures told { result ≡ (if is_some handle.old.owned.host then 0 else 1) }
+{
+    match handle.take(alloc) {
+        Some(_) => OK,
+        None => NOT_HELD,
+    }
+}

@@ -1,0 +1,47 @@
+//! The handle of an agent, which a C program owns.
+
+ghost use Rattle.std.specs.Prelude.{◌≡◌, None, Some, is_some};
+ghost use Rattle.std.specs.Option.{option_map};
+
+use crate::owned::Owned;
+use sip_host::Host;
+use std::alloc::Global;
+use std::mem;
+
+/// A handle: whether it holds an agent, and where. With all bytes 0 it holds none.
+#[repr(C)]
+#[derive(Drop)]
+pub struct Handle {
+    held: bool,
+    owned: Owned,
+    ghost agrees: { held ≡ is_some owned.host },
+}
+
+impl Handle {
+    /// Whether it holds an agent.
+    pub(crate) fn is_held(&self) -> bool
+        ensures { result ≡ is_some self.now.owned.host }
+    {
+        self.held
+    }
+
+    /// Puts an agent in.
+    pub(crate) fn put(&mut self, host: Box<Host>)
+        ensures { self.new.owned.host ≡ Some host.value }
+    {
+        let owned = Owned::of(host);
+        let held = true;
+        drop(mem::replace(self, Handle { held, owned }));
+    }
+
+    /// Takes its agent out, if it holds one.
+    pub(crate) fn take(&mut self, alloc: Global) -> Option<Box<Host>>
+        ensures taken { self.old.owned.host ≡ option_map (λ host. host.value) result }
+        ensures left { self.new.owned.host ≡ None }
+    {
+        let owned = Owned::empty(alloc);
+        let held = false;
+        let Handle { held, owned } = mem::replace(self, Handle { held, owned });
+        if held { Some(owned.into_box()) } else { None }
+    }
+}

@@ -1,0 +1,15 @@
+//! The agent of a host as a static library for C. `include/sip_ua.h` says how it is called.
+#![tactic(auto)]
+
+mod exports;
+mod handle;
+mod owned;
+mod status;
+mod values;
+
+pub use exports::{
+    sip_ua_raw_datagram, sip_ua_raw_event_line, sip_ua_raw_failed, sip_ua_raw_free, sip_ua_raw_new,
+    sip_ua_raw_next_due, sip_ua_raw_next_output, sip_ua_raw_run,
+};
+pub use handle::Handle;
+pub use values::{Address, Configuration, Due, Told};

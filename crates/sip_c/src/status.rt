@@ -1,0 +1,57 @@
+//! What calls answer.
+
+ghost use Rattle.std.specs.Prelude.{◌≡◌};
+ghost use Rattle.sip_c.specs.Status as spec;
+
+use sip_host::HostFault;
+use sip_round::RoundFault;
+
+pub(crate) const OK: u32 = 0;
+
+/// The handle holds no agent.
+pub(crate) const NOT_HELD: u32 = 1;
+
+/// The handle holds an agent.
+pub(crate) const HELD: u32 = 2;
+
+pub(crate) const NO_MEMORY: u32 = 10;
+
+/// The number of shards or of the first round is none.
+pub(crate) const BAD_CONFIGURATION: u32 = 12;
+
+/// The number of a fault.
+pub(crate) fn number_of(fault: HostFault) -> u32
+    ensures { result ≡ spec.number_of fault }
+{
+    match fault {
+        HostFault::BadLine => 3,
+        HostFault::TooManyEvents => 4,
+        HostFault::NoSend => 5,
+        HostFault::OutputsLeft => 6,
+        HostFault::Round(fault) => number_of_round(fault),
+        HostFault::NoMemory => 10,
+    }
+}
+
+fn number_of_round(fault: RoundFault) -> u32
+    ensures { result ≡ spec.number_of_round fault }
+{
+    match fault {
+        RoundFault::TooManyEvents => 4,
+        RoundFault::MomentBackwards => 7,
+        RoundFault::MomentTooLarge => 8,
+        RoundFault::RoundsUsedUp => 9,
+        RoundFault::NoMemory { broken: false } => 10,
+        RoundFault::Broken | RoundFault::NoMemory { broken: true } => 11,
+    }
+}
+
+/// The number of a call's result.
+pub(crate) fn number_of_answer(answer: Result<(), HostFault>) -> u32
+    ensures { result ≡ spec.number_of_answer answer }
+{
+    match answer {
+        Ok(()) => OK,
+        Err(fault) => number_of(fault),
+    }
+}

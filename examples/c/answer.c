@@ -1,0 +1,153 @@
+/* An agent that answers over UDP: OPTIONS and other requests with 200, and calls with 180 and 200
+ * until they are ended. `answer IP PORT [SECONDS]`, for ever without SECONDS.
+ *
+ * The loop of a host: wait for a datagram until the moment at which something is due, hand over all
+ * that came, run a round, send what is to be sent, and answer what the user is told. The answers are
+ * events of the next round, which is run at once. */
+#define _POSIX_C_SOURCE 200809L
+#include "sip_ua.h"
+
+#include <arpa/inet.h>
+#include <poll.h>
+#include <stdio.h>
+#include <stdlib.h>
+#include <string.h>
+#include <sys/random.h>
+#include <sys/socket.h>
+#include <time.h>
+#include <unistd.h>
+
+#define MOST_AT_ONCE 512
+
+static uint8_t datagram[65536];
+static uint8_t text[65537];
+static sip_ua agent = SIP_UA_NONE;
+static int udp;
+static bool has_answers;
+
+static uint64_t now(void)
+{
+    struct timespec time;
+    clock_gettime(CLOCK_MONOTONIC, &time);
+    return (uint64_t)time.tv_sec * 1000 + (uint64_t)time.tv_nsec / 1000000;
+}
+
+static void must(uint32_t status, const char *call)
+{
+    if (status != SIP_UA_OK) {
+        fprintf(stderr, "answer: %s: status %u\n", call, (unsigned)status);
+        exit(1);
+    }
+}
+
+/* Hands over the datagrams that came. */
+static void receive(void)
+{
+    for (int count = 0; count < MOST_AT_ONCE; count++) {
+        struct sockaddr_in from;
+        socklen_t size = sizeof from;
+        ssize_t len = recvfrom(udp, datagram, sizeof datagram, MSG_DONTWAIT,
+                               (struct sockaddr *)&from, &size);
+        if (len < 0)
+            return;
+        sip_ua_address source = { .port = ntohs(from.sin_port) };
+        memcpy(source.ip, &from.sin_addr, 4);
+        must(sip_ua_datagram(&agent, &source, datagram, (size_t)len), "sip_ua_datagram");
+    }
+}
+
+/* Sends a datagram, and reports where that fails. */
+static void send_output(const sip_ua_output *output)
+{
+    struct sockaddr_in to = { .sin_family = AF_INET, .sin_port = htons(output->to.port) };
+    memcpy(&to.sin_addr, output->to.ip, 4);
+    if (sendto(udp, text, output->len, 0, (struct sockaddr *)&to, sizeof to) < 0)
+        must(sip_ua_failed(&agent, output->index), "sip_ua_failed");
+}
+
+/* A command: `respond CALL-ID ID STATUS plain - REASON`. */
+static void respond(const char *call_id, const char *id, int status, const char *reason)
+{
+    char line[65536];
+    int len = snprintf(line, sizeof line, "respond %s %s %d plain - %s", call_id, id, status, reason);
+    if (len > 0 && (size_t)len < sizeof line)
+        must(sip_ua_event_line(&agent, line, (size_t)len), "sip_ua_event_line");
+    has_answers = true;
+}
+
+/* What the user is told: `notice CALL-ID request ID METHOD ..` asks for an answer. */
+static void tell(char *line)
+{
+    char *rest = line;
+    const char *word = strtok_r(rest, " \n", &rest);
+    const char *call_id = strtok_r(NULL, " \n", &rest);
+    const char *form = strtok_r(NULL, " \n", &rest);
+    const char *id = strtok_r(NULL, " \n", &rest);
+    const char *method = strtok_r(NULL, " \n", &rest);
+    if (word == NULL || strcmp(word, "notice") != 0 || method == NULL
+        || strcmp(form, "request") != 0)
+        return;
+    if (strcmp(method, "INVITE") == 0)
+        respond(call_id, id, 180, "Ringing");
+    respond(call_id, id, 200, "OK");
+}
+
+/* A round, and all that it gives. */
+static void run(void)
+{
+    sip_ua_output output;
+    has_answers = false;
+    must(sip_ua_run(&agent, now()), "sip_ua_run");
+    for (;;) {
+        must(sip_ua_next_output(&agent, &output, text, sizeof text - 1), "sip_ua_next_output");
+        if (output.kind == SIP_UA_NOTHING)
+            return;
+        text[output.len] = '\0';
+        if (output.kind == SIP_UA_SEND)
+            send_output(&output);
+        else
+            tell((char *)text);
+    }
+}
+
+/* How long to wait, in ms: until something is due, and for ever where nothing is. */
+static int patience(uint64_t end)
+{
+    sip_ua_due due;
+    uint64_t moment = now();
+    must(sip_ua_next_due(&agent, &due), "sip_ua_next_due");
+    uint64_t until = due.is_due && due.moment < end ? due.moment : end;
+    if (until == UINT64_MAX)
+        return -1;
+    return until <= moment ? 0 : until - moment > 1000000 ? 1000000 : (int)(until - moment);
+}
+
+int main(int count, char **words)
+{
+    sip_ua_configuration configuration = { 0 };
+    struct sockaddr_in local = { .sin_family = AF_INET };
+    if (count < 3 || inet_pton(AF_INET, words[1], &local.sin_addr) != 1) {
+        fprintf(stderr, "usage: answer IP PORT [SECONDS]\n");
+        return 2;
+    }
+    configuration.local.port = (uint16_t)atoi(words[2]);
+    local.sin_port = htons(configuration.local.port);
+    memcpy(configuration.local.ip, &local.sin_addr, 4);
+    udp = socket(AF_INET, SOCK_DGRAM, 0);
+    if (udp < 0 || bind(udp, (struct sockaddr *)&local, sizeof local) != 0
+        || getrandom(configuration.seed, sizeof configuration.seed, 0) < 0) {
+        perror("answer");
+        return 1;
+    }
+    must(sip_ua_new(&agent, &configuration, 1), "sip_ua_new");
+    uint64_t end = count > 3 ? now() + 1000 * strtoull(words[3], NULL, 10) : UINT64_MAX;
+    while (now() < end) {
+        struct pollfd waiting = { .fd = udp, .events = POLLIN };
+        poll(&waiting, 1, has_answers ? 0 : patience(end));
+        receive();
+        run();
+    }
+    must(sip_ua_free(&agent), "sip_ua_free");
+    close(udp);
+    return 0;
+}

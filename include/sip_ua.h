@@ -1,0 +1,208 @@
+/* A SIP user agent core (RFC 3261, with reliable provisional responses) for programs that have the
+ * socket, the clock and the user themselves. The library has no thread, no socket, no clock and no
+ * global state: it is given datagrams, lines and moments, and gives back what is to be sent and told.
+ *
+ * The life of an agent:
+ *
+ *     sip_ua agent = SIP_UA_NONE;
+ *     sip_ua_new(&agent, &configuration, 1);
+ *     for (;;) {
+ *         .. wait for a datagram, a command of the user, or the moment of sip_ua_next_due
+ *         sip_ua_datagram(..), sip_ua_event_line(..), sip_ua_failed(..)
+ *         sip_ua_run(&agent, moment);
+ *         while (sip_ua_next_output(&agent, &output, buffer, room) == SIP_UA_OK
+ *                && output.kind != SIP_UA_NOTHING)
+ *             .. send it, or tell the user
+ *     }
+ *     sip_ua_free(&agent);
+ *
+ * Whose is what. A `sip_ua` is the program's: on the stack, in a struct or on the heap, with all
+ * bytes 0 before its first use. What it holds is the library's, taken by malloc and given back by
+ * sip_ua_free. Nothing that is passed to a call is kept after it: bytes are copied. Buffers are the
+ * program's, and are written only within the room that is named.
+ *
+ * Threads. An agent is used by one thread at a time; different agents by different threads. No call
+ * blocks, and none may be made from a signal handler, or in the forked child of a process with
+ * threads.
+ *
+ * Moments are in ms, from any beginning, up to 2^62, and never go back. Ports and numbers are in the
+ * byte order of the machine, addresses as four bytes, the first one first.
+ *
+ * Linking needs the static library libsip_c.a and the toolchain's liblibc_c.a, and no other library.
+ *
+ * What can't be told, and is the program's to keep:
+ * - a `sip_ua` that is copied, moved in a union, or written to by the program; one whose bytes were
+ *   not 0 before sip_ua_new
+ * - a pointer that isn't NULL and leads nowhere, or to less room than is named
+ * - two calls on one agent at the same time
+ * - a `sip_ua` that is given up without sip_ua_free (its memory is lost)
+ * - malloc, realloc and free that are not of one allocator, or that align a block of 16 bytes and
+ *   more to less than 16
+ */
+#ifndef SIP_UA_H
+#define SIP_UA_H
+
+#include <stdbool.h>
+#include <stddef.h>
+#include <stdint.h>
+
+#ifdef __cplusplus
+extern "C" {
+#endif
+
+/* An agent, or none. Its fields are not for the program. */
+typedef struct sip_ua {
+    bool held;
+    void *at;
+} sip_ua;
+
+#define SIP_UA_NONE { false, NULL }
+
+/* An IPv4 address and a port. */
+typedef struct sip_ua_address {
+    uint8_t ip[4];
+    uint16_t port;
+} sip_ua_address;
+
+/* What an agent is started with: the address that it sends from; a secret of 32 random bytes, from
+ * which tags, branches and Call-IDs are made, another one for each agent; and the number of its
+ * first round, at most 2^62, mostly 0. */
+typedef struct sip_ua_configuration {
+    sip_ua_address local;
+    uint8_t seed[32];
+    uint64_t first;
+} sip_ua_configuration;
+
+/* An output. `index` counts the outputs of a round from 0; `to` counts for a send alone; `len` is
+ * the length of its text in bytes. */
+typedef struct sip_ua_output {
+    uint32_t kind;
+    sip_ua_address to;
+    size_t index;
+    size_t len;
+} sip_ua_output;
+
+enum {
+    SIP_UA_NOTHING = 0, /* no output is left */
+    SIP_UA_SEND = 1,    /* the text is a datagram for the address `to` */
+    SIP_UA_LINE = 2     /* the text is a line: what the user is told, or what was dropped and why */
+};
+
+typedef struct sip_ua_due {
+    bool is_due;
+    uint64_t moment;
+} sip_ua_due;
+
+/* What calls answer. After all but SIP_UA_OK and SIP_UA_BROKEN the agent is as it was before. */
+enum {
+    SIP_UA_OK = 0,
+    SIP_UA_NOT_HELD = 1,          /* no agent: before sip_ua_new, or after sip_ua_free */
+    SIP_UA_HELD = 2,              /* sip_ua_new on an agent that was not freed */
+    SIP_UA_BAD_LINE = 3,          /* not the line of an event */
+    SIP_UA_TOO_MANY_EVENTS = 4,   /* 65,536 events wait for the next round */
+    SIP_UA_NO_SEND = 5,           /* that output of the last round is no send */
+    SIP_UA_OUTPUTS_LEFT = 6,      /* outputs of the last round were not taken */
+    SIP_UA_BACKWARDS = 7,         /* the moment lies before that of the last round */
+    SIP_UA_TOO_LARGE = 8,         /* the moment is above 2^62 */
+    SIP_UA_USED_UP = 9,           /* the number of the round would be above 2^62 */
+    SIP_UA_NO_MEMORY = 10,        /* malloc gave NULL; the call can be made again */
+    SIP_UA_BROKEN = 11,           /* malloc gave NULL within a round: the agent holds nothing, and
+                                     only sip_ua_free is left */
+    SIP_UA_BAD_CONFIGURATION = 12, /* not 1 to 256 shards, or a first round above 2^62 */
+    SIP_UA_NULL = 13              /* a pointer was NULL */
+};
+
+/* The functions of the library, which test no pointer. Call those below. */
+uint32_t sip_ua_raw_new(sip_ua *agent, const sip_ua_configuration *configuration, size_t shards);
+uint32_t sip_ua_raw_datagram(sip_ua *agent, const sip_ua_address *from, const uint8_t *bytes,
+                             size_t len);
+uint32_t sip_ua_raw_event_line(sip_ua *agent, const uint8_t *line, size_t len);
+uint32_t sip_ua_raw_failed(sip_ua *agent, size_t output);
+uint32_t sip_ua_raw_run(sip_ua *agent, uint64_t moment);
+uint32_t sip_ua_raw_next_output(sip_ua *agent, sip_ua_output *output, uint8_t *buffer, size_t room);
+uint32_t sip_ua_raw_next_due(sip_ua *agent, sip_ua_due *due);
+uint32_t sip_ua_raw_free(sip_ua *agent);
+
+/* Begins an agent, in a `sip_ua` that holds none. One shard serves; more of them, up to 256, change
+ * no answer. SIP_UA_HELD, SIP_UA_BAD_CONFIGURATION, SIP_UA_NO_MEMORY. */
+static inline uint32_t sip_ua_new(sip_ua *agent, const sip_ua_configuration *configuration,
+                                  size_t shards)
+{
+    if (agent == NULL || configuration == NULL)
+        return SIP_UA_NULL;
+    return sip_ua_raw_new(agent, configuration, shards);
+}
+
+/* A datagram came in: an event of the next round. SIP_UA_TOO_MANY_EVENTS, SIP_UA_NO_MEMORY. */
+static inline uint32_t sip_ua_datagram(sip_ua *agent, const sip_ua_address *from,
+                                       const uint8_t *bytes, size_t len)
+{
+    if (agent == NULL || from == NULL || bytes == NULL)
+        return SIP_UA_NULL;
+    return sip_ua_raw_datagram(agent, from, bytes, len);
+}
+
+/* A line of an event file, without its line feed: a command of the user, or another event
+ * (docs/FORMATS.md). An event of the next round. SIP_UA_BAD_LINE, SIP_UA_TOO_MANY_EVENTS,
+ * SIP_UA_NO_MEMORY. */
+static inline uint32_t sip_ua_event_line(sip_ua *agent, const char *line, size_t len)
+{
+    if (agent == NULL || line == NULL)
+        return SIP_UA_NULL;
+    return sip_ua_raw_event_line(agent, (const uint8_t *)line, len);
+}
+
+/* The send of this index among the outputs of the last round could not be sent (the socket refused
+ * it): an event of the next round. To be called before that. SIP_UA_NO_SEND, SIP_UA_TOO_MANY_EVENTS,
+ * SIP_UA_NO_MEMORY. */
+static inline uint32_t sip_ua_failed(sip_ua *agent, size_t output)
+{
+    if (agent == NULL)
+        return SIP_UA_NULL;
+    return sip_ua_raw_failed(agent, output);
+}
+
+/* Runs a round: deals with all events since the last one, at this moment. All outputs of the last
+ * round must have been taken. SIP_UA_OUTPUTS_LEFT, SIP_UA_BACKWARDS, SIP_UA_TOO_LARGE,
+ * SIP_UA_USED_UP, SIP_UA_NO_MEMORY (nothing has changed, and the events wait still), SIP_UA_BROKEN. */
+static inline uint32_t sip_ua_run(sip_ua *agent, uint64_t moment)
+{
+    if (agent == NULL)
+        return SIP_UA_NULL;
+    return sip_ua_raw_run(agent, moment);
+}
+
+/* The next output of the last round. Where its `len` is at most `room`, its text was written to the
+ * buffer, and the output is taken; else the buffer is as it was, and the next call gives the same
+ * output again. A line ends in a line feed; no text ends in a zero byte. 65,535 bytes hold every
+ * datagram that can be sent. SIP_UA_NO_MEMORY. */
+static inline uint32_t sip_ua_next_output(sip_ua *agent, sip_ua_output *output, uint8_t *buffer,
+                                          size_t room)
+{
+    if (agent == NULL || output == NULL || buffer == NULL)
+        return SIP_UA_NULL;
+    return sip_ua_raw_next_output(agent, output, buffer, room);
+}
+
+/* The first moment at which something is due, if there is one: a round without events that is run
+ * earlier gives nothing. */
+static inline uint32_t sip_ua_next_due(sip_ua *agent, sip_ua_due *due)
+{
+    if (agent == NULL || due == NULL)
+        return SIP_UA_NULL;
+    return sip_ua_raw_next_due(agent, due);
+}
+
+/* Ends the agent, whose `sip_ua` holds none then. SIP_UA_NOT_HELD where it holds none. */
+static inline uint32_t sip_ua_free(sip_ua *agent)
+{
+    if (agent == NULL)
+        return SIP_UA_NULL;
+    return sip_ua_raw_free(agent);
+}
+
+#ifdef __cplusplus
+}
+#endif
+
+#endif
