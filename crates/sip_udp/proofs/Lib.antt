@@ -1,4 +1,5 @@
 pub mod Ends
+pub mod Fed
 pub mod OwnUri
 pub mod ReadLines
 pub mod Sendings

@@ -1,8 +1,9 @@
 //! The pipe: commands that a user writes, a line each. They are read on a thread of their own and
 //! posted.
 
-ghost use Rattle.std.specs.Prelude.{IfOk};
-ghost use Rattle.sip_udp.specs.Piping.{Says, SaysRead};
+ghost use Rattle.std.specs.Prelude.{◌≡◌, true, false, IfOk, IfSome};
+ghost use Rattle.sip_desk.specs.Lines.{posted, Pushes};
+ghost use Rattle.sip_udp.specs.Piping.{Says, SaysRead, PostsAll, PostsFront};
 
 use crate::fault::UaFault;
 use crate::listener::Flags;
@@ -25,7 +26,7 @@ pub enum PipeLine {
 }
 
 /// Posts what each line of the input says, and waits where there is no room, until the input ends
-/// or it is told to stop.
+/// or it is told to stop. It answers whether the input ended.
 ///
 /// # Errors
 ///
@@ -33,10 +34,14 @@ pub enum PipeLine {
 pub fn feed<I: BufRead + Drop>(
     alloc: Global,
     mut input: I,
-    mut line: Poster<PipeLine>,
+    line: &mut Poster<PipeLine>,
     flags: Arc<Flags>,
-) -> Result<(), UaFault> {
-    let end = post_lines(alloc, &mut input, &mut line, &flags);
+) -> Result<bool, UaFault>
+    ensures front { IfSome (I.remaining input) (PostsFront (posted line.old) (posted line.new)) }
+    ensures all { IfOk result (λ has_ended. has_ended ≡ true
+        → IfSome (I.remaining input) (PostsAll (posted line.old) (posted line.new))) }
+{
+    let end = post_lines(alloc, &mut input, line, &flags);
     flags.end();
     end
 }
@@ -46,11 +51,16 @@ fn post_lines<I: BufRead>(
     input: &mut I,
     line: &mut Poster<PipeLine>,
     flags: &Flags,
-) -> Result<(), UaFault> {
+) -> Result<bool, UaFault>
+    ensures front { IfSome (I.remaining input.old)
+        (PostsFront (posted line.old) (posted line.new)) }
+    ensures all { IfOk result (λ has_ended. has_ended ≡ true
+        → IfSome (I.remaining input.old) (PostsAll (posted line.old) (posted line.new))) }
+{
     for number in 1..u64::MAX {
         let mut text = Vec::new(alloc);
         match input.read_until(b'\n', &mut text) {
-            Ok(0) => break,
+            Ok(0) => return Ok(true),
             Ok(_) => {}
             Err(_) => return Err(UaFault::Input),
         }
@@ -60,7 +70,7 @@ fn post_lines<I: BufRead>(
         }
         flags.ring();
     }
-    Ok(())
+    Ok(false)
 }
 
 // What a line says, with its end; one that has none is no command.
@@ -83,7 +93,10 @@ fn line_says(alloc: Global, number: u64, line: &[u8]) -> Result<PipeLine, AllocE
 }
 
 // Posts this as soon as there is room, unless it is told to stop.
-fn post_in_time(line: &mut Poster<PipeLine>, said: PipeLine, stop: &AtomicBool) -> bool {
+fn post_in_time(line: &mut Poster<PipeLine>, said: PipeLine, stop: &AtomicBool) -> bool
+    ensures posted { result ≡ true → Pushes line.old line.new said }
+    ensures unposted { result ≡ false → posted line.new ≡ posted line.old }
+{
     let mut said = said;
     for _ in 0..u64::MAX {
         match line.post(said) {

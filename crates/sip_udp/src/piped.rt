@@ -1,5 +1,9 @@
 //! The user of `agent`: it asks for what comes over the pipe.
 
+ghost use Rattle.std.specs.Prelude.{◌≡◌, ◌++◌, OnOk};
+ghost use Rattle.std.specs.List.{flat_map};
+ghost use Rattle.sip_udp.specs.Piping.{asked_by};
+
 use crate::listener::Flags;
 use crate::pipe::PipeLine;
 use crate::turns::LINE_CAPACITY;
@@ -67,15 +71,7 @@ impl User for Piped {
         if has_ended && lines.is_empty() {
             self.ended_at = Some(now);
         }
-        for line in lines {
-            match line {
-                PipeLine::Command(command) => events.push(Event::Command(command))?,
-                PipeLine::NoCommand(number) => {
-                    let _ = writeln!(errors, "ua: line {number} is no command");
-                }
-            }
-        }
-        Ok(())
+        ask_for(lines, events, errors)
     }
 
     fn is_over(&self, now: u64, holds: bool) -> bool {
@@ -92,4 +88,24 @@ impl User for Piped {
     fn is_content(&self) -> bool {
         true
     }
+}
+
+// Adds the commands among these lines. A line that is none is told with its number.
+fn ask_for<E: Write>(
+    lines: Vec<PipeLine>,
+    events: &mut Vec<Event>,
+    errors: &mut E,
+) -> Result<(), AllocError>
+    ensures { OnOk result (events.new.items
+        ≡ events.old.items ++ flat_map asked_by lines.items) }
+{
+    for line in lines {
+        match line {
+            PipeLine::Command(command) => events.push(Event::Command(command))?,
+            PipeLine::NoCommand(number) => {
+                let _ = writeln!(errors, "ua: line {number} is no command");
+            }
+        }
+    }
+    Ok(())
 }

@@ -143,19 +143,20 @@ pub fn agent<
     notices: &mut W,
     errors: &mut E,
 ) -> Result<(), UaFault> {
-    let (pipe, line) = one_line(alloc)?;
+    let (pipe, mut line) = one_line(alloc)?;
     let bell = bell_of(rt, alloc)?;
     let flags = flags_with(alloc, Some(bell.clone()?))?;
     let their_flags = flags.clone()?;
     let user = Piped::new(pipe, flags.clone()?, linger);
-    let Ok(feeder) = thread::spawn(rt, move || feed(alloc, input, line, their_flags)) else {
+    let Ok(feeder) = thread::spawn(rt, move || feed(alloc, input, &mut line, their_flags)) else {
         return Err(UaFault::Socket);
     };
     let bell = Some(bell);
     let end = talk(rt, alloc, endpoint, user, bell, u64::MAX, notices, errors);
     flags.stop.store(true, Ordering::SeqCst);
     end?;
-    feeder.join(rt)
+    feeder.join(rt)?;
+    Ok(())
 }
 
 // `sip:ua@` and the local IP.

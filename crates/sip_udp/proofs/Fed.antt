@@ -1,0 +1,106 @@
+-- The lines of a pipe that were posted so far, and one more.
+use Rattle.std.proofs.Common.{◌≡◌, ℕ, ◌+◌, ◌<◌, List, [], ◌∷◌, ◌++◌, length, refl, sym, ap, subst, ◌∙◌, append_assoc, append-nil, arith, IfSome}
+use Rattle.std.proofs.lemmas.List.{length-append}
+use Rattle.std.specs.Prelude.{Option, Some, None}
+use Rattle.std.specs.Io.BufRead.{take_through, drop_through, DropsThrough}
+use Rattle.std.specs.Io.KnownBytes.{IsAtEnd}
+use Rattle.sip_udp.specs.declared.pipe.PipeLine.{PipeLine}
+use Rattle.sip_udp.specs.Piping.{SaysRead, SayLines, PostsFront, PostsAll}
+
+-- what was read of the pipe was posted, and this number is that of its next line
+pub record FedSoFar (text : List ℕ) (left : Option (List ℕ)) (before now : List PipeLine)
+    (number : ℕ) : Type 0 where
+  pub said : List PipeLine
+  pub rest : List ℕ
+  pub known : left ≡ Some rest
+  pub appended : now ≡ before ++ said
+  pub lines : SayLines 1 text said rest
+  pub next : number ≡ 1 + length said
+
+-- a line that has something is the first of what has something
+some_left : (rest : List ℕ) → 0 < length (take_through 10 rest) → 0 < length rest
+some_left [] some = some
+some_left (x ∷ rest) some = omega arith
+
+-- one line more at the end
+say_more : (number : ℕ) (text : List ℕ) (said : List PipeLine) (rest : List ℕ) (one : PipeLine)
+    → SayLines number text said rest → 0 < length rest
+    → SaysRead (number + length said) (take_through 10 rest) one
+    → SayLines number text (said ++ one ∷ []) (drop_through 10 rest)
+say_more number text [] rest one lines some says =
+    let same : rest ≡ text = lines in (
+      subst (λ t. 0 < length t) same some,
+      subst (λ t. SaysRead number (take_through 10 t) one) same
+          (subst (λ n. SaysRead n (take_through 10 rest) one) (omega arith) says),
+      ap (drop_through 10) same,
+    )
+say_more number text (first ∷ said) rest one lines some says = (
+  lines.0,
+  lines.1,
+  say_more (number + 1) (drop_through 10 text) said rest one lines.2 some
+      (subst (λ n. SaysRead n (take_through 10 rest) one) (omega arith) says),
+)
+
+-- ---- of a pipe whose bytes may be known
+
+pub fed_nothing : (known : Option (List ℕ)) (before : List PipeLine)
+    → IfSome known (λ text. FedSoFar text known before before 1)
+fed_nothing None before = tt
+fed_nothing (Some text) before = record {
+  said = [];
+  rest = text;
+  known = refl;
+  appended = sym (append-nil before);
+  lines = refl;
+  next = refl;
+}
+
+pub fed_front : (known left : Option (List ℕ)) (before now : List PipeLine) (number : ℕ)
+    → IfSome known (λ text. FedSoFar text left before now number)
+    → IfSome known (PostsFront before now)
+fed_front None left before now number so_far = tt
+fed_front (Some text) left before now number so_far =
+    (so_far.said, so_far.rest, so_far.appended, so_far.lines)
+
+pub fed_all : (known left : Option (List ℕ)) (before now : List PipeLine) (number : ℕ)
+    → IfSome known (λ text. FedSoFar text left before now number) → IsAtEnd left
+    → IfSome known (PostsAll before now)
+fed_all None left before now number so_far ended = tt
+fed_all (Some text) left before now number so_far ended =
+    let none_left : so_far.rest ≡ [] = subst IsAtEnd so_far.known ended in
+    (so_far.said, so_far.appended, subst (SayLines 1 text so_far.said) none_left so_far.lines)
+
+-- a line was read of what is left
+pub fed_more : (known left later : Option (List ℕ)) (before now next : List PipeLine) (number : ℕ)
+    (line : List ℕ) (one : PipeLine)
+    → IfSome known (λ text. FedSoFar text left before now number)
+    → IfSome left (λ xs. line ≡ take_through 10 xs) → DropsThrough left later 10
+    → 0 < length line → SaysRead number line one → next ≡ now ++ one ∷ []
+    → IfSome known (λ text. FedSoFar text later before next (number + 1))
+fed_more None left later before now next number line one so_far front drops some says more = tt
+fed_more (Some text) left later before now next number line one so_far front drops some says more =
+    let rest : List ℕ = so_far.rest in
+    let first : line ≡ take_through 10 rest =
+    subst (λ l. IfSome l (λ xs. line ≡ take_through 10 xs)) so_far.known front in
+    record {
+      said = so_far.said ++ one ∷ [];
+      rest = drop_through 10 rest;
+      known = subst (λ l. DropsThrough l later 10) so_far.known drops;
+      appended =
+          more ∙ ap (λ l. l ++ one ∷ []) so_far.appended
+          ∙ append_assoc before so_far.said (one ∷ []);
+      lines =
+          say_more 1 text so_far.said rest one so_far.lines
+          (some_left rest (subst (λ l. 0 < length l) first some))
+          (subst (λ l. SaysRead l (take_through 10 rest) one) so_far.next
+          (subst (λ l. SaysRead number l one) first says));
+      next = omega (arith, so_far.next, length-append so_far.said (one ∷ []));
+    }
+
+-- what was read behind nothing
+pub read_front : (left : Option (List ℕ)) (before text : List ℕ) → before ≡ []
+    → IfSome left (λ xs. text ≡ before ++ take_through 10 xs)
+    → IfSome left (λ xs. text ≡ take_through 10 xs)
+read_front None before text nothing read = tt
+read_front (Some xs) before text nothing read =
+    read ∙ ap (λ b. b ++ take_through 10 xs) nothing

@@ -1,0 +1,9 @@
+use Rattle.std.proofs.Common.{IfSome}
+use Rattle.sip_desk.specs.Lines.{posted}
+use Rattle.sip_udp.proofs.Fed.{FedSoFar}
+use Rattle.sip_udp.proofs.pipe.post_lines.Given as goal
+
+abbrev pub invariant-loop-number : goal.invariant-loop-number
+invariant-loop-number g l =
+    IfSome (g.I.Read.remaining l.fn.input) (λ text.
+    FedSoFar text (g.I.Read.remaining l.input) (posted l.fn.line) (posted l.line) l.number)
