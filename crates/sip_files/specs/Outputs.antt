@@ -23,25 +23,25 @@ unfoldable pub form_text : List ℕ → List ℕ → List ℕ
 form_text call_id form = codes "notice" ++ word_field call_id ++ plain_field form
 
 -- the same and an id
-unfoldable pub head_text : List ℕ → List ℕ → Id → List ℕ
-head_text call_id form id = form_text call_id form ++ id_field id
+unfoldable pub form_with_id : List ℕ → List ℕ → Id → List ℕ
+form_with_id call_id form id = form_text call_id form ++ id_field id
 
 -- the tags and the body are words
 abbrev pub notice_text : Notice → List ℕ
 notice_text (notice.Request call_id id method local_tag remote_tag body) =
-    head_text call_id (codes "request") id ++ plain_field method ++ word_field local_tag
+    form_with_id call_id (codes "request") id ++ plain_field method ++ word_field local_tag
     ++ word_field remote_tag ++ word_field body
 notice_text (notice.Response call_id id status local_tag remote_tag body) =
-    head_text call_id (codes "response") id ++ number_field status ++ word_field local_tag
+    form_with_id call_id (codes "response") id ++ number_field status ++ word_field local_tag
     ++ word_field remote_tag ++ word_field body
-notice_text (notice.Ack call_id id body) = head_text call_id (codes "ack") id ++ word_field body
+notice_text (notice.Ack call_id id body) = form_with_id call_id (codes "ack") id ++ word_field body
 notice_text (notice.Prack call_id id rseq body) =
-    head_text call_id (codes "prack") id ++ number_field rseq ++ word_field body
-notice_text (notice.Timeout call_id id) = head_text call_id (codes "timeout") id
-notice_text (notice.Failed call_id id) = head_text call_id (codes "failed") id
-notice_text (notice.NoAck call_id id) = head_text call_id (codes "noack") id
-notice_text (notice.NoPrack call_id id) = head_text call_id (codes "noprack") id
-notice_text (notice.Cancel call_id id) = head_text call_id (codes "cancel") id
+    form_with_id call_id (codes "prack") id ++ number_field rseq ++ word_field body
+notice_text (notice.Timeout call_id id) = form_with_id call_id (codes "timeout") id
+notice_text (notice.Failed call_id id) = form_with_id call_id (codes "failed") id
+notice_text (notice.NoAck call_id id) = form_with_id call_id (codes "noack") id
+notice_text (notice.NoPrack call_id id) = form_with_id call_id (codes "noprack") id
+notice_text (notice.Cancel call_id id) = form_with_id call_id (codes "cancel") id
 notice_text (notice.Ended call_id local_tag remote_tag) =
     form_text call_id (codes "ended") ++ word_field local_tag ++ word_field remote_tag
 notice_text (notice.Refused call_id place refusal) =
@@ -56,12 +56,12 @@ unfoldable pub output_line : Output → List ℕ
 output_line output = output_text output ++ codes "\n"
 
 -- the round's moment, and its outputs in order
-unfoldable pub round_text : ℕ → List Output → List ℕ
-round_text moment outputs =
+unfoldable pub round_outputs_text : ℕ → List Output → List ℕ
+round_outputs_text moment outputs =
     codes "round" ++ number_field moment ++ codes "\n" ++ flat_map output_line outputs
 
 abbrev pub rounds_text : List (ℕ × List Output) → List ℕ
-rounds_text rounds = flat_map (λ round. round_text round.0 round.1) rounds
+rounds_text rounds = flat_map (λ round. round_outputs_text round.0 round.1) rounds
 
 unfoldable pub outputs_text : List (ℕ × List Output) → List ℕ
 outputs_text rounds = codes "sip-outputs 1\n" ++ rounds_text rounds

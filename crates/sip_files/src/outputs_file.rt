@@ -47,10 +47,10 @@ fn push_rounds(file: &mut Vec<u8>, rounds: &[(u64, Vec<Output>)]) -> Result<(), 
     Ok(())
 }
 
-#[tactic(auto, unfolding(crate::specs::Outputs::round_text))]
+#[tactic(auto, unfolding(crate::specs::Outputs::round_outputs_text))]
 fn push_round(file: &mut Vec<u8>, moment: u64, outputs: &[Output]) -> Result<(), AllocError>
     ensures { OnOk result (file.new.items ≡ file.old.items
-        ++ written.round_text moment outputs.now) }
+        ++ written.round_outputs_text moment outputs.now) }
 {
     file.extend_from_slice(b"round")?;
     push_number(file, moment)?;
@@ -276,10 +276,10 @@ fn push_form(file: &mut Vec<u8>, call_id: &CallId, form: &[u8]) -> Result<(), Al
 }
 
 // The same and an id.
-#[tactic(auto, unfolding(crate::specs::Outputs::head_text))]
+#[tactic(auto, unfolding(crate::specs::Outputs::form_with_id))]
 fn push_head(file: &mut Vec<u8>, call_id: &CallId, form: &[u8], id: Id) -> Result<(), AllocError>
     ensures { OnOk result (file.new.items ≡ file.old.items
-        ++ written.head_text call_id.now form.now id) }
+        ++ written.form_with_id call_id.now form.now id) }
 {
     push_form(file, call_id, form)?;
     push_id(file, id)
