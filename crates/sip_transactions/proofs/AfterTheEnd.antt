@@ -1,5 +1,5 @@
 -- Nothing is handed up under the id of a life that has ended.
-use Rattle.std.proofs.Common.{◌≡◌, ℕ, Bool, true, false, ◌&&◌, ◌||◌, List, [], ◌∷◌, ◌++◌, refl, sym, ◌∙◌, ap, subst, append_assoc}
+use Rattle.std.proofs.Common.{◌≡◌, ℕ, Bool, true, false, ◌&&◌, ◌||◌, List, [], ◌∷◌, ◌++◌, refl, sym, ◌∙◌, ap, subst}
 use Rattle.std.specs.Prelude.{not, Option, None, Some, IsSome, is_some, option_map, option_to_list, filter_map}
 use Rattle.std.specs.List.{cons_option, list_any, AllByRecursion, IsDistinct}
 use Rattle.std.proofs.lemmas.Bool.{false≢true}
@@ -12,8 +12,7 @@ use Rattle.sip_message.specs.declared.key.Key.{Key}
 use Rattle.sip_message.specs.declared.message.Message.{Message}
 use Rattle.sip_message.specs.declared.start_line.StartLine.{StartLine}
 use Rattle.sip_message.specs.declared.start_line.StartLine.TheVariants as start
-use Rattle.sip_model.specs.Machine.{outputs_from, Timed}
-use Rattle.sip_model.proofs.History.{state_after-push}
+use Rattle.sip_model.specs.Machine.{outputs_from, state_left, Timed}
 use Rattle.sip_transactions.specs.declared.input.Input.{Input}
 use Rattle.sip_transactions.specs.declared.input.Input.TheVariants.{Receive, Start, Answer, Failed}
 use Rattle.sip_transactions.specs.declared.life.Life.{Life}
@@ -29,7 +28,7 @@ use Rattle.sip_transactions.specs.Input.{role_of, trigger_of, arrival_of, arrive
 use Rattle.sip_transactions.specs.Output.{outputs_of, handed_out, sent_bytes, send_out}
 use Rattle.sip_transactions.specs.Life.{stepped, acted_if, begun, life_after, last_of, entered}
 use Rattle.sip_transactions.specs.Machine.{transaction_machine}
-use Rattle.sip_transactions.specs.Laws.{NothingAfterTheEnd, carries, same_id, id_of, naming_id, arrival_id}
+use Rattle.sip_transactions.specs.Laws.{NothingAfterTheEnd, carries, same_id, id_of, names_in, naming_id, arrival_id}
 use Rattle.sip_transactions.proofs.RowFacts.{and-left, and-right, row_passes}
 use Rattle.sip_transactions.proofs.LawSteps.{by_step, is_ended, is_message, is_report, response_needs_life, responses_in_tables}
 use Rattle.sip_transactions.proofs.OneRequest.{life_after-ended}
@@ -178,9 +177,6 @@ later_other id key held (timed ∷ inputs) other named =
     ∙ or_none _ _ one.said (later_other id key (stepped key held timed).0 inputs one.life named.1)
 
 -- ---- distinct names
-abbrev names : List (Timed Input) → List Id
-names inputs = filter_map (λ timed. naming_id timed.input) inputs
-
 distinct_later : (xs : List Id) (id : Id) (ys : List Id) → IsDistinct same_id (xs ++ id ∷ ys)
     → AllByRecursion (λ y. same_id id y ≡ false) ys
 distinct_later [] id ys distinct = IsDistinct-head same_id id ys distinct
@@ -200,11 +196,11 @@ named_first id None later all = (tt, all)
 named_first id (Some name) later all = (all.0, all.1)
 
 named_apart : (id : Id) (inputs : List (Timed Input))
-    → AllByRecursion (λ name. same_id id name ≡ false) (names inputs)
+    → AllByRecursion (λ name. same_id id name ≡ false) (names_in inputs)
     → AllByRecursion (λ timed. OtherName id (naming_id timed.input)) inputs
 named_apart id [] all = tt
 named_apart id (timed ∷ inputs) all =
-    let parts = named_first id (naming_id timed.input) (names inputs) all in
+    let parts = named_first id (naming_id timed.input) (names_in inputs) all in
     (parts.0, named_apart id inputs parts.1)
 
 -- the first input of a life names it
@@ -243,23 +239,20 @@ first_names key first =
     (responses_in_tables (role_of key)) None row.trigger step row.row))
 
 pub nothing_after_the_end : NothingAfterTheEnd
-nothing_after_the_end key before first rest after id life ended named distinct =
-    let goes_on : IsSome (stepped key None first).0 =
-    subst (λ s. IsSome (stepped key s first).0) life.none_before
-    (subst IsSome (state_after-push transaction_machine key before first) life.begins) in
-    let name : naming_id first.input ≡ Some id = first_names key first goes_on ∙ named in
-    let parts : names (before ++ first ∷ rest ++ after)
-    ≡ (names before ++ cons_option (naming_id first.input) (names rest)) ++ names after =
-    filter_map-append (λ timed. naming_id timed.input) (before ++ first ∷ rest) after
-    ∙ ap (λ l. l ++ names after) (filter_map-append (λ timed. naming_id timed.input) before
-    (first ∷ rest)) in
-    let with_name : names (before ++ first ∷ rest ++ after) ≡ names before
-    ++ id ∷ (names rest ++ names after) =
-    parts ∙ ap (λ n. (names before ++ cons_option n (names rest)) ++ names after) name
-    ∙ append_assoc (names before) (id ∷ names rest) (names after) in
-    let later : AllByRecursion (λ y. same_id id y ≡ false) (names rest ++ names after) =
-    distinct_later (names before) id (names rest ++ names after)
+nothing_after_the_end key inputs life id ended named distinct =
+    let name : naming_id life.first.input ≡ Some id =
+    first_names key life.first life.begins ∙ named in
+    let with_name : names_in inputs
+    ≡ names_in life.before ++ (id ∷ names_in (life.rest ++ life.after)) =
+    ap names_in life.are
+    ∙ filter_map-append (λ timed. naming_id timed.input) life.before
+    (life.first ∷ (life.rest ++ life.after))
+    ∙ ap (λ n. names_in life.before ++ cons_option n (names_in (life.rest ++ life.after))) name in
+    let later : AllByRecursion (λ y. same_id id y ≡ false) (names_in (life.rest ++ life.after)) =
+    distinct_later (names_in life.before) id (names_in (life.rest ++ life.after))
     (subst (IsDistinct same_id) with_name distinct) in
-    later_other id key None after tt
-    (named_apart id after (all_right (λ y. same_id id y ≡ false) (names rest)
-    (names after) later))
+    later_other id key (state_left life) life.after (subst (OtherLife id) (sym ended) tt)
+    (named_apart id life.after
+    (all_right (λ y. same_id id y ≡ false) (names_in life.rest) (names_in life.after)
+    (subst (AllByRecursion (λ y. same_id id y ≡ false))
+    (filter_map-append (λ timed. naming_id timed.input) life.rest life.after) later)))

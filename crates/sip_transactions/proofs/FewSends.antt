@@ -20,7 +20,6 @@ use Rattle.sip_message.specs.HopByHop.{ack_of}
 use Rattle.sip_message.specs.Message.{is_request_message, is_request_line}
 use Rattle.sip_message.specs.Written.{written, head_text, start_text, identity_text, routes_text, extensions_text, content_text, via_line, number_line}
 use Rattle.sip_model.specs.Machine.{outputs_from, IsWithinLife, Timed, given_at}
-use Rattle.sip_model.proofs.History.{state_after-push}
 use Rattle.sip_transactions.specs.declared.input.Input.{Input}
 use Rattle.sip_transactions.specs.declared.input.Input.TheVariants.{Receive, Start, Answer, Failed}
 use Rattle.sip_transactions.specs.declared.life.Life.{Life}
@@ -700,9 +699,17 @@ invite_method branch method keeping =
     (λ miss. absurd (false≢true (sym (ap (λ b. keeps_request (cond b InviteClient Client)) miss)
     ∙ keeping)))
 
-pub few_sends : FewSends
+-- of a life that begins so
+few_from : (branch method : List ℕ) (now : ℕ) (id : Id) (call_id : List ℕ) (request : Message)
+    (to : Addr) (rest : List (Timed Input)) → is_request_message request ≡ true
+    → request.cseq.method ≡ method
+    → IsWithinLife transaction_machine (key.Client branch method)
+    (stepped (key.Client branch method) None (given_at now (Start id call_id request to))).0 rest
+    → sends_of (written request) (outputs_from transaction_machine (key.Client branch method) None
+    (given_at now (Start id call_id request to) ∷ rest))
+    ≤ 1 + most_repeats (role_of (key.Client branch method))
 unfolding FitAfter
-few_sends branch method before now id call_id request to rest life line same =
+few_from branch method now id call_id request to rest line same within =
     let k = key.Client branch method in
     let role = role_of k in
     let client = role_client branch method in
@@ -715,13 +722,17 @@ few_sends branch method before now id call_id request to rest life line same =
     (record { few = omega arith; fit = tt })
     (λ step row. start_few role client k text invite now id call_id request to step.next step.handed
     step.sent step.due (start_row role client row.trigger step row.triggered row.row)) in
-    let within : IsWithinLife transaction_machine k (stepped k None first).0 rest =
-    subst (λ s. IsWithinLife transaction_machine k (stepped k s first).0 rest) life.none_before
-    (subst (λ s. IsWithinLife transaction_machine k s rest)
-    (state_after-push transaction_machine k before first) life.within) in
     let later = rest_few role client k text invite
     (stepped k None first).0 rest refl within one.fit in
     let both = sum_by-append (λ o. cond (is_send_of text o) 1 0) (stepped k None first).1
     (outputs_from transaction_machine k (stepped k None first).0 rest) in
     let few = one.few in
     omega (arith, later, both, few)
+
+pub few_sends : FewSends
+few_sends branch method inputs life now id call_id request to started line same =
+    let k = key.Client branch method in
+    subst (λ first. IsWithinLife transaction_machine k (stepped k None first).0 life.rest
+    → sends_of (written request) (outputs_from transaction_machine k None (first ∷ life.rest))
+    ≤ 1 + most_repeats (role_of k)) (sym started)
+    (few_from branch method now id call_id request to life.rest line same) life.within

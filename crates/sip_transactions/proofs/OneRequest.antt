@@ -8,8 +8,7 @@ use Rattle.sip_message.specs.declared.key.Key.{Key}
 use Rattle.sip_message.specs.declared.message.Message.{Message}
 use Rattle.sip_message.specs.declared.start_line.StartLine.{StartLine}
 use Rattle.sip_message.specs.declared.start_line.StartLine.TheVariants as start
-use Rattle.sip_model.specs.Machine.{state_after, outputs_from, IsWithinLife, Timed}
-use Rattle.sip_model.proofs.History.{state_after-push}
+use Rattle.sip_model.specs.Machine.{outputs_from, IsWithinLife, Timed}
 use Rattle.sip_transactions.specs.declared.input.Input.{Input}
 use Rattle.sip_transactions.specs.declared.input.Input.TheVariants.{Receive, Start, Answer, Failed}
 use Rattle.sip_transactions.specs.declared.life.Life.{Life}
@@ -168,11 +167,7 @@ rest_silent key (Some life) (timed ∷ inputs) within =
     ∙ rest_silent key (stepped key (Some life) timed).0 inputs within.1
 
 pub one_request_up : OneRequestUp
-one_request_up key server before first rest life =
-    let goes_on : IsSome (stepped key None first).0 =
-    subst (λ s. IsSome (stepped key s first).0) life.none_before
-    (subst IsSome (state_after-push transaction_machine key before first) life.begins) in (
-      subst (λ s. requests_in (stepped key s first).1 ≡ 1) (sym life.none_before)
-          (first_once key server first goes_on),
-      rest_silent key (state_after transaction_machine key (before ++ first ∷ [])) rest life.within,
-    )
+one_request_up key server inputs life = (
+  first_once key server life.first life.begins,
+  rest_silent key (stepped key None life.first).0 life.rest life.within,
+)
