@@ -15,18 +15,18 @@ use Rattle.sip_message.specs.declared.start_line.StartLine.TheVariants as start
 use Rattle.sip_model.specs.Machine.{outputs_from, state_left, Timed}
 use Rattle.sip_transactions.specs.declared.input.Input.{Input}
 use Rattle.sip_transactions.specs.declared.input.Input.TheVariants.{Receive, Start, Answer, Failed}
+use Rattle.sip_transactions.specs.declared.life.Context.{Context}
 use Rattle.sip_transactions.specs.declared.life.Life.{Life}
 use Rattle.sip_transactions.specs.declared.output.Out.{Out}
+use Rattle.sip_transactions.specs.declared.state.State.{State}
 use Rattle.sip_transactions.specs.declared.step.Step.{Step}
-use Rattle.sip_transactions.specs.declared.step.Next.{Next}
-use Rattle.sip_transactions.specs.declared.step.Next.TheVariants.{Same, Ended, Become}
 use Rattle.sip_transactions.specs.declared.step.Handed.{Handed}
 use Rattle.sip_transactions.specs.declared.step.Handed.TheVariants as up
 use Rattle.sip_transactions.specs.declared.trigger.Trigger.{Trigger}
 use Rattle.sip_transactions.specs.Rows.{rows_of}
 use Rattle.sip_transactions.specs.Input.{role_of, trigger_of, arrival_of, arrived_in}
 use Rattle.sip_transactions.specs.Output.{outputs_of, handed_out, sent_bytes, send_out}
-use Rattle.sip_transactions.specs.Life.{stepped, acted_if, begun, life_after, last_of, entered}
+use Rattle.sip_transactions.specs.Life.{stepped, acted_if, begun, life_after, life_in, last_of, entered, armed}
 use Rattle.sip_transactions.specs.Machine.{transaction_machine}
 use Rattle.sip_transactions.specs.Laws.{NothingAfterTheEnd, carries, same_id, id_of, names_in, naming_id, arrival_id}
 use Rattle.sip_transactions.proofs.RowFacts.{and-left, and-right, row_passes}
@@ -36,7 +36,7 @@ use Rattle.sip_transactions.proofs.OneRequest.{life_after-ended}
 -- a life, an input, that doesn't have this id
 abbrev OtherLife : Id → Option Life → Type 0
 OtherLife id None = Unit {0}
-OtherLife id (Some life) = same_id id life.id ≡ false
+OtherLife id (Some life) = same_id id life.context.id ≡ false
 
 abbrev OtherName : Id → Option Id → Type 0
 OtherName id None = Unit {0}
@@ -51,94 +51,98 @@ or_none : (a b : Bool) → a ≡ false → b ≡ false → (a || b) ≡ false
 or_none true b no_a no_b = no_a
 or_none false b no_a no_b = no_b
 
-sends_none : (id : Id) (key : Key) (life : Life) (o : Option (List ℕ))
-    → list_any (carries id) (option_to_list (option_map (send_out key life.to) o)) ≡ false
-sends_none id key life None = refl
-sends_none id key life (Some bytes) = refl
+sends_none : (id : Id) (key : Key) (context : Context) (o : Option (List ℕ))
+    → list_any (carries id) (option_to_list (option_map (send_out key context.to) o)) ≡ false
+sends_none id key context None = refl
+sends_none id key context (Some bytes) = refl
 
-handed_other : (id : Id) (key : Key) (life : Life) (handed : Handed)
-    (arrived : Option (Message × Addr)) → same_id id life.id ≡ false
-    → list_any (carries id) (option_to_list (handed_out key life handed arrived)) ≡ false
+handed_other : (id : Id) (key : Key) (context : Context) (handed : Handed)
+    (arrived : Option (Message × Addr)) → same_id id context.id ≡ false
+    → list_any (carries id) (option_to_list (handed_out key context handed arrived)) ≡ false
 unfolding handed_out
-handed_other id key life up.Nothing arrived other = refl
-handed_other id key life up.Message None other = refl
-handed_other id key life up.Message (Some came) other = or_none _ false other refl
-handed_other id key life up.Timeout arrived other = or_none _ false other refl
-handed_other id key life up.Failed arrived other = or_none _ false other refl
-handed_other id key life up.NoTransaction arrived other = refl
+handed_other id key context up.Nothing arrived other = refl
+handed_other id key context up.Message None other = refl
+handed_other id key context up.Message (Some came) other = or_none _ false other refl
+handed_other id key context up.Timeout arrived other = or_none _ false other refl
+handed_other id key context up.Failed arrived other = or_none _ false other refl
+handed_other id key context up.NoTransaction arrived other = refl
 
-said_other : (id : Id) (key : Key) (life : Life) (step : Step) (made : Option (List ℕ))
+said_other : (id : Id) (key : Key) (context : Context) (step : Step) (made : Option (List ℕ))
     (arrived : Option (Message × Addr))
-    → list_any (carries id) (option_to_list (handed_out key life step.handed arrived)) ≡ false
-    → list_any (carries id) (outputs_of key life step made arrived) ≡ false
+    → list_any (carries id) (option_to_list (handed_out key context step.handed arrived)) ≡ false
+    → list_any (carries id) (outputs_of key context step made arrived) ≡ false
 unfolding outputs_of
-said_other id key life step made arrived handed =
-    list_any-append (carries id) (option_to_list (handed_out key life step.handed arrived))
-    (option_to_list (option_map (send_out key life.to) (sent_bytes life.last step.sent made)))
-    ∙ or_none _ _ handed (sends_none id key life (sent_bytes life.last step.sent made))
+said_other id key context step made arrived handed =
+    list_any-append (carries id) (option_to_list (handed_out key context step.handed arrived))
+    (option_to_list (option_map (send_out key context.to) (sent_bytes context.last step.sent made)))
+    ∙ or_none _ _ handed (sends_none id key context (sent_bytes context.last step.sent made))
 
-id-last_of : (bytes : Option (List ℕ)) (life : Life) → (last_of bytes life).id ≡ life.id
-id-last_of None life = refl
-id-last_of (Some bytes) life = refl
+id-last_of : (bytes : Option (List ℕ)) (context : Context) → (last_of bytes context).id ≡ context.id
+id-last_of None context = refl
+id-last_of (Some bytes) context = refl
 
-entered_other : (id : Id) (next : Next) (life : Life) → same_id id life.id ≡ false
-    → OtherLife id (entered next life)
-entered_other id Same life other = other
-entered_other id Ended life other = tt
-entered_other id (Become state) life other = other
+entered_other : (id : Id) (context : Context) (state : Option State)
+    → same_id id context.id ≡ false → OtherLife id (option_map (life_in context) state)
+entered_other id context None other = tt
+entered_other id context (Some state) other = other
 
-life_other : (id : Id) (life : Life) (step : Step) (now : ℕ) (bytes : Option (List ℕ))
-    → same_id id life.id ≡ false → OtherLife id (life_after life step now bytes)
+life_other : (id : Id) (state : Option State) (context : Context) (step : Step) (now : ℕ)
+    (bytes : Option (List ℕ)) → same_id id context.id ≡ false
+    → OtherLife id (life_after state context step now bytes)
 unfolding life_after
-life_other id life step now bytes other =
-    entered_other id step.next _ (ap (same_id id) (id-last_of bytes life) ∙ other)
+life_other id state context step now bytes other =
+    entered_other id (armed step.due now (last_of bytes context)) (entered step.next state)
+    (ap (same_id id) (id-last_of bytes context) ∙ other)
 
-acted_other : (id : Id) (key : Key) (now : ℕ) (input : Option Input) (life : Life) (step : Step)
-    → same_id id life.id ≡ false → Other id (acted_if key now input (Some life) step)
-acted_other id key now input life step other = record {
-  life = life_other id life step now _ other;
-  said = said_other id key life step _ (arrived_in input)
-      (handed_other id key life step.handed (arrived_in input) other);
+acted_other : (id : Id) (key : Key) (now : ℕ) (input : Option Input) (state : Option State)
+    (context : Context) (step : Step) → same_id id context.id ≡ false
+    → Other id (acted_if key now input state (Some context) step)
+acted_other id key now input state context step other = record {
+  life = life_other id state context step now _ other;
+  said = said_other id key context step _ (arrived_in input)
+      (handed_other id key context step.handed (arrived_in input) other);
 }
 
 -- a response without a life: nothing is handed up, and nothing begins
-not_handed : (id : Id) (key : Key) (life : Life) (handed : Handed)
+not_handed : (id : Id) (key : Key) (context : Context) (handed : Handed)
     (arrived : Option (Message × Addr)) → not (is_message handed || is_report handed) ≡ true
-    → list_any (carries id) (option_to_list (handed_out key life handed arrived)) ≡ false
+    → list_any (carries id) (option_to_list (handed_out key context handed arrived)) ≡ false
 unfolding handed_out
-not_handed id key life up.Nothing arrived quiet = refl
-not_handed id key life up.Message arrived quiet = absurd (false≢true quiet)
-not_handed id key life up.Timeout arrived quiet = absurd (false≢true quiet)
-not_handed id key life up.Failed arrived quiet = absurd (false≢true quiet)
-not_handed id key life up.NoTransaction arrived quiet = refl
+not_handed id key context up.Nothing arrived quiet = refl
+not_handed id key context up.Message arrived quiet = absurd (false≢true quiet)
+not_handed id key context up.Timeout arrived quiet = absurd (false≢true quiet)
+not_handed id key context up.Failed arrived quiet = absurd (false≢true quiet)
+not_handed id key context up.NoTransaction arrived quiet = refl
 
-response_other : (id : Id) (key : Key) (now : ℕ) (input : Option Input) (life : Life) (step : Step)
+response_other : (id : Id) (key : Key) (now : ℕ) (input : Option Input) (context : Context)
+    (step : Step)
     → (is_ended step.next && not (is_message step.handed || is_report step.handed)) ≡ true
-    → Other id (acted_if key now input (Some life) step)
-response_other id key now input life step quiet = record {
+    → Other id (acted_if key now input None (Some context) step)
+response_other id key now input context step quiet = record {
   life = subst (OtherLife id) (sym
-      (life_after-ended life step now _ (and-left (is_ended step.next) _ quiet))) tt;
-  said = said_other id key life step _ (arrived_in input)
-      (not_handed id key life step.handed (arrived_in input)
+      (life_after-ended None context step now _ (and-left (is_ended step.next) _ quiet))) tt;
+  said = said_other id key context step _ (arrived_in input)
+      (not_handed id key context step.handed (arrived_in input)
       (and-right (is_ended step.next) _ quiet));
 }
 
 -- a message that came without a life
 receive_other : (id : Id) (key : Key) (now : ℕ) (i : Id) (message : Message) (reply_to : Addr)
-    (line : StartLine) (step : Step) (life : Life) → life.id ≡ i → message.start ≡ line
+    (line : StartLine) (step : Step) (context : Context) → context.id ≡ i → message.start ≡ line
     → OtherName id (arrival_id line i)
     → response_needs_life None (arrival_of line message.cseq.method) step ≡ true
-    → Other id (acted_if key now (Some (Receive i message reply_to)) (Some life) step)
-receive_other id key now i message reply_to (start.Request uri) step life named is other passed =
-    acted_other id key now (Some (Receive i message reply_to)) life step (ap (same_id id) named ∙ other)
+    → Other id (acted_if key now (Some (Receive i message reply_to)) None (Some context) step)
+receive_other id key now i message reply_to (start.Request uri) step context named is other passed =
+    acted_other id key now (Some (Receive i message reply_to)) None context step
+    (ap (same_id id) named ∙ other)
 receive_other id key now i message reply_to
-    (start.Response status reason) step life named is other passed =
-    response_other id key now (Some (Receive i message reply_to)) life step passed
+    (start.Response status reason) step context named is other passed =
+    response_other id key now (Some (Receive i message reply_to)) context step passed
 
 begun_other : (id : Id) (key : Key) (now : ℕ) (input : Option Input) (step : Step) (trigger : Trigger)
     → trigger_of None now input ≡ Some trigger → response_needs_life None trigger step ≡ true
     → OtherName id (naming_id input)
-    → Other id (acted_if key now input (begun (role_of key) input) step)
+    → Other id (acted_if key now input None (begun (role_of key) input) step)
 unfolding begun
 begun_other id key now None step trigger triggered passed other = record { life = tt; said = refl }
 begun_other id key now (Some (Answer i message)) step trigger triggered passed other =
@@ -146,7 +150,7 @@ begun_other id key now (Some (Answer i message)) step trigger triggered passed o
 begun_other id key now (Some (Failed i)) step trigger triggered passed other =
     record { life = tt; said = refl }
 begun_other id key now (Some (Start i call_id message to)) step trigger triggered passed other =
-    acted_other id key now (Some (Start i call_id message to)) _ step other
+    acted_other id key now (Some (Start i call_id message to)) None _ step other
 begun_other id key now (Some (Receive i message reply_to)) step trigger triggered passed other =
     let same : trigger ≡ arrival_of message.start message.cseq.method = cc in
     receive_other id key now i message reply_to message.start step _ refl refl other
@@ -157,7 +161,8 @@ input_other : (id : Id) (key : Key) (held : Option Life) (timed : Timed Input) �
     → OtherName id (naming_id timed.input) → Other id (stepped key held timed)
 input_other id key (Some life) timed other named =
     by_step (Other id) key (Some life) timed (record { life = other; said = refl })
-    (λ step row. acted_other id key timed.moment timed.input life step other)
+    (λ step row. acted_other id key timed.moment timed.input (Some life.state) life.context step
+    other)
 input_other id key None timed other named =
     by_step (Other id) key None timed (record { life = tt; said = refl })
     (λ step row. begun_other id key timed.moment timed.input step row.trigger row.triggered
@@ -205,18 +210,18 @@ named_apart id (timed ∷ inputs) all =
 
 -- the first input of a life names it
 receive_names : (key : Key) (now : ℕ) (i : Id) (message : Message) (reply_to : Addr)
-    (line : StartLine) (step : Step) (life : Life)
+    (line : StartLine) (step : Step) (context : Context)
     → response_needs_life None (arrival_of line message.cseq.method) step ≡ true
-    → IsSome (acted_if key now (Some (Receive i message reply_to)) (Some life) step).0
+    → IsSome (acted_if key now (Some (Receive i message reply_to)) None (Some context) step).0
     → arrival_id line i ≡ Some i
-receive_names key now i message reply_to (start.Request uri) step life passed goes_on = refl
-receive_names key now i message reply_to (start.Response status reason) step life passed goes_on =
+receive_names key now i message reply_to (start.Request uri) step context passed goes_on = refl
+receive_names key now i message reply_to (start.Response status reason) step context passed goes_on =
     absurd (false≢true (sym (ap is_some
-    (life_after-ended life step now _ (and-left (is_ended step.next) _ passed))) ∙ goes_on))
+    (life_after-ended None context step now _ (and-left (is_ended step.next) _ passed))) ∙ goes_on))
 
 begun_names : (key : Key) (now : ℕ) (input : Option Input) (step : Step) (trigger : Trigger)
     → trigger_of None now input ≡ Some trigger → response_needs_life None trigger step ≡ true
-    → IsSome (acted_if key now input (begun (role_of key) input) step).0
+    → IsSome (acted_if key now input None (begun (role_of key) input) step).0
     → naming_id input ≡ id_of input
 unfolding begun
 begun_names key now None step trigger triggered passed goes_on = refl
