@@ -66,6 +66,7 @@ opened_by_response request response = record {
   remote_cseq = None;
 }
 
+-- the dialog of an opening
 abbrev pub opened : Opening → Dialog
 opened (ByRequest request tag status) = opened_by_request request tag status
 opened (ByResponse request response) = opened_by_response request response

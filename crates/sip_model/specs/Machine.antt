@@ -81,15 +81,18 @@ module _ {K S I O : Type 0} {machine : Machine K S I O} {key : K} {inputs : List
   abbrev pub state_left : LifeIn machine key inputs → Option S
   state_left life = state_from machine key None (life.first ∷ life.rest)
 
-  -- what is said before a life, to its first input, to the rest of its inputs, and after it
+  -- what is said before a life
   abbrev pub said_before : LifeIn machine key inputs → List O
   said_before life = outputs_from machine key None life.before
 
+  -- to its first input
   abbrev pub said_at_first : LifeIn machine key inputs → List O
   said_at_first life = adds machine key None life.first
 
+  -- to the rest of its inputs
   abbrev pub said_in_rest : LifeIn machine key inputs → List O
   said_in_rest life = outputs_from machine key (next machine key None life.first) life.rest
 
+  -- and after it
   abbrev pub said_after : LifeIn machine key inputs → List O
   said_after life = outputs_from machine key (state_left life) life.after

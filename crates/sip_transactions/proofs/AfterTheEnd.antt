@@ -1,6 +1,6 @@
 -- Nothing is handed up under the id of a life that has ended.
 use Rattle.std.proofs.Common.{◌≡◌, ℕ, Bool, true, false, ◌&&◌, ◌||◌, List, [], ◌∷◌, ◌++◌, refl, sym, ◌∙◌, ap, subst}
-use Rattle.std.specs.Prelude.{not, Option, None, Some, IsSome, is_some, option_map, option_to_list, filter_map}
+use Rattle.std.specs.Prelude.{not, Option, None, Some, IsSome, is_some, option_map, option_to_list}
 use Rattle.std.specs.List.{cons_option, list_any, AllByRecursion, IsDistinct}
 use Rattle.std.proofs.lemmas.Bool.{false≢true}
 use Rattle.std.proofs.lemmas.List.Folds.{list_any-append}
@@ -24,11 +24,12 @@ use Rattle.sip_transactions.specs.declared.step.Handed.{Handed}
 use Rattle.sip_transactions.specs.declared.step.Handed.TheVariants as up
 use Rattle.sip_transactions.specs.declared.trigger.Trigger.{Trigger}
 use Rattle.sip_transactions.specs.Rows.{rows_of}
+use Rattle.sip_transactions.specs.Ids.{is_id}
 use Rattle.sip_transactions.specs.Input.{role_of, trigger_of, arrival_of, arrived_in}
 use Rattle.sip_transactions.specs.Output.{outputs_of, handed_out, sent_bytes, send_out}
 use Rattle.sip_transactions.specs.Life.{stepped, acted_if, begun, life_after, life_in, last_of, entered, armed}
 use Rattle.sip_transactions.specs.Machine.{transaction_machine}
-use Rattle.sip_transactions.specs.Laws.{NothingAfterTheEnd, carries, same_id, id_of, names_in, naming_id, arrival_id}
+use Rattle.sip_transactions.specs.Laws.{NothingAfterTheEnd, carries, id_of, names_in, naming_id, arrival_id}
 use Rattle.sip_transactions.proofs.RowFacts.{and-left, and-right, row_passes}
 use Rattle.sip_transactions.proofs.LawSteps.{by_step, is_ended, is_message, is_report, response_needs_life, responses_in_tables}
 use Rattle.sip_transactions.proofs.OneRequest.{life_after-ended}
@@ -36,11 +37,11 @@ use Rattle.sip_transactions.proofs.OneRequest.{life_after-ended}
 -- a life, an input, that doesn't have this id
 abbrev OtherLife : Id → Option Life → Type 0
 OtherLife id None = Unit {0}
-OtherLife id (Some life) = same_id id life.context.id ≡ false
+OtherLife id (Some life) = is_id id life.context.id ≡ false
 
 abbrev OtherName : Id → Option Id → Type 0
 OtherName id None = Unit {0}
-OtherName id (Some name) = same_id id name ≡ false
+OtherName id (Some name) = is_id id name ≡ false
 
 -- what a row says and leaves at another life
 record Other (id : Id) (after : Option Life × List Out) : Type 0 where
@@ -57,7 +58,7 @@ sends_none id key context None = refl
 sends_none id key context (Some bytes) = refl
 
 handed_other : (id : Id) (key : Key) (context : Context) (handed : Handed)
-    (arrived : Option (Message × Addr)) → same_id id context.id ≡ false
+    (arrived : Option (Message × Addr)) → is_id id context.id ≡ false
     → list_any (carries id) (option_to_list (handed_out key context handed arrived)) ≡ false
 unfolding handed_out
 handed_other id key context up.Nothing arrived other = refl
@@ -82,20 +83,20 @@ id-last_of None context = refl
 id-last_of (Some bytes) context = refl
 
 entered_other : (id : Id) (context : Context) (state : Option State)
-    → same_id id context.id ≡ false → OtherLife id (option_map (life_in context) state)
+    → is_id id context.id ≡ false → OtherLife id (option_map (life_in context) state)
 entered_other id context None other = tt
 entered_other id context (Some state) other = other
 
 life_other : (id : Id) (state : Option State) (context : Context) (step : Step) (now : ℕ)
-    (bytes : Option (List ℕ)) → same_id id context.id ≡ false
+    (bytes : Option (List ℕ)) → is_id id context.id ≡ false
     → OtherLife id (life_after state context step now bytes)
 unfolding life_after
 life_other id state context step now bytes other =
     entered_other id (armed step.due now (last_of bytes context)) (entered step.next state)
-    (ap (same_id id) (id-last_of bytes context) ∙ other)
+    (ap (is_id id) (id-last_of bytes context) ∙ other)
 
 acted_other : (id : Id) (key : Key) (now : ℕ) (input : Option Input) (state : Option State)
-    (context : Context) (step : Step) → same_id id context.id ≡ false
+    (context : Context) (step : Step) → is_id id context.id ≡ false
     → Other id (acted_if key now input state (Some context) step)
 acted_other id key now input state context step other = record {
   life = life_other id state context step now _ other;
@@ -134,7 +135,7 @@ receive_other : (id : Id) (key : Key) (now : ℕ) (i : Id) (message : Message) (
     → Other id (acted_if key now (Some (Receive i message reply_to)) None (Some context) step)
 receive_other id key now i message reply_to (start.Request uri) step context named is other passed =
     acted_other id key now (Some (Receive i message reply_to)) None context step
-    (ap (same_id id) named ∙ other)
+    (ap (is_id id) named ∙ other)
 receive_other id key now i message reply_to
     (start.Response status reason) step context named is other passed =
     response_other id key now (Some (Receive i message reply_to)) context step passed
@@ -182,11 +183,11 @@ later_other id key held (timed ∷ inputs) other named =
     ∙ or_none _ _ one.said (later_other id key (stepped key held timed).0 inputs one.life named.1)
 
 -- ---- distinct names
-distinct_later : (xs : List Id) (id : Id) (ys : List Id) → IsDistinct same_id (xs ++ id ∷ ys)
-    → AllByRecursion (λ y. same_id id y ≡ false) ys
-distinct_later [] id ys distinct = IsDistinct-head same_id id ys distinct
+distinct_later : (xs : List Id) (id : Id) (ys : List Id) → IsDistinct is_id (xs ++ id ∷ ys)
+    → AllByRecursion (λ y. is_id id y ≡ false) ys
+distinct_later [] id ys distinct = IsDistinct-head is_id id ys distinct
 distinct_later (x ∷ xs) id ys distinct =
-    distinct_later xs id ys (IsDistinct-tail same_id x (xs ++ id ∷ ys) distinct)
+    distinct_later xs id ys (IsDistinct-tail is_id x (xs ++ id ∷ ys) distinct)
 
 all_right : {X : Type 0} (P : X → Type 0) (xs ys : List X) → AllByRecursion P (xs ++ ys)
     → AllByRecursion P ys
@@ -195,13 +196,13 @@ all_right P (x ∷ xs) ys all = all_right P xs ys all.1
 
 -- a name that comes first, if there is one
 named_first : (id : Id) (name : Option Id) (later : List Id)
-    → AllByRecursion (λ n. same_id id n ≡ false) (cons_option name later)
-    → OtherName id name × AllByRecursion (λ n. same_id id n ≡ false) later
+    → AllByRecursion (λ n. is_id id n ≡ false) (cons_option name later)
+    → OtherName id name × AllByRecursion (λ n. is_id id n ≡ false) later
 named_first id None later all = (tt, all)
 named_first id (Some name) later all = (all.0, all.1)
 
 named_apart : (id : Id) (inputs : List (Timed Input))
-    → AllByRecursion (λ name. same_id id name ≡ false) (names_in inputs)
+    → AllByRecursion (λ name. is_id id name ≡ false) (names_in inputs)
     → AllByRecursion (λ timed. OtherName id (naming_id timed.input)) inputs
 named_apart id [] all = tt
 named_apart id (timed ∷ inputs) all =
@@ -253,11 +254,11 @@ nothing_after_the_end key inputs life id ended named distinct =
     ∙ filter_map-append (λ timed. naming_id timed.input) life.before
     (life.first ∷ (life.rest ++ life.after))
     ∙ ap (λ n. names_in life.before ++ cons_option n (names_in (life.rest ++ life.after))) name in
-    let later : AllByRecursion (λ y. same_id id y ≡ false) (names_in (life.rest ++ life.after)) =
+    let later : AllByRecursion (λ y. is_id id y ≡ false) (names_in (life.rest ++ life.after)) =
     distinct_later (names_in life.before) id (names_in (life.rest ++ life.after))
-    (subst (IsDistinct same_id) with_name distinct) in
+    (subst (IsDistinct is_id) with_name distinct) in
     later_other id key (state_left life) life.after (subst (OtherLife id) (sym ended) tt)
     (named_apart id life.after
-    (all_right (λ y. same_id id y ≡ false) (names_in life.rest) (names_in life.after)
-    (subst (AllByRecursion (λ y. same_id id y ≡ false))
+    (all_right (λ y. is_id id y ≡ false) (names_in life.rest) (names_in life.after)
+    (subst (AllByRecursion (λ y. is_id id y ≡ false))
     (filter_map-append (λ timed. naming_id timed.input) life.rest life.after) later)))

@@ -1,5 +1,5 @@
 -- What holds of every transaction, over any list of its inputs.
-use Rattle.std.specs.Prelude.{◌≡◌, ℕ, ◌+◌, ◌==◌, ◌≤◌, ◌&&◌, Bool, true, false, List, ◌++◌, Option, None, Some, count_by, filter_map}
+use Rattle.std.specs.Prelude.{◌≡◌, ℕ, ◌+◌, ◌≤◌, Bool, true, false, List, ◌++◌, Option, None, Some, count_by, filter_map}
 use Rattle.std.specs.List.{AllByRecursion, list_any, IsDistinct}
 use Rattle.std.specs.Str.{bytes_eq}
 use Rattle.sip_message.specs.declared.id.Id.{Id}
@@ -24,6 +24,7 @@ use Rattle.sip_transactions.specs.declared.state.Role.{Role}
 use Rattle.sip_transactions.specs.declared.state.Role.TheVariants.{InviteClient, Client, InviteServer, Server}
 use Rattle.sip_transactions.specs.declared.state.State.{State}
 use Rattle.sip_transactions.specs.declared.trigger.Trigger.{Trigger}
+use Rattle.sip_transactions.specs.Ids.{is_id}
 use Rattle.sip_transactions.specs.Input.{role_of}
 use Rattle.sip_transactions.specs.Machine.{transaction_machine}
 use Rattle.sip_transactions.specs.Rows.{fits, rows_of}
@@ -98,13 +99,9 @@ naming_id (Some (Failed id)) = None
 abbrev pub names_in : List (Timed Input) → List Id
 names_in inputs = filter_map (λ timed. naming_id timed.input) inputs
 
--- the same event
-abbrev pub same_id : Id → Id → Bool
-same_id a b = (a.round == b.round) && (a.place == b.place)
-
 -- something handed up under this id
 abbrev pub carries : Id → Out → Bool
-carries id (out.Up up) = same_id id up.id
+carries id (out.Up up) = is_id id up.id
 carries id (out.Send key to bytes) = false
 carries id (out.Dropped place reason) = false
 
@@ -113,7 +110,7 @@ abbrev pub NothingAfterTheEnd : Type 0
 NothingAfterTheEnd = (key : Key) (inputs : List (Timed Input))
     (life : LifeIn transaction_machine key inputs) (id : Id)
     → state_left life ≡ None → id_of life.first.input ≡ Some id
-    → IsDistinct same_id (names_in inputs)
+    → IsDistinct is_id (names_in inputs)
     → list_any (carries id) (said_after life) ≡ false
 
 -- ---- how often a client sends its request
