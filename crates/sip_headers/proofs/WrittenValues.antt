@@ -24,6 +24,7 @@ use Rattle.sip_text.specs.declared.separator.Place.TheVariants.{Plain, Quoted, E
 use Rattle.sip_text.proofs.Ends.{trimmed_end-blank, trimmed_end-other}
 use Rattle.sip_text.proofs.Separators.{and_then_some}
 use Rattle.sip_text.proofs.Splits.{split_some, split_none}
+use Rattle.sip_parts.proofs.BlankEnds.{ends_kept}
 use Rattle.sip_parts.specs.DisplayText.{is_display_text_byte, is_display_text}
 use Rattle.sip_parts.specs.HeaderValue.{has_no_blank_ends, has_no_line_byte}
 use Rattle.sip_parts.specs.Host.{is_host_byte, is_bracket_byte, is_closed, is_host}
@@ -49,7 +50,7 @@ use Rattle.sip_values.proofs.Characters.{full_at}
 use Rattle.sip_values.proofs.Cuts.{all_imply, run_all, at_takes}
 use Rattle.sip_values.proofs.Passing.{Passes, clear, all_pass, both_pass, place_append, cut_here, none_here, byte_clear, anywhere_clear, class_passes, class_passes_blank, Marks, semicolon_marks, comma_marks, token_passes, token_passes_blank, quoted_begins, quoted_passes, quoted_ends, quoted_plain, value_passes}
 use Rattle.sip_values.proofs.Pieces.{by_bool}
-use Rattle.sip_values.proofs.WrittenBytes.{is_solid, solid, token_solid, word_solid, uri_solid, value_solid, digits_solid, solid_both, solid_full, solid_line, solid_end, longer_end, decimal_digits, decimal_value, digits_word, kept_end}
+use Rattle.sip_values.proofs.WrittenBytes.{is_solid, solid, token_solid, word_solid, uri_solid, value_solid, digits_solid, solid_both, solid_full, solid_line, solid_end, longer_end, decimal_digits, decimal_value, digits_word}
 
 -- ---- the ends of a text
 
@@ -304,13 +305,6 @@ shown_by is_display b bs is passes kept full end plain = record {
     trimmed_one : address.display_from is_display ((b ∷ bs) ++ (32 ∷ [])) ≡ Some (b ∷ bs)
     trimmed_one = ap (λ (xs : List ℕ). cond (is_display xs) (Some xs) None) cut_end
         ∙ passing_some (is_display (b ∷ bs)) (b ∷ bs) is
-
--- no white space at its ends
-ends_kept : (b : ℕ) (bs : List ℕ) → has_no_blank_ends (b ∷ bs) ≡ true
-    → (is_blank b ≡ false) × End (b ∷ bs)
-ends_kept b bs is =
-    let ends = and_parts _ _ is in
-    (not-true (is_blank b) ends.0, kept_end (b ∷ bs) (omega arith) ends.1)
 
 -- a display text of plain bytes, or a quoted string
 display_shown : (is_display : List ℕ → Bool) (test : ℕ → Bool) (b : ℕ) (bs : List ℕ)
