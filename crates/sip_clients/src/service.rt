@@ -73,7 +73,7 @@ pub(crate) fn request(
     let to = held.dialog.hop(held.address);
     let born = held.born;
     let branch = event.branch(alloc)?;
-    match held.dialog.next_request(alloc, method, body, branch, event.local) {
+    match held.dialog.next_request(method, body, branch, event.local) {
         Ok(message) => Ok(Service::Sent(Sending {
             message: with_rack(message, rack),
             to,
@@ -102,7 +102,7 @@ fn ack(
 {
     let to = held.dialog.hop(held.address);
     let branch = event.branch(alloc)?;
-    match held.dialog.ack(alloc, number, body, branch, event.local) {
+    match held.dialog.ack(number, body, branch, event.local) {
         Ok(message) => Ok(Service::Sent(Sending {
             message,
             to,

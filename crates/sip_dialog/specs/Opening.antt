@@ -40,6 +40,7 @@ request_uri_or otherwise (Response status reason) = otherwise
 -- at the callee: the routes in order, no request sent yet, and the number of the request taken
 abbrev pub opened_by_request : Message → List ℕ → ℕ → Dialog
 opened_by_request request tag status = record {
+  alloc = record { memory = record { seal = tt } };
   side = Callee;
   state = state_by status;
   call_id = request.call_id;
@@ -55,6 +56,7 @@ opened_by_request request tag status = record {
 -- yet
 abbrev pub opened_by_response : Message → Message → Dialog
 opened_by_response request response = record {
+  alloc = record { memory = record { seal = tt } };
   side = Caller;
   state = state_of response.start;
   call_id = request.call_id;

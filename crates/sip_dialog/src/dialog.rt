@@ -12,7 +12,7 @@ use crate::opening::{contact_uri, reversed, target_of};
 use sip_message::{Message, NameAddr};
 use sip_parts::{CallId, RequestUri, Uri};
 use sip_text::Series;
-use std::alloc::AllocError;
+use std::alloc::{AllocError, Global};
 
 /// Which side of the dialog is one's own.
 #[derive(Clone, Copy, PartialEq, Eq)]
@@ -37,6 +37,7 @@ pub enum DialogState {
 ///
 /// Contracts read it from its opening and the list of what happened in it.
 pub struct Dialog {
+    pub(crate) alloc: Global,
     pub(crate) side: Side,
     pub(crate) state: DialogState,
     pub(crate) call_id: CallId,
@@ -251,6 +252,7 @@ impl Dialog {
 impl Drop for Dialog {
     fn drop(self) {
         let Dialog {
+            alloc: _,
             side: _,
             state: _,
             call_id: _,

@@ -65,6 +65,7 @@ fn opened_by_request(
     };
     let route_set = request.record_routes.clone()?;
     Ok(Dialog {
+        alloc,
         side: Side::Callee,
         state: state_by(status),
         call_id,
@@ -96,6 +97,7 @@ fn opened_by_response(
     };
     let route_set = reversed(&response.record_routes)?;
     Ok(Dialog {
+        alloc,
         side: Side::Caller,
         state: state_of(response),
         call_id,

@@ -13,7 +13,7 @@ use crate::own_headers::{ack, contacts_of, is_invite, own_via};
 use sip_message::{Addr, CSeq, MAX_FORWARDS, Message, StartLine};
 use sip_parts::Token;
 use sip_text::Text;
-use std::alloc::{AllocError, Global};
+use std::alloc::AllocError;
 
 /// The greatest CSeq of a made request: it is below 2^31 (RFC 3261, section 8.1.1.5).
 const LAST_CSEQ: u32 = 2_147_483_647;
@@ -28,7 +28,6 @@ impl Dialog {
     /// and `NoMemory`, the first of them that fits. The dialog stays as it was then.
     pub fn next_request(
         &mut self,
-        alloc: Global,
         method: Token,
         body: Text,
         branch: Branch,
@@ -45,12 +44,11 @@ impl Dialog {
             → self.old ≡ dialog_after start life
             → OnOk result (self.new ≡ dialog_after start (life ++ Requests method ∷ [])) }
     {
-        self.next_request_step(alloc, method, body, branch, local)
+        self.next_request_step(method, body, branch, local)
     }
 
     fn next_request_step(
         &mut self,
-        alloc: Global,
         method: Token,
         body: Text,
         branch: Branch,
@@ -68,7 +66,7 @@ impl Dialog {
             return Err(fault);
         }
         let number = self.local_cseq + 1;
-        let message = self.request(alloc, method, number, body, branch, local)?;
+        let message = self.request(method, number, body, branch, local)?;
         self.local_cseq = number;
         Ok(message)
     }
@@ -98,7 +96,6 @@ impl Dialog {
     /// `Ended`, `NotConfirmed`, `StrictRoute` and `NoMemory`, the first of them that fits.
     pub fn ack(
         &self,
-        alloc: Global,
         cseq: u32,
         body: Text,
         branch: Branch,
@@ -111,12 +108,11 @@ impl Dialog {
             → self.now ≡ dialog_after start life
             → self.now ≡ dialog_after start (life ++ Acknowledges cseq ∷ []) }
     {
-        self.ack_step(alloc, cseq, body, branch, local)
+        self.ack_step(cseq, body, branch, local)
     }
 
     fn ack_step(
         &self,
-        alloc: Global,
         cseq: u32,
         body: Text,
         branch: Branch,
@@ -129,8 +125,8 @@ impl Dialog {
         if let Some(fault) = self.ack_fault() {
             return Err(fault);
         }
-        let method = ack(alloc)?;
-        Ok(self.request(alloc, method, cseq, body, branch, local)?)
+        let method = ack(self.alloc)?;
+        Ok(self.request(method, cseq, body, branch, local)?)
     }
 
     // Why no ACK can be made.
@@ -148,7 +144,6 @@ impl Dialog {
     // The request of this method and number, with this body.
     fn request(
         &self,
-        alloc: Global,
         method: Token,
         number: u32,
         body: Text,
@@ -158,14 +153,13 @@ impl Dialog {
         ensures { IfOk result (λ message. message
             ≡ request_in self.now method number body branch local) }
     {
-        let message = self.bare_request(alloc, method, number, branch, local)?;
-        message.with_body(alloc, body)
+        let message = self.bare_request(method, number, branch, local)?;
+        message.with_body(self.alloc, body)
     }
 
     // The request without a body.
     fn bare_request(
         &self,
-        alloc: Global,
         method: Token,
         number: u32,
         branch: Branch,
@@ -177,13 +171,13 @@ impl Dialog {
         let start = StartLine::Request {
             uri: self.target.clone()?,
         };
-        let vias = own_via(alloc, local, branch)?;
-        let from = self.local.to_party(alloc)?;
-        let to = self.remote.to_party(alloc)?;
+        let vias = own_via(self.alloc, local, branch)?;
+        let from = self.local.to_party(self.alloc)?;
+        let to = self.remote.to_party(self.alloc)?;
         let call_id = self.call_id.clone()?;
-        let contacts = contacts_of(alloc, &method, local)?;
+        let contacts = contacts_of(self.alloc, &method, local)?;
         let cseq = CSeq { number, method };
-        let mut made = Message::bare(alloc, start, vias, from, to, call_id, cseq);
+        let mut made = Message::bare(self.alloc, start, vias, from, to, call_id, cseq);
         made.max_forwards = Some(MAX_FORWARDS);
         made.contacts = contacts;
         made.routes = self.route_set.clone()?;

@@ -134,7 +134,7 @@ fn try_next(
 ) -> Result<Message, Stop> {
     let (method, branch) = (token(alloc, method)?, branch(alloc, b"z9hG4bKb")?);
     let body = Text::copy_of(alloc, body)?;
-    Ok(dialog.next_request(alloc, method, body, branch, LOCAL)?)
+    Ok(dialog.next_request(method, body, branch, LOCAL)?)
 }
 
 fn is_written(alloc: Global, message: &Message, text: &[u8]) -> Result<(), Stop> {
@@ -156,7 +156,7 @@ fn the_next_request(alloc: Global) -> Result<(), Stop> {
 fn an_ack(alloc: Global) -> Result<(), Stop> {
     let dialog = caller(alloc, SUCCESS)?;
     let body = Text::copy_of(alloc, b"")?;
-    let ack = dialog.ack(alloc, 1, body, branch(alloc, b"z9hG4bKb")?, LOCAL)?;
+    let ack = dialog.ack(1, body, branch(alloc, b"z9hG4bKb")?, LOCAL)?;
     is_written(alloc, &ack, ACK)
 }
 

@@ -86,7 +86,7 @@ fn next_fault(
     let method = token(rt, alloc, method)?;
     let body = Text::copy_of(alloc, b"")?;
     let branch = branch(rt, alloc)?;
-    Ok(dialog.next_request(alloc, method, body, branch, LOCAL).err())
+    Ok(dialog.next_request(method, body, branch, LOCAL).err())
 }
 
 // Why the ACK of the first INVITE isn't made.
@@ -97,7 +97,7 @@ fn ack_fault(
 ) -> Result<Option<DialogFault>, AllocError> {
     let body = Text::copy_of(alloc, b"")?;
     let branch = branch(rt, alloc)?;
-    Ok(dialog.ack(alloc, 1, body, branch, LOCAL).err())
+    Ok(dialog.ack(1, body, branch, LOCAL).err())
 }
 
 #[test]
