@@ -1,6 +1,6 @@
 -- The dialog of a name before and after something: it stays with what happened in it and what was
 -- heard in it, is over, or is made anew.
-use Rattle.std.proofs.Common.{◌≡◌, ◌⊎◌, inl, inr, ℕ, Bool, true, false, ◌&&◌, cond, List, [], refl, sym, ap, subst, ◌∙◌, nat_eq}
+use Rattle.std.proofs.Common.{◌≡◌, ◌⊎◌, inl, inr, ℕ, Bool, true, false, ◌&&◌, cond, List, [], ◌∷◌, refl, sym, ap, subst, ◌∙◌, nat_eq}
 use Rattle.std.specs.Prelude.{Option, None, Some, filter, fold}
 use Rattle.std.specs.Cmp.{IsEquivalence, first_so, second_so}
 use Rattle.std.specs.Cmp.Lexicographic.{pointwise}
@@ -10,14 +10,16 @@ use Rattle.std.proofs.lemmas.Cmp.{nat_eq_equiv, nat_list_eq_equiv}
 use Rattle.indexmap.specs.IndexMap.{insert_entry}
 use Rattle.sip_message.specs.declared.id.Id.{Id}
 use Rattle.sip_dialog.specs.declared.dialog.Dialog.{Dialog}
+use Rattle.sip_dialog.specs.Endpoint.{some_unless_empty}
 use Rattle.sip_dialog.specs.Life.{Happening}
 use Rattle.sip_dialog.specs.Opening.{Opening, opened}
 use Rattle.sip_reliable.specs.Inbound.{latest_after, offered}
 use Rattle.sip_common.specs.declared.held_dialog.DialogName.{DialogName}
 use Rattle.sip_common.specs.declared.held_dialog.HeldDialog.{HeldDialog}
-use Rattle.sip_common.specs.Dialogs.{dialog_at, dialog_changed, happened, is_named, Dialogs}
+use Rattle.sip_common.specs.Dialogs.{dialog_at, dialog_changed, happened, is_named, tag_text, Dialogs}
 use Rattle.sip_common.specs.Ids.{is_id}
 use Rattle.sip_common.specs.Lives.{AllFit}
+use Rattle.sip_common.specs.Sent.{name_of_dialog}
 use Rattle.sip_common.proofs.Entries as entries
 
 -- ---- names and ids
@@ -51,6 +53,16 @@ id_laws = record {
       (second_so (nat_eq x.round y.round) (nat_eq x.place y.place) e) in
       λ i. round i && place i;
 }
+
+-- ---- nothing, either way, and tags
+
+pub none_either : {X : Type 0} (b : Bool) → cond {A = List X} b [] [] ≡ []
+none_either true = refl
+none_either false = refl
+
+pub tag_kept : (tag : List ℕ) → tag_text (some_unless_empty tag) ≡ tag
+tag_kept [] = refl
+tag_kept (b ∷ bs) = refl
 
 -- ---- one dialog
 
@@ -217,41 +229,44 @@ leads_filtered p dialogs apart = record {
 
 -- ---- where dialogs may be made
 
--- the openings by which the dialog of a name may be made
-abbrev pub Openings : Type 1
-Openings = DialogName → Opening → Type 0
+-- the dialog of a name is made by this opening, which has its tags
+abbrev pub OpensBy : Option Opening → DialogName → Opening → Type 0
+OpensBy start name opening =
+    (start ≡ Some opening) × (is_named name (name_of_dialog (opened opening)) ≡ true)
 
 -- of each name the dialog stays, is over, or was made by the event; a number may have come in it
-pub record Moves (event : Option Id) (Opens : Openings) (came : DialogName → Option ℕ)
+pub record Moves (event : Option Id) (start : Option Opening) (came : DialogName → Option ℕ)
     (lives : Lives) (begun : DialogName → List Happening) (before after : Dialogs) : Type 0 where
   pub apart : AreApart after
-  pub goes : (name : DialogName) → Goes event (Opens name) (came name) (lives name) (begun name)
+  pub goes : (name : DialogName)
+      → Goes event (OpensBy start name) (came name) (lives name) (begun name)
       (dialog_at name before) (dialog_at name after)
 
 abbrev pub none_came : DialogName → Option ℕ
 none_came name = None
 
-abbrev pub no_opening : Openings
-no_opening name opening = ⊥
-
-pub moves_led : (event : Option Id) (Opens : Openings) (begun : DialogName → List Happening)
+pub moves_led : (event : Option Id) (start : Option Opening) (begun : DialogName → List Happening)
     (lives : Lives) (before after : Dialogs) → Leads lives before after
-    → Moves event Opens none_came lives begun before after
-moves_led event Opens begun lives before after leads =
+    → Moves event start none_came lives begun before after
+moves_led event start begun lives before after leads =
     record { apart = leads.apart; goes = λ name. inl (leads.stays name) }
 
-pub moves_made : (event : Id) (Opens : Openings) (lives : Lives) (name : DialogName)
-    (held : HeldDialog) (opening : Opening)
-    → ((other : DialogName) → is_named name other ≡ true → Opens other opening)
+-- what has the tags of a dialog of the name has the name
+pub same_name : (name other tags : DialogName) → is_named name tags ≡ true
+    → is_named name other ≡ true → is_named other tags ≡ true
+same_name name other tags own same = sym (name_laws.congr name other tags same) ∙ own
+
+pub moves_made : (event : Id) (lives : Lives) (name : DialogName) (held : HeldDialog)
+    (opening : Opening) → is_named name (name_of_dialog (opened opening)) ≡ true
     → ((other : DialogName) (held : HeldDialog) → is_named name other ≡ false
     → lives other held ≡ [])
     → held.born ≡ event → held.heard ≡ None → held.dialog ≡ opened opening
     → (dialogs : Dialogs) → AreApart dialogs
-    → Moves (Some event) Opens none_came lives (λ other. []) dialogs
+    → Moves (Some event) (Some opening) none_came lives (λ other. []) dialogs
     (insert_entry is_named dialogs name held)
-moves_made event Opens lives name held opening opens still born none is dialogs apart = record {
+moves_made event lives name held opening own still born none is dialogs apart = record {
   apart = entries.apart_inserted name_laws name held dialogs apart;
-  goes = λ other. subst (Goes (Some event) (Opens other) None (lives other) []
+  goes = λ other. subst (Goes (Some event) (OpensBy (Some opening) other) None (lives other) []
       (dialog_at other dialogs))
       (sym (entries.found_inserted name_laws name other held dialogs))
       (by_name other (is_named name other) refl (dialog_at other dialogs));
@@ -265,7 +280,13 @@ moves_made event Opens lives name held opening opens still born none is dialogs 
         (sym (still other there apart)) (keeps_same there)
 
     by_name : (other : DialogName) (b : Bool) → is_named name other ≡ b → (o : Option HeldDialog)
-        → Goes (Some event) (Opens other) None (lives other) [] o (cond b (Some held) o)
+        → Goes (Some event) (OpensBy (Some opening) other) None (lives other) [] o
+        (cond b (Some held) o)
     by_name other true named o =
-        inr (ap (λ id. Some id) (sym born), none, (opening, opens other named, (tt, is)))
+        let tags = name_of_dialog (opened opening) in
+        inr (
+          ap (λ id. Some id) (sym born),
+          none,
+          (opening, (refl, same_name name other tags own named), (tt, is)),
+        )
     by_name other false apart o = inl (still_there other apart o)

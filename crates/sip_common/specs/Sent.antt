@@ -1,5 +1,5 @@
 -- What goes out in the dialog of a name, read off what a call gives (RFC 3261, section 12.2.1.1).
-use Rattle.std.specs.Prelude.{ℕ, Bool, not, ◌&&◌, ◌||◌, List, Option, None, Some, codes, if◌then◌else◌}
+use Rattle.std.specs.Prelude.{Bool, not, ◌&&◌, ◌||◌, List, Option, None, Some, codes, if◌then◌else◌}
 use Rattle.std.specs.List.{filter_map}
 use Rattle.sip_message.specs.declared.message.Message.{Message}
 use Rattle.sip_message.specs.Party.{tag_of}
