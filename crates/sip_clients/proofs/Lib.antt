@@ -14,6 +14,7 @@ pub mod NoRequests
 pub mod OwnCall
 pub mod OwnDialogs
 pub mod Results
+pub mod SentIn
 pub mod Served
 pub mod RefusedAlone
 pub mod Tally
