@@ -230,7 +230,7 @@ module _ (event : Option Id) (client : Client) (answer : Answer)
       discharge_life (Prack number ((client.request).cseq).number)
       (offer_to client answer.response) dialog
 
-  -- what happens in the dialog of its name where it is held, and in one that it makes
+  -- what happens in the dialog of its name where it is held, and in one that is opened
   abbrev pub case_life : ReplyCase → Life
   case_life reply.Repeated held = []
   case_life reply.Accepted held = success_brings client.kind answer.response held
@@ -240,21 +240,22 @@ module _ (event : Option Id) (client : Client) (answer : Answer)
   case_life reply.Early held = []
   case_life reply.Told held = []
 
-  abbrev pub case_begun : ReplyCase → List Happening
-  case_begun reply.Repeated = []
-  case_begun reply.Accepted = []
-  case_begun reply.Late = []
-  case_begun (reply.Reliable number) = prack_life number (made_dialog client answer).dialog
-  case_begun reply.Passed = []
-  case_begun reply.Early = []
-  case_begun reply.Told = []
+  abbrev pub case_begun : ReplyCase → Option HeldDialog → List Happening
+  case_begun reply.Repeated found = []
+  case_begun reply.Accepted found = []
+  case_begun reply.Late found = []
+  case_begun (reply.Reliable number) found =
+      prack_life number (opened client answer found).dialog
+  case_begun reply.Passed found = []
+  case_begun reply.Early found = []
+  case_begun reply.Told found = []
 
   -- ---- the dialog of its name
 
   abbrev GoesTo : ReplyCase → Option HeldDialog → HeldDialog → DialogName → Type 0
   GoesTo case found after other =
       Goes event (OpensBy (Some start) other) (heard_number case client.kind true) (case_life case)
-      (case_begun case) found (Some after)
+      (case_begun case found) found (Some after)
 
   abbrev GoesHere : ReplyCase → Option HeldDialog → HeldDialog → Type 0
   GoesHere case found after =
@@ -311,7 +312,7 @@ module _ (event : Option Id) (client : Client) (answer : Answer)
   owed_goes : (number : ℕ) (found : Option HeldDialog) → IsNamedSo client answer found → (other : DialogName)
       → is_named answer.name other ≡ true
       → Goes event (OpensBy (Some start) other) None (case_life (reply.Reliable number))
-      (case_begun (reply.Reliable number)) found
+      (case_begun (reply.Reliable number) found) found
       (Some (owed answer.event (Prack number ((client.request).cseq).number)
       (offer_to client answer.response) (opened client answer found)).0)
   owed_goes number None named other same =
@@ -329,7 +330,7 @@ module _ (event : Option Id) (client : Client) (answer : Answer)
   heard_goes : (number : ℕ) (found : Option HeldDialog) → IsNamedSo client answer found → (other : DialogName)
       → is_named answer.name other ≡ true
       → Goes event (OpensBy (Some start) other) (Some number) (case_life (reply.Reliable number))
-      (case_begun (reply.Reliable number)) found
+      (case_begun (reply.Reliable number) found) found
       (Some (owed answer.event (Prack number ((client.request).cseq).number)
       (offer_to client answer.response) (hearing number (opened client answer found))).0)
   heard_goes number None named other same =
@@ -347,7 +348,7 @@ module _ (event : Option Id) (client : Client) (answer : Answer)
   prack_goes : (kind : RequestKind) (number : ℕ) (found : Option HeldDialog) → IsNamedSo client answer found
       → (other : DialogName) → is_named answer.name other ≡ true
       → Goes event (OpensBy (Some start) other) (heard_number (reply.Reliable number) kind true)
-      (case_life (reply.Reliable number)) (case_begun (reply.Reliable number)) found
+      (case_life (reply.Reliable number)) (case_begun (reply.Reliable number) found) found
       (Some (owed answer.event (Prack number ((client.request).cseq).number)
       (offer_to client answer.response)
       (heard_first kind number (opened client answer found))).0)
@@ -362,7 +363,8 @@ module _ (event : Option Id) (client : Client) (answer : Answer)
   Answered case before after = Moves event (Some start)
       (λ name. heard_number case client.kind (is_named answer.name name))
       (in_one answer.name (case_life case))
-      (λ name. cond (is_named answer.name name) (case_begun case) []) before after
+      (λ name. cond (is_named answer.name name) (case_begun case (dialog_at answer.name before)) [])
+      before after
 
   still : (b : Bool) (o : Option HeldDialog) → Stays None (λ held. cond b [] []) o o
   still b None = tt
@@ -379,17 +381,21 @@ module _ (event : Option Id) (client : Client) (answer : Answer)
     goes = λ name. subst (Goes event (OpensBy (Some start) name)
         (heard_number case client.kind (is_named answer.name name))
         (in_one answer.name (case_life case) name)
-        (cond (is_named answer.name name) (case_begun case) []) (dialog_at name dialogs))
+        (cond (is_named answer.name name) (case_begun case (dialog_at answer.name dialogs)) [])
+        (dialog_at name dialogs))
         (sym (entries.found_inserted name_laws answer.name name held dialogs))
         (by_name name (is_named answer.name name) refl);
   }
     where
       by_name : (name : DialogName) (b : Bool) → is_named answer.name name ≡ b
           → Goes event (OpensBy (Some start) name) (heard_number case client.kind b)
-          (λ held. cond b (case_life case held) []) (cond b (case_begun case) [])
-          (dialog_at name dialogs) (cond b (Some held) (dialog_at name dialogs))
+          (λ held. cond b (case_life case held) [])
+          (cond b (case_begun case (dialog_at answer.name dialogs)) []) (dialog_at name dialogs)
+          (cond b (Some held) (dialog_at name dialogs))
       by_name name true is =
-          subst (λ found. GoesTo case found held name)
+          subst (λ found. Goes event (OpensBy (Some start) name)
+          (heard_number case client.kind true) (case_life case)
+          (case_begun case (dialog_at answer.name dialogs)) found (Some held))
           (sym (entries.same_key name_laws answer.name name dialogs is)) (here name is)
       by_name name false is =
           subst (λ came. Goes event (OpensBy (Some start) name) came nothing []

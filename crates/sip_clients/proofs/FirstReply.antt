@@ -137,7 +137,7 @@ module _ (event : Option Id) (life : DialogLife) (client : Client) (answer : Ans
 
   abbrev begun_by : ReplyCase → Client → List Happening
   begun_by case client = cond (is_named answer.name life.name)
-      (case_begun event client answer made case) []
+      (case_begun event client answer made case found) []
 
   unheard : (case : ReplyCase) (client : Client) (clients : Clients) → Named case client
       → heard_number case client.kind (is_named answer.name life.name) ≡ None

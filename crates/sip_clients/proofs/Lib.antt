@@ -3,6 +3,7 @@ pub mod AgainReply
 pub mod AgainSides
 pub mod QuietBeforeDue
 pub mod ClientDialogs
+pub mod ClientLives
 pub mod FewStarts
 pub mod FirstInvite
 pub mod FirstReply

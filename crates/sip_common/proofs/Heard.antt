@@ -251,6 +251,32 @@ pub moves_led : (event : Option Id) (start : Option Opening) (begun : DialogName
 moves_led event start begun lives before after leads =
     record { apart = leads.apart; goes = λ name. inl (leads.stays name) }
 
+-- the same lives, of what is held, and of what is made
+pub moves_as : (event : Option Id) (start : Option Opening) (came : DialogName → Option ℕ)
+    (lives others : Lives) (begun later : DialogName → List Happening) (before after : Dialogs)
+    → ((name : DialogName) (held : HeldDialog) → dialog_at name before ≡ Some held
+    → lives name held ≡ others name held)
+    → ((name : DialogName) → begun name ≡ later name)
+    → Moves event start came lives begun before after
+    → Moves event start came others later before after
+moves_as event start came lives others begun later before after same same_begun moves = record {
+  apart = moves.apart;
+  goes = λ name. goes_as name (dialog_at name before) (dialog_at name after) (same name)
+      (moves.goes name);
+}
+  where
+    goes_as : (name : DialogName) (x y : Option HeldDialog)
+        → ((held : HeldDialog) → x ≡ Some held → lives name held ≡ others name held)
+        → Goes event (OpensBy start name) (came name) (lives name) (begun name) x y
+        → Goes event (OpensBy start name) (came name) (others name) (later name) x y
+    goes_as name x None same goes = inl tt
+    goes_as name None (Some y) same (inl stays) = absurd stays
+    goes_as name (Some x) (Some y) same (inl stays) =
+        inl (subst (λ (life : List Happening). Keeps (came name) life x y) (same x refl) stays)
+    goes_as name x (Some y) same (inr begins) =
+        inr (subst (λ (life : List Happening).
+        Begins event (OpensBy start name) (came name) life (Some y)) (same_begun name) begins)
+
 -- what has the tags of a dialog of the name has the name
 pub same_name : (name other tags : DialogName) → is_named name tags ≡ true
     → is_named name other ≡ true → is_named other tags ≡ true
