@@ -4,6 +4,7 @@ use Rattle.std.proofs.Common.{◌≡◌, inl, inr, ℕ, Bool, true, false, not, 
 use Rattle.std.specs.Prelude.{Option, None, Some, codes, filter, if◌then◌else◌}
 use Rattle.indexmap.specs.IndexMap.{insert_entry}
 use Rattle.sip_message.specs.declared.id.Id.{Id}
+use Rattle.sip_message.specs.declared.message.Message.{Message}
 use Rattle.sip_message.specs.Party.{tag_of}
 use Rattle.sip_dialog.specs.declared.dialog.Dialog.{Dialog}
 use Rattle.sip_dialog.specs.declared.fault.DialogFault.{DialogFault}
@@ -34,7 +35,8 @@ use Rattle.sip_clients.specs.Answers.{has_answer}
 use Rattle.sip_clients.specs.Clients.{reply_name}
 use Rattle.sip_clients.specs.Commands.{bye_ended, request_in, request_refusals, sent_unless}
 use Rattle.sip_clients.specs.Debts.{dropped_if_sent, kept_unless_sent, owed, paid}
-use Rattle.sip_clients.specs.Dialogs.{accepted, accepted_in, ended_with, hearing, made_dialog, opened, own_ended, served_at, success_brings}
+use Rattle.sip_clients.specs.Dialogs.{accepted, accepted_in, ended_with, hearing, made_dialog, opened, own_ended, served_at}
+use Rattle.sip_clients.specs.Happenings.{success_brings}
 use Rattle.sip_clients.specs.Replied.{ack_owed, by_case, heard_first, offer_to, prack_owed, with_dialog}
 use Rattle.sip_clients.specs.Reply.{heard_of, is_of_dialog, is_there, reliable_case, reply_case, rseq_of}
 use Rattle.sip_clients.specs.Service.{Outcome, discharged, sending_in, sends}
@@ -172,6 +174,15 @@ may_make reply.Passed = false
 may_make reply.Early = true
 may_make reply.Told = false
 
+-- what a 2xx does in a dialog that is held
+pub success_keeps : (kind : RequestKind) (response : Message) (held : HeldDialog)
+    → Keeps None (success_brings kind response held) held (accepted_in kind response held)
+success_keeps First response held = (refl, refl, ((cases_fit held).confirms response, refl))
+success_keeps (Again life) response held =
+    (refl, refl, ((cases_fit held).retargets (contact_uri response), refl))
+success_keeps (Inside life) response held = keeps_same held
+success_keeps Plain response held = keeps_same held
+
 -- of a request whose kind is not First none is
 makes_first : (kind : RequestKind) (final again inside : Bool) (heard rseq : Option ℕ)
     → may_make (if final then (if again then reply.Repeated
@@ -272,18 +283,6 @@ module _ (event : Option Id) (client : Client) (answer : Answer)
       inr (made, refl, (start, opens_so named other same, (tt, refl)))
   opened_goes (Some held) named other same = inl (keeps_same held)
 
-  success_fits : (kind : RequestKind) (held : HeldDialog)
-      → AllFit held.dialog (success_brings kind answer.response held)
-  success_fits First held = (cases_fit held).confirms answer.response
-  success_fits (Again life) held = (cases_fit held).retargets (contact_uri answer.response)
-  success_fits (Inside life) held = tt
-  success_fits Plain held = tt
-
-  accepted_keeps : (held : HeldDialog)
-      → Keeps None (success_brings client.kind answer.response held) held
-      (accepted_in client.kind answer.response held)
-  accepted_keeps held = (refl, refl, (success_fits client.kind held, refl))
-
   ack_goes : (found : Option HeldDialog) → IsNamedSo client answer found
       → GoesHere reply.Accepted found (ack_owed client (accepted client answer found) answer).0
   unfolding ack_owed
@@ -306,7 +305,8 @@ module _ (event : Option Id) (client : Client) (answer : Answer)
       by_found (Some held) named =
           let before = accepted_in client.kind answer.response held in
           inl (keeps_then None (success_brings client.kind answer.response held) held before
-          (ack_owed client before answer).0 (accepted_keeps held) (keeps before))
+          (ack_owed client before answer).0
+          (success_keeps client.kind answer.response held) (keeps before))
 
   -- a reliable provisional response
   owed_goes : (number : ℕ) (found : Option HeldDialog) → IsNamedSo client answer found → (other : DialogName)

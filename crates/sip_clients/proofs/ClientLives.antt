@@ -51,8 +51,8 @@ use Rattle.sip_clients.specs.Client.{Clients, Side, Taken as ClientTaken, client
 use Rattle.sip_clients.specs.Clients.{ack_paid, ack_taken, found_taken, lost_of, paid_or_refused, prack_paid, prack_taken, reply_name, reply_of, reply_settled, request_taken, response_taken, settled, status_of}
 use Rattle.sip_clients.specs.Commands.{bye_ended, debt_for, debt_or_refusal, name_in, oldest_debt, request_in, requested_at}
 use Rattle.sip_clients.specs.Debts.{is_of, paid}
-use Rattle.sip_clients.specs.Dialogs.{opened, paid_at, served_at, success_brings}
-use Rattle.sip_clients.specs.Happenings.{reply_brings, response_brings, response_opens}
+use Rattle.sip_clients.specs.Dialogs.{opened, paid_at, served_at}
+use Rattle.sip_clients.specs.Happenings.{reply_brings, response_brings, response_opens, success_brings}
 use Rattle.sip_clients.specs.Outputs.{request_said, start_command}
 use Rattle.sip_clients.specs.Replied.{Replied, after_dialog, by_case, ends_dialog, finished, heard_first, offer_to, prack_owed, reply_taken}
 use Rattle.sip_clients.specs.Reply.{offer_case, heard_of, is_inviting, is_last, is_of_dialog, is_there, reliable_case, reply_case, rseq_of}

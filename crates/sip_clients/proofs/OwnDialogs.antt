@@ -1,11 +1,12 @@
 -- A held dialog stays of its own Call-ID, and so do the requests that are sent in it and its end.
-use Rattle.std.proofs.Common.{◌≡◌, ℕ, ◌+◌, Bool, true, false, cond, List, [], ◌∷◌, refl, sym, subst, ◌∙◌}
+use Rattle.std.proofs.Common.{◌≡◌, ℕ, ◌+◌, Bool, true, false, cond, List, [], ◌∷◌, refl, sym, ap, subst, ◌∙◌}
 use Rattle.std.specs.Prelude.{Option, None, Some, IfSome, codes}
 use Rattle.std.specs.Str.{bytes_eq}
 use Rattle.sip_message.specs.Message.{with_body_of}
 use Rattle.sip_model.proofs.Ordered.{by_bool}
 use Rattle.sip_message.specs.declared.message.Message.{Message}
 use Rattle.sip_message.specs.declared.rack.RAck.{RAck}
+use Rattle.sip_dialog.specs.declared.dialog.Dialog.{Dialog}
 use Rattle.sip_dialog.specs.declared.fault.DialogFault.{DialogFault}
 use Rattle.sip_dialog.specs.Fault.{ack_fault, request_fault}
 use Rattle.sip_dialog.specs.Request.{bare_request_in}
@@ -29,7 +30,9 @@ use Rattle.sip_clients.specs.declared.service.Service.{Service}
 use Rattle.sip_clients.specs.declared.service.Service.TheVariants.{Sent, Waits, Refused}
 use Rattle.sip_clients.specs.Commands.{bye_ended, request_in, requested_at}
 use Rattle.sip_clients.specs.Debts.{dropped_if_sent, kept_unless_sent, owed, paid}
-use Rattle.sip_clients.specs.Dialogs.{accepted, ended_with, opened, own_ended, paid_at, served_at, success_brings}
+use Rattle.sip_clients.specs.Dialogs.{accepted, ended_with, opened, own_ended, paid_at, served_at}
+use Rattle.sip_clients.specs.Happenings.{success_brings}
+use Rattle.sip_clients.proofs.ClientDialogs.{success_keeps}
 use Rattle.sip_clients.proofs.Served.{bad_request, good_request, is_bad, served_in}
 use Rattle.sip_clients.specs.Event.{branch_of}
 use Rattle.sip_clients.specs.OwnCall.{AreDialogsOf, IsDialogOf, IsNoticeOf, IsRequestOf}
@@ -205,7 +208,9 @@ module _ (call_id : List ℕ) where
       → IsDialogOf call_id (accepted client answer found)
   accepted_own client answer None its own = its
   accepted_own client answer (Some held) its own =
-      lived_keeps held.dialog (success_brings client.kind answer.response held) ∙ own
+      let kept = success_keeps client.kind answer.response held in
+      ap (λ (dialog : Dialog). dialog.call_id) kept.2.1
+      ∙ lived_keeps held.dialog (success_brings client.kind answer.response held) ∙ own
 
   pub opened_own : (client : Client) (answer : Answer) (found : Option HeldDialog)
       → IsRequestOf call_id client → IfSome found (IsDialogOf call_id)

@@ -3,7 +3,6 @@
 use Rattle.std.specs.Prelude.{ℕ, Bool, List, [], ◌++◌, Option, None, Some, if◌then◌else◌}
 use Rattle.std.specs.Map.{set_value}
 use Rattle.std.specs.Option.{option_map_or}
-use Rattle.sip_dialog.specs.Life.{Happening}
 use Rattle.sip_dialog.specs.Opening.{contact_uri, opened_by_response}
 use Rattle.sip_message.specs.declared.message.Message.{Message}
 use Rattle.sip_reliable.specs.Inbound.{latest_after, offered}
@@ -12,7 +11,7 @@ use Rattle.sip_common.specs.declared.held_dialog.DialogLife.{DialogLife}
 use Rattle.sip_common.specs.declared.held_dialog.DialogName.{DialogName}
 use Rattle.sip_common.specs.declared.held_dialog.HeldDialog.{HeldDialog}
 use Rattle.sip_common.specs.declared.item.CallOut.{CallOut}
-use Rattle.sip_common.specs.Dialogs.{confirms, dialog_at, early_ended, ended_at, is_named, lived, lives, retargeted, retargets, Dialogs}
+use Rattle.sip_common.specs.Dialogs.{confirmed, dialog_at, early_ended, ended_at, is_named, lives, retargeted, Dialogs}
 use Rattle.sip_clients.specs.declared.client.RequestKind.{RequestKind}
 use Rattle.sip_clients.specs.declared.client.RequestKind.TheVariants.{First, Again, Inside, Plain}
 use Rattle.sip_clients.specs.declared.client.Client.{Client}
@@ -48,16 +47,12 @@ opened client reply (Some held) = held
 abbrev pub refreshed : Message → HeldDialog → HeldDialog
 refreshed response held = retargeted (contact_uri response) held
 
--- that to the first INVITE confirms the dialog, and that to a re-INVITE may give it another target
-abbrev pub success_brings : RequestKind → Message → HeldDialog → List Happening
-success_brings First response held = confirms response held
-success_brings (Again life) response held = retargets (contact_uri response) held
-success_brings (Inside life) response held = []
-success_brings Plain response held = []
-
--- the held dialog after it
+-- that to the first INVITE confirms the dialog of its name, or makes it
 abbrev pub accepted_in : RequestKind → Message → HeldDialog → HeldDialog
-accepted_in kind response held = lived (success_brings kind response held) held
+accepted_in First response held = confirmed response held
+accepted_in (Again life) response held = refreshed response held
+accepted_in (Inside life) response held = held
+accepted_in Plain response held = held
 
 -- the dialog after the first 2xx of its name
 abbrev pub accepted : Client → Answer → Option HeldDialog → HeldDialog

@@ -6,17 +6,26 @@ use Rattle.std.specs.Option.{option_map, option_map_or}
 use Rattle.sip_message.specs.declared.id.Id.{Id}
 use Rattle.sip_message.specs.declared.message.Message.{Message}
 use Rattle.sip_dialog.specs.Life.{Happening}
-use Rattle.sip_dialog.specs.Opening.{Opening, ByResponse}
+use Rattle.sip_dialog.specs.Opening.{Opening, ByResponse, contact_uri}
 use Rattle.sip_common.specs.declared.held_dialog.DialogName.{DialogName}
 use Rattle.sip_common.specs.declared.held_dialog.HeldDialog.{HeldDialog}
-use Rattle.sip_common.specs.Dialogs.{is_named}
+use Rattle.sip_common.specs.Dialogs.{confirms, is_named, retargets}
 use Rattle.sip_common.specs.Requests.{is_success}
 use Rattle.sip_clients.specs.declared.client.Client.{Client}
+use Rattle.sip_clients.specs.declared.client.RequestKind.{RequestKind}
+use Rattle.sip_clients.specs.declared.client.RequestKind.TheVariants.{First, Again, Inside, Plain}
 use Rattle.sip_clients.specs.Answers.{has_answer}
 use Rattle.sip_clients.specs.Client.{Clients, client_at}
 use Rattle.sip_clients.specs.Clients.{reply_name, status_of}
-use Rattle.sip_clients.specs.Dialogs.{success_brings}
 use Rattle.sip_clients.specs.Reply.{is_there}
+
+-- the 2xx to the first INVITE confirms the dialog, and that to a re-INVITE gives it another target
+-- where it has a Contact
+abbrev pub success_brings : RequestKind → Message → HeldDialog → List Happening
+success_brings First response held = confirms response held
+success_brings (Again life) response held = retargets (contact_uri response) held
+success_brings (Inside life) response held = []
+success_brings Plain response held = []
 
 -- a response to this request is the first 2xx of the dialog
 abbrev pub is_first_success : ℕ → Client → DialogName → Bool
