@@ -1,5 +1,5 @@
 -- What holds of every transaction, over any list of its inputs.
-use Rattle.std.specs.Prelude.{◌≡◌, ℕ, ◌+◌, ◌≤◌, Bool, true, false, List, ◌++◌, Option, None, Some, count_by, filter_map}
+use Rattle.std.specs.Prelude.{◌≡◌, ℕ, ◌+◌, ◌≤◌, Bool, true, false, if◌then◌else◌, List, ◌++◌, Option, None, Some, count_by, filter_map}
 use Rattle.std.specs.List.{AllByRecursion, list_any, IsDistinct}
 use Rattle.std.specs.Str.{bytes_eq}
 use Rattle.sip_message.specs.declared.id.Id.{Id}
@@ -11,7 +11,7 @@ use Rattle.sip_message.specs.declared.addr.Addr.{Addr}
 use Rattle.sip_message.specs.declared.message.Message.{Message}
 use Rattle.sip_message.specs.Message.{is_request_message}
 use Rattle.sip_message.specs.Written.{written}
-use Rattle.sip_model.specs.Machine.{LifeIn, Timed, adds, given_at, said_after, said_at_first, said_in_rest, state_left}
+use Rattle.sip_model.specs.Machine.{LifeIn, Timed, adds, given_at, outputs_from, said_after, said_at_first, said_in_rest, state_left}
 use Rattle.sip_transactions.specs.declared.input.Command.{Command}
 use Rattle.sip_transactions.specs.declared.input.Input.{Input}
 use Rattle.sip_transactions.specs.declared.input.Input.TheVariants.{Receive, Start, Answer, Failed}
@@ -24,7 +24,7 @@ use Rattle.sip_transactions.specs.declared.state.Role.{Role}
 use Rattle.sip_transactions.specs.declared.state.Role.TheVariants.{InviteClient, Client, InviteServer, Server}
 use Rattle.sip_transactions.specs.declared.state.State.{State}
 use Rattle.sip_transactions.specs.declared.trigger.Trigger.{Trigger}
-use Rattle.sip_transactions.specs.Ids.{is_id}
+use Rattle.sip_transactions.specs.Ids.{IdsRise, is_id}
 use Rattle.sip_transactions.specs.Input.{role_of}
 use Rattle.sip_transactions.specs.Machine.{transaction_machine}
 use Rattle.sip_transactions.specs.Rows.{fits, rows_of}
@@ -98,6 +98,21 @@ naming_id (Some (Failed id)) = None
 -- the ids of the requests that came and of the starts, in order
 abbrev pub names_in : List (Timed Input) → List Id
 names_in inputs = filter_map (λ timed. naming_id timed.input) inputs
+
+-- the id of a request that is handed up
+abbrev pub request_id : Out → Option Id
+request_id (out.Up up) = if is_request_kind up.kind then Some up.id else None
+request_id (out.Send key to bytes) = None
+request_id (out.Dropped place reason) = None
+
+-- those of all requests that are handed up, in order
+abbrev pub request_ids : List Out → List Id
+request_ids outs = filter_map request_id outs
+
+-- where ids rise, requests come up by id: in the order of their ids, under one id one at most
+abbrev pub RequestsComeUpById : Type 0
+RequestsComeUpById = (key : Key) (inputs : List (Timed Input)) → IdsRise (names_in inputs)
+    → IdsRise (request_ids (outputs_from transaction_machine key None inputs))
 
 -- something handed up under this id
 abbrev pub carries : Id → Out → Bool
