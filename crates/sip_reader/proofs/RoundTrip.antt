@@ -629,7 +629,8 @@ read_again m is short =
     kept text (no_end text first rest (is_line first rest free)
     (start_full m.start m.cseq.method)) in
     let read : message_in text ≡ message_of_lines first (whole m) m.body =
-    some_gathered text first rest first rest (whole m) m.body (sym (ended_line first rest free))
+    some_gathered text text first rest first rest (whole m) m.body (sym begins)
+    (sym (ended_line first rest free))
     (ends_here first rest all.ready.line all.ready.after all.ready.line_is all.ready.anew)
     (sym (all.same ∙ end_gathered (whole m) m.body)) in
     ap (λ b. cond b (Err fault.TooLong) (message_in (without_line_ends (written m))))
