@@ -86,8 +86,7 @@ module _ (name : DialogName) (event : Option Id) (ids : List Id) (start : Option
       ∙ all_on history.opening history.life more fits in
       subst (λ (b : Bool). Stands name (Some after)
       (next_history b start begun more (Some history)) ids)
-      (sym (not_born event ids held after stays.0 stands.2))
-      (
+      (sym (not_born event ids held after stays.0 stands.2)) (
         same,
         stands.1,
         subst (λ (born : Id). NoneOf born ids) (sym stays.0)

@@ -290,185 +290,185 @@ by_parts false false again there false heard rseq life so last = refl
 
 module _ (event : Event) (id : Id) (call_id : List ℕ) (response : Message) (status : ℕ)
     (asker : Client) (dialogs : Dialogs) (apart : AreApart dialogs) (named : AreNamed dialogs)
-    where
-  abbrev own : DialogName
-  own = reply_name asker.kind asker response
+  where
+    abbrev own : DialogName
+    own = reply_name asker.kind asker response
 
-  -- the request when the response has come
-  abbrev client : Client
-  client = noted (is_final status) asker
+    -- the request when the response has come
+    abbrev client : Client
+    client = noted (is_final status) asker
 
-  abbrev answer : Answer
-  answer = reply_of event id call_id own status response
+    abbrev answer : Answer
+    answer = reply_of event id call_id own status response
 
-  abbrev found : Option HeldDialog
-  found = dialog_at own dialogs
+    abbrev found : Option HeldDialog
+    found = dialog_at own dialogs
 
-  abbrev case_now : ReplyCase
-  case_now = reply_case client found answer
+    abbrev case_now : ReplyCase
+    case_now = reply_case client found answer
 
-  abbrev Named : ReplyCase → Type 0
-  Named case = may_make case ≡ true → IsNamedSo client answer found
+    abbrev Named : ReplyCase → Type 0
+    Named case = may_make case ≡ true → IsNamedSo client answer found
 
-  name_kept : (kind : RequestKind)
-      → reply_name kind asker response ≡ reply_name kind client response
-  name_kept First = refl
-  name_kept (Again life) = refl
-  name_kept (Inside life) = refl
-  name_kept Plain = refl
+    name_kept : (kind : RequestKind)
+        → reply_name kind asker response ≡ reply_name kind client response
+    name_kept First = refl
+    name_kept (Again life) = refl
+    name_kept (Inside life) = refl
+    name_kept Plain = refl
 
-  -- the dialog of the name, as it is opened, has its tags
-  opened_named : (o : Option HeldDialog) → found ≡ o → IsNamedSo client answer found
-      → is_named own (name_of_dialog (opened client answer o).dialog) ≡ true
-  opened_named None is so = so is
-  opened_named (Some held) is so = named own held is
+    -- the dialog of the name, as it is opened, has its tags
+    opened_named : (o : Option HeldDialog) → found ≡ o → IsNamedSo client answer found
+        → is_named own (name_of_dialog (opened client answer o).dialog) ≡ true
+    opened_named None is so = so is
+    opened_named (Some held) is so = named own held is
 
-  -- what goes out
-  changes : (case : ReplyCase) → Named case → (name : DialogName)
-      → change_sent name (by_case case client found answer).3
-      ≡ cond (is_named own name) (case_begun (Some event.id) client answer refl case found) []
-  unfolding prack_owed
-  changes reply.Repeated so name = sym (none_either (is_named own name))
-  changes reply.Accepted so name = sym (none_either (is_named own name))
-  changes reply.Late so name = sym (none_either (is_named own name))
-  changes (reply.Reliable number) so name =
-      let held = opened client answer found in
-      let heard = heard_first client.kind number held in
-      let same = heard_dialog client.kind number held in
-      said_change name event call_id own
-      (prack_owed number client held answer).1
-      ∙ owed_sent name own event heard
-      (ap (λ dialog. is_named own (name_of_dialog dialog)) same
-      ∙ opened_named found refl (so refl))
-      (Prack number ((client.request).cseq).number) (offer_to client response)
-      ∙ ap (λ dialog. cond (is_named own name)
-      (prack_life (Some event.id) client answer refl number dialog) []) same
-  changes reply.Passed so name = sym (none_either (is_named own name))
-  changes reply.Early so name = sym (none_either (is_named own name))
-  changes reply.Told so name = sym (none_either (is_named own name))
+    -- what goes out
+    changes : (case : ReplyCase) → Named case → (name : DialogName)
+        → change_sent name (by_case case client found answer).3
+        ≡ cond (is_named own name) (case_begun (Some event.id) client answer refl case found) []
+    unfolding prack_owed
+    changes reply.Repeated so name = sym (none_either (is_named own name))
+    changes reply.Accepted so name = sym (none_either (is_named own name))
+    changes reply.Late so name = sym (none_either (is_named own name))
+    changes (reply.Reliable number) so name =
+        let held = opened client answer found in
+        let heard = heard_first client.kind number held in
+        let same = heard_dialog client.kind number held in
+        said_change name event call_id own
+        (prack_owed number client held answer).1
+        ∙ owed_sent name own event heard
+        (ap (λ dialog. is_named own (name_of_dialog dialog)) same
+        ∙ opened_named found refl (so refl))
+        (Prack number ((client.request).cseq).number) (offer_to client response)
+        ∙ ap (λ dialog. cond (is_named own name)
+        (prack_life (Some event.id) client answer refl number dialog) []) same
+    changes reply.Passed so name = sym (none_either (is_named own name))
+    changes reply.Early so name = sym (none_either (is_named own name))
+    changes reply.Told so name = sym (none_either (is_named own name))
 
-  -- what happens in the dialog of each name
-  abbrev brings : ReplyCase → Lives
-  brings case name held =
-      cond (is_named own name) (case_success case (success_brings client.kind response held)) []
+    -- what happens in the dialog of each name
+    abbrev brings : ReplyCase → Lives
+    brings case name held =
+        cond (is_named own name) (case_success case (success_brings client.kind response held)) []
 
-  prack_same : (number : ℕ) (name : DialogName) (held : HeldDialog)
-      → dialog_at name dialogs ≡ Some held → (b : Bool) → is_named own name ≡ b
-      → cond b (prack_life (Some event.id) client answer refl number held.dialog) []
-      ≡ cond b (prack_life (Some event.id) client answer refl number
-      (opened client answer found).dialog) []
-  prack_same number name held at false is = refl
-  prack_same number name held at true is =
-      ap (λ o. prack_life (Some event.id) client answer refl number (opened client answer o).dialog)
-      (sym (sym (entries.same_key name_laws own name dialogs is) ∙ at))
+    prack_same : (number : ℕ) (name : DialogName) (held : HeldDialog)
+        → dialog_at name dialogs ≡ Some held → (b : Bool) → is_named own name ≡ b
+        → cond b (prack_life (Some event.id) client answer refl number held.dialog) []
+        ≡ cond b (prack_life (Some event.id) client answer refl number
+        (opened client answer found).dialog) []
+    prack_same number name held at false is = refl
+    prack_same number name held at true is =
+        ap (λ o. prack_life (Some event.id) client answer refl number (opened client answer o).dialog)
+        (sym (sym (entries.same_key name_laws own name dialogs is) ∙ at))
 
-  lives : (case : ReplyCase) → Named case → (name : DialogName) (held : HeldDialog)
-      → dialog_at name dialogs ≡ Some held
-      → in_one own (case_life (Some event.id) client answer refl case) name held
-      ≡ brings case name held ++ change_sent name (by_case case client found answer).3
-  lives reply.Repeated so name held at = sym (append-nil (brings reply.Repeated name held))
-  lives reply.Accepted so name held at = sym (append-nil (brings reply.Accepted name held))
-  lives reply.Late so name held at = sym (append-nil (brings reply.Late name held))
-  lives (reply.Reliable number) so name held at =
-      prack_same number name held at (is_named own name) refl
-      ∙ sym (changes (reply.Reliable number) so name)
-      ∙ ap (λ xs. xs ++ change_sent name (by_case (reply.Reliable number) client found answer).3)
-      (sym (none_either (is_named own name)))
-  lives reply.Passed so name held at = sym (append-nil (brings reply.Passed name held))
-  lives reply.Early so name held at = sym (append-nil (brings reply.Early name held))
-  lives reply.Told so name held at = sym (append-nil (brings reply.Told name held))
+    lives : (case : ReplyCase) → Named case → (name : DialogName) (held : HeldDialog)
+        → dialog_at name dialogs ≡ Some held
+        → in_one own (case_life (Some event.id) client answer refl case) name held
+        ≡ brings case name held ++ change_sent name (by_case case client found answer).3
+    lives reply.Repeated so name held at = sym (append-nil (brings reply.Repeated name held))
+    lives reply.Accepted so name held at = sym (append-nil (brings reply.Accepted name held))
+    lives reply.Late so name held at = sym (append-nil (brings reply.Late name held))
+    lives (reply.Reliable number) so name held at =
+        prack_same number name held at (is_named own name) refl
+        ∙ sym (changes (reply.Reliable number) so name)
+        ∙ ap (λ xs. xs ++ change_sent name (by_case (reply.Reliable number) client found answer).3)
+        (sym (none_either (is_named own name)))
+    lives reply.Passed so name held at = sym (append-nil (brings reply.Passed name held))
+    lives reply.Early so name held at = sym (append-nil (brings reply.Early name held))
+    lives reply.Told so name held at = sym (append-nil (brings reply.Told name held))
 
-  abbrev spec_by : Bool → DialogName → HeldDialog → List Happening
-  spec_by named name held =
-      if named && (is_success status && not (has_answer own client.answers))
-      && is_there client.kind (Some held) then success_brings client.kind response held else []
+    abbrev spec_by : Bool → DialogName → HeldDialog → List Happening
+    spec_by named name held =
+        if named && (is_success status && not (has_answer own client.answers))
+        && is_there client.kind (Some held) then success_brings client.kind response held else []
 
-  brings_so : is_last client.kind status ≡ false → (name : DialogName) (held : HeldDialog)
-      → dialog_at name dialogs ≡ Some held
-      → brings case_now name held ≡ reply_brings status asker response name held
-  brings_so last name held at = by_name (is_named own name) refl
-    where
-      by_name : (b : Bool) → is_named own name ≡ b
-          → cond b (case_success case_now (success_brings client.kind response held)) []
-          ≡ spec_by b name held
-      by_name false is = refl
-      by_name true is =
-          ap (λ o. case_success (reply_case client o answer)
-          (success_brings client.kind response held))
-          (sym (entries.same_key name_laws own name dialogs is) ∙ at)
-          ∙ by_parts (is_final status) (is_success status) (has_answer own client.answers)
-          (is_there client.kind (Some held)) (is_of_dialog answer)
-          (heard_of client.kind client (Some held)) (rseq_of response)
-          (success_brings client.kind response held) (success_final status)
-          (not_last (is_final status) (is_success status) (is_inviting client.kind) last)
+    brings_so : is_last client.kind status ≡ false → (name : DialogName) (held : HeldDialog)
+        → dialog_at name dialogs ≡ Some held
+        → brings case_now name held ≡ reply_brings status asker response name held
+    brings_so last name held at = by_name (is_named own name) refl
+      where
+        by_name : (b : Bool) → is_named own name ≡ b
+            → cond b (case_success case_now (success_brings client.kind response held)) []
+            ≡ spec_by b name held
+        by_name false is = refl
+        by_name true is =
+            ap (λ o. case_success (reply_case client o answer)
+            (success_brings client.kind response held))
+            (sym (entries.same_key name_laws own name dialogs is) ∙ at)
+            ∙ by_parts (is_final status) (is_success status) (has_answer own client.answers)
+            (is_there client.kind (Some held)) (is_of_dialog answer)
+            (heard_of client.kind client (Some held)) (rseq_of response)
+            (success_brings client.kind response held) (success_final status)
+            (not_last (is_final status) (is_success status) (is_inviting client.kind) last)
 
-  -- the last response does nothing in a dialog that stays
-  last_brings : is_last client.kind status ≡ true → (name : DialogName) (held : HeldDialog)
-      → reply_brings status asker response name held ≡ []
-  last_brings last name held =
-      by_kind client.kind (is_named own name) (is_success status)
-      (not (has_answer own client.answers)) (is_there client.kind (Some held)) last
-    where
-      by_kind : (kind : RequestKind) (named success first there : Bool)
-          → (is_final status && not (is_inviting kind && success)) ≡ true
-          → (if named && (success && first) && there then success_brings kind response held else [])
-          ≡ []
-      by_kind kind true false first there last = refl
-      by_kind kind false success first there last = refl
-      by_kind First true true first there last = absurd (never (is_final status) last)
-        where
-          never : (final : Bool) → (final && false) ≡ true → ⊥
-          never true e = absurd cc
-          never false e = absurd cc
-      by_kind (Again life) true true first there last = absurd (never (is_final status) last)
-        where
-          never : (final : Bool) → (final && false) ≡ true → ⊥
-          never true e = absurd cc
-          never false e = absurd cc
-      by_kind (Inside life) true true first there last = none_either (first && there)
-      by_kind Plain true true first there last = none_either (first && there)
+    -- the last response does nothing in a dialog that stays
+    last_brings : is_last client.kind status ≡ true → (name : DialogName) (held : HeldDialog)
+        → reply_brings status asker response name held ≡ []
+    last_brings last name held =
+        by_kind client.kind (is_named own name) (is_success status)
+        (not (has_answer own client.answers)) (is_there client.kind (Some held)) last
+      where
+        by_kind : (kind : RequestKind) (named success first there : Bool)
+            → (is_final status && not (is_inviting kind && success)) ≡ true
+            → (if named && (success && first) && there then success_brings kind response held else [])
+            ≡ []
+        by_kind kind true false first there last = refl
+        by_kind kind false success first there last = refl
+        by_kind First true true first there last = absurd (never (is_final status) last)
+          where
+            never : (final : Bool) → (final && false) ≡ true → ⊥
+            never true e = absurd cc
+            never false e = absurd cc
+        by_kind (Again life) true true first there last = absurd (never (is_final status) last)
+          where
+            never : (final : Bool) → (final && false) ≡ true → ⊥
+            never true e = absurd cc
+            never false e = absurd cc
+        by_kind (Inside life) true true first there last = none_either (first && there)
+        by_kind Plain true true first there last = none_either (first && there)
 
-  abbrev RepliedSo : Replied → Type 0
-  RepliedSo done = (came : DialogName → Option ℕ)
-      × Moves (Some event.id) (Some (ByResponse client.request response)) came
-      (λ name held. reply_brings status asker response name held ++ change_sent name done.3)
-      (λ name. change_sent name done.3) dialogs done.1
+    abbrev RepliedSo : Replied → Type 0
+    RepliedSo done = (came : DialogName → Option ℕ)
+        × Moves (Some event.id) (Some (ByResponse client.request response)) came
+        (λ name held. reply_brings status asker response name held ++ change_sent name done.3)
+        (λ name. change_sent name done.3) dialogs done.1
 
-  by_last : (last : Bool) → is_last client.kind status ≡ last
-      → RepliedSo (cond {A = Replied} last (finished client dialogs answer)
-      (after_dialog own dialogs (by_case case_now client found answer)))
-  by_last true last =
-      let after = (finished client dialogs answer).1 in
-      let life : Lives = λ name held. reply_brings status asker response name held ++ [] in (
-        none_came,
-        moves_led (Some event.id) (Some (ByResponse client.request response)) (λ name. []) life
-            dialogs after
-            (leads_as quiet life dialogs after
-            (λ name held at. sym (ap (λ xs. xs ++ []) (last_brings last name held)))
-            (ended_leads client (ends_dialog status) dialogs apart)),
-      )
-  by_last false last =
-      let done = by_case case_now client found answer in
-      let after = (after_dialog own dialogs done).1 in
-      let so : Named case_now = reply_names client answer found (name_kept asker.kind) in
-      let moves = case_moves (Some event.id) client answer refl case_now dialogs apart so in
-      let came : DialogName → Option ℕ =
-      λ name. heard_number case_now client.kind (is_named own name) in (
-        came,
-        moves_as (Some event.id) (Some (ByResponse client.request response)) came
-            (in_one own (case_life (Some event.id) client answer refl case_now))
-            (λ name held. reply_brings status asker response name held
-            ++ change_sent name done.3)
-            (λ name. cond (is_named own name)
-            (case_begun (Some event.id) client answer refl case_now found) [])
-            (λ name. change_sent name done.3) dialogs after
-            (λ name held at. lives case_now so name held at
-            ∙ ap (λ xs. xs ++ change_sent name done.3) (brings_so last name held at))
-            (λ name. sym (changes case_now so name)) moves,
-      )
+    by_last : (last : Bool) → is_last client.kind status ≡ last
+        → RepliedSo (cond {A = Replied} last (finished client dialogs answer)
+        (after_dialog own dialogs (by_case case_now client found answer)))
+    by_last true last =
+        let after = (finished client dialogs answer).1 in
+        let life : Lives = λ name held. reply_brings status asker response name held ++ [] in (
+          none_came,
+          moves_led (Some event.id) (Some (ByResponse client.request response)) (λ name. []) life
+              dialogs after
+              (leads_as quiet life dialogs after
+              (λ name held at. sym (ap (λ xs. xs ++ []) (last_brings last name held)))
+              (ended_leads client (ends_dialog status) dialogs apart)),
+        )
+    by_last false last =
+        let done = by_case case_now client found answer in
+        let after = (after_dialog own dialogs done).1 in
+        let so : Named case_now = reply_names client answer found (name_kept asker.kind) in
+        let moves = case_moves (Some event.id) client answer refl case_now dialogs apart so in
+        let came : DialogName → Option ℕ =
+        λ name. heard_number case_now client.kind (is_named own name) in (
+          came,
+          moves_as (Some event.id) (Some (ByResponse client.request response)) came
+              (in_one own (case_life (Some event.id) client answer refl case_now))
+              (λ name held. reply_brings status asker response name held
+              ++ change_sent name done.3)
+              (λ name. cond (is_named own name)
+              (case_begun (Some event.id) client answer refl case_now found) [])
+              (λ name. change_sent name done.3) dialogs after
+              (λ name held at. lives case_now so name held at
+              ∙ ap (λ xs. xs ++ change_sent name done.3) (brings_so last name held at))
+              (λ name. sym (changes case_now so name)) moves,
+        )
 
-  replied_so : RepliedSo (reply_taken client dialogs answer)
-  replied_so = by_last (is_last client.kind status) refl
+    replied_so : RepliedSo (reply_taken client dialogs answer)
+    replied_so = by_last (is_last client.kind status) refl
 
 module _ (event : Event) (id : Id) (call_id : List ℕ) (response : Message) (side : Side)
     (apart : AreApart side.dialogs) (named : AreNamed side.dialogs) where
