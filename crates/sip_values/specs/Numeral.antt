@@ -7,14 +7,14 @@ use Rattle.sip_parts.specs.Word.{is_word}
 use Rattle.sip_values.specs.declared.numeral.Numeral.{Numeral}
 use Rattle.sip_values.specs.declared.numeral.Numeral.TheVariants.{Number, NotANumber}
 
--- the number that was found
-abbrev pub found : Result ℕ TextFault → Numeral
-found (Ok number) = Number number
-found (Err fault) = NotANumber
+-- the number that reading gave, or that there is none
+abbrev pub as_numeral : Result ℕ TextFault → Numeral
+as_numeral (Ok number) = Number number
+as_numeral (Err fault) = NotANumber
 
 -- the number that a word of digits stands for
 abbrev pub numeral : List ℕ → Numeral
-numeral word = found (number_of word)
+numeral word = as_numeral (number_of word)
 
 -- a word without white space, and the number that it stands for, if any
 abbrev pub IsNumeral : Numeral → List ℕ → Type 0
