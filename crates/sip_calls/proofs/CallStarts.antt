@@ -99,7 +99,7 @@ command_starts call calls id now (Prack prack) =
 command_starts call calls id now (Cancel cancel) =
     cancel_fits (event_of calls id now) cancel (side_of call)
 
-tick_silent_of : (call : Call) (now : ℕ) → starts (ticked call now).1 ≡ []
+pub tick_silent_of : (call : Call) (now : ℕ) → starts (ticked call now).1 ≡ []
 tick_silent_of call now =
     let first = served.tick_taken (call.served).state now in
     none_of_both first.1 (over_notices now (first.0).dialogs call.clients)

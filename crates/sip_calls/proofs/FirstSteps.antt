@@ -16,13 +16,14 @@ use Rattle.sip_common.specs.declared.notice.Notice.{Notice}
 use Rattle.sip_common.specs.declared.notice.Notice.TheVariants as notice
 use Rattle.sip_common.specs.Dialogs.{is_named}
 use Rattle.sip_common.specs.Dialogs.{Dialogs}
-use Rattle.sip_served.proofs.DialogSteps.{kind_leads, respond_leads}
+use Rattle.sip_served.specs.Happenings.{accepts, answer_confirms, answer_opens}
+use Rattle.sip_served.proofs.DialogSteps.{ack_leads as server_ack, request_leads as server_request, respond_moves}
 use Rattle.sip_common.proofs.Entries.{none_apart}
-use Rattle.sip_common.proofs.Heard.{AreApart, Leads, leads_filtered, leads_same}
+use Rattle.sip_common.proofs.Heard.{AreApart, Leads, Lives, leads_filtered, leads_same, quiet}
 use Rattle.sip_clients.specs.Client.{Side, client_at}
 use Rattle.sip_clients.specs.Provisionals.{OfTheCall, told_of}
 use Rattle.sip_clients.specs.Tick.{ends_at}
-use Rattle.sip_clients.proofs.FirstSides.{ResultOf, ack_leads, ear, lost_leads, prack_leads, request_leads, response_step, silent}
+use Rattle.sip_clients.proofs.FirstSides.{ResultOf, ack_leads, ear, lost_leads, prack_leads, request_leads, requested_in, response_step, silent, silent_moves}
 use Rattle.sip_clients.proofs.Hearing.{heard_in_order}
 use Rattle.sip_calls.specs.declared.call.Call.{Call}
 use Rattle.sip_calls.specs.declared.calls.Calls.{Calls}
@@ -46,14 +47,14 @@ module _ (life : DialogLife) where
       (lost_taken call id notice timed_out)
   lost_step call id notice timed_out apart =
       let taken = lost_taken call id notice timed_out in
-      silent life None (dialogs_of call) (dialogs_of taken.0) taken.1
-      (lost_leads None id timed_out (client_at id call.clients) (side_of call) apart)
+      silent life None quiet (dialogs_of call) (dialogs_of taken.0) taken.1
+      (lost_leads id timed_out (client_at id call.clients) (side_of call) apart)
 
-  leads_of : (id : Id) (call : Call) (taken : CallTaken)
-      → Leads (λ x. Some id ≡ Some x) (dialogs_of call) (dialogs_of taken.0)
+  leads_of : (id : Id) (call : Call) (taken : CallTaken) (lived : Lives)
+      → Leads lived (dialogs_of call) (dialogs_of taken.0)
       → Step (Some id) None (dialogs_of call) taken
-  leads_of id call taken leads =
-      silent life (Some id) (dialogs_of call) (dialogs_of taken.0) taken.1 leads
+  leads_of id call taken lived leads =
+      silent life (Some id) lived (dialogs_of call) (dialogs_of taken.0) taken.1 leads
 
   up_step : (call : Call) (calls : Calls) (id : Id) (now : ℕ) (up : AnUp) (k : Kind)
       → AreApart (dialogs_of call)
@@ -62,12 +63,11 @@ module _ (life : DialogLife) where
   up_step call calls id now up (kind.Request request reply_to) apart =
       let of = event_of calls id now in
       let k = kind.Request request reply_to in
-      leads_of id call (up_taken call of up k)
-      (kind_leads (λ x. Some id ≡ Some x) (call.served).state (tag_of_answers of request) up k now
-      apart)
+      leads_of id call (up_taken call of up k) (accepts request)
+      (server_request (call.served).state (tag_of_answers of request) up request reply_to now apart)
   up_step call calls id now up (kind.Ack ack) apart =
-      leads_of id call (up_taken call (event_of calls id now) up (kind.Ack ack))
-      (kind_leads (λ x. Some id ≡ Some x) (call.served).state [] up (kind.Ack ack) now apart)
+      leads_of id call (up_taken call (event_of calls id now) up (kind.Ack ack)) quiet
+      (server_ack (call.served).state up.call_id ack apart)
   up_step call calls id now up (kind.Response response) apart =
       response_step life (Some id) (event_of calls id now) refl up.id up.call_id response
       (side_of call) apart
@@ -78,8 +78,8 @@ module _ (life : DialogLife) where
 
   no_leads : (id : Id) (call : Call) (outs : List CallOut) → AreApart (dialogs_of call)
       → ResultOf life (Some id) (dialogs_of call) (dialogs_of call) None outs
-  no_leads id call outs apart = silent life (Some id) (dialogs_of call) (dialogs_of call) outs
-      (leads_same (λ x. Some id ≡ Some x) (dialogs_of call) apart)
+  no_leads id call outs apart = silent life (Some id) quiet (dialogs_of call) (dialogs_of call) outs
+      (leads_same (dialogs_of call) apart)
 
   first_command_step : (call : Call) (calls : Calls) (id : Id) (now : ℕ) (command : UserCommand)
       → AreApart (dialogs_of call)
@@ -100,26 +100,26 @@ module _ (life : DialogLife) where
   command_step call calls id now (PlainCommand plain) apart = no_leads id call _ apart
   command_step call calls id now (Request request) apart =
       leads_of id call (command_taken call (event_of calls id now) (Request request))
-      (request_leads (λ x. Some id ≡ Some x) (event_of calls id now) request
-      (side_of call) apart)
+      (requested_in request) (request_leads (event_of calls id now) request (side_of call) apart)
   command_step call calls id now (Respond respond) apart =
-      leads_of id call (command_taken call (event_of calls id now) (Respond respond))
-      (respond_leads (λ x. Some id ≡ Some x) id refl (call.served).state respond now apart)
+      let taken = command_taken call (event_of calls id now) (Respond respond) in
+      silent_moves life (Some id) (answer_opens (call.served).state respond)
+      (answer_confirms (call.served).state respond taken.1) (λ name. []) (dialogs_of call)
+      (dialogs_of taken.0) taken.1 (respond_moves id (call.served).state respond now apart)
   command_step call calls id now (Ack ack) apart =
-      leads_of id call (command_taken call (event_of calls id now) (Ack ack))
-      (ack_leads (λ x. Some id ≡ Some x) (event_of calls id now) ack (side_of call) apart)
+      leads_of id call (command_taken call (event_of calls id now) (Ack ack)) _
+      (ack_leads (event_of calls id now) ack (side_of call) apart)
   command_step call calls id now (Prack prack) apart =
-      leads_of id call (command_taken call (event_of calls id now) (Prack prack))
-      (prack_leads (λ x. Some id ≡ Some x) (event_of calls id now) prack (side_of call) apart)
+      leads_of id call (command_taken call (event_of calls id now) (Prack prack)) _
+      (prack_leads (event_of calls id now) prack (side_of call) apart)
   command_step call calls id now (Cancel cancel) apart = no_leads id call _ apart
 
   tick_step : (call : Call) (now : ℕ) → AreApart (dialogs_of call)
       → Step None None (dialogs_of call) (ticked call now)
   tick_step call now apart =
       let taken = ticked call now in
-      silent life None (dialogs_of call) (dialogs_of taken.0) taken.1
-      (leads_filtered (λ x. None ≡ Some x) (λ held. not (ends_at now call.clients held))
-      (dialogs_of call) apart)
+      silent life None quiet (dialogs_of call) (dialogs_of taken.0) taken.1
+      (leads_filtered (λ held. not (ends_at now call.clients held)) (dialogs_of call) apart)
 
   -- ---- all of it
 
@@ -138,7 +138,7 @@ module _ (life : DialogLife) where
       → KeptStep (event_in input) (number_in OfTheCall life input (side_held state))
       (side_held state).dialogs (call_step calls state input now)
   by_input calls None None now apart =
-      silent life None [] [] [] (leads_same (λ x. None ≡ Some x) [] apart)
+      silent life None quiet [] [] [] (leads_same [] apart)
   by_input calls (Some call) None now apart =
       kept_step None None (dialogs_of call) (ticked call now) (tick_step call now apart)
   by_input calls None (Some (id, Up up)) now apart =

@@ -1,5 +1,6 @@
 pub mod Call
 pub mod CallShard
+pub mod Histories
 pub mod Idle
 pub mod OwnCall
 pub mod Provisionals

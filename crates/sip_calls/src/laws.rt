@@ -1,5 +1,6 @@
 //! Laws of calls.
 
+ghost use Rattle.sip_calls.specs.Histories.{CountsItsRequests, HasTheGreatestNumber, HasTheLatestRoute, HoldsItsHistory};
 ghost use Rattle.sip_calls.specs.OwnCall.{EachNoticeIsOwn};
 ghost use Rattle.sip_calls.specs.Provisionals.{ShownConsecutive, ShownInOrder, ShownOnce};
 ghost use Rattle.sip_calls.specs.RefusedCommands.{RefusedAlone};
@@ -32,4 +33,17 @@ pub fn each_notice_is_of_its_call()
 /// and once.
 pub fn each_request_is_told_once()
     ensures { EachToldOnce }
+{}
+
+/// Whatever comes to a call, by events that differ: each dialog that is held, at either side, is what
+/// its opening and all that happened in it since make. It opened by a message at one of the inputs;
+/// since then requests of the peer were accepted in it, responses and answers confirmed it or gave
+/// it another target, and requests of the agent went out in it. So its local CSeq is that of its
+/// opening and one more for each request that went out in it, its remote CSeq the greatest that was
+/// accepted, and its routes and its target are those that came last (RFC 3261, section 12).
+pub fn a_dialog_holds_its_history()
+    ensures history { HoldsItsHistory }
+    ensures local { CountsItsRequests }
+    ensures remote { HasTheGreatestNumber }
+    ensures route { HasTheLatestRoute }
 {}

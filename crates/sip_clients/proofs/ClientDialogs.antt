@@ -1,16 +1,25 @@
--- What the client side does to the dialogs keeps what was heard in each, ends it or makes it anew,
--- but for a reliable provisional response to the first INVITE.
-use Rattle.std.proofs.Common.{◌≡◌, inl, inr, ℕ, Bool, true, false, not, cond, List, [], refl, sym, subst}
-use Rattle.std.specs.Prelude.{Option, None, Some, filter}
-use Rattle.std.specs.Option.{option_map}
+-- What the client side makes happen in the dialog of each name, which stays, is over or is made anew,
+-- and what is heard in it of the reliable provisional responses to the first INVITE.
+use Rattle.std.proofs.Common.{◌≡◌, inl, inr, ℕ, Bool, true, false, not, ◌&&◌, cond, List, [], ◌∷◌, refl, sym, ap, subst, ◌∙◌}
+use Rattle.std.specs.Prelude.{Option, None, Some, codes, filter, if◌then◌else◌}
 use Rattle.indexmap.specs.IndexMap.{insert_entry}
 use Rattle.sip_message.specs.declared.id.Id.{Id}
+use Rattle.sip_message.specs.declared.message.Message.{Message}
+use Rattle.sip_message.specs.Party.{tag_of}
+use Rattle.sip_dialog.specs.declared.dialog.Dialog.{Dialog}
+use Rattle.sip_dialog.specs.declared.fault.DialogFault.{DialogFault}
+use Rattle.sip_dialog.specs.Fault.{request_fault}
+use Rattle.sip_dialog.specs.Life.{Happening, Requests}
+use Rattle.sip_dialog.specs.Opening.{ByResponse, Opening, contact_uri, opened as dialog_opened}
 use Rattle.sip_common.specs.declared.debt.Debt.{Debt}
 use Rattle.sip_common.specs.declared.debt.Debt.TheVariants.{Ack, Prack}
 use Rattle.sip_common.specs.declared.held_dialog.DialogName.{DialogName}
 use Rattle.sip_common.specs.declared.held_dialog.HeldDialog.{HeldDialog}
 use Rattle.sip_common.specs.declared.item.CallOut.{CallOut}
 use Rattle.sip_common.specs.Dialogs.{dialog_at, ended_at, is_early_of, is_named, lives, Dialogs}
+use Rattle.sip_common.specs.Lives.{AllFit}
+use Rattle.sip_common.specs.Requests.{is_final, name_of_tags}
+use Rattle.sip_common.specs.Sent.{name_of_dialog}
 use Rattle.sip_clients.specs.declared.client.RequestKind.{RequestKind}
 use Rattle.sip_clients.specs.declared.client.RequestKind.TheVariants.{First, Again, Inside, Plain}
 use Rattle.sip_clients.specs.declared.client.Client.{Client}
@@ -22,103 +31,120 @@ use Rattle.sip_clients.specs.declared.service.Service.{Service}
 use Rattle.sip_clients.specs.declared.service.Service.TheVariants.{Sent, Waits, Refused}
 use Rattle.sip_common.specs.declared.refusal.Refusal.{Refusal as ARefusal}
 use Rattle.sip_common.specs.Refusal.{first_refusal}
+use Rattle.sip_clients.specs.Answers.{has_answer}
+use Rattle.sip_clients.specs.Clients.{reply_name}
 use Rattle.sip_clients.specs.Commands.{bye_ended, request_in, request_refusals, sent_unless}
 use Rattle.sip_clients.specs.Debts.{dropped_if_sent, kept_unless_sent, owed, paid}
-use Rattle.sip_clients.specs.Dialogs.{accepted, accepted_in, ended_with, hearing, opened, own_ended, served_at}
+use Rattle.sip_clients.specs.Dialogs.{accepted, accepted_in, ended_with, hearing, made_dialog, opened, own_ended, served_at}
+use Rattle.sip_clients.specs.Happenings.{success_brings}
 use Rattle.sip_clients.specs.Replied.{ack_owed, by_case, heard_first, offer_to, prack_owed, with_dialog}
-use Rattle.sip_clients.specs.Service.{Outcome, discharged, sending_in}
+use Rattle.sip_clients.specs.Reply.{heard_of, is_of_dialog, is_there, reliable_case, reply_case, rseq_of}
+use Rattle.sip_clients.specs.Service.{Outcome, discharged, sending_in, sends}
 use Rattle.sip_common.proofs.Entries as entries
+use Rattle.sip_common.proofs.Heard.{AreApart, Goes, Keeps, Leads, Life, Moves, OpensBy, Stays, in_one, keeps_same, keeps_then, leads_changed, leads_filtered, leads_removed, leads_same, leads_then, name_laws, none_either, nothing, quiet, same_name, stays_same, tag_kept}
+use Rattle.sip_common.proofs.Lives.{cases_fit}
+use Rattle.sip_clients.proofs.SentIn.{discharge_life, request_life, unless_refused}
 use Rattle.sip_clients.proofs.Served.{served_dialogs}
-use Rattle.sip_common.proofs.Heard.{AreApart, Goes, Keeps, Leads, Stays, goes_then, keeps_then, leads_changed, leads_filtered, leads_removed, leads_same, leads_then, name_laws, stays_same}
 
 -- ---- what is sent in a dialog, owed and paid
 
-served_keeps : (event : Event) (debt : Debt) (offer : Option (List ℕ)) (held : HeldDialog)
-    → Keeps held (discharged event debt offer held).0
+sends_fit : (method : List ℕ) (fault : Option DialogFault) (dialog : Dialog)
+    → AllFit dialog (sends method fault)
+sends_fit method None dialog = (tt, tt)
+sends_fit method (Some fault) dialog = tt
+
+discharged_keeps : (event : Event) (debt : Debt) (offer : Option (List ℕ)) (held : HeldDialog)
+    → Keeps None (discharge_life debt offer held.dialog) held (discharged event debt offer held).0
 unfolding discharged
-served_keeps event debt None held = (refl, refl)
-served_keeps event (Ack invite number) (Some body) held = (refl, refl)
-served_keeps event (Prack rseq number) (Some body) held = (refl, refl)
+discharged_keeps event (Ack invite number) None held = keeps_same held
+discharged_keeps event (Prack rseq number) None held = keeps_same held
+discharged_keeps event (Ack invite number) (Some body) held = keeps_same held
+discharged_keeps event (Prack rseq number) (Some body) held =
+    let fault = request_fault held.dialog (codes "PRACK") in
+    (refl, refl, (sends_fit (codes "PRACK") fault held.dialog, refl))
 
 unless_sent_keeps : (debt : Debt) (service : Service) (held : HeldDialog)
-    → Keeps held (kept_unless_sent debt service held)
-unless_sent_keeps debt (Sent sending) held = (refl, refl)
-unless_sent_keeps debt Waits held = (refl, refl)
-unless_sent_keeps debt (Refused refusal) held = (refl, refl)
+    → Keeps None [] held (kept_unless_sent debt service held)
+unless_sent_keeps debt (Sent sending) held = keeps_same held
+unless_sent_keeps debt Waits held = (refl, refl, (tt, refl))
+unless_sent_keeps debt (Refused refusal) held = (refl, refl, (tt, refl))
 
 if_sent_keeps : (debt : Debt) (service : Service) (held : HeldDialog)
-    → Keeps held (dropped_if_sent debt service held)
-if_sent_keeps debt (Sent sending) held = (refl, refl)
-if_sent_keeps debt Waits held = (refl, refl)
-if_sent_keeps debt (Refused refusal) held = (refl, refl)
+    → Keeps None [] held (dropped_if_sent debt service held)
+if_sent_keeps debt (Sent sending) held = (refl, refl, (tt, refl))
+if_sent_keeps debt Waits held = keeps_same held
+if_sent_keeps debt (Refused refusal) held = keeps_same held
 
 pub owed_keeps : (event : Event) (debt : Debt) (offer : Option (List ℕ)) (held : HeldDialog)
-    → Keeps held (owed event debt offer held).0
+    → Keeps None (discharge_life debt offer held.dialog) held (owed event debt offer held).0
 unfolding owed
 owed_keeps event debt offer held =
     let done = discharged event debt offer held in
-    keeps_then held done.0 (kept_unless_sent debt done.1 done.0)
-    (served_keeps event debt offer held) (unless_sent_keeps debt done.1 done.0)
+    keeps_then None (discharge_life debt offer held.dialog) held done.0
+    (kept_unless_sent debt done.1 done.0)
+    (discharged_keeps event debt offer held) (unless_sent_keeps debt done.1 done.0)
 
 pub paid_keeps : (event : Event) (debt : Debt) (body : List ℕ) (held : HeldDialog)
-    → Keeps held (paid event debt body held).0
+    → Keeps None (discharge_life debt (Some body) held.dialog) held (paid event debt body held).0
 unfolding paid
 paid_keeps event debt body held =
     let done = discharged event debt (Some body) held in
-    keeps_then held done.0 (dropped_if_sent debt done.1 done.0)
-    (served_keeps event debt (Some body) held) (if_sent_keeps debt done.1 done.0)
+    keeps_then None (discharge_life debt (Some body) held.dialog) held done.0
+    (dropped_if_sent debt done.1 done.0)
+    (discharged_keeps event debt (Some body) held) (if_sent_keeps debt done.1 done.0)
 
 pub request_keeps : (event : Event) (method body : List ℕ) (held : HeldDialog)
-    → Keeps held (request_in event method body held).0
+    → Keeps None (request_life method held.dialog) held (request_in event method body held).0
 unfolding request_in
 request_keeps event method body held =
     unless (first_refusal (request_refusals held.dialog method) None)
   where
     unless : (refusal : Option ARefusal)
-        → Keeps held (sent_unless refusal (sending_in event method None body held) held).0
-    unless None = (refl, refl)
-    unless (Some refusal) = (refl, refl)
+        → Keeps None (unless_refused refusal method) held
+        (sent_unless refusal (sending_in event method None body held) held).0
+    unless None = (refl, refl, ((tt, tt), refl))
+    unless (Some refusal) = keeps_same held
 
-module _ (Makes : Id → Type 0) where
-  pub served_leads : (name : DialogName) (serve : HeldDialog → Outcome) (otherwise : Service)
-      → ((held : HeldDialog) → Keeps held (serve held).0) → (dialogs : Dialogs) → AreApart dialogs
-      → Leads Makes dialogs (served_at name serve otherwise dialogs).0
-  served_leads name serve otherwise keeps dialogs apart =
-      subst (Leads Makes dialogs) (sym (served_dialogs name serve otherwise dialogs))
-      (leads_changed Makes name (λ held. (serve held).0) keeps dialogs apart)
+pub served_leads : (name : DialogName) (serve : HeldDialog → Outcome) (otherwise : Service)
+    (life : Life) → ((held : HeldDialog) → Keeps None (life held) held (serve held).0)
+    → (dialogs : Dialogs) → AreApart dialogs
+    → Leads (in_one name life) dialogs (served_at name serve otherwise dialogs).0
+served_leads name serve otherwise life keeps dialogs apart =
+    subst (Leads (in_one name life) dialogs) (sym (served_dialogs name serve otherwise dialogs))
+    (leads_changed name (λ held. (serve held).0) life keeps dialogs apart)
 
-  -- ---- what ends dialogs
+-- ---- what ends dialogs
 
-  removed_or_same : (b : Bool) (name : DialogName) (dialogs : Dialogs) → AreApart dialogs
-      → Leads Makes dialogs (cond {A = Dialogs × List CallOut} b (ended_at name dialogs)
-      (dialogs, [])).0
-  removed_or_same true name dialogs apart = leads_removed Makes name dialogs apart
-  removed_or_same false name dialogs apart = leads_same Makes dialogs apart
+removed_or_same : (b : Bool) (name : DialogName) (dialogs : Dialogs) → AreApart dialogs
+    → Leads quiet dialogs (cond {A = Dialogs × List CallOut} b (ended_at name dialogs)
+    (dialogs, [])).0
+removed_or_same true name dialogs apart = leads_removed name dialogs apart
+removed_or_same false name dialogs apart = leads_same dialogs apart
 
-  own_leads : (kind : RequestKind) (ends : Bool) (dialogs : Dialogs) → AreApart dialogs
-      → Leads Makes dialogs (own_ended kind ends dialogs).0
-  own_leads First ends dialogs apart = leads_same Makes dialogs apart
-  own_leads (Again life) true dialogs apart =
-      removed_or_same (lives dialogs life) life.name dialogs apart
-  own_leads (Again life) false dialogs apart = leads_same Makes dialogs apart
-  own_leads (Inside life) true dialogs apart =
-      removed_or_same (lives dialogs life) life.name dialogs apart
-  own_leads (Inside life) false dialogs apart = leads_same Makes dialogs apart
-  own_leads Plain ends dialogs apart = leads_same Makes dialogs apart
+own_leads : (kind : RequestKind) (ends : Bool) (dialogs : Dialogs) → AreApart dialogs
+    → Leads quiet dialogs (own_ended kind ends dialogs).0
+own_leads First ends dialogs apart = leads_same dialogs apart
+own_leads (Again life) true dialogs apart =
+    removed_or_same (lives dialogs life) life.name dialogs apart
+own_leads (Again life) false dialogs apart = leads_same dialogs apart
+own_leads (Inside life) true dialogs apart =
+    removed_or_same (lives dialogs life) life.name dialogs apart
+own_leads (Inside life) false dialogs apart = leads_same dialogs apart
+own_leads Plain ends dialogs apart = leads_same dialogs apart
 
-  pub ended_leads : (client : Client) (ends : Bool) (dialogs : Dialogs) → AreApart dialogs
-      → Leads Makes dialogs (ended_with client ends dialogs).0
-  ended_leads client ends dialogs apart =
-      let left : Dialogs = filter (λ entry. not (is_early_of client.id entry.1)) dialogs in
-      leads_then Makes dialogs left (own_ended client.kind ends left).0
-      (leads_filtered Makes (λ held. not (is_early_of client.id held)) dialogs apart)
-      (own_leads client.kind ends left)
+pub ended_leads : (client : Client) (ends : Bool) (dialogs : Dialogs) → AreApart dialogs
+    → Leads quiet dialogs (ended_with client ends dialogs).0
+ended_leads client ends dialogs apart =
+    let left : Dialogs = filter (λ entry. not (is_early_of client.id entry.1)) dialogs in
+    leads_then quiet dialogs left (own_ended client.kind ends left).0
+    (leads_filtered (λ held. not (is_early_of client.id held)) dialogs apart)
+    (own_leads client.kind ends left)
 
-  pub bye_leads : (name : DialogName) (method : List ℕ) (service : Service) (dialogs : Dialogs)
-      → AreApart dialogs → Leads Makes dialogs (bye_ended name method service dialogs).0
-  bye_leads name method (Sent sending) dialogs apart = removed_or_same _ name dialogs apart
-  bye_leads name method Waits dialogs apart = leads_same Makes dialogs apart
-  bye_leads name method (Refused refusal) dialogs apart = leads_same Makes dialogs apart
+pub bye_leads : (name : DialogName) (method : List ℕ) (service : Service) (dialogs : Dialogs)
+    → AreApart dialogs → Leads quiet dialogs (bye_ended name method service dialogs).0
+bye_leads name method (Sent sending) dialogs apart = removed_or_same _ name dialogs apart
+bye_leads name method Waits dialogs apart = leads_same dialogs apart
+bye_leads name method (Refused refusal) dialogs apart = leads_same dialogs apart
 
 -- ---- a response
 
@@ -138,122 +164,275 @@ unnamed_unheard reply.Passed kind = refl
 unnamed_unheard reply.Early kind = refl
 unnamed_unheard reply.Told kind = refl
 
--- a dialog before and after a response of which this number was heard in it
-abbrev pub HeardAt : (Id → Type 0) → Option ℕ → Option HeldDialog → Option HeldDialog → Type 0
-HeardAt Makes None before after = Goes Makes before after
-HeardAt Makes (Some number) before after =
-    (middle : Option HeldDialog) × Goes Makes before middle
-    × Stays (option_map (hearing number) middle) after
+-- a dialog may be made in these cases
+abbrev pub may_make : ReplyCase → Bool
+may_make reply.Repeated = false
+may_make reply.Accepted = true
+may_make reply.Late = false
+may_make (reply.Reliable number) = true
+may_make reply.Passed = false
+may_make reply.Early = true
+may_make reply.Told = false
 
-module _ (Makes : Id → Type 0) (client : Client) (answer : Answer)
-    (makes : Makes (answer.event).id) where
+-- what a 2xx does in a dialog that is held
+pub success_keeps : (kind : RequestKind) (response : Message) (held : HeldDialog)
+    → Keeps None (success_brings kind response held) held (accepted_in kind response held)
+success_keeps First response held = (refl, refl, ((cases_fit held).confirms response, refl))
+success_keeps (Again life) response held =
+    (refl, refl, ((cases_fit held).retargets (contact_uri response), refl))
+success_keeps (Inside life) response held = keeps_same held
+success_keeps Plain response held = keeps_same held
+
+-- of a request whose kind is not First none is
+makes_first : (kind : RequestKind) (final again inside : Bool) (heard rseq : Option ℕ)
+    → may_make (if final then (if again then reply.Repeated
+    else (if is_there kind None then reply.Accepted else reply.Late))
+    else (if inside && is_there kind None then reliable_case heard rseq else reply.Told)) ≡ true
+    → kind ≡ First
+makes_first First final again inside heard rseq makes = refl
+makes_first (Again life) true true inside heard rseq makes = absurd cc
+makes_first (Again life) true false inside heard rseq makes = absurd cc
+makes_first (Again life) false again true heard rseq makes = absurd cc
+makes_first (Again life) false again false heard rseq makes = absurd cc
+makes_first (Inside life) true true inside heard rseq makes = absurd cc
+makes_first (Inside life) true false inside heard rseq makes = absurd cc
+makes_first (Inside life) false again true heard rseq makes = absurd cc
+makes_first (Inside life) false again false heard rseq makes = absurd cc
+makes_first Plain true true inside heard rseq makes = absurd cc
+makes_first Plain true false inside heard rseq makes = absurd cc
+makes_first Plain false again true heard rseq makes = absurd cc
+makes_first Plain false again false heard rseq makes = absurd cc
+
+-- a dialog that a response makes has the name of its tags
+abbrev pub IsNamedSo : Client → Answer → Option HeldDialog → Type 0
+IsNamedSo client answer found = found ≡ None
+    → is_named answer.name
+    (name_of_dialog (dialog_opened (ByResponse client.request answer.response))) ≡ true
+
+pub first_name : (client : Client) (answer : Answer) (found : Option HeldDialog)
+    → answer.name ≡ reply_name First client answer.response → IsNamedSo client answer found
+first_name client answer found own none =
+    let from = (client.request).from in
+    let to = (answer.response).to in
+    let tags = name_of_dialog (dialog_opened (ByResponse client.request answer.response)) in
+    let same : answer.name ≡ tags =
+    own ∙ (λ i. name_of_tags (sym (tag_kept (tag_of from)) i) (sym (tag_kept (tag_of to)) i)) in
+    ap (λ name. is_named name tags) same ∙ name_laws.refl tags
+
+pub reply_names : (client : Client) (answer : Answer) (found : Option HeldDialog)
+    → answer.name ≡ reply_name client.kind client answer.response
+    → may_make (reply_case client found answer) ≡ true → IsNamedSo client answer found
+reply_names client answer found own makes none =
+    let first : client.kind ≡ First =
+    makes_first client.kind (is_final answer.status) (has_answer answer.name client.answers)
+    (is_of_dialog answer) (heard_of client.kind client None) (rseq_of answer.response)
+    (ap (λ (found : Option HeldDialog). may_make (reply_case client found answer)) (sym none)
+    ∙ makes) in
+    first_name client answer found
+    (own ∙ ap (λ kind. reply_name kind client answer.response) first) none
+
+module _ (event : Option Id) (client : Client) (answer : Answer)
+    (made : event ≡ Some (answer.event).id) where
+  abbrev pub start : Opening
+  start = ByResponse client.request answer.response
+
+  abbrev pub prack_life : ℕ → Dialog → List Happening
+  prack_life number dialog =
+      discharge_life (Prack number ((client.request).cseq).number)
+      (offer_to client answer.response) dialog
+
+  -- what happens in the dialog of its name where it is held, and in one that is opened
+  abbrev pub case_life : ReplyCase → Life
+  case_life reply.Repeated held = []
+  case_life reply.Accepted held = success_brings client.kind answer.response held
+  case_life reply.Late held = []
+  case_life (reply.Reliable number) held = prack_life number held.dialog
+  case_life reply.Passed held = []
+  case_life reply.Early held = []
+  case_life reply.Told held = []
+
+  abbrev pub case_begun : ReplyCase → Option HeldDialog → List Happening
+  case_begun reply.Repeated found = []
+  case_begun reply.Accepted found = []
+  case_begun reply.Late found = []
+  case_begun (reply.Reliable number) found =
+      prack_life number (opened client answer found).dialog
+  case_begun reply.Passed found = []
+  case_begun reply.Early found = []
+  case_begun reply.Told found = []
+
   -- ---- the dialog of its name
 
-  opened_goes : (found : Option HeldDialog) → Goes Makes found (Some (opened client answer found))
-  opened_goes None = inr (makes, refl)
-  opened_goes (Some held) = inl (refl, refl)
+  abbrev GoesTo : ReplyCase → Option HeldDialog → HeldDialog → DialogName → Type 0
+  GoesTo case found after other =
+      Goes event (OpensBy (Some start) other) (heard_number case client.kind true) (case_life case)
+      (case_begun case found) found (Some after)
 
-  accepted_keeps : (kind : RequestKind) (held : HeldDialog)
-      → Keeps held (accepted_in kind answer.response held)
-  accepted_keeps First held = (refl, refl)
-  accepted_keeps (Again life) held = (refl, refl)
-  accepted_keeps (Inside life) held = (refl, refl)
-  accepted_keeps Plain held = (refl, refl)
+  abbrev GoesHere : ReplyCase → Option HeldDialog → HeldDialog → Type 0
+  GoesHere case found after =
+      (other : DialogName) → is_named answer.name other ≡ true → GoesTo case found after other
 
-  accepted_goes : (found : Option HeldDialog)
-      → Goes Makes found (Some (accepted client answer found))
-  accepted_goes None = inr (makes, refl)
-  accepted_goes (Some held) = inl (accepted_keeps client.kind held)
+  opens_so : IsNamedSo client answer None → (other : DialogName) → is_named answer.name other ≡ true
+      → OpensBy (Some start) other start
+  opens_so named other same =
+      (refl, same_name answer.name other (name_of_dialog (dialog_opened start)) (named refl) same)
 
-  ack_goes : (found : Option HeldDialog)
-      → Goes Makes found (Some (ack_owed client (accepted client answer found) answer).0)
+  opened_goes : (found : Option HeldDialog) → IsNamedSo client answer found
+      → GoesHere reply.Early found (opened client answer found)
+  opened_goes None named other same =
+      inr (made, refl, (start, opens_so named other same, (tt, refl)))
+  opened_goes (Some held) named other same = inl (keeps_same held)
+
+  ack_goes : (found : Option HeldDialog) → IsNamedSo client answer found
+      → GoesHere reply.Accepted found (ack_owed client (accepted client answer found) answer).0
   unfolding ack_owed
-  ack_goes found =
-      let held = accepted client answer found in
-      let debt = Ack client.id ((client.request).cseq).number in
-      let offer = offer_to client answer.response in
-      goes_then Makes found (Some held) (Some (owed answer.event debt offer held).0)
-      (accepted_goes found) (inl (owed_keeps answer.event debt offer held))
+  ack_goes found named other same = by_found found named
+    where
+      keeps : (held : HeldDialog) → Keeps None [] held (ack_owed client held answer).0
+      keeps held = owed_keeps answer.event (Ack client.id ((client.request).cseq).number)
+          (offer_to client answer.response) held
 
-  owed_goes : (debt : Debt) (offer : Option (List ℕ)) (found : Option HeldDialog)
-      → Goes Makes found (Some (owed answer.event debt offer (opened client answer found)).0)
-  owed_goes debt offer found =
-      let held = opened client answer found in
-      goes_then Makes found (Some held) (Some (owed answer.event debt offer held).0)
-      (opened_goes found) (inl (owed_keeps answer.event debt offer held))
+      by_found : (found : Option HeldDialog) → IsNamedSo client answer found
+          → GoesTo reply.Accepted found (ack_owed client (accepted client answer found) answer).0
+          other
+      by_found None named =
+          let kept = keeps (made_dialog client answer) in
+          inr (
+            made ∙ ap (λ id. Some id) (sym kept.0),
+            kept.1,
+            (start, opens_so named other same, kept.2),
+          )
+      by_found (Some held) named =
+          let before = accepted_in client.kind answer.response held in
+          inl (keeps_then None (success_brings client.kind answer.response held) held before
+          (ack_owed client before answer).0
+          (success_keeps client.kind answer.response held) (keeps before))
 
   -- a reliable provisional response
-  prack_heard : (kind : RequestKind) (number : ℕ) (debt : Debt) (offer : Option (List ℕ))
-      (found : Option HeldDialog)
-      → HeardAt Makes (heard_number (reply.Reliable number) kind true) found
-      (Some (owed answer.event debt offer (heard_first kind number (opened client answer found))).0)
-  prack_heard First number debt offer found =
-      let held = opened client answer found in
-      (Some held, opened_goes found, owed_keeps answer.event debt offer (hearing number held))
-  prack_heard (Again life) number debt offer found = owed_goes debt offer found
-  prack_heard (Inside life) number debt offer found = owed_goes debt offer found
-  prack_heard Plain number debt offer found = owed_goes debt offer found
+  owed_goes : (number : ℕ) (found : Option HeldDialog) → IsNamedSo client answer found → (other : DialogName)
+      → is_named answer.name other ≡ true
+      → Goes event (OpensBy (Some start) other) None (case_life (reply.Reliable number))
+      (case_begun (reply.Reliable number) found) found
+      (Some (owed answer.event (Prack number ((client.request).cseq).number)
+      (offer_to client answer.response) (opened client answer found)).0)
+  owed_goes number None named other same =
+      let kept = owed_keeps answer.event (Prack number ((client.request).cseq).number)
+      (offer_to client answer.response) (made_dialog client answer) in
+      inr (
+        made ∙ ap (λ id. Some id) (sym kept.0),
+        kept.1,
+        (start, opens_so named other same, kept.2),
+      )
+  owed_goes number (Some held) named other same =
+      inl (owed_keeps answer.event (Prack number ((client.request).cseq).number)
+      (offer_to client answer.response) held)
+
+  heard_goes : (number : ℕ) (found : Option HeldDialog) → IsNamedSo client answer found → (other : DialogName)
+      → is_named answer.name other ≡ true
+      → Goes event (OpensBy (Some start) other) (Some number) (case_life (reply.Reliable number))
+      (case_begun (reply.Reliable number) found) found
+      (Some (owed answer.event (Prack number ((client.request).cseq).number)
+      (offer_to client answer.response) (hearing number (opened client answer found))).0)
+  heard_goes number None named other same =
+      let kept = owed_keeps answer.event (Prack number ((client.request).cseq).number)
+      (offer_to client answer.response) (hearing number (made_dialog client answer)) in
+      inr (
+        made ∙ ap (λ id. Some id) (sym kept.0),
+        kept.1,
+        (start, opens_so named other same, kept.2),
+      )
+  heard_goes number (Some held) named other same =
+      inl (owed_keeps answer.event (Prack number ((client.request).cseq).number)
+      (offer_to client answer.response) (hearing number held))
+
+  prack_goes : (kind : RequestKind) (number : ℕ) (found : Option HeldDialog) → IsNamedSo client answer found
+      → (other : DialogName) → is_named answer.name other ≡ true
+      → Goes event (OpensBy (Some start) other) (heard_number (reply.Reliable number) kind true)
+      (case_life (reply.Reliable number)) (case_begun (reply.Reliable number) found) found
+      (Some (owed answer.event (Prack number ((client.request).cseq).number)
+      (offer_to client answer.response)
+      (heard_first kind number (opened client answer found))).0)
+  prack_goes First number found named other same = heard_goes number found named other same
+  prack_goes (Again life) number found named other same = owed_goes number found named other same
+  prack_goes (Inside life) number found named other same = owed_goes number found named other same
+  prack_goes Plain number found named other same = owed_goes number found named other same
 
   -- ---- all dialogs
 
-  -- what is held after a response, and what was heard of it in the dialog of each name
-  pub record Answered (case : ReplyCase) (before after : Dialogs) : Type 0 where
-    pub apart : AreApart after
-    pub heard : (name : DialogName)
-        → HeardAt Makes (heard_number case client.kind (is_named answer.name name))
-        (dialog_at name before) (dialog_at name after)
+  abbrev pub Answered : ReplyCase → Dialogs → Dialogs → Type 0
+  Answered case before after = Moves event (Some start)
+      (λ name. heard_number case client.kind (is_named answer.name name))
+      (in_one answer.name (case_life case))
+      (λ name. cond (is_named answer.name name) (case_begun case (dialog_at answer.name before)) [])
+      before after
 
-  -- where nothing is changed
-  same_heard : (case : ReplyCase) (dialogs : Dialogs)
-      → ((name : DialogName) → heard_number case client.kind (is_named answer.name name) ≡ None)
-      → AreApart dialogs → Answered case dialogs dialogs
-  same_heard case dialogs none apart = record {
-    apart = apart;
-    heard = λ name. subst (λ o. HeardAt Makes o (dialog_at name dialogs) (dialog_at name dialogs))
-        (sym (none name)) (inl (stays_same (dialog_at name dialogs)));
-  }
+  still : (b : Bool) (o : Option HeldDialog) → Stays None (λ held. cond b [] []) o o
+  still b None = tt
+  still b (Some held) =
+      subst (λ (life : List Happening). Keeps None life held held) (sym (none_either b))
+      (keeps_same held)
 
   -- where the dialog of its name is this one
-  put_heard : (case : ReplyCase) (held : HeldDialog) (dialogs : Dialogs) → AreApart dialogs
-      → HeardAt Makes (heard_number case client.kind true) (dialog_at answer.name dialogs)
-      (Some held)
+  put_moves : (case : ReplyCase) (held : HeldDialog) (dialogs : Dialogs) → AreApart dialogs
+      → GoesHere case (dialog_at answer.name dialogs) held
       → Answered case dialogs (insert_entry is_named dialogs answer.name held)
-  put_heard case held dialogs apart here = record {
+  put_moves case held dialogs apart here = record {
     apart = entries.apart_inserted name_laws answer.name held dialogs apart;
-    heard = λ name. subst (HeardAt Makes (heard_number case client.kind
-        (is_named answer.name name)) (dialog_at name dialogs))
+    goes = λ name. subst (Goes event (OpensBy (Some start) name)
+        (heard_number case client.kind (is_named answer.name name))
+        (in_one answer.name (case_life case) name)
+        (cond (is_named answer.name name) (case_begun case (dialog_at answer.name dialogs)) [])
+        (dialog_at name dialogs))
         (sym (entries.found_inserted name_laws answer.name name held dialogs))
         (by_name name (is_named answer.name name) refl);
   }
     where
       by_name : (name : DialogName) (b : Bool) → is_named answer.name name ≡ b
-          → HeardAt Makes (heard_number case client.kind b) (dialog_at name dialogs)
+          → Goes event (OpensBy (Some start) name) (heard_number case client.kind b)
+          (λ held. cond b (case_life case held) [])
+          (cond b (case_begun case (dialog_at answer.name dialogs)) []) (dialog_at name dialogs)
           (cond b (Some held) (dialog_at name dialogs))
       by_name name true is =
-          subst (λ o. HeardAt Makes (heard_number case client.kind true) o (Some held))
-          (sym (entries.same_key name_laws answer.name name dialogs is)) here
+          subst (λ found. Goes event (OpensBy (Some start) name)
+          (heard_number case client.kind true) (case_life case)
+          (case_begun case (dialog_at answer.name dialogs)) found (Some held))
+          (sym (entries.same_key name_laws answer.name name dialogs is)) (here name is)
       by_name name false is =
-          subst (λ o. HeardAt Makes o (dialog_at name dialogs) (dialog_at name dialogs))
+          subst (λ came. Goes event (OpensBy (Some start) name) came nothing []
+          (dialog_at name dialogs) (dialog_at name dialogs))
           (sym (unnamed_unheard case client.kind)) (inl (stays_same (dialog_at name dialogs)))
 
-  pub case_heard : (case : ReplyCase) (dialogs : Dialogs) → AreApart dialogs
+  pub case_moves : (case : ReplyCase) (dialogs : Dialogs) → AreApart dialogs
+      → (may_make case ≡ true → IsNamedSo client answer (dialog_at answer.name dialogs))
       → Answered case dialogs (with_dialog answer.name
       (by_case case client (dialog_at answer.name dialogs) answer).1 dialogs)
   unfolding prack_owed
-  case_heard reply.Repeated dialogs apart = same_heard reply.Repeated dialogs (λ name. refl) apart
-  case_heard reply.Accepted dialogs apart =
+  case_moves reply.Repeated dialogs apart named = record {
+    apart = apart;
+    goes = λ name. inl (still (is_named answer.name name) (dialog_at name dialogs));
+  }
+  case_moves reply.Accepted dialogs apart named =
       let found = dialog_at answer.name dialogs in
-      put_heard reply.Accepted (ack_owed client (accepted client answer found) answer).0 dialogs
-      apart (ack_goes found)
-  case_heard reply.Late dialogs apart = same_heard reply.Late dialogs (λ name. refl) apart
-  case_heard (reply.Reliable number) dialogs apart =
+      put_moves reply.Accepted (ack_owed client (accepted client answer found) answer).0 dialogs
+      apart (ack_goes found (named refl))
+  case_moves reply.Late dialogs apart named = record {
+    apart = apart;
+    goes = λ name. inl (still (is_named answer.name name) (dialog_at name dialogs));
+  }
+  case_moves (reply.Reliable number) dialogs apart named =
       let found = dialog_at answer.name dialogs in
-      put_heard (reply.Reliable number)
+      put_moves (reply.Reliable number)
       (prack_owed number client (opened client answer found) answer).0 dialogs apart
-      (prack_heard client.kind number (Prack number ((client.request).cseq).number)
-      (offer_to client answer.response) found)
-  case_heard reply.Passed dialogs apart = same_heard reply.Passed dialogs (λ name. refl) apart
-  case_heard reply.Early dialogs apart =
+      (prack_goes client.kind number found (named refl))
+  case_moves reply.Passed dialogs apart named = record {
+    apart = apart;
+    goes = λ name. inl (still (is_named answer.name name) (dialog_at name dialogs));
+  }
+  case_moves reply.Early dialogs apart named =
       let found = dialog_at answer.name dialogs in
-      put_heard reply.Early (opened client answer found) dialogs apart (opened_goes found)
-  case_heard reply.Told dialogs apart = same_heard reply.Told dialogs (λ name. refl) apart
+      put_moves reply.Early (opened client answer found) dialogs apart
+      (opened_goes found (named refl))
+  case_moves reply.Told dialogs apart named = record {
+    apart = apart;
+    goes = λ name. inl (still (is_named answer.name name) (dialog_at name dialogs));
+  }

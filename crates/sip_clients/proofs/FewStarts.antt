@@ -229,7 +229,7 @@ started_within event client clients fresh =
     (str_to_ascii_lowercase (branch_of event)) ((client.request).cseq).method clients fresh
     (nothing clients clients (at_most_same clients))
 
-abbrev StartsFresh : ClientChange → Type 0
+abbrev pub StartsFresh : ClientChange → Type 0
 StartsFresh Stays = Unit {0}
 StartsFresh Over = Unit {0}
 StartsFresh (Starts client) = client.cancel ≡ cancel.NotAsked
@@ -273,13 +273,13 @@ sent_within (Some id) invite allowed done within =
 
 -- ---- what is told beside it
 
-request_said_none : (event : Event) (call_id : List ℕ) (name : DialogName) (service : Service)
+pub request_said_none : (event : Event) (call_id : List ℕ) (name : DialogName) (service : Service)
     → starts (request_said event call_id name service).0 ≡ []
 request_said_none event call_id name (Sent sending) = refl
 request_said_none event call_id name Waits = refl
 request_said_none event call_id name (Refused refusal) = refl
 
-ack_said_none : (event : Event) (call_id : List ℕ) (service : Service)
+pub ack_said_none : (event : Event) (call_id : List ℕ) (service : Service)
     → starts (ack_said event call_id service).0 ≡ []
 ack_said_none event call_id (Sent sending) = refl
 ack_said_none event call_id Waits = refl
@@ -357,12 +357,12 @@ case_fresh reply.Early client found answer = tt
 case_fresh reply.Told client found answer = tt
 
 -- what a response leaves of an INVITE's CANCEL, and what it starts
-record Replies (client : Client) (done : Replied) : Type 0 where
+pub record Replies (client : Client) (done : Replied) : Type 0 where
   pub silent : starts done.2 ≡ []
   pub same : (done.0).cancel ≡ client.cancel
   pub fresh : StartsFresh done.3
 
-replies : (client : Client) (dialogs : Dialogs) (answer : Answer)
+pub replies : (client : Client) (dialogs : Dialogs) (answer : Answer)
     → Replies client (reply_taken client dialogs answer)
 replies client dialogs answer = by_last (is_last client.kind answer.status)
   where
@@ -445,7 +445,7 @@ module _ (event : Event) (id : Id) (call_id : List ℕ) (response : Message) (si
 
 -- ---- a request that is lost, and a tick
 
-lost_none : (id : Id) (timed_out : Bool) (o : Option Client) (side : Side)
+pub lost_none : (id : Id) (timed_out : Bool) (o : Option Client) (side : Side)
     → starts (lost_of id timed_out o side).1 ≡ []
 lost_none id timed_out None side = refl
 lost_none id timed_out (Some client) side = ended_none client timed_out side.dialogs
@@ -557,7 +557,7 @@ module _ (event : Event) where
       (sym (none_of said.0 after.1 (request_said_none event call_id name service)))
       (settled_within event event.id said.1 clients (said_fresh event call_id name service)))
 
-  bye_none : (name : DialogName) (method : List ℕ) (service : Service) (dialogs : Dialogs)
+  pub bye_none : (name : DialogName) (method : List ℕ) (service : Service) (dialogs : Dialogs)
       → starts (bye_ended name method service dialogs).1 ≡ []
   bye_none name method (Sent sending) dialogs =
       at_or_none (bytes_eq method (codes "BYE")) name dialogs

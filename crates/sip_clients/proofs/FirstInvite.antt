@@ -5,6 +5,8 @@ use Rattle.std.specs.Option.{option_and_then, option_map, option_map_or}
 use Rattle.std.proofs.lemmas.Bool.{eqb-true}
 use Rattle.std.specs.Cmp.{first_so, second_so}
 use Rattle.sip_message.specs.declared.id.Id.{Id}
+use Rattle.sip_dialog.specs.Life.{Happening}
+use Rattle.sip_dialog.specs.Opening.{Opening}
 use Rattle.sip_model.proofs.Ordered.{by_bool}
 use Rattle.sip_reliable.specs.declared.offer.Offer.{Offer}
 use Rattle.sip_reliable.specs.declared.offer.Offer.TheVariants.{Taken}
@@ -13,10 +15,8 @@ use Rattle.sip_common.specs.declared.held_dialog.DialogLife.{DialogLife}
 use Rattle.sip_common.specs.declared.held_dialog.HeldDialog.{HeldDialog}
 use Rattle.sip_common.specs.declared.item.CallOut.{CallOut}
 use Rattle.sip_common.specs.Ids.{is_id}
-use Rattle.sip_clients.specs.Dialogs.{hearing}
 use Rattle.sip_clients.specs.Provisionals.{in_life, is_response, told_of}
-use Rattle.sip_clients.proofs.ClientDialogs.{HeardAt}
-use Rattle.sip_common.proofs.Heard.{Goes, Stays}
+use Rattle.sip_common.proofs.Heard.{Goes, Life}
 use Rattle.sip_clients.proofs.Hearing.{Hears, Listens, Silent}
 
 -- ---- the ear of a life
@@ -52,14 +52,15 @@ begun_silent event life before held made none =
     )))
     (λ e. inl (ap (λ b. if b then Some held.heard else None) e))
 
-pub silent_from : (event : Option Id) (life : DialogLife) (before after : Option HeldDialog)
-    → Goes (λ id. event ≡ Some id) before after
+pub silent_from : (event : Option Id) (life : DialogLife) (Opens : Opening → Type 0)
+    (lived : Life) (begun : List Happening) (before after : Option HeldDialog)
+    → Goes event Opens None lived begun before after
     → Silent (event ≡ Some life.born) (ear_in life before) (ear_in life after)
-silent_from event life before None goes = inl refl
-silent_from event life None (Some after) (inl stays) = absurd stays
-silent_from event life (Some before) (Some after) (inl stays) =
+silent_from event life Opens lived begun before None goes = inl refl
+silent_from event life Opens lived begun None (Some after) (inl stays) = absurd stays
+silent_from event life Opens lived begun (Some before) (Some after) (inl stays) =
     inr (inl (λ i. if is_id (stays.0 i) life.born then Some (stays.1 i) else None))
-silent_from event life before (Some after) (inr begins) =
+silent_from event life Opens lived begun before (Some after) (inr begins) =
     begun_silent event life (ear_in life before) after begins.0 begins.1
 
 pub none_in_life : (b : Bool) → in_life b None ≡ None
@@ -96,68 +97,45 @@ told_more (Some number) outs out none = told_also number outs out none
 -- ---- a number came
 
 -- where it is taken
-taken_held : (event : Option Id) (life : DialogLife) (number : ℕ) (before : Option HeldDialog)
-    (middle after : HeldDialog) (shown : List ℕ)
-    → Goes (λ id. event ≡ Some id) before (Some middle) → after.born ≡ middle.born
-    → after.heard ≡ latest_after (offered middle.heard number) middle.heard number
+taken_held : (event : Option Id) (life : DialogLife) (number : ℕ) (Opens : Opening → Type 0)
+    (lived : Life) (begun : List Happening) (before : Option HeldDialog) (after : HeldDialog)
+    (shown : List ℕ)
+    → Goes event Opens (Some number) lived begun before (Some after)
     → is_id after.born life.born ≡ true
     → offered (option_and_then (λ held. held.heard) before) number ≡ Taken → shown ≡ number ∷ []
     → Hears (event ≡ Some life.born) (ear_in life before) (ear_in life (Some after)) number shown
-taken_held event life number before middle after shown goes born heard own offer is =
-    let own_middle : is_id middle.born life.born ≡ true =
-    ap (λ id. is_id id life.born) (sym born) ∙ own in
-    let now : ear_in life (Some after)
-    ≡ Some (latest_after (offered middle.heard number) middle.heard number) =
-    λ i. if own i then Some (heard i) else None in
-    by_way before own_middle now goes offer
-  where
-    by_way : (before : Option HeldDialog) → is_id middle.born life.born ≡ true
-        → ear_in life (Some after) ≡ Some
-        (latest_after (offered middle.heard number) middle.heard number)
-        → Goes (λ id. event ≡ Some id) before (Some middle)
-        → offered (option_and_then (λ held. held.heard) before) number ≡ Taken
-        → Hears (event ≡ Some life.born) (ear_in life before)
-        (ear_in life (Some after)) number shown
-    by_way None own_middle now (inl stays) offer = absurd stays
-    by_way (Some held) own_middle now (inl stays) offer = record {
-      last = middle.heard;
-      was = inl (λ i. if (ap (λ id. is_id id life.born) (sym stays.0) ∙ own_middle) i
-          then Some (sym stays.1 i) else None);
-      now = inr now;
-      shows = is ∙ ap (λ o. taken o number) (sym offer)
-          ∙ ap (λ h. taken (offered h number) number) (sym stays.1);
+taken_held event life number Opens lived begun None after shown (inl stays) own offer is =
+    absurd stays
+taken_held event life number Opens lived begun (Some held) after shown (inl stays) own offer is =
+    record {
+      last = held.heard;
+      was = inl (λ i. if (ap (λ id. is_id id life.born) (sym stays.0) ∙ own) i
+          then Some held.heard else None);
+      now = inr (λ i. if own i then Some (stays.1 i) else None);
+      shows = is ∙ ap (λ o. taken o number) (sym offer);
     }
-    by_way before own_middle now (inr begins) offer = record {
-      last = middle.heard;
-      was = inr (
-        begins.0 ∙ ap (λ id. Some id) (id_exact middle.born life.born own_middle),
-        begins.1,
-      );
-      now = inr now;
-      shows = is ∙ ap (λ h. taken (offered h number) number) (sym begins.1);
+taken_held event life number Opens lived begun before after shown (inr begins) own offer is =
+    record {
+      last = None;
+      was = inr (begins.0 ∙ ap (λ id. Some id) (id_exact after.born life.born own), refl);
+      now = inr (λ i. if own i then Some (begins.1 i) else None);
+      shows = is;
     }
 
-pub taken_so : (event : Option Id) (life : DialogLife) (number : ℕ)
-    (before after : Option HeldDialog) (b : Bool) (outs : List CallOut) → is_own life after ≡ b
-    → HeardAt (λ id. event ≡ Some id) (Some number) before after
+pub taken_so : (event : Option Id) (life : DialogLife) (number : ℕ) (Opens : Opening → Type 0)
+    (lived : Life) (begun : List Happening) (before after : Option HeldDialog) (b : Bool)
+    (outs : List CallOut) → is_own life after ≡ b
+    → Goes event Opens (Some number) lived begun before after
     → offered (option_and_then (λ held. held.heard) before) number ≡ Taken
     → map (λ out. number) (filter is_response outs) ≡ number ∷ []
     → Listens (event ≡ Some life.born) (ear_in life before) (ear_in life after)
     (in_life b (Some number)) (told_of (in_life b (Some number)) outs)
-taken_so event life number before after false outs own heard offer is =
+taken_so event life number Opens lived begun before after false outs own goes offer is =
     (inl (deaf life after own), refl)
-taken_so event life number before None true outs own heard offer is = absurd cc
-taken_so event life number before (Some after) true outs own heard offer is =
-    by_middle heard.0 heard.1 heard.2
-  where
-    by_middle : (middle : Option HeldDialog) → Goes (λ id. event ≡ Some id) before middle
-        → Stays (option_map (hearing number) middle) (Some after)
-        → Hears (event ≡ Some life.born) (ear_in life before) (ear_in life (Some after)) number
-        (map (λ out. number) (filter is_response outs))
-    by_middle None goes stays = absurd stays
-    by_middle (Some middle) goes stays =
-        taken_held event life number before middle after
-        (map (λ out. number) (filter is_response outs)) goes stays.0 stays.1 own offer is
+taken_so event life number Opens lived begun before None true outs own goes offer is = absurd cc
+taken_so event life number Opens lived begun before (Some after) true outs own goes offer is =
+    taken_held event life number Opens lived begun before after
+    (map (λ out. number) (filter is_response outs)) goes own offer is
 
 -- where it isn't, nothing changes and nothing is told
 pub passed_so : (Begins : Type 0) (life : DialogLife) (number : ℕ) (held : Option HeldDialog)

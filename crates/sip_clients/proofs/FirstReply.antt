@@ -1,9 +1,10 @@
 -- A response to a client request: what was heard after it in a life of a dialog for the first
 -- INVITE.
-use Rattle.std.proofs.Common.{◌≡◌, ℕ, Bool, true, false, not, ◌&&◌, ◌==◌, cond, List, [], ◌∷◌, ◌++◌, map, refl, sym, ap, subst, ◌∙◌}
+use Rattle.std.proofs.Common.{◌≡◌, inl, ℕ, Bool, true, false, not, ◌&&◌, ◌==◌, cond, List, [], ◌∷◌, ◌++◌, map, refl, sym, ap, subst, ◌∙◌}
 use Rattle.std.specs.Prelude.{Option, None, Some, filter, if◌then◌else◌}
 use Rattle.std.specs.Option.{option_and_then}
 use Rattle.sip_message.specs.declared.id.Id.{Id}
+use Rattle.sip_dialog.specs.Life.{Happening}
 use Rattle.sip_reliable.specs.declared.offer.Offer.{Offer}
 use Rattle.sip_reliable.specs.declared.offer.Offer.TheVariants.{Taken, Repeat, Gap}
 use Rattle.sip_reliable.specs.Inbound.{offered}
@@ -21,16 +22,16 @@ use Rattle.sip_clients.specs.declared.service.Service.{Service}
 use Rattle.sip_clients.specs.declared.service.Service.TheVariants.{Sent, Waits, Refused}
 use Rattle.sip_clients.specs.Answers.{has_answer}
 use Rattle.sip_clients.specs.Client.{Clients}
-use Rattle.sip_clients.specs.Clients.{settled}
+use Rattle.sip_clients.specs.Clients.{reply_name, settled}
 use Rattle.sip_clients.specs.Outputs.{start_command}
 use Rattle.sip_clients.specs.Replied.{Replied, after_dialog, by_case, ends_dialog, finished, prack_owed, reply_taken, told_of_prack}
 use Rattle.sip_clients.specs.Reply.{is_last, offer_case, reliable_case, reply_case, rseq_of, success_case}
 use Rattle.sip_clients.specs.Dialogs.{opened}
 use Rattle.sip_clients.specs.Provisionals.{in_life, is_response, provisional_number, told_of}
-use Rattle.sip_clients.proofs.ClientDialogs.{Answered, HeardAt, case_heard, ended_leads, heard_number, unnamed_unheard}
+use Rattle.sip_clients.proofs.ClientDialogs.{Answered, IsNamedSo, case_begun, case_life, case_moves, ended_leads, first_name, heard_number, may_make, reply_names, start, unnamed_unheard}
 use Rattle.sip_common.proofs.Entries as entries
 use Rattle.sip_clients.proofs.FirstInvite.{ear_in, no_number, passed_so, silent_from, taken_so}
-use Rattle.sip_common.proofs.Heard.{AreApart, Goes, name_laws}
+use Rattle.sip_common.proofs.Heard.{AreApart, Goes, Life, OpensBy, in_one, name_laws, nothing}
 use Rattle.sip_clients.proofs.Hearing.{Listens}
 
 abbrev pub first : Client → Client
@@ -102,81 +103,100 @@ module _ (event : Option Id) (life : DialogLife) (client : Client) (answer : Ans
   abbrev pub taken_as : ReplyCase → Client → Replied
   taken_as case client = after_dialog answer.name dialogs (by_case case client found answer)
 
-  heard_by : (case : ReplyCase) (client : Client)
-      → Answered (λ id. event ≡ Some id) client answer made case dialogs (taken_as case client).1
-  heard_by case client = case_heard (λ id. event ≡ Some id) client answer made case dialogs apart
+  abbrev Named : ReplyCase → Client → Type 0
+  Named case client = may_make case ≡ true → IsNamedSo client answer found
+
+  moves_by : (case : ReplyCase) (client : Client) → Named case client
+      → Answered event client answer made case dialogs (taken_as case client).1
+  moves_by case client named = case_moves event client answer made case dialogs apart named
 
   -- it isn't heard
   goes_unheard : (client : Client) (done : Replied) (clients : Clients)
-      → AreApart done.1 → Goes (λ id. event ≡ Some id) before (dialog_at life.name done.1)
+      → AreApart done.1 → (lived : Life) (begun : List Happening)
+      → Goes event (OpensBy (Some (start event client answer made)) life.name) None lived begun before
+      (dialog_at life.name done.1)
       → Result client None done clients
-  goes_unheard client done clients apart goes = (
+  goes_unheard client done clients apart lived begun goes = (
     apart,
     no_number (event ≡ Some life.born) (lives done.1 life) (ear_in life before)
         (ear_in life (dialog_at life.name done.1)) (given answer done clients)
-        (silent_from event life before (dialog_at life.name done.1) goes),
+        (silent_from event life (OpensBy (Some (start event client answer made)) life.name) lived
+        begun before (dialog_at life.name done.1) goes),
   )
 
   over : (client : Client) (clients : Clients)
       → Result client None (finished client dialogs answer) clients
   over client clients =
-      let leads = ended_leads (λ id. event ≡ Some id) client (ends_dialog answer.status) dialogs
-      apart in
-      goes_unheard client (finished client dialogs answer) clients leads.apart
-      (leads.goes life.name)
+      let leads = ended_leads client (ends_dialog answer.status) dialogs apart in
+      goes_unheard client (finished client dialogs answer) clients leads.apart nothing []
+      (inl (leads.stays life.name))
 
-  unheard : (case : ReplyCase) (client : Client) (clients : Clients)
+  -- what happens by a case in the dialog of the life, where it is held and where it is made
+  abbrev lived_by : ReplyCase → Client → Life
+  lived_by case client = in_one answer.name (case_life event client answer made case) life.name
+
+  abbrev begun_by : ReplyCase → Client → List Happening
+  begun_by case client = cond (is_named answer.name life.name)
+      (case_begun event client answer made case found) []
+
+  unheard : (case : ReplyCase) (client : Client) (clients : Clients) → Named case client
       → heard_number case client.kind (is_named answer.name life.name) ≡ None
       → Result client None (taken_as case client) clients
-  unheard case client clients none =
+  unheard case client clients named none =
       let done = taken_as case client in
-      let heard = heard_by case client in
-      goes_unheard client done clients heard.apart
-      (subst (λ o. HeardAt (λ id. event ≡ Some id) o before (dialog_at life.name done.1)) none
-      (heard.heard life.name))
+      let moves = moves_by case client named in
+      goes_unheard client done clients moves.apart (lived_by case client) (begun_by case client)
+      (subst (λ o. Goes event (OpensBy (Some (start event client answer made)) life.name) o
+      (lived_by case client) (begun_by case client) before (dialog_at life.name done.1)) none
+      (moves.goes life.name))
 
   -- it is
   by_offer : (number : ℕ) (offer : Offer) (clients : Clients)
+      → IsNamedSo (first client) answer found
       → is_named answer.name life.name ≡ true
       → offered (option_and_then (λ held. held.heard) before) number ≡ offer
       → Result (first client) (Some number) (taken_as (offer_case offer number) (first client))
       clients
   unfolding prack_owed
-  by_offer number Taken clients named is =
-      let done = taken_as (reply.Reliable number) (first client) in
-      let heard = heard_by (reply.Reliable number) (first client) in
-      let here : HeardAt (λ id. event ≡ Some id) (Some number) before (dialog_at life.name done.1) =
-      subst (λ b. HeardAt (λ id. event ≡ Some id)
-      (heard_number (reply.Reliable number) First b) before (dialog_at life.name done.1)) named
-      (heard.heard life.name) in (
-        heard.apart,
-        taken_so event life number before (dialog_at life.name done.1) (lives done.1 life)
-            (given answer done clients) refl here is
+  by_offer number Taken clients own named is =
+      let case = reply.Reliable number in
+      let done = taken_as case (first client) in
+      let moves = moves_by case (first client) (λ _. own) in
+      let Opens = OpensBy (Some (start event (first client) answer made)) life.name in
+      let lived = lived_by case (first client) in
+      let begun = begun_by case (first client) in
+      let here : Goes event Opens (Some number) lived begun before (dialog_at life.name done.1) =
+      subst (λ b. Goes event Opens (heard_number case First b) lived begun before
+      (dialog_at life.name done.1)) named (moves.goes life.name) in (
+        moves.apart,
+        taken_so event life number Opens lived begun before (dialog_at life.name done.1)
+            (lives done.1 life) (given answer done clients) refl here is
             (told_once number answer answer.id
             (prack_owed number (first client) (opened (first client) answer found) answer).1
             clients),
       )
-  by_offer number Repeat clients named is = (
+  by_offer number Repeat clients own named is = (
     apart,
     passed_so (event ≡ Some life.born) life number before Repeat
         (lives dialogs life) refl is refl (λ last. refl),
   )
-  by_offer number Gap clients named is = (
+  by_offer number Gap clients own named is = (
     apart,
     passed_so (event ≡ Some life.born) life number before Gap
         (lives dialogs life) refl is refl (λ last. refl),
   )
 
   by_number : (number : Option ℕ) (case : ReplyCase) (clients : Clients)
+      → IsNamedSo (first client) answer found
       → is_named answer.name life.name ≡ true
       → Decided Unheard (option_and_then (λ held. held.heard) found) number case
       → Result (first client) number (taken_as case (first client)) clients
-  by_number None case clients named is =
-      unheard case (first client) clients (ap (heard_number case First) named ∙ is)
-  by_number (Some number) case clients named is =
+  by_number None case clients own named is =
+      unheard case (first client) clients (λ _. own) (ap (heard_number case First) named ∙ is)
+  by_number (Some number) case clients own named is =
       let heard = option_and_then (λ (held : HeldDialog). held.heard) found in
       subst (λ c. Result (first client) (Some number) (taken_as c (first client)) clients) (sym is)
-      (by_offer number (offered heard number) clients named
+      (by_offer number (offered heard number) clients own named
       (ap (λ o. offered (option_and_then (λ (held : HeldDialog). held.heard) o) number)
       (entries.same_key name_laws answer.name life.name dialogs named)))
 
@@ -192,44 +212,50 @@ module _ (event : Option Id) (life : DialogLife) (client : Client) (answer : Ans
       else (if inside && true
       then reliable_case (option_and_then (λ held. held.heard) found) rseq else reply.Told)
 
-  in_dialog : (final named : Bool) (clients : Clients) → is_named life.name answer.name ≡ named
+  in_dialog : (final named : Bool) (clients : Clients) → IsNamedSo (first client) answer found
+      → is_named life.name answer.name ≡ named
       → Result (first client) (if named then number_by final inside rseq else None)
       (taken_as (case_of final) (first client)) clients
-  in_dialog final true clients named =
-      by_number (number_by final inside rseq) (case_of final) clients
+  in_dialog final true clients own named =
+      by_number (number_by final inside rseq) (case_of final) clients own
       (name_laws.symm answer.name life.name ∙ named)
       (decided final inside (success_case (first client) found answer.name)
       (option_and_then (λ held. held.heard) found) rseq (success_unheard client found answer))
-  in_dialog final false clients named =
-      unheard (case_of final) (first client) clients
+  in_dialog final false clients own named =
+      unheard (case_of final) (first client) clients (λ _. own)
       (ap (heard_number (case_of final) First) (name_laws.symm answer.name life.name ∙ named)
       ∙ unnamed_unheard (case_of final) First)
 
-  by_last : (final success named : Bool) (clients : Clients)
+  by_last : (final success named : Bool) (clients : Clients) → IsNamedSo (first client) answer found
       → is_named life.name answer.name ≡ named
       → Result (first client) (if named then number_by final inside rseq else None)
       (cond {A = Replied} (final && not success) (finished (first client) dialogs answer)
       (taken_as (case_of final) (first client))) clients
-  by_last true false true clients named = over (first client) clients
-  by_last true false false clients named = over (first client) clients
-  by_last true true b clients named = in_dialog true b clients named
-  by_last false success b clients named = in_dialog false b clients named
+  by_last true false true clients own named = over (first client) clients
+  by_last true false false clients own named = over (first client) clients
+  by_last true true b clients own named = in_dialog true b clients own named
+  by_last false success b clients own named = in_dialog false b clients own named
 
-  pub first_replied : (clients : Clients) (named : Bool) → is_named life.name answer.name ≡ named
+  pub first_replied : (clients : Clients) (named : Bool)
+      → answer.name ≡ reply_name First client answer.response
+      → is_named life.name answer.name ≡ named
       → Result (first client) (if named then provisional_number (Some answer.status) answer.response
       else None) (reply_taken (first client) dialogs answer) clients
-  first_replied clients named is =
-      by_last (is_final answer.status) (is_success answer.status) named clients is
+  first_replied clients named own is =
+      by_last (is_final answer.status) (is_success answer.status) named clients
+      (first_name (first client) answer found own) is
 
   -- a response to another request
   pub other_replied : (client : Client) (clients : Clients)
+      → answer.name ≡ reply_name client.kind client answer.response
       → ((case : ReplyCase) (named : Bool) → heard_number case client.kind named ≡ None)
       → Result client None (reply_taken client dialogs answer) clients
-  other_replied client clients none =
+  other_replied client clients own none =
       let case = reply_case client found answer in
       elim (is_last client.kind answer.status) as (λ last.
       Result client None (cond {A = Replied} last (finished client dialogs answer)
       (taken_as case client)) clients) [
         | true ↦ over client clients
-        | false ↦ unheard case client clients (none case (is_named answer.name life.name))
+        | false ↦ unheard case client clients (reply_names client answer found own)
+            (none case (is_named answer.name life.name))
       ]

@@ -4,11 +4,14 @@ use Rattle.std.specs.Prelude.{Option, None, Some, Result, Ok, Err, if◌then◌e
 use Rattle.std.specs.Map.{set_value}
 use Rattle.std.specs.Option.{option_and_then, option_map}
 use Rattle.sip_message.specs.declared.id.Id.{Id}
+use Rattle.sip_dialog.specs.Life.{Happening}
+use Rattle.sip_dialog.specs.Opening.{Opening}
 use Rattle.sip_message.specs.declared.message.Message.{Message}
 use Rattle.sip_common.specs.declared.command.DialogBody.{DialogBody}
 use Rattle.sip_common.specs.declared.command.DialogRequest.{DialogRequest}
 use Rattle.sip_common.specs.declared.debt.Debt.{Debt}
 use Rattle.sip_common.specs.declared.held_dialog.DialogLife.{DialogLife}
+use Rattle.sip_common.specs.declared.held_dialog.DialogName.{DialogName}
 use Rattle.sip_common.specs.declared.item.CallOut.{CallOut}
 use Rattle.sip_common.specs.declared.refusal.Refusal.{Refusal}
 use Rattle.sip_common.specs.declared.refusal.Refusal.TheVariants.{NoSuchDialog}
@@ -29,13 +32,15 @@ use Rattle.sip_clients.specs.Clients.{ack_paid, ack_taken, found_taken, lost_of,
 use Rattle.sip_clients.specs.declared.debts.DebtKind.TheVariants as kind
 use Rattle.sip_clients.specs.Commands.{bye_ended, debt_for, name_in, request_in, requested_at}
 use Rattle.sip_clients.specs.Debts.{paid}
+use Rattle.sip_clients.specs.Dialogs.{paid_at}
 use Rattle.sip_clients.specs.Replied.{Replied, reply_taken}
 use Rattle.sip_clients.specs.Provisionals.{OfTheCall, in_life, is_for, number_for, provisional_number, told_of}
 use Rattle.sip_clients.proofs.ClientDialogs.{bye_leads, ended_leads, heard_number, paid_keeps, request_keeps, served_leads}
 use Rattle.sip_clients.proofs.FirstInvite.{ear_in, no_number, none_in_life, silent_from, told_more}
 use Rattle.sip_clients.proofs.FirstReply.{first, first_replied, other_replied}
-use Rattle.sip_common.proofs.Heard.{AreApart, Leads, leads_same, leads_then}
+use Rattle.sip_common.proofs.Heard.{AreApart, Leads, Lives, Moves, OpensBy, in_one, leads_same, leads_then, moves_led, none_came, quiet}
 use Rattle.sip_clients.proofs.Hearing.{Listens}
+use Rattle.sip_clients.proofs.SentIn.{discharge_life, request_life}
 
 -- nothing is heard of a request by which no reliable provisional response is heard
 unheard_by : (kind : RequestKind)
@@ -63,14 +68,23 @@ module _ (life : DialogLife) where
       AreApart after × Listens (event ≡ Some life.born) (ear before) (ear after)
       (in_life (lives after life) number) (told_of (in_life (lives after life) number) outs)
 
-  pub silent : (event : Option Id) (before after : Dialogs) (outs : List CallOut)
-      → Leads (λ id. event ≡ Some id) before after → ResultOf event before after None outs
-  silent event before after outs leads = (
-    leads.apart,
+  pub silent_moves : (event : Option Id) (start : Option Opening) (lived : Lives)
+      (begun : DialogName → List Happening) (before after : Dialogs) (outs : List CallOut)
+      → Moves event start none_came lived begun before after
+      → ResultOf event before after None outs
+  silent_moves event start lived begun before after outs moves = (
+    moves.apart,
     no_number (event ≡ Some life.born) (lives after life) (ear before)
-        (ear after) outs (silent_from event life (dialog_at life.name before)
-        (dialog_at life.name after) (leads.goes life.name)),
+        (ear after) outs (silent_from event life (OpensBy start life.name) (lived life.name)
+        (begun life.name) (dialog_at life.name before)
+        (dialog_at life.name after) (moves.goes life.name)),
   )
+
+  pub silent : (event : Option Id) (lived : Lives) (before after : Dialogs) (outs : List CallOut)
+      → Leads lived before after → ResultOf event before after None outs
+  silent event lived before after outs leads =
+      silent_moves event None lived (λ name. []) before after outs
+      (moves_led event None (λ name. []) lived before after leads)
 
   -- ---- a response
 
@@ -80,8 +94,7 @@ module _ (life : DialogLife) where
     SideResult number taken = ResultOf call side.dialogs (taken.0).dialogs number taken.1
 
     unchanged : SideResult None (side, [])
-    unchanged = silent call side.dialogs side.dialogs []
-        (leads_same (λ id. call ≡ Some id) side.dialogs apart)
+    unchanged = silent call quiet side.dialogs side.dialogs [] (leads_same side.dialogs apart)
 
     abbrev answer_for : ℕ → Client → Answer
     answer_for status client =
@@ -125,22 +138,22 @@ module _ (life : DialogLife) where
     settles status client First =
         let found = first client in
         first_replied call life (noting status client) (answer_for status found) side.dialogs apart
-        made (replied status found) (is_named life.name (answer_for status found).name) refl
+        made (replied status found) (is_named life.name (answer_for status found).name) refl refl
     settles status client (Again own) =
         let found = with_asks (Again own) client in
         other_replied call life client (answer_for status found) side.dialogs apart made
         (noting status found)
-        (replied status found) (unheard_by (Again own) (λ number named. refl))
+        (replied status found) refl (unheard_by (Again own) (λ number named. refl))
     settles status client (Inside own) =
         let found = with_asks (Inside own) client in
         other_replied call life client (answer_for status found) side.dialogs apart made
         (noting status found)
-        (replied status found) (unheard_by (Inside own) (λ number named. refl))
+        (replied status found) refl (unheard_by (Inside own) (λ number named. refl))
     settles status client Plain =
         let found = with_asks Plain client in
         other_replied call life client (answer_for status found) side.dialogs apart made
         (noting status found)
-        (replied status found) (unheard_by Plain (λ number named. refl))
+        (replied status found) refl (unheard_by Plain (λ number named. refl))
 
     by_asks : (status : ℕ) (client : Client)
         → SideResult (number_at (Some status) client)
@@ -166,54 +179,73 @@ module _ (life : DialogLife) where
 
 -- ---- a request that is lost, and commands of the user
 
-pub lost_leads : (event : Option Id) (id : Id) (timed_out : Bool) (o : Option Client) (side : Side)
+pub lost_leads : (id : Id) (timed_out : Bool) (o : Option Client) (side : Side)
+    → AreApart side.dialogs → Leads quiet side.dialogs ((lost_of id timed_out o side).0).dialogs
+lost_leads id timed_out None side apart = leads_same side.dialogs apart
+lost_leads id timed_out (Some client) side apart =
+    ended_leads client timed_out side.dialogs apart
+
+-- what happens in the dialog of the command
+abbrev pub requested_in : DialogRequest → Lives
+requested_in command = in_one (name_in command.local_tag command.remote_tag)
+    (λ held. request_life command.method held.dialog)
+
+pub request_leads : (event : Event) (command : DialogRequest) (side : Side)
     → AreApart side.dialogs
-    → Leads (λ id. event ≡ Some id) side.dialogs ((lost_of id timed_out o side).0).dialogs
-lost_leads event id timed_out None side apart =
-    leads_same (λ id. event ≡ Some id) side.dialogs apart
-lost_leads event id timed_out (Some client) side apart =
-    ended_leads (λ id. event ≡ Some id) client timed_out side.dialogs apart
+    → Leads (requested_in command) side.dialogs ((request_taken event command side).0).dialogs
+unfolding requested_at
+request_leads event command side apart =
+    let name = name_in command.local_tag command.remote_tag in
+    let done = requested_at name event command side.dialogs in
+    leads_then (requested_in command) side.dialogs done.0
+    (bye_ended name command.method done.1 done.0).0
+    (served_leads name (request_in event command.method command.body) (Refused NoSuchDialog)
+    (λ held. request_life command.method held.dialog)
+    (request_keeps event command.method command.body) side.dialogs apart)
+    (bye_leads name command.method done.1 done.0)
 
-module _ (Makes : Id → Type 0) where
-  pub request_leads : (event : Event) (command : DialogRequest) (side : Side)
-      → AreApart side.dialogs → Leads Makes side.dialogs
-      ((request_taken event command side).0).dialogs
-  unfolding requested_at
-  request_leads event command side apart =
-      let name = name_in command.local_tag command.remote_tag in
-      let done = requested_at name event command side.dialogs in
-      leads_then Makes side.dialogs done.0 (bye_ended name command.method done.1 done.0).0
-      (served_leads Makes name (request_in event command.method command.body)
-      (Refused NoSuchDialog) (request_keeps event command.method command.body) side.dialogs apart)
-      (bye_leads Makes name command.method done.1 done.0)
+-- the same of what is owed and paid
+abbrev pub paid_in : DialogBody → Result Debt Refusal → Lives
+paid_in command (Err refusal) = quiet
+paid_in command (Ok debt) = in_one (name_in command.local_tag command.remote_tag)
+    (λ held. discharge_life debt (Some command.body) held.dialog)
 
-  by_ack : (event : Event) (command : DialogBody) (side : Side) (o : Result Debt Refusal)
-      → AreApart side.dialogs
-      → Leads Makes side.dialogs ((paid_or_refused event command
-      (ack_paid event command (name_in command.local_tag command.remote_tag)) o side).0).dialogs
-  by_ack event command side (Err refusal) apart = leads_same Makes side.dialogs apart
-  by_ack event command side (Ok debt) apart =
-      served_leads Makes (name_in command.local_tag command.remote_tag)
-      (paid event debt command.body) Waits (paid_keeps event debt command.body) side.dialogs apart
+pub pay_leads : (event : Event) (command : DialogBody) (debt : Debt) (dialogs : Dialogs)
+    → AreApart dialogs
+    → Leads (paid_in command (Ok debt)) dialogs
+    (paid_at (name_in command.local_tag command.remote_tag) event debt command.body dialogs).0
+pay_leads event command debt dialogs apart =
+    served_leads (name_in command.local_tag command.remote_tag) (paid event debt command.body) Waits
+    (λ held. discharge_life debt (Some command.body) held.dialog)
+    (paid_keeps event debt command.body) dialogs apart
 
-  pub ack_leads : (event : Event) (command : DialogBody) (side : Side) → AreApart side.dialogs
-      → Leads Makes side.dialogs ((ack_taken event command side).0).dialogs
-  ack_leads event command side apart =
-      by_ack event command side (debt_for kind.Ack
-      (name_in command.local_tag command.remote_tag) side.dialogs) apart
+by_ack : (event : Event) (command : DialogBody) (side : Side) (o : Result Debt Refusal)
+    → AreApart side.dialogs
+    → Leads (paid_in command o) side.dialogs ((paid_or_refused event command
+    (ack_paid event command (name_in command.local_tag command.remote_tag)) o side).0).dialogs
+by_ack event command side (Err refusal) apart = leads_same side.dialogs apart
+by_ack event command side (Ok debt) apart = pay_leads event command debt side.dialogs apart
 
-  by_prack : (event : Event) (command : DialogBody) (side : Side) (o : Result Debt Refusal)
-      → AreApart side.dialogs
-      → Leads Makes side.dialogs ((paid_or_refused event command
-      (prack_paid event command (name_in command.local_tag command.remote_tag)) o
-      side).0).dialogs
-  by_prack event command side (Err refusal) apart = leads_same Makes side.dialogs apart
-  by_prack event command side (Ok debt) apart =
-      served_leads Makes (name_in command.local_tag command.remote_tag)
-      (paid event debt command.body) Waits (paid_keeps event debt command.body) side.dialogs apart
+pub ack_leads : (event : Event) (command : DialogBody) (side : Side) → AreApart side.dialogs
+    → Leads (paid_in command (debt_for kind.Ack
+    (name_in command.local_tag command.remote_tag) side.dialogs)) side.dialogs
+    ((ack_taken event command side).0).dialogs
+ack_leads event command side apart =
+    by_ack event command side (debt_for kind.Ack
+    (name_in command.local_tag command.remote_tag) side.dialogs) apart
 
-  pub prack_leads : (event : Event) (command : DialogBody) (side : Side) → AreApart side.dialogs
-      → Leads Makes side.dialogs ((prack_taken event command side).0).dialogs
-  prack_leads event command side apart =
-      by_prack event command side (debt_for kind.Prack
-      (name_in command.local_tag command.remote_tag) side.dialogs) apart
+by_prack : (event : Event) (command : DialogBody) (side : Side) (o : Result Debt Refusal)
+    → AreApart side.dialogs
+    → Leads (paid_in command o) side.dialogs ((paid_or_refused event command
+    (prack_paid event command (name_in command.local_tag command.remote_tag)) o
+    side).0).dialogs
+by_prack event command side (Err refusal) apart = leads_same side.dialogs apart
+by_prack event command side (Ok debt) apart = pay_leads event command debt side.dialogs apart
+
+pub prack_leads : (event : Event) (command : DialogBody) (side : Side) → AreApart side.dialogs
+    → Leads (paid_in command (debt_for kind.Prack
+    (name_in command.local_tag command.remote_tag) side.dialogs)) side.dialogs
+    ((prack_taken event command side).0).dialogs
+prack_leads event command side apart =
+    by_prack event command side (debt_for kind.Prack
+    (name_in command.local_tag command.remote_tag) side.dialogs) apart

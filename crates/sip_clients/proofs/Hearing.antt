@@ -39,7 +39,7 @@ id_itself : (x : Id) → is_id x x ≡ true
 id_itself x = grind (arith, common_steps)
 
 -- no later input is of the event
-abbrev NoneOf : Id → List Id → Type 0
+abbrev pub NoneOf : Id → List Id → Type 0
 NoneOf born ids = AllByRecursion (λ id. is_id born id ≡ false) ids
 
 none_now : (born : Id) (o : Option Id) (rest : List Id) → NoneOf born (cons_option o rest)
@@ -50,7 +50,7 @@ none_now born (Some id) rest all = (
   all.1,
 )
 
-apart_now : (born : Id) (o : Option Id) (rest : List Id) → IsDistinct is_id (cons_option o rest)
+pub apart_now : (born : Id) (o : Option Id) (rest : List Id) → IsDistinct is_id (cons_option o rest)
     → IsDistinct is_id rest × (o ≡ Some born → NoneOf born rest)
 apart_now born None rest apart = (apart, λ e. absurd cc)
 apart_now born (Some id) rest apart = (

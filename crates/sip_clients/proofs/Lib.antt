@@ -3,6 +3,7 @@ pub mod AgainReply
 pub mod AgainSides
 pub mod QuietBeforeDue
 pub mod ClientDialogs
+pub mod ClientLives
 pub mod FewStarts
 pub mod FirstInvite
 pub mod FirstReply
@@ -14,6 +15,7 @@ pub mod NoRequests
 pub mod OwnCall
 pub mod OwnDialogs
 pub mod Results
+pub mod SentIn
 pub mod Served
 pub mod RefusedAlone
 pub mod Tally

@@ -1,14 +1,14 @@
 -- A held dialog stays of its own Call-ID, and so do the requests that are sent in it and its end.
-use Rattle.std.proofs.Common.{◌≡◌, ℕ, ◌+◌, Bool, true, false, cond, List, [], ◌∷◌, refl, sym, subst, ◌∙◌}
+use Rattle.std.proofs.Common.{◌≡◌, ℕ, ◌+◌, Bool, true, false, cond, List, [], ◌∷◌, refl, sym, ap, subst, ◌∙◌}
 use Rattle.std.specs.Prelude.{Option, None, Some, IfSome, codes}
 use Rattle.std.specs.Str.{bytes_eq}
 use Rattle.sip_message.specs.Message.{with_body_of}
 use Rattle.sip_model.proofs.Ordered.{by_bool}
 use Rattle.sip_message.specs.declared.message.Message.{Message}
 use Rattle.sip_message.specs.declared.rack.RAck.{RAck}
+use Rattle.sip_dialog.specs.declared.dialog.Dialog.{Dialog}
 use Rattle.sip_dialog.specs.declared.fault.DialogFault.{DialogFault}
 use Rattle.sip_dialog.specs.Fault.{ack_fault, request_fault}
-use Rattle.sip_dialog.specs.Opening.{contact_uri}
 use Rattle.sip_dialog.specs.Request.{bare_request_in}
 use Rattle.sip_common.specs.declared.command.DialogRequest.{DialogRequest}
 use Rattle.sip_common.specs.declared.debt.Debt.{Debt}
@@ -20,7 +20,6 @@ use Rattle.sip_common.specs.declared.refusal.Refusal.TheVariants.{NoSuchDialog}
 use Rattle.sip_common.specs.Dialogs.{dialog_at, early_ended, ended_at, is_named, lives, Dialogs}
 use Rattle.sip_common.proofs.Each.{both, each_set}
 use Rattle.sip_common.proofs.OwnDialogs.{AreEndedOf, dialog_own, early_own, ended_own, lived_keeps}
-use Rattle.sip_common.specs.Dialogs.{confirms, retargets}
 use Rattle.sip_clients.specs.declared.client.RequestKind.{RequestKind}
 use Rattle.sip_clients.specs.declared.client.RequestKind.TheVariants.{First, Again, Inside, Plain}
 use Rattle.sip_clients.specs.declared.client.Client.{Client}
@@ -31,7 +30,9 @@ use Rattle.sip_clients.specs.declared.service.Service.{Service}
 use Rattle.sip_clients.specs.declared.service.Service.TheVariants.{Sent, Waits, Refused}
 use Rattle.sip_clients.specs.Commands.{bye_ended, request_in, requested_at}
 use Rattle.sip_clients.specs.Debts.{dropped_if_sent, kept_unless_sent, owed, paid}
-use Rattle.sip_clients.specs.Dialogs.{accepted, accepted_in, ended_with, opened, own_ended, paid_at, served_at}
+use Rattle.sip_clients.specs.Dialogs.{accepted, ended_with, opened, own_ended, paid_at, served_at}
+use Rattle.sip_clients.specs.Happenings.{success_brings}
+use Rattle.sip_clients.proofs.ClientDialogs.{success_keeps}
 use Rattle.sip_clients.proofs.Served.{bad_request, good_request, is_bad, served_in}
 use Rattle.sip_clients.specs.Event.{branch_of}
 use Rattle.sip_clients.specs.OwnCall.{AreDialogsOf, IsDialogOf, IsNoticeOf, IsRequestOf}
@@ -202,21 +203,14 @@ module _ (call_id : List ℕ) where
 
   -- ---- what a response makes
 
-  accepted_in_own : (kind : RequestKind) (response : Message) (held : HeldDialog)
-      → IsDialogOf call_id held → IsDialogOf call_id (accepted_in kind response held)
-  accepted_in_own First response held own =
-      lived_keeps held.dialog (confirms response held) ∙ own
-  accepted_in_own (Again life) response held own =
-      lived_keeps held.dialog (retargets (contact_uri response) held) ∙ own
-  accepted_in_own (Inside life) response held own = own
-  accepted_in_own Plain response held own = own
-
   pub accepted_own : (client : Client) (answer : Answer) (found : Option HeldDialog)
       → IsRequestOf call_id client → IfSome found (IsDialogOf call_id)
       → IsDialogOf call_id (accepted client answer found)
   accepted_own client answer None its own = its
   accepted_own client answer (Some held) its own =
-      accepted_in_own client.kind answer.response held own
+      let kept = success_keeps client.kind answer.response held in
+      ap (λ (dialog : Dialog). dialog.call_id) kept.2.1
+      ∙ lived_keeps held.dialog (success_brings client.kind answer.response held) ∙ own
 
   pub opened_own : (client : Client) (answer : Answer) (found : Option HeldDialog)
       → IsRequestOf call_id client → IfSome found (IsDialogOf call_id)

@@ -6,6 +6,7 @@ pub mod Commands
 pub mod Debts
 pub mod Dialogs
 pub mod Event
+pub mod Happenings
 pub mod Name
 pub mod OwnCall
 pub mod Outputs

@@ -1,17 +1,25 @@
--- What was heard last in the dialog of a name: what happens to the dialogs keeps it, ends the
--- dialog, or makes it anew.
-use Rattle.std.proofs.Common.{◌≡◌, ◌⊎◌, inl, inr, Bool, true, ◌&&◌, refl, sym, subst, ◌∙◌, nat_eq}
-use Rattle.std.specs.Prelude.{Option, None, Some, filter}
+-- The dialog of a name before and after something: it stays with what happened in it and what was
+-- heard in it, is over, or is made anew.
+use Rattle.std.proofs.Common.{◌≡◌, ◌⊎◌, inl, inr, ℕ, Bool, true, false, ◌&&◌, cond, List, [], ◌∷◌, refl, sym, ap, subst, ◌∙◌, nat_eq}
+use Rattle.std.specs.Prelude.{Option, None, Some, filter, fold}
 use Rattle.std.specs.Cmp.{IsEquivalence, first_so, second_so}
 use Rattle.std.specs.Cmp.Lexicographic.{pointwise}
 use Rattle.std.specs.Map.{remove_entry}
+use Rattle.std.specs.Option.{option_map}
 use Rattle.std.proofs.lemmas.Cmp.{nat_eq_equiv, nat_list_eq_equiv}
 use Rattle.indexmap.specs.IndexMap.{insert_entry}
 use Rattle.sip_message.specs.declared.id.Id.{Id}
+use Rattle.sip_dialog.specs.declared.dialog.Dialog.{Dialog}
+use Rattle.sip_dialog.specs.Endpoint.{some_unless_empty}
+use Rattle.sip_dialog.specs.Life.{Happening}
+use Rattle.sip_dialog.specs.Opening.{Opening, opened}
+use Rattle.sip_reliable.specs.Inbound.{latest_after, offered}
 use Rattle.sip_common.specs.declared.held_dialog.DialogName.{DialogName}
 use Rattle.sip_common.specs.declared.held_dialog.HeldDialog.{HeldDialog}
-use Rattle.sip_common.specs.Dialogs.{dialog_at, dialog_changed, is_named, Dialogs}
+use Rattle.sip_common.specs.Dialogs.{dialog_at, dialog_changed, happened, is_named, tag_text, Dialogs}
 use Rattle.sip_common.specs.Ids.{is_id}
+use Rattle.sip_common.specs.Lives.{AllFit}
+use Rattle.sip_common.specs.Sent.{name_of_dialog}
 use Rattle.sip_common.proofs.Entries as entries
 
 -- ---- names and ids
@@ -46,117 +54,265 @@ id_laws = record {
       λ i. round i && place i;
 }
 
+-- ---- nothing, either way, and tags
+
+pub none_either : {X : Type 0} (b : Bool) → cond {A = List X} b [] [] ≡ []
+none_either true = refl
+none_either false = refl
+
+pub tag_kept : (tag : List ℕ) → tag_text (some_unless_empty tag) ≡ tag
+tag_kept [] = refl
+tag_kept (b ∷ bs) = refl
+
 -- ---- one dialog
 
-abbrev pub Keeps : HeldDialog → HeldDialog → Type 0
-Keeps before after = (after.born ≡ before.born) × (after.heard ≡ before.heard)
+-- what happened fits the dialog before it, and makes of it the one after it
+abbrev pub Grows : Dialog → List Happening → Dialog → Type 0
+Grows before life after = AllFit before life × (after ≡ fold happened before life)
 
-abbrev pub KeptFrom : HeldDialog → Option HeldDialog → Type 0
-KeptFrom after None = ⊥
-KeptFrom after (Some before) = Keeps before after
+-- what was heard last, where this number may have come
+abbrev pub heard_with : Option ℕ → Option ℕ → Option ℕ
+heard_with None heard = heard
+heard_with (Some number) heard = latest_after (offered heard number) heard number
 
--- it stays as it was, or is over
-abbrev pub Stays : Option HeldDialog → Option HeldDialog → Type 0
-Stays before None = Unit {0}
-Stays before (Some after) = KeptFrom after before
+abbrev pub Keeps : Option ℕ → List Happening → HeldDialog → HeldDialog → Type 0
+Keeps came life before after = (after.born ≡ before.born)
+    × (after.heard ≡ heard_with came before.heard) × Grows before.dialog life after.dialog
 
--- an event that makes dialogs made it
-abbrev pub Begins : (Id → Type 0) → Option HeldDialog → Type 0
-Begins Makes None = ⊥
-Begins Makes (Some held) = Makes held.born × (held.heard ≡ None)
+-- what happens in a dialog
+abbrev pub Life : Type 0
+Life = HeldDialog → List Happening
 
-abbrev pub Goes : (Id → Type 0) → Option HeldDialog → Option HeldDialog → Type 0
-Goes Makes before after = Stays before after ⊎ Begins Makes after
+abbrev pub nothing : Life
+nothing held = []
 
-pub keeps_then : (x y z : HeldDialog) → Keeps x y → Keeps y z → Keeps x z
-keeps_then x y z first second = (second.0 ∙ first.0, second.1 ∙ first.1)
+abbrev pub KeptFrom : Option ℕ → Life → HeldDialog → Option HeldDialog → Type 0
+KeptFrom came life after None = ⊥
+KeptFrom came life after (Some before) = Keeps came (life before) before after
 
-pub stays_same : (o : Option HeldDialog) → Stays o o
+-- it was there and this happened in it, or it is over
+abbrev pub Stays : Option ℕ → Life → Option HeldDialog → Option HeldDialog → Type 0
+Stays came life before None = Unit {0}
+Stays came life before (Some after) = KeptFrom came life after before
+
+-- an event made it by an opening, and this happened in it since
+abbrev pub Begins : Option Id → (Opening → Type 0) → Option ℕ → List Happening → Option HeldDialog
+    → Type 0
+Begins event Opens came life None = ⊥
+Begins event Opens came life (Some held) =
+    (event ≡ Some held.born) × (held.heard ≡ heard_with came None)
+    × ((opening : Opening) × Opens opening × Grows (opened opening) life held.dialog)
+
+abbrev pub Goes : Option Id → (Opening → Type 0) → Option ℕ → Life → List Happening
+    → Option HeldDialog → Option HeldDialog → Type 0
+Goes event Opens came life begun before after =
+    Stays came life before after ⊎ Begins event Opens came begun after
+
+pub grows_then : (x y z : Dialog) (life : List Happening) → Grows x life y → z ≡ y → Grows x life z
+grows_then x y z life first same = (first.0, same ∙ first.1)
+
+-- nothing more happens in it
+pub keeps_then : (came : Option ℕ) (life : List Happening) (x y z : HeldDialog) → Keeps came life x y
+    → Keeps None [] y z → Keeps came life x z
+keeps_then came life x y z first second = (
+  second.0 ∙ first.0,
+  second.1 ∙ first.1,
+  grows_then x.dialog y.dialog z.dialog life first.2 second.2.1,
+)
+
+pub keeps_same : (held : HeldDialog) → Keeps None [] held held
+keeps_same held = (refl, refl, (tt, refl))
+
+pub stays_same : (o : Option HeldDialog) → Stays None nothing o o
 stays_same None = tt
-stays_same (Some held) = (refl, refl)
+stays_same (Some held) = keeps_same held
 
-pub stays_then : (x y z : Option HeldDialog) → Stays x y → Stays y z → Stays x z
-stays_then x y None first second = tt
-stays_then x None (Some z) first second = absurd second
-stays_then None (Some y) (Some z) first second = absurd first
-stays_then (Some x) (Some y) (Some z) first second = keeps_then x y z first second
+pub stays_over : (o : Option HeldDialog) → Stays None nothing o None
+stays_over o = tt
 
-pub begun_stays : (Makes : Id → Type 0) (x y z : Option HeldDialog) → Begins Makes y → Stays y z
-    → Goes Makes x z
-begun_stays Makes x y None first second = inl tt
-begun_stays Makes x None (Some z) first second = absurd first
-begun_stays Makes x (Some y) (Some z) first second =
-    inr (by_born (sym second.0) first.0, second.1 ∙ first.1)
-  where
-    by_born : y.born ≡ z.born → Makes y.born → Makes z.born
-    by_born same makes = subst Makes same makes
-
-pub goes_then : (Makes : Id → Type 0) (x y z : Option HeldDialog) → Goes Makes x y → Goes Makes y z
-    → Goes Makes x z
-goes_then Makes x y z first (inr begins) = inr begins
-goes_then Makes x y z (inl stays) (inl second) = inl (stays_then x y z stays second)
-goes_then Makes x y z (inr begins) (inl second) = begun_stays Makes x y z begins second
+pub stays_then : (life : Life) (x y z : Option HeldDialog) → Stays None life x y
+    → Stays None nothing y z → Stays None life x z
+stays_then life x y None first second = tt
+stays_then life x None (Some z) first second = absurd second
+stays_then life None (Some y) (Some z) first second = absurd first
+stays_then life (Some x) (Some y) (Some z) first second =
+    keeps_then None (life x) x y z first second
 
 -- ---- all dialogs
-
--- their names differ still, and of each name what was heard is so
-pub record Leads (Makes : Id → Type 0) (before after : Dialogs) : Type 0 where
-  pub apart : entries.Apart name_laws after
-  pub goes : (name : DialogName) → Goes Makes (dialog_at name before) (dialog_at name after)
 
 abbrev pub AreApart : Dialogs → Type 0
 AreApart dialogs = entries.Apart name_laws dialogs
 
-module _ (Makes : Id → Type 0) where
-  same : (o : Option HeldDialog) → Goes Makes o o
-  same o = inl (stays_same o)
+-- what happens in the dialog of each name
+abbrev pub Lives : Type 0
+Lives = DialogName → Life
 
-  over : (o : Option HeldDialog) → Goes Makes o None
-  over o = inl tt
+abbrev pub quiet : Lives
+quiet name held = []
 
-  pub leads_same : (dialogs : Dialogs) → AreApart dialogs → Leads Makes dialogs dialogs
-  leads_same dialogs apart = record { apart = apart; goes = λ name. same (dialog_at name dialogs) }
+-- this in the dialog of this name alone
+abbrev pub in_one : DialogName → Life → Lives
+in_one name life other held = cond (is_named name other) (life held) []
 
-  pub leads_then : (x y z : Dialogs) → Leads Makes x y → (AreApart y → Leads Makes y z)
-      → Leads Makes x z
-  leads_then x y z first second =
-      let later = second first.apart in
-      record {
-        apart = later.apart;
-        goes = λ name.
-            goes_then Makes (dialog_at name x) (dialog_at name y) (dialog_at name z)
-            (first.goes name)
-            (later.goes name);
-      }
+-- their names differ still, and of each name the dialog stays, or is over
+pub record Leads (lives : Lives) (before after : Dialogs) : Type 0 where
+  pub apart : AreApart after
+  pub stays : (name : DialogName)
+      → Stays None (lives name) (dialog_at name before) (dialog_at name after)
 
-  pub leads_changed : (name : DialogName) (change : HeldDialog → HeldDialog)
-      → ((held : HeldDialog) → Keeps held (change held)) → (dialogs : Dialogs) → AreApart dialogs
-      → Leads Makes dialogs (dialog_changed name change dialogs)
-  leads_changed name change keeps dialogs apart = record {
-    apart = entries.apart_changed name_laws name change dialogs (dialog_at name dialogs) apart;
-    goes = λ other. entries.by_change name_laws (Goes Makes) same over name other change
-        (λ held. inl (keeps held)) dialogs;
-  }
+pub leads_same : (dialogs : Dialogs) → AreApart dialogs → Leads quiet dialogs dialogs
+leads_same dialogs apart =
+    record { apart = apart; stays = λ name. stays_same (dialog_at name dialogs) }
 
-  pub leads_removed : (name : DialogName) (dialogs : Dialogs) → AreApart dialogs
-      → Leads Makes dialogs (remove_entry (is_named name) dialogs)
-  leads_removed name dialogs apart = record {
-    apart = entries.apart_removed name_laws (is_named name) dialogs apart;
-    goes = λ other. entries.by_removal name_laws (Goes Makes) same over name other dialogs apart;
-  }
+pub leads_then : (lives : Lives) (x y z : Dialogs) → Leads lives x y
+    → (AreApart y → Leads quiet y z) → Leads lives x z
+leads_then lives x y z first second =
+    let later = second first.apart in
+    record {
+      apart = later.apart;
+      stays = λ name.
+          stays_then (lives name) (dialog_at name x) (dialog_at name y) (dialog_at name z)
+          (first.stays name) (later.stays name);
+    }
 
-  pub leads_filtered : (p : HeldDialog → Bool) (dialogs : Dialogs) → AreApart dialogs
-      → Leads Makes dialogs (filter (λ entry. p entry.1) dialogs)
-  leads_filtered p dialogs apart = record {
-    apart = entries.apart_filtered name_laws (λ entry. p entry.1) dialogs apart;
-    goes = λ other. entries.by_filter name_laws (Goes Makes) same over p other dialogs apart;
-  }
+-- the same lives, of what is held
+pub leads_as : (lives others : Lives) (before after : Dialogs)
+    → ((name : DialogName) (held : HeldDialog) → dialog_at name before ≡ Some held
+    → lives name held ≡ others name held)
+    → Leads lives before after → Leads others before after
+leads_as lives others before after same leads = record {
+  apart = leads.apart;
+  stays = λ name. stays_as name (dialog_at name before) (dialog_at name after) (same name)
+      (leads.stays name);
+}
+  where
+    stays_as : (name : DialogName) (x y : Option HeldDialog)
+        → ((held : HeldDialog) → x ≡ Some held → lives name held ≡ others name held)
+        → Stays None (lives name) x y → Stays None (others name) x y
+    stays_as name x None same stays = tt
+    stays_as name None (Some y) same stays = absurd stays
+    stays_as name (Some x) (Some y) same stays =
+        subst (λ (life : List Happening). Keeps None life x y) (same x refl) stays
 
-  pub leads_made : (name : DialogName) (held : HeldDialog) → Makes held.born → held.heard ≡ None
-      → (dialogs : Dialogs) → AreApart dialogs
-      → Leads Makes dialogs (insert_entry is_named dialogs name held)
-  leads_made name held makes none dialogs apart = record {
-    apart = entries.apart_inserted name_laws name held dialogs apart;
-    goes = λ other. entries.by_insertion name_laws (Goes Makes) same over name other held dialogs
-        (λ _. inr (makes, none));
-  }
+pub leads_changed : (name : DialogName) (change : HeldDialog → HeldDialog) (life : Life)
+    → ((held : HeldDialog) → Keeps None (life held) held (change held))
+    → (dialogs : Dialogs) → AreApart dialogs
+    → Leads (in_one name life) dialogs (dialog_changed name change dialogs)
+leads_changed name change life keeps dialogs apart = record {
+  apart = entries.apart_changed name_laws name change dialogs (dialog_at name dialogs) apart;
+  stays = λ other. subst (Stays None (in_one name life other) (dialog_at other dialogs))
+      (sym (entries.found_changed name_laws name other change dialogs))
+      (changed_so (is_named name other) (dialog_at other dialogs));
+}
+  where
+    changed_so : (b : Bool) (o : Option HeldDialog)
+        → Stays None (λ held. cond b (life held) []) o (cond b (option_map change o) o)
+    changed_so true None = tt
+    changed_so true (Some held) = keeps held
+    changed_so false o = stays_same o
+
+pub leads_removed : (name : DialogName) (dialogs : Dialogs) → AreApart dialogs
+    → Leads quiet dialogs (remove_entry (is_named name) dialogs)
+leads_removed name dialogs apart = record {
+  apart = entries.apart_removed name_laws (is_named name) dialogs apart;
+  stays = λ other. entries.by_removal name_laws (Stays None nothing) stays_same stays_over name other
+      dialogs apart;
+}
+
+pub leads_filtered : (p : HeldDialog → Bool) (dialogs : Dialogs) → AreApart dialogs
+    → Leads quiet dialogs (filter (λ entry. p entry.1) dialogs)
+leads_filtered p dialogs apart = record {
+  apart = entries.apart_filtered name_laws (λ entry. p entry.1) dialogs apart;
+  stays = λ other. entries.by_filter name_laws (Stays None nothing) stays_same stays_over p other
+      dialogs apart;
+}
+
+-- ---- where dialogs may be made
+
+-- the dialog of a name is made by this opening, which has its tags
+abbrev pub OpensBy : Option Opening → DialogName → Opening → Type 0
+OpensBy start name opening =
+    (start ≡ Some opening) × (is_named name (name_of_dialog (opened opening)) ≡ true)
+
+-- of each name the dialog stays, is over, or was made by the event; a number may have come in it
+pub record Moves (event : Option Id) (start : Option Opening) (came : DialogName → Option ℕ)
+    (lives : Lives) (begun : DialogName → List Happening) (before after : Dialogs) : Type 0 where
+  pub apart : AreApart after
+  pub goes : (name : DialogName)
+      → Goes event (OpensBy start name) (came name) (lives name) (begun name)
+      (dialog_at name before) (dialog_at name after)
+
+abbrev pub none_came : DialogName → Option ℕ
+none_came name = None
+
+pub moves_led : (event : Option Id) (start : Option Opening) (begun : DialogName → List Happening)
+    (lives : Lives) (before after : Dialogs) → Leads lives before after
+    → Moves event start none_came lives begun before after
+moves_led event start begun lives before after leads =
+    record { apart = leads.apart; goes = λ name. inl (leads.stays name) }
+
+-- the same lives, of what is held, and of what is made
+pub moves_as : (event : Option Id) (start : Option Opening) (came : DialogName → Option ℕ)
+    (lives others : Lives) (begun later : DialogName → List Happening) (before after : Dialogs)
+    → ((name : DialogName) (held : HeldDialog) → dialog_at name before ≡ Some held
+    → lives name held ≡ others name held)
+    → ((name : DialogName) → begun name ≡ later name)
+    → Moves event start came lives begun before after
+    → Moves event start came others later before after
+moves_as event start came lives others begun later before after same same_begun moves = record {
+  apart = moves.apart;
+  goes = λ name. goes_as name (dialog_at name before) (dialog_at name after) (same name)
+      (moves.goes name);
+}
+  where
+    goes_as : (name : DialogName) (x y : Option HeldDialog)
+        → ((held : HeldDialog) → x ≡ Some held → lives name held ≡ others name held)
+        → Goes event (OpensBy start name) (came name) (lives name) (begun name) x y
+        → Goes event (OpensBy start name) (came name) (others name) (later name) x y
+    goes_as name x None same goes = inl tt
+    goes_as name None (Some y) same (inl stays) = absurd stays
+    goes_as name (Some x) (Some y) same (inl stays) =
+        inl (subst (λ (life : List Happening). Keeps (came name) life x y) (same x refl) stays)
+    goes_as name x (Some y) same (inr begins) =
+        inr (subst (λ (life : List Happening).
+        Begins event (OpensBy start name) (came name) life (Some y)) (same_begun name) begins)
+
+-- what has the tags of a dialog of the name has the name
+pub same_name : (name other tags : DialogName) → is_named name tags ≡ true
+    → is_named name other ≡ true → is_named other tags ≡ true
+same_name name other tags own same = sym (name_laws.congr name other tags same) ∙ own
+
+pub moves_made : (event : Id) (lives : Lives) (name : DialogName) (held : HeldDialog)
+    (opening : Opening) → is_named name (name_of_dialog (opened opening)) ≡ true
+    → ((other : DialogName) (held : HeldDialog) → is_named name other ≡ false
+    → lives other held ≡ [])
+    → held.born ≡ event → held.heard ≡ None → held.dialog ≡ opened opening
+    → (dialogs : Dialogs) → AreApart dialogs
+    → Moves (Some event) (Some opening) none_came lives (λ other. []) dialogs
+    (insert_entry is_named dialogs name held)
+moves_made event lives name held opening own still born none is dialogs apart = record {
+  apart = entries.apart_inserted name_laws name held dialogs apart;
+  goes = λ other. subst (Goes (Some event) (OpensBy (Some opening) other) None (lives other) []
+      (dialog_at other dialogs))
+      (sym (entries.found_inserted name_laws name other held dialogs))
+      (by_name other (is_named name other) refl (dialog_at other dialogs));
+}
+  where
+    still_there : (other : DialogName) → is_named name other ≡ false → (o : Option HeldDialog)
+        → Stays None (lives other) o o
+    still_there other apart None = tt
+    still_there other apart (Some there) =
+        subst (λ (life : List Happening). Keeps None life there there)
+        (sym (still other there apart)) (keeps_same there)
+
+    by_name : (other : DialogName) (b : Bool) → is_named name other ≡ b → (o : Option HeldDialog)
+        → Goes (Some event) (OpensBy (Some opening) other) None (lives other) [] o
+        (cond b (Some held) o)
+    by_name other true named o =
+        let tags = name_of_dialog (opened opening) in
+        inr (
+          ap (λ id. Some id) (sym born),
+          none,
+          (opening, (refl, same_name name other tags own named), (tt, is)),
+        )
+    by_name other false apart o = inl (still_there other apart o)

@@ -4,5 +4,6 @@ pub mod Entries
 pub mod Heard
 pub mod Lives
 pub mod OwnDialogs
+pub mod Sent
 pub mod ToldRequests
 pub mod Starts

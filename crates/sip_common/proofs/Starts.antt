@@ -14,6 +14,7 @@ use Rattle.sip_common.specs.declared.held_dialog.HeldDialog.{HeldDialog}
 use Rattle.sip_common.specs.declared.item.CallOut.{CallOut}
 use Rattle.sip_common.specs.declared.item.CallOut.TheVariants as out
 use Rattle.sip_common.specs.Dialogs.{Dialogs, dialog_at, early_ended, ended_at, ended_notice, is_early_of}
+use Rattle.sip_common.specs.Sent.{sent_by, sent_in}
 
 -- a transaction of a client that is started, by its id and its key
 abbrev pub start_of : Id → Order → Option (Id × Key)
@@ -57,3 +58,20 @@ ended_starts name dialogs = by_dialog (dialog_at name dialogs)
         → starts (option_map_or (λ held. ended_notice held ∷ []) o []) ≡ []
     by_dialog None = refl
     by_dialog (Some held) = refl
+
+-- ---- what starts nothing sends nothing in a dialog
+
+started : (start : Id × Key) (rest : List (Id × Key)) → start ∷ rest ≡ [] → ⊥
+started start rest e = absurd cc
+
+pub none_sent : (name : DialogName) (outs : List CallOut) → starts outs ≡ [] → sent_in name outs ≡ []
+none_sent name [] none = refl
+none_sent name (out.Notice notice ∷ outs) none = none_sent name outs none
+none_sent name (out.Direct to bytes ∷ outs) none = none_sent name outs none
+none_sent name (out.Command id (order.Answer key message) ∷ outs) none = none_sent name outs none
+none_sent name (out.Command id (order.Start key call_id message to) ∷ outs) none =
+    absurd (started (id, key) (starts outs) none)
+
+pub sent_both : (name : DialogName) (xs ys : List CallOut)
+    → sent_in name (xs ++ ys) ≡ sent_in name xs ++ sent_in name ys
+sent_both name xs ys = filter_map-append (sent_by name) xs ys

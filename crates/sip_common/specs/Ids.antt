@@ -1,7 +1,2 @@
 -- When an id is another.
-use Rattle.std.specs.Prelude.{Bool, ◌&&◌, ◌==◌}
-use Rattle.sip_message.specs.declared.id.Id.{Id}
-
--- the same event
-abbrev pub is_id : Id → Id → Bool
-is_id one other = (one.round == other.round) && (one.place == other.place)
+pub use Rattle.sip_transactions.specs.Ids.{is_id}

@@ -6,3 +6,4 @@ pub mod Notices
 pub mod OwnCall
 pub mod Refusal
 pub mod Requests
+pub mod Sent

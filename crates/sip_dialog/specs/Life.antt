@@ -10,6 +10,7 @@ use Rattle.sip_dialog.specs.declared.dialog.Side.{Side}
 use Rattle.sip_dialog.specs.declared.dialog.Side.TheVariants.{Caller, Callee}
 use Rattle.sip_dialog.specs.Opening.{Opening, opened, contact_uri}
 
+-- what happens in a dialog
 pub data Happening : Type 0 where
   -- a request of this method is made in the dialog, other than an ACK
   Requests : List ℕ → Happening
@@ -33,6 +34,7 @@ takes_number (Refreshes uri) = false
 takes_number (Confirms response) = false
 takes_number Ends = false
 
+-- the number of a request of the peer that is accepted
 abbrev pub accepted_number : Happening → Option ℕ
 accepted_number (Requests method) = None
 accepted_number (Acknowledges number) = None
@@ -41,6 +43,7 @@ accepted_number (Refreshes uri) = None
 accepted_number (Confirms response) = None
 accepted_number Ends = None
 
+-- a response confirms the dialog
 abbrev pub is_confirming : Happening → Bool
 is_confirming (Requests method) = false
 is_confirming (Acknowledges number) = false
@@ -49,6 +52,7 @@ is_confirming (Refreshes uri) = false
 is_confirming (Confirms response) = true
 is_confirming Ends = false
 
+-- the dialog ends
 abbrev pub is_ending : Happening → Bool
 is_ending (Requests method) = false
 is_ending (Acknowledges number) = false

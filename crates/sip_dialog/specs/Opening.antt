@@ -3,6 +3,7 @@
 use Rattle.std.specs.Prelude.{ℕ, nat_lt, List, Option, Some, None, reverse, unwrap_or, if◌then◌else◌}
 use Rattle.std.specs.List.{slice_get}
 use Rattle.std.specs.Option.{option_map}
+use Rattle.std.specs.Global.{Global}
 use Rattle.sip_message.specs.declared.message.Message.{Message}
 use Rattle.sip_message.specs.declared.start_line.StartLine.{StartLine}
 use Rattle.sip_message.specs.declared.start_line.StartLine.TheVariants.{Request, Response}
@@ -37,10 +38,14 @@ abbrev pub request_uri_or : List ℕ → StartLine → List ℕ
 request_uri_or otherwise (Request uri) = uri
 request_uri_or otherwise (Response status reason) = otherwise
 
+-- all memory comes of one allocator: a dialog keeps it, and nothing that it says depends on it
+abbrev pub the_allocator : Global
+the_allocator = record { memory = record { seal = tt } }
+
 -- at the callee: the routes in order, no request sent yet, and the number of the request taken
 abbrev pub opened_by_request : Message → List ℕ → ℕ → Dialog
 opened_by_request request tag status = record {
-  alloc = record { memory = record { seal = tt } };
+  alloc = the_allocator;
   side = Callee;
   state = state_by status;
   call_id = request.call_id;
@@ -56,7 +61,7 @@ opened_by_request request tag status = record {
 -- yet
 abbrev pub opened_by_response : Message → Message → Dialog
 opened_by_response request response = record {
-  alloc = record { memory = record { seal = tt } };
+  alloc = the_allocator;
   side = Caller;
   state = state_of response.start;
   call_id = request.call_id;
@@ -68,6 +73,7 @@ opened_by_response request response = record {
   remote_cseq = None;
 }
 
+-- the dialog of an opening
 abbrev pub opened : Opening → Dialog
 opened (ByRequest request tag status) = opened_by_request request tag status
 opened (ByResponse request response) = opened_by_response request response

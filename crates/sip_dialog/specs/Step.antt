@@ -35,5 +35,6 @@ confirmed_at Caller dialog response = record (routed_by dialog response) { state
 abbrev pub confirmed_by : Dialog → Message → Dialog
 confirmed_by dialog response = confirmed_at dialog.side dialog response
 
+-- the dialog has ended
 abbrev pub ended_now : Dialog → Dialog
 ended_now dialog = record dialog { state = Ended }

@@ -1,5 +1,5 @@
 -- A draft has the values of each header: one step is one value of one column.
-use Rattle.std.proofs.Common.{◌≡◌, ℕ, suc, Bool, true, false, ◌||◌, List, [], ◌∷◌, ◌++◌, length, Option, Some, None, fold, refl, sym, ap, subst, ◌∙◌, append_assoc, arith, ◌^◌}
+use Rattle.std.proofs.Common.{◌≡◌, ℕ, suc, Bool, true, false, ◌||◌, List, [], ◌∷◌, ◌++◌, length, Option, Some, None, fold, refl, sym, ap, subst, ◌∙◌, append_assoc, arith}
 use Rattle.std.specs.List.{AllZip, IsAmong, flat_map}
 use Rattle.std.proofs.lemmas.List.{append-nil, length-append}
 use Rattle.std.proofs.Math.ListN.{get_or-append}
@@ -174,7 +174,7 @@ is_draft lines =
     subst (λ (d : Draft). IsDraftOf d lines) (sym (fold-with_line no_draft lines)) (record {
       bad_is = refl;
       vias = list_is vias_reads (values name.Via lines);
-      max_forwards = slot_is (numeral_reads (2 ^ 32)) (values name.MaxForwards lines);
+      max_forwards = slot_is numeral_reads (values name.MaxForwards lines);
       from = slot_is party_reads (values name.From lines);
       to = slot_is party_reads (values name.To lines);
       call_id = slot_is call_id_reads (values name.CallId lines);
@@ -184,7 +184,7 @@ is_draft lines =
       routes = list_is name_addrs_reads (values name.Route lines);
       require = list_is tokens_reads (values name.Require lines);
       supported = list_is tokens_reads (values name.Supported lines);
-      rseq = slot_is (numeral_reads (2 ^ 32)) (values name.RSeq lines);
+      rseq = slot_is numeral_reads (values name.RSeq lines);
       rack = slot_is rack_reads (values name.RAck lines);
-      content_length = slot_is (numeral_reads (2 ^ 32)) (values name.ContentLength lines);
+      content_length = slot_is numeral_reads (values name.ContentLength lines);
     })

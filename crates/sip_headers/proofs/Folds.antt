@@ -14,8 +14,8 @@ use Rattle.sip_text.specs.Unfolded.{begins_blank, joined}
 use Rattle.sip_text.proofs.LineParts.{at_lf, longer, split_at, slice_split-cut_at}
 use Rattle.sip_text.proofs.Separators.{mapped}
 use Rattle.sip_headers.specs.Draft.{with_line}
-use Rattle.sip_headers.specs.Folding.{Section, with_line_of, section_from, section_at, whole_section, onto_section, behind_line}
-use Rattle.sip_headers.specs.Steps.Drafted.{drafted_on}
+use Rattle.sip_headers.specs.Folding.{Section, with_line_of, section_from, section_at, whole_section}
+use Rattle.sip_headers.specs.Steps.Drafted.{onto_section, behind_line, drafted_on}
 use Rattle.sip_headers.specs.declared.draft.Draft.{Draft}
 
 -- ---- the lines of a text
@@ -115,7 +115,7 @@ section_ends draft text line after total e empty so_far =
     ∙ ap (λ (l : List ℕ). drafted_on draft
     (whole_section (with_line_of l after (section_at after)))) empty) ∙ so_far
 
-whole_behind : (line rest : List ℕ) (section : Option Section) → (line ≡ [] → ⊥)
+pub whole_behind : (line rest : List ℕ) (section : Option Section) → (line ≡ [] → ⊥)
     → whole_section (with_line_of line rest section) ≡ onto_section line section
 whole_behind [] rest section full = absurd (full refl)
 whole_behind (b ∷ bs) rest None full = refl

@@ -1,8 +1,8 @@
 -- Words in the places of numbers, and the message that has these numbers.
-use Rattle.std.proofs.Common.{◌≡◌, ◌^◌, inl, inr, ℕ, Bool, true, false, ◌&&◌, ltb, cond, List, [], ◌∷◌, ◌++◌, map, Option, Some, None, is_some, refl, sym, ap, subst, ◌∙◌, arith}
+use Rattle.std.proofs.Common.{◌≡◌, ℕ, Bool, true, false, ◌&&◌, ltb, cond, List, [], ◌∷◌, ◌++◌, map, Option, Some, None, is_some, refl, sym, ap, subst, ◌∙◌}
 use Rattle.std.specs.List.{flat_map, list_all}
 use Rattle.std.specs.Option.{option_map, option_to_list}
-use Rattle.std.proofs.lemmas.Bool.{and_from, and_parts, lt-ltb, le-ltb, ltb-true, cases_lt}
+use Rattle.std.proofs.lemmas.Bool.{and_from, and_parts}
 use Rattle.std.proofs.lemmas.List.Folds.{list_all-append}
 use Rattle.std.proofs.lemmas.Option.{same_Some, none-some}
 use Rattle.sip_text.specs.Forms.{each}
@@ -17,11 +17,17 @@ use Rattle.sip_values.specs.declared.via.ViaDraft.{ViaDraft}
 use Rattle.sip_text.specs.Options.{◌>>=◌}
 use Rattle.sip_headers.specs.Complete.{slot_of, draft_with}
 use Rattle.sip_headers.specs.Headers.{Headers}
-use Rattle.sip_headers.specs.Numbers.{via_draft, rack_draft, headers_with, rack_words, port_words, number_words, is_number, is_port, are_numbers, known, known_slot, known_both, known_rack, known_port, numbers_in, via_with, rack_with, message_with}
+use Rattle.sip_headers.specs.Numbers.{via_draft, rack_draft, headers_with, rack_words, port_words, number_words, are_numbers, known, known_slot, known_both, known_rack, known_port, port_of, numbers_in, via_with, rack_with, message_with}
 use Rattle.sip_headers.specs.declared.numbers.Numbers.{Numbers}
 use Rattle.sip_headers.specs.declared.slot.Slot.TheVariants.{Once}
 
 -- ---- when there are numbers
+
+abbrev pub is_number : Numeral → Bool
+is_number word = is_some (known word)
+
+abbrev pub is_port : Numeral → Bool
+is_port word = is_some (port_of word)
 
 and_true : (b : Bool) → (b && true) ≡ b
 and_true true = refl
@@ -42,8 +48,7 @@ mapped_some None g = refl
 mapped_some (Some x) g = refl
 
 known_some : (word : Numeral) → is_some (known word) ≡ list_all is_number (word ∷ [])
-known_some (Number n) = refl
-known_some NotANumber = refl
+known_some word = sym (and_true (is_number word))
 
 known_slot_some : (word : Option Numeral)
     → is_some (known_slot (slot_of word)) ≡ list_all is_number (option_to_list word)
@@ -88,18 +93,12 @@ numbers_some h =
       content_length = content_length;
     }) ∙ known_slot_some h.content_length))))
 
-port_bound : (n : ℕ) → is_some (cond (ltb 65535 n) None (Some (Some n))) ≡ (ltb n (2 ^ 16) && true)
-port_bound n =
-    elim (cases_lt 65535 n) [
-      | inl more ↦ rw (lt-ltb 65535 n more, le-ltb n (2 ^ 16) (omega (arith, more))) refl
-      | inr few ↦ rw (le-ltb 65535 n few, lt-ltb n (2 ^ 16) (omega (arith, few))) refl
-    ]
-
 known_port_some : (word : Option Numeral)
     → is_some (known_port word) ≡ list_all is_port (option_to_list word)
 known_port_some None = refl
-known_port_some (Some (Number n)) = port_bound n
-known_port_some (Some NotANumber) = refl
+known_port_some (Some word) =
+    let one : ℕ → Option ℕ = λ n. Some n in
+    mapped_some (port_of word) one ∙ sym (and_true (is_port word))
 
 via_some : (via : ViaDraft) → is_some (via_with via) ≡ list_all is_port (option_to_list via.port)
 via_some via =
@@ -171,16 +170,22 @@ known_rack_is (Some rack) numbers e =
       method = rack.method;
     }))
 
-known_port_by : (n : ℕ) (port : Option ℕ) (r : Bool) → cond r None (Some (Some n)) ≡ Some port
-    → option_map Number port ≡ Some (Number n)
-known_port_by n port true e = absurd (none-some port e)
-known_port_by n port false e = ap (option_map Number) (sym (same_Some (Some n) port e))
+port_is : (word : Numeral) (n : ℕ) → port_of word ≡ Some n → Number n ≡ word
+port_is word n e =
+    let a = and_then_some _ (known word) n e in
+    ap (λ m. Number m) (sym (within a.0 (ltb 65535 a.0) a.2)) ∙ known_is word a.0 a.1
+  where
+    within : (m : ℕ) (r : Bool) → cond r None (Some m) ≡ Some n → m ≡ n
+    within m true f = absurd (none-some n f)
+    within m false f = same_Some m n f
 
 known_port_is : (word : Option Numeral) (port : Option ℕ) → known_port word ≡ Some port
     → option_map Number port ≡ word
 known_port_is None port e = ap (option_map Number) (sym (same_Some None port e))
-known_port_is (Some (Number n)) port e = known_port_by n port (ltb 65535 n) e
-known_port_is (Some NotANumber) port e = absurd cc
+known_port_is (Some word) port e =
+    let a = and_then_some _ (port_of word) port e in
+    ap (option_map Number) (sym (same_Some (Some a.0) port a.2))
+    ∙ ap (λ (x : Numeral). Some x) (port_is word a.0 a.1)
 
 via_is : (draft : ViaDraft) (via : Via) → via_with draft ≡ Some via → via_draft via ≡ draft
 via_is draft via e =
@@ -289,9 +294,12 @@ numbers_again m length =
 port_again : (port : Option ℕ) → list_all is_port (option_to_list (option_map Number port)) ≡ true
     → known_port (option_map Number port) ≡ Some port
 port_again None e = refl
-port_again (Some n) e =
-    let small = ltb-true n (2 ^ 16) (and_parts (ltb n (2 ^ 16)) true e).0 in
-    ap (λ b. cond b None (Some (Some n))) (le-ltb 65535 n (omega (arith, small)))
+port_again (Some n) e = by (ltb 65535 n) e
+  where
+    by : (r : Bool) → (is_some (cond r None (Some n)) && true) ≡ true
+        → (cond r None (Some n) >>= λ m. Some (Some m)) ≡ Some (Some n)
+    by true f = absurd cc
+    by false f = refl
 
 via_again : (via : Via) → list_all is_port (option_to_list (option_map Number via.port)) ≡ true
     → via_with (via_draft via) ≡ Some via

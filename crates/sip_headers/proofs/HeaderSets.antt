@@ -1,5 +1,5 @@
 -- The headers of lines are those of their draft.
-use Rattle.std.proofs.Common.{◌≡◌, ◌⊎◌, inl, inr, ◌^◌, ℕ, Bool, true, false, ◌&&◌, ◌||◌, List, [], ◌∷◌, ◌++◌, cond, Option, Some, None, Ok, fold, find, refl, sym, ap, subst, ◌∙◌, append_assoc}
+use Rattle.std.proofs.Common.{◌≡◌, ◌⊎◌, inl, inr, ℕ, Bool, true, false, ◌&&◌, ◌||◌, List, [], ◌∷◌, ◌++◌, cond, Option, Some, None, Ok, fold, find, refl, sym, ap, subst, ◌∙◌, append_assoc}
 use Rattle.std.specs.Prelude.{is_none}
 use Rattle.std.specs.List.{AllZip, AllByRecursion, flat_map, list_any}
 use Rattle.std.proofs.lemmas.List.{append-nil}
@@ -207,7 +207,7 @@ drafted h lines is =
     fold-with_line no_draft lines ∙ (λ i. record {
       is_bad = good_lines lines is.0 i;
       vias = many_list vias_reads h.vias (values name.Via lines) is.1.vias i;
-      max_forwards = open_slot (numeral_reads (2 ^ 32)) h.max_forwards
+      max_forwards = open_slot numeral_reads h.max_forwards
           (values name.MaxForwards lines) is.1.max_forwards i;
       from = one_slot party_reads h.from (values name.From lines) is.1.from i;
       to = one_slot party_reads h.to (values name.To lines) is.1.to i;
@@ -219,9 +219,9 @@ drafted h lines is =
       routes = many_list name_addrs_reads h.routes (values name.Route lines) is.1.routes i;
       require = many_list tokens_reads h.require (values name.Require lines) is.1.require i;
       supported = many_list tokens_reads h.supported (values name.Supported lines) is.1.supported i;
-      rseq = open_slot (numeral_reads (2 ^ 32)) h.rseq (values name.RSeq lines) is.1.rseq i;
+      rseq = open_slot numeral_reads h.rseq (values name.RSeq lines) is.1.rseq i;
       rack = open_slot rack_reads h.rack (values name.RAck lines) is.1.rack i;
-      content_length = open_slot (numeral_reads (2 ^ 32)) h.content_length
+      content_length = open_slot numeral_reads h.content_length
           (values name.ContentLength lines) is.1.content_length i;
       others = others_list [] h.others (others_of lines) is.1.others i;
     })

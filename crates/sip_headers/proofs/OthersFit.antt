@@ -1,12 +1,13 @@
 -- A header line that is of no header of the table can stay as it stands.
-use Rattle.std.proofs.Common.{◌≡◌, inl, inr, ℕ, suc, ◌-◌, Bool, true, false, not, cond, ◌&&◌, ◌||◌, List, [], ◌∷◌, length, Option, Some, None, refl, sym, ap, subst, ◌∙◌, arith, codes}
-use Rattle.std.specs.Prelude.{is_none, is_some, slice_index}
+use Rattle.std.proofs.Common.{◌≡◌, inl, inr, ℕ, Bool, true, false, not, cond, ◌&&◌, ◌||◌, List, [], ◌∷◌, Option, Some, None, refl, ap, ◌∙◌, codes}
+use Rattle.std.specs.Prelude.{is_none, is_some}
 use Rattle.std.specs.List.{AllByRecursion, AllZip, list_all}
 use Rattle.std.specs.Str.{str_eq_ignore_ascii_case}
 use Rattle.std.proofs.lemmas.Bool.{and_parts}
 use Rattle.sip_text.specs.Character.{is_blank, is_line_byte, is_token_byte}
 use Rattle.sip_text.specs.Token.{is_token}
 use Rattle.sip_text.specs.Trimmed.{trimmed, trimmed_end, trimmed_start}
+use Rattle.sip_parts.proofs.BlankEnds.{trimmed_has_none}
 use Rattle.sip_parts.specs.HeaderEntry.{header_named, is_named}
 use Rattle.sip_parts.specs.HeaderValue.{has_no_blank_ends, has_no_line_byte, is_header_value}
 use Rattle.sip_parts.specs.OtherName.{is_compact_name, is_other_name}
@@ -19,66 +20,6 @@ use Rattle.sip_headers.specs.Named.{others_in}
 
 and_both : (x y : Bool) → x ≡ true → y ≡ true → (x && y) ≡ true
 and_both x y e f = rw (e, f) refl
-
--- ---- a value without the blanks at its ends
-
-start_by : (b : ℕ) (bs : List ℕ) (blank : Bool) → is_blank b ≡ blank
-    → is_blank (slice_index (trimmed_start bs) 0) ≡ false
-    → is_blank (slice_index (cond blank (trimmed_start bs) (b ∷ bs)) 0) ≡ false
-start_by b bs true e more = more
-start_by b bs false e more = e
-
-starts_full : (text : List ℕ) → is_blank (slice_index (trimmed_start text) 0) ≡ false
-starts_full [] = refl
-starts_full (b ∷ bs) = start_by b bs (is_blank b) refl (starts_full bs)
-
-start_stays : (text : List ℕ) → is_blank (slice_index text 0) ≡ false
-    → is_blank (slice_index (trimmed_end text) 0) ≡ false
-start_stays [] e = e
-start_stays (b ∷ bs) e =
-    subst (λ (text : List ℕ). is_blank (slice_index text 0) ≡ false)
-    (sym (ap (λ blank. cond (blank && list_all is_blank bs) [] (b ∷ trimmed_end bs)) e)) e
-
-abbrev ends_blank : List ℕ → Bool
-ends_blank [] = false
-ends_blank (b ∷ []) = is_blank b
-ends_blank (b ∷ (c ∷ cs)) = ends_blank (c ∷ cs)
-
-one_less : (n : ℕ) → suc n - 1 ≡ n
-one_less n = omega arith
-
-last_is : (text : List ℕ) → is_blank (slice_index text (length text - 1)) ≡ ends_blank text
-last_is [] = refl
-last_is (b ∷ []) = refl
-last_is (b ∷ (c ∷ cs)) =
-    ap (λ n. is_blank (slice_index (b ∷ (c ∷ cs)) n)) (one_less (suc (length cs)))
-    ∙ ap (λ n. is_blank (slice_index (c ∷ cs) n)) (sym (one_less (length cs)))
-    ∙ last_is (c ∷ cs)
-
-nothing_by : (b : ℕ) (blank all : Bool) (more : List ℕ)
-    → ◌≡◌ {A = List ℕ} (cond (blank && all) [] (b ∷ more)) [] → (blank && all) ≡ true
-nothing_by b true true more e = refl
-nothing_by b true false more e = absurd cc
-nothing_by b false all more e = absurd cc
-
-nothing_left : (text : List ℕ) → trimmed_end text ≡ [] → list_all is_blank text ≡ true
-nothing_left [] e = refl
-nothing_left (b ∷ bs) e = nothing_by b (is_blank b) (list_all is_blank bs) (trimmed_end bs) e
-
-end_by : (b : ℕ) (blank all : Bool) (more : List ℕ) → is_blank b ≡ blank
-    → (more ≡ [] → all ≡ true) → ends_blank more ≡ false
-    → ends_blank (cond (blank && all) [] (b ∷ more)) ≡ false
-end_by b true true more e none last = refl
-end_by b true false [] e none last = let f : false ≡ true = none refl in absurd cc
-end_by b true false (c ∷ cs) e none last = last
-end_by b false all [] e none last = e
-end_by b false all (c ∷ cs) e none last = last
-
-ends_full : (text : List ℕ) → ends_blank (trimmed_end text) ≡ false
-ends_full [] = refl
-ends_full (b ∷ bs) =
-    end_by b (is_blank b) (list_all is_blank bs) (trimmed_end bs) refl (nothing_left bs)
-    (ends_full bs)
 
 -- ---- a value of one line
 
@@ -110,11 +51,7 @@ value_fits : (text : List ℕ) → has_no_line_byte text ≡ true → is_header_
 unfolding is_header_value
 value_fits text plain =
     and_both (has_no_blank_ends (trimmed text)) (has_no_line_byte (trimmed text))
-    (and_both (not (is_blank (slice_index (trimmed text) 0)))
-    (not (is_blank (slice_index (trimmed text) (length (trimmed text) - 1))))
-    (ap not (start_stays (trimmed_start text) (starts_full text)))
-    (ap not (last_is (trimmed text) ∙ ends_full (trimmed_start text))))
-    (plain_end (trimmed_start text) (plain_start text plain))
+    (trimmed_has_none text) (plain_end (trimmed_start text) (plain_start text plain))
 
 -- ---- a name
 

@@ -1,5 +1,5 @@
 -- What is written of each header's value is read again.
-use Rattle.std.proofs.Common.{◌≡◌, ◌^◌, ◌<◌, ◌≤◌, ℕ, Bool, true, false, cond, not, eqb, ltb, ◌&&◌, ◌||◌, List, [], ◌∷◌, ◌++◌, codes, decimal, Option, Some, None, refl, sym, ap, subst, ◌∙◌, append_assoc, arith}
+use Rattle.std.proofs.Common.{◌≡◌, ◌^◌, ◌<◌, ℕ, Bool, true, false, cond, not, eqb, ltb, ◌&&◌, ◌||◌, List, [], ◌∷◌, ◌++◌, codes, decimal, Option, Some, None, refl, sym, ap, subst, ◌∙◌, append_assoc, arith}
 use Rattle.std.specs.Prelude.{fold, option_and_then, IfSome, IsTrue}
 use Rattle.std.specs.Char.{is_ascii_digit}
 use Rattle.std.specs.List.{AllByRecursion, flat_map, list_all}
@@ -11,7 +11,7 @@ use Rattle.std.proofs.lemmas.List.Folds.{list_all-append}
 use Rattle.sip_text.specs.Character.{is_blank, is_line_byte, is_token_byte}
 use Rattle.sip_text.specs.Cut.{cut_at}
 use Rattle.sip_text.specs.Forms.{each, by_cut, on_cut, both, told, split}
-use Rattle.sip_text.specs.Number.{is_digits}
+use Rattle.sip_text.specs.Number.{is_digits, number_of}
 use Rattle.sip_text.specs.Parameter.{is_parameter_value, is_value_word, name_from, value_from, with_value, without_value}
 use Rattle.sip_text.specs.Quoted.{is_quoted}
 use Rattle.sip_text.specs.OpenQuote.{has_open_quote, is_in_quotes}
@@ -24,6 +24,7 @@ use Rattle.sip_text.specs.declared.separator.Place.TheVariants.{Plain, Quoted, E
 use Rattle.sip_text.proofs.Ends.{trimmed_end-blank, trimmed_end-other}
 use Rattle.sip_text.proofs.Separators.{and_then_some}
 use Rattle.sip_text.proofs.Splits.{split_some, split_none}
+use Rattle.sip_parts.proofs.BlankEnds.{ends_kept}
 use Rattle.sip_parts.specs.DisplayText.{is_display_text_byte, is_display_text}
 use Rattle.sip_parts.specs.HeaderValue.{has_no_blank_ends, has_no_line_byte}
 use Rattle.sip_parts.specs.Host.{is_host_byte, is_bracket_byte, is_closed, is_host}
@@ -49,7 +50,7 @@ use Rattle.sip_values.proofs.Characters.{full_at}
 use Rattle.sip_values.proofs.Cuts.{all_imply, run_all, at_takes}
 use Rattle.sip_values.proofs.Passing.{Passes, clear, all_pass, both_pass, place_append, cut_here, none_here, byte_clear, anywhere_clear, class_passes, class_passes_blank, Marks, semicolon_marks, comma_marks, token_passes, token_passes_blank, quoted_begins, quoted_passes, quoted_ends, quoted_plain, value_passes}
 use Rattle.sip_values.proofs.Pieces.{by_bool}
-use Rattle.sip_values.proofs.WrittenBytes.{is_solid, solid, token_solid, word_solid, uri_solid, value_solid, digits_solid, solid_both, solid_full, solid_line, solid_end, longer_end, decimal_digits, decimal_value, digits_word, kept_end}
+use Rattle.sip_values.proofs.WrittenBytes.{is_solid, solid, token_solid, word_solid, uri_solid, value_solid, digits_solid, solid_both, solid_full, solid_line, solid_end, longer_end, decimal_digits, decimal_value, digits_word}
 
 -- ---- the ends of a text
 
@@ -305,13 +306,6 @@ shown_by is_display b bs is passes kept full end plain = record {
     trimmed_one = ap (λ (xs : List ℕ). cond (is_display xs) (Some xs) None) cut_end
         ∙ passing_some (is_display (b ∷ bs)) (b ∷ bs) is
 
--- no white space at its ends
-ends_kept : (b : ℕ) (bs : List ℕ) → has_no_blank_ends (b ∷ bs) ≡ true
-    → (is_blank b ≡ false) × End (b ∷ bs)
-ends_kept b bs is =
-    let ends = and_parts _ _ is in
-    (not-true (is_blank b) ends.0, kept_end (b ∷ bs) (omega arith) ends.1)
-
 -- a display text of plain bytes, or a quoted string
 display_shown : (is_display : List ℕ → Bool) (test : ℕ → Bool) (b : ℕ) (bs : List ℕ)
     → test 60 ≡ false → test 34 ≡ false → test 13 ≡ false → test 10 ≡ false
@@ -492,21 +486,21 @@ name_addr_again a is =
 
 -- ---- numbers
 
-decimal_read : (limit n : ℕ) → n < limit → limit ≤ 2 ^ 64
-    → numeral_from limit (decimal n) ≡ Some (Number n)
-decimal_read limit n lt small =
+decimal_read : (n : ℕ) → n < 2 ^ 32 → numeral_from (decimal n) ≡ Some (Number n)
+unfolding number_of
+decimal_read n lt =
     let digits = decimal_digits n (omega arith) in
     let value = decimal_value n (omega arith) in
-    let below : ltb (digits_value 10 (decimal n)) limit ≡ true =
-    lt-ltb (digits_value 10 (decimal n)) limit (omega (arith, value)) in
+    let below : ltb (digits_value 10 (decimal n)) (2 ^ 32) ≡ true =
+    lt-ltb (digits_value 10 (decimal n)) (2 ^ 32) (omega (arith, value)) in
     rw (digits_word (decimal n) digits, digits, below, value) refl
 
 decimal_solid : (n : ℕ) → n < 2 ^ 64 → solid (decimal n) ≡ true
 decimal_solid n lt = digits_solid (decimal n) (decimal_digits n lt)
 
-pub number_again : (n : ℕ) → n < 2 ^ 32 → Again (numeral_from (2 ^ 32)) (Number n) (decimal n)
+pub number_again : (n : ℕ) → n < 2 ^ 32 → Again numeral_from (Number n) (decimal n)
 number_again n lt = record {
-  read = decimal_read (2 ^ 32) n lt (omega arith);
+  read = decimal_read n lt;
   good = solid_good (decimal n) (decimal_solid n (omega arith));
 }
 
@@ -530,11 +524,11 @@ cseq_read : (n : ℕ) (method : List ℕ) → n < 2 ^ 32 → is_token method ≡
     → sequence.cseq_from (cseq_shown n method)
     ≡ Some (record { number = Number n; method = method })
 cseq_read n method lt is =
-    ap (λ o. by_cut o (told sequence.cseq_of (both (numeral_from (2 ^ 32)) sequence.token_from))
+    ap (λ o. by_cut o (told sequence.cseq_of (both numeral_from sequence.token_from))
     None) (cut_here Blank (decimal n) 32 method (digits_pass n (omega arith)) refl)
     ∙ ap (λ o. option_map sequence.cseq_of
     (option_and_then (λ x. option_and_then (λ y. Some (x, y)) (sequence.token_from method)) o))
-    (decimal_read (2 ^ 32) n lt (omega arith))
+    (decimal_read n lt)
     ∙ ap (λ o. option_map sequence.cseq_of (option_and_then (λ y. Some (Number n, y)) o))
     (token_read method is)
 
@@ -580,13 +574,13 @@ rack_again r is =
     let full : Full rest = λ (e : rest ≡ []). no_text (decimal r.cseq) 32 r.method e in
     moved (rack_regroup (decimal r.rseq) (decimal r.cseq) r.method) (record {
       read = ap (λ o. by_cut o (told sequence.rack_of
-          (both (numeral_from (2 ^ 32)) (λ text. sequence.cseq_from (trimmed text)))) None)
+          (both numeral_from (λ text. sequence.cseq_from (trimmed text)))) None)
           (cut_here Blank (decimal r.rseq) 32 rest
           (digits_pass r.rseq (omega (arith, is.rseq))) refl)
           ∙ ap (λ o. option_map sequence.rack_of
           (option_and_then (λ x. option_and_then (λ y. Some (x, y))
           (sequence.cseq_from (trimmed rest))) o))
-          (decimal_read (2 ^ 32) r.rseq is.rseq (omega arith))
+          (decimal_read r.rseq is.rseq)
           ∙ ap (λ (xs : List ℕ). option_map sequence.rack_of
           (option_and_then (λ y. Some (Number r.rseq, y)) (sequence.cseq_from xs))) inner.kept
           ∙ ap (λ o. option_map sequence.rack_of (option_and_then (λ y. Some (Number r.rseq, y)) o))
@@ -802,10 +796,10 @@ sent_by_read host (Some n) is good =
     (option_and_then (λ x. option_and_then (λ y. Some (x, y)) (via.port_from (decimal n))) o))
     (host_read host is)
     ∙ ap (λ (xs : List ℕ). option_map via.with_port
-    (option_and_then (λ y. Some (host, y)) (numeral_from (2 ^ 16) xs)))
+    (option_and_then (λ y. Some (host, y)) (numeral_from xs)))
     (solid_kept (decimal n) (decimal_solid n (omega (arith, good))))
     ∙ ap (λ o. option_map via.with_port (option_and_then (λ y. Some (host, y)) o))
-    (decimal_read (2 ^ 16) n good (omega arith))
+    (decimal_read n (omega (arith, good)))
 
 port_passes : (c : ℕ) → is_ascii_digit c ≡ false → eqb 58 c ≡ false → (port : Option ℕ)
     → GoodPort port → Passes (Byte c) (port_text port)

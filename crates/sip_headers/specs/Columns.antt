@@ -1,5 +1,5 @@
 -- A draft goes on with the values of each header, one column for each.
-use Rattle.std.specs.Prelude.{◌^◌, ℕ, Bool, List, ◌||◌, fold}
+use Rattle.std.specs.Prelude.{ℕ, Bool, List, ◌||◌, fold}
 use Rattle.sip_parts.specs.declared.header_name.HeaderName.{HeaderName}
 use Rattle.sip_parts.specs.declared.header_name.HeaderName.TheVariants as name
 use Rattle.sip_values.specs.Address.{name_addrs_from, party_from}
@@ -14,7 +14,7 @@ abbrev pub continued : Draft → Bool → (HeaderName → List (List ℕ)) → L
 continued d bad values others = record {
   is_bad = d.is_bad || bad;
   vias = list_from vias_from d.vias (values name.Via);
-  max_forwards = slot_from (numeral_from (2 ^ 32)) d.max_forwards (values name.MaxForwards);
+  max_forwards = slot_from numeral_from d.max_forwards (values name.MaxForwards);
   from = slot_from party_from d.from (values name.From);
   to = slot_from party_from d.to (values name.To);
   call_id = slot_from call_id_from d.call_id (values name.CallId);
@@ -24,8 +24,8 @@ continued d bad values others = record {
   routes = list_from name_addrs_from d.routes (values name.Route);
   require = list_from tokens_from d.require (values name.Require);
   supported = list_from tokens_from d.supported (values name.Supported);
-  rseq = slot_from (numeral_from (2 ^ 32)) d.rseq (values name.RSeq);
+  rseq = slot_from numeral_from d.rseq (values name.RSeq);
   rack = slot_from rack_from d.rack (values name.RAck);
-  content_length = slot_from (numeral_from (2 ^ 32)) d.content_length (values name.ContentLength);
+  content_length = slot_from numeral_from d.content_length (values name.ContentLength);
   others = fold (λ list header. listed list (other_from header.0 header.1)) d.others others;
 }

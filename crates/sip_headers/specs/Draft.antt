@@ -1,5 +1,5 @@
 -- The header lines of a message, by header (RFC 3261, section 7.3).
-use Rattle.std.specs.Prelude.{ℕ, ◌^◌, true, false, List, [], ◌∷◌, Option, Some, None, codes, fold, if◌then◌else◌}
+use Rattle.std.specs.Prelude.{ℕ, true, false, List, [], ◌∷◌, Option, Some, None, codes, fold, if◌then◌else◌}
 use Rattle.std.specs.Str.{str_eq_ignore_ascii_case}
 use Rattle.sip_parts.specs.HeaderValue.{is_header_value}
 use Rattle.sip_parts.specs.OtherName.{is_other_name}
@@ -40,7 +40,7 @@ no_draft = record {
 abbrev pub with_value : Draft → HeaderName → List ℕ → Draft
 with_value d name.Via value = record d { vias = listed d.vias (vias_from value) }
 with_value d name.MaxForwards value =
-    record d { max_forwards = met d.max_forwards (numeral_from (2 ^ 32) value) }
+    record d { max_forwards = met d.max_forwards (numeral_from value) }
 with_value d name.From value = record d { from = met d.from (party_from value) }
 with_value d name.To value = record d { to = met d.to (party_from value) }
 with_value d name.CallId value = record d { call_id = met d.call_id (call_id_from value) }
@@ -51,10 +51,10 @@ with_value d name.RecordRoute value =
 with_value d name.Route value = record d { routes = listed d.routes (name_addrs_from value) }
 with_value d name.Require value = record d { require = listed d.require (tokens_from value) }
 with_value d name.Supported value = record d { supported = listed d.supported (tokens_from value) }
-with_value d name.RSeq value = record d { rseq = met d.rseq (numeral_from (2 ^ 32) value) }
+with_value d name.RSeq value = record d { rseq = met d.rseq (numeral_from value) }
 with_value d name.RAck value = record d { rack = met d.rack (rack_from value) }
 with_value d name.ContentLength value =
-    record d { content_length = met d.content_length (numeral_from (2 ^ 32) value) }
+    record d { content_length = met d.content_length (numeral_from value) }
 
 -- three compact names stand for the long ones of headers that stay as they stand
 unfoldable pub long_name : List ℕ → List ℕ

@@ -1,6 +1,6 @@
 -- Why lines have no headers: the faults in their order, and what each says of the lines (RFC 3261,
 -- sections 7.3 and 8.1.1).
-use Rattle.std.specs.Prelude.{◌≡◌, ◌<◌, ◌⊎◌, ◌^◌, ℕ, List, [], ◌∷◌, ◌++◌, map, length, Result, Ok, Err}
+use Rattle.std.specs.Prelude.{◌≡◌, ◌<◌, ◌⊎◌, ℕ, List, [], ◌∷◌, ◌++◌, map, length, Result, Ok, Err}
 use Rattle.std.specs.List.{AllByRecursion}
 use Rattle.sip_parts.specs.HeaderEntry.{headers_where, is_needed, is_single}
 use Rattle.sip_parts.specs.declared.header_name.HeaderName.{HeaderName}
@@ -37,7 +37,7 @@ Decides C faults (Err fault) = IsFirst C faults fault
 -- one of these values isn't in the header's form
 abbrev pub HasBadValue : HeaderName → List (List ℕ) → Type 0
 HasBadValue name.Via values = HasBad AreVias values
-HasBadValue name.MaxForwards values = HasBad (IsNumeral (2 ^ 32)) values
+HasBadValue name.MaxForwards values = HasBad IsNumeral values
 HasBadValue name.From values = HasBad IsPartyText values
 HasBadValue name.To values = HasBad IsPartyText values
 HasBadValue name.CallId values = HasBad IsCallId values
@@ -47,9 +47,9 @@ HasBadValue name.RecordRoute values = HasBad AreNameAddrs values
 HasBadValue name.Route values = HasBad AreNameAddrs values
 HasBadValue name.Require values = HasBad AreTokens values
 HasBadValue name.Supported values = HasBad AreTokens values
-HasBadValue name.RSeq values = HasBad (IsNumeral (2 ^ 32)) values
+HasBadValue name.RSeq values = HasBad IsNumeral values
 HasBadValue name.RAck values = HasBad IsRAckText values
-HasBadValue name.ContentLength values = HasBad (IsNumeral (2 ^ 32)) values
+HasBadValue name.ContentLength values = HasBad IsNumeral values
 
 -- not every line is a header line, or a value isn't in its header's form
 abbrev pub HasBadHeader : List (List ℕ) → Type 0

@@ -4,8 +4,6 @@ use Rattle.std.specs.Option.{option_map}
 use Rattle.std.specs.List.{slice_split, join_with_byte}
 use Rattle.std.specs.Str.Lines.{strip_carriage_return}
 use Rattle.sip_text.specs.Unfolded.{begins_blank, joined}
-use Rattle.sip_headers.specs.Draft.{draft_of}
-use Rattle.sip_headers.specs.declared.draft.Draft.{Draft}
 
 -- lines, and the text that follows the empty line after them
 abbrev pub Section : Type 0
@@ -44,14 +42,3 @@ whole_lines (line ∷ lines) = folded_onto line lines
 -- the lines without folds
 abbrev pub whole_section : Option Section → Option Section
 whole_section section = option_map (λ s. (whole_lines s.0, s.1)) section
-
--- one more line before those of a section
-abbrev pub onto_section : List ℕ → Option Section → Option Section
-onto_section line section = option_map (λ s. (folded_onto line s.0, s.1)) section
-
-abbrev pub behind_line : List ℕ → Option Section → Option Section
-behind_line line section = option_map (λ s. (line ∷ s.0, s.1)) section
-
--- what the header lines of a text say, and what follows the empty line
-abbrev pub gathered_at : List ℕ → Option (Draft × List ℕ)
-gathered_at text = option_map (λ s. (draft_of s.0, s.1)) (whole_section (section_at text))

@@ -1,6 +1,6 @@
 -- The headers of a message: what its header lines say together, where each value is in its header's
 -- form and none is missing or stands too often (RFC 3261, sections 7.3 and 20).
-use Rattle.std.specs.Prelude.{◌≡◌, ◌^◌, ℕ, IsTrue, List, [], ◌∷◌, Option, Some}
+use Rattle.std.specs.Prelude.{◌≡◌, ℕ, IsTrue, List, [], ◌∷◌, Option, Some}
 use Rattle.std.specs.List.{AllZip}
 use Rattle.std.specs.Option.{option_to_list}
 use Rattle.sip_parts.specs.HeaderValue.{is_header_value}
@@ -70,7 +70,7 @@ pub record AreRows (h : Headers) (values : HeaderName → List (List ℕ))
     (further : List (List ℕ × List ℕ)) : Type 0 where
   pub some_via : h.vias ≡ [] → ⊥
   pub vias : Many AreVias h.vias (values name.Via)
-  pub max_forwards : AtMostOne (IsNumeral (2 ^ 32)) h.max_forwards (values name.MaxForwards)
+  pub max_forwards : AtMostOne IsNumeral h.max_forwards (values name.MaxForwards)
   pub from : One IsPartyText h.from (values name.From)
   pub to : One IsPartyText h.to (values name.To)
   pub call_id : One IsCallId h.call_id (values name.CallId)
@@ -80,9 +80,9 @@ pub record AreRows (h : Headers) (values : HeaderName → List (List ℕ))
   pub routes : Many AreNameAddrs h.routes (values name.Route)
   pub require : Many AreTokens h.require (values name.Require)
   pub supported : Many AreTokens h.supported (values name.Supported)
-  pub rseq : AtMostOne (IsNumeral (2 ^ 32)) h.rseq (values name.RSeq)
+  pub rseq : AtMostOne IsNumeral h.rseq (values name.RSeq)
   pub rack : AtMostOne IsRAckText h.rack (values name.RAck)
-  pub content_length : AtMostOne (IsNumeral (2 ^ 32)) h.content_length (values name.ContentLength)
+  pub content_length : AtMostOne IsNumeral h.content_length (values name.ContentLength)
   pub others : AllZip IsOther h.others further
 
 -- all lines are header lines, and together they are these headers

@@ -1,5 +1,5 @@
 -- The numbers of a message (RFC 3261, sections 20.14, 20.16, 20.22 and 20.42; RFC 3262, section 7).
-use Rattle.std.specs.Prelude.{◌^◌, ◌&&◌, ℕ, Bool, true, false, List, [], ◌∷◌, ◌++◌, Option, Some, None, map, nat_lt, if◌then◌else◌}
+use Rattle.std.specs.Prelude.{◌&&◌, ℕ, Bool, List, [], ◌∷◌, ◌++◌, Option, Some, None, is_some, map, nat_lt, if◌then◌else◌}
 use Rattle.std.specs.List.{flat_map, list_all}
 use Rattle.std.specs.Option.{option_map, option_to_list}
 use Rattle.sip_message.specs.declared.message.Message.{Message}
@@ -70,26 +70,22 @@ number_words h =
     ++ (option_to_list h.rseq ++ (flat_map rack_words (option_to_list h.rack)
     ++ option_to_list h.content_length)))
 
--- a word that is a number in its bounds
-abbrev pub is_number : Numeral → Bool
-is_number (Number n) = true
-is_number NotANumber = false
-
--- a number below 2^16
-abbrev pub is_port : Numeral → Bool
-is_port (Number n) = nat_lt n (2 ^ 16)
-is_port NotANumber = false
-
--- each of them is a number, and each port is below 2 ^ 16
-abbrev pub are_numbers : Headers → Bool
-are_numbers h = list_all is_port (port_words h.vias) && list_all is_number (number_words h)
-
--- ---- the numbers, read
-
 -- the number
 abbrev pub known : Numeral → Option ℕ
 known (Number n) = Some n
 known NotANumber = None
+
+-- the port: a number of at most 65535
+abbrev pub port_of : Numeral → Option ℕ
+port_of word = known word >>= λ n. if nat_lt 65535 n then None else Some n
+
+-- the word of each port is a port, and each other word a number
+abbrev pub are_numbers : Headers → Bool
+are_numbers h =
+    list_all (λ word. is_some (port_of word)) (port_words h.vias)
+    && list_all (λ word. is_some (known word)) (number_words h)
+
+-- ---- the numbers, read
 
 -- of a header that stands at most once
 abbrev pub known_slot : Slot Numeral → Option (Option ℕ)
@@ -129,7 +125,7 @@ numbers_in d = do
 -- the port, where there is one
 abbrev pub known_port : Option Numeral → Option (Option ℕ)
 known_port None = Some None
-known_port (Some word) = known word >>= λ n. if nat_lt 65535 n then None else Some (Some n)
+known_port (Some word) = port_of word >>= λ n. Some (Some n)
 
 -- a Via value with its port
 abbrev pub via_with : ViaDraft → Option Via

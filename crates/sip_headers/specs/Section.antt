@@ -1,6 +1,6 @@
 -- What the header lines of a message say together (RFC 3261, section 7.3): the values of each
 -- header, in order.
-use Rattle.std.specs.Prelude.{◌≡◌, ◌^◌, ℕ, Bool, true, false, List, [], ◌∷◌, Option, find, length, nat_lt, ◌&&◌, if◌then◌else◌}
+use Rattle.std.specs.Prelude.{◌≡◌, ℕ, Bool, true, false, List, [], ◌∷◌, Option, find, length, nat_lt, ◌&&◌, if◌then◌else◌}
 use Rattle.sip_parts.specs.HeaderEntry.{entry, headers, is_needed, is_single}
 use Rattle.sip_parts.specs.declared.header_name.HeaderName.{HeaderName}
 use Rattle.sip_parts.specs.declared.header_name.HeaderName.TheVariants as name
@@ -62,7 +62,7 @@ repeated_in lines = find (λ header. is_single (entry header).kind
 pub record IsDraftOf (d : Draft) (lines : List (List ℕ)) : Type 0 where
   pub bad_is : d.is_bad ≡ has_bad_line lines
   pub vias : IsList AreVias d.vias (values name.Via lines)
-  pub max_forwards : IsSlot (IsNumeral (2 ^ 32)) d.max_forwards (values name.MaxForwards lines)
+  pub max_forwards : IsSlot IsNumeral d.max_forwards (values name.MaxForwards lines)
   pub from : IsSlot IsPartyText d.from (values name.From lines)
   pub to : IsSlot IsPartyText d.to (values name.To lines)
   pub call_id : IsSlot IsCallId d.call_id (values name.CallId lines)
@@ -72,7 +72,7 @@ pub record IsDraftOf (d : Draft) (lines : List (List ℕ)) : Type 0 where
   pub routes : IsList AreNameAddrs d.routes (values name.Route lines)
   pub require : IsList AreTokens d.require (values name.Require lines)
   pub supported : IsList AreTokens d.supported (values name.Supported lines)
-  pub rseq : IsSlot (IsNumeral (2 ^ 32)) d.rseq (values name.RSeq lines)
+  pub rseq : IsSlot IsNumeral d.rseq (values name.RSeq lines)
   pub rack : IsSlot IsRAckText d.rack (values name.RAck lines)
-  pub content_length : IsSlot (IsNumeral (2 ^ 32)) d.content_length
+  pub content_length : IsSlot IsNumeral d.content_length
       (values name.ContentLength lines)

@@ -62,8 +62,8 @@ pub fn whole_line<'a>(
     text: &'a [u8],
 ) -> Result<(Whole<'a>, &'a [u8]), AllocError>
     ensures whole { IfOk result
-        (λ found. folding.onto_section line.now (folding.section_at text.now)
-        ≡ folding.behind_line (whole_now found.0) (folding.whole_section (folding.section_at
+        (λ found. steps.onto_section line.now (folding.section_at text.now)
+        ≡ steps.behind_line (whole_now found.0) (folding.whole_section (folding.section_at
         found.1.now))) }
     ensures shorter { IfOk result (λ found. length found.1.now ≤ length text.now) }
 {
@@ -94,7 +94,7 @@ fn without_blank_end(mut line: Vec<u8>) -> Vec<u8>
 /// without an empty line.
 pub fn gather(alloc: Global, text: &[u8]) -> Result<Option<(Box<Draft>, &[u8])>, AllocError>
     ensures { IfOk result (λ found. option_map (λ g. (g.0.value, g.1.now)) found
-        ≡ folding.gathered_at text.now) }
+        ≡ steps.gathered_at text.now) }
 {
     let mut draft = Box::new(alloc, Draft::new(alloc))?;
     let Some(rest) = add_section(alloc, &mut draft, text)? else {

@@ -81,14 +81,18 @@ fn known_port(word: Option<Numeral>) -> Option<Option<u16>>
 {
     match word {
         None => Some(None),
-        Some(word) => {
-            let number = known(word)?;
-            if number > 65535 {
-                return None;
-            }
-            Some(Some(number as u16))
-        }
+        Some(word) => Some(Some(port_of(word)?)),
     }
+}
+
+fn port_of(word: Numeral) -> Option<u16>
+    ensures { result ≡ numbered.port_of word }
+{
+    let number = known(word)?;
+    if number > 65535 {
+        return None;
+    }
+    Some(number as u16)
 }
 
 fn known_rack(slot: &Slot<RAckDraft>) -> Option<Option<(u32, u32)>>
@@ -105,7 +109,7 @@ fn known_rack(slot: &Slot<RAckDraft>) -> Option<Option<(u32, u32)>>
     }
 }
 
-/// The Via values with their ports, or None where a word in a port's place isn't a number.
+/// The Via values with their ports, or None where a word in a port's place isn't one.
 pub fn with_ports(
     alloc: Global,
     drafts: Series<ViaDraft>,

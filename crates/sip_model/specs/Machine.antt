@@ -63,10 +63,36 @@ module _ {K S I O : Type 0} where
   IsWithinLife machine key state (input ∷ inputs) =
       IsSome state × IsWithinLife machine key (next machine key state input) inputs
 
-  -- a life: the input that leaves none, and the inputs up to the one that returns to none, or some
-  -- of them
-  pub record IsLife (machine : Machine K S I O) (key : K) (before : List I) (first : I)
-      (rest : List I) : Type 0 where
+  -- A life among the inputs of a key: those before it, after which there is no state; its first,
+  -- after which there is one; the rest of its own, before each of which there is one; and those
+  -- after it.
+  pub record LifeIn (machine : Machine K S I O) (key : K) (inputs : List I) : Type 0 where
+    pub before : List I
+    pub first : I
+    pub rest : List I
+    pub after : List I
+    pub are : inputs ≡ before ++ (first ∷ (rest ++ after))
     pub none_before : state_after machine key before ≡ None
-    pub begins : IsSome (state_after machine key (before ++ first ∷ []))
-    pub within : IsWithinLife machine key (state_after machine key (before ++ first ∷ [])) rest
+    pub begins : IsSome (next machine key None first)
+    pub within : IsWithinLife machine key (next machine key None first) rest
+
+module _ {K S I O : Type 0} {machine : Machine K S I O} {key : K} {inputs : List I} where
+  -- the state that a life leaves; `None` where it has ended
+  abbrev pub state_left : LifeIn machine key inputs → Option S
+  state_left life = state_from machine key None (life.first ∷ life.rest)
+
+  -- what is said before a life
+  abbrev pub said_before : LifeIn machine key inputs → List O
+  said_before life = outputs_from machine key None life.before
+
+  -- to its first input
+  abbrev pub said_at_first : LifeIn machine key inputs → List O
+  said_at_first life = adds machine key None life.first
+
+  -- to the rest of its inputs
+  abbrev pub said_in_rest : LifeIn machine key inputs → List O
+  said_in_rest life = outputs_from machine key (next machine key None life.first) life.rest
+
+  -- and after it
+  abbrev pub said_after : LifeIn machine key inputs → List O
+  said_after life = outputs_from machine key (state_left life) life.after

@@ -1,12 +1,13 @@
 -- The value of a header that stays as it stands (RFC 3261, section 7.3.1).
-use Rattle.std.specs.Prelude.{ℕ, Bool, not, ◌&&◌, ◌-◌, List, length, slice_index}
+use Rattle.std.specs.Prelude.{ℕ, Bool, not, ◌&&◌, List}
 use Rattle.std.specs.List.{list_all}
-use Rattle.sip_text.specs.Character.{is_blank, is_line_byte}
+use Rattle.std.specs.Str.{bytes_eq}
+use Rattle.sip_text.specs.Character.{is_line_byte}
+use Rattle.sip_text.specs.Trimmed.{trimmed}
 
--- neither the first nor the last byte is a space or a tab
+-- without blanks at its ends it is the same text
 abbrev pub has_no_blank_ends : List ℕ → Bool
-has_no_blank_ends text =
-    not (is_blank (slice_index text 0)) && not (is_blank (slice_index text (length text - 1)))
+has_no_blank_ends text = bytes_eq (trimmed text) text
 
 -- neither CR nor LF stands in it
 abbrev pub has_no_line_byte : List ℕ → Bool

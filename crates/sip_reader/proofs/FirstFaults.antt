@@ -18,7 +18,8 @@ use Rattle.sip_values.specs.declared.via.ViaDraft.{ViaDraft}
 use Rattle.sip_headers.specs.Complete.{slot_of, draft_with, faultless}
 use Rattle.sip_headers.specs.Draft.{draft_of}
 use Rattle.sip_headers.specs.Faults.{IsFirst, NoneHolds, Decides, HeaderCondition, header_faults}
-use Rattle.sip_headers.specs.Folding.{Section, section_at, onto_section}
+use Rattle.sip_headers.specs.Folding.{Section, section_at}
+use Rattle.sip_headers.specs.Steps.Drafted.{onto_section}
 use Rattle.sip_headers.specs.Headers.{Headers, AreHeaders}
 use Rattle.sip_headers.specs.Numbers.{are_numbers, numbers_in, known_slot, via_with}
 use Rattle.sip_headers.specs.declared.draft.Draft.{Draft}
@@ -40,6 +41,7 @@ use Rattle.sip_reader.proofs.Outcomes.{no_such, step_decides, step_again}
 use Rattle.sip_values.proofs.Pieces.{by_bool}
 use Rattle.sip_reader.proofs.Spelled.{then_body, then_start, then_branch, spelled_again}
 use Rattle.sip_reader.proofs.StartLines.{SpellsFirst, start_reads}
+use Rattle.sip_reader.proofs.Sections.{by_first_line}
 
 -- ---- the last four faults, of lines that have headers
 
@@ -500,8 +502,10 @@ by_line text (Some p) e = by_section text p.0 p.1 e (onto_section p.0 (section_a
 short_decided : (text : List ℕ)
     → Decides (Condition text) (fault.NoEmptyLine ∷ start_faults)
     (message_in (without_line_ends text))
-unfolding message_in
-short_decided text = by_line text (line_at (without_line_ends text)) refl
+short_decided text =
+    subst (λ (read : Result Message ReadFault).
+    Decides (Condition text) (fault.NoEmptyLine ∷ start_faults) read) (sym (by_first_line text))
+    (by_line text (line_at (without_line_ends text)) refl)
 
 by_size : (text : List ℕ) (r : Bool) → ltb 65535 (length text) ≡ r
     → Decides (Condition text) faults

@@ -10,8 +10,9 @@ use Rattle.sip_text.specs.Cut.{cut_at}
 use Rattle.sip_text.specs.Line.{line_at}
 use Rattle.sip_text.specs.Lines.{IsLine, IsLines}
 use Rattle.sip_text.proofs.LineParts.{line_takes}
-use Rattle.sip_headers.specs.Folding.{Section, with_line_of, section_at, folded_onto, onto_section}
-use Rattle.sip_headers.proofs.Folds.{one_line, no_line}
+use Rattle.sip_headers.specs.Folding.{Section, with_line_of, section_at, folded_onto, whole_section}
+use Rattle.sip_headers.specs.Steps.Drafted.{onto_section}
+use Rattle.sip_headers.proofs.Folds.{one_line, no_line, whole_behind}
 use Rattle.sip_reader.specs.Layout.{IsFull, Lays}
 use Rattle.sip_reader.specs.SkippedEnds.{without_line_ends}
 use Rattle.sip_values.proofs.Cuts.{at_again}
@@ -280,6 +281,22 @@ skip_again (suc n) text start lines rest some_line is =
 
 -- ---- the whole
 
+-- the first line behind the line ends that are skipped
+begins_full : (text first after : List ℕ)
+    → line_at (without_line_ends text) ≡ Some (first, after) → IsFull first
+begins_full text first after e none =
+    skip_done text after (empty_line (without_line_ends text) after
+    (subst (λ (xs : List ℕ). IsLine (without_line_ends text) xs after) none
+    (line_takes (without_line_ends text) first after e)))
+
+-- the lines of a text are its first line and those behind it
+pub first_onto : (text first after : List ℕ)
+    → line_at (without_line_ends text) ≡ Some (first, after)
+    → whole_section (section_at (without_line_ends text)) ≡ onto_section first (section_at after)
+first_onto text first after e =
+    ap whole_section (one_line (without_line_ends text) first after e)
+    ∙ whole_behind first after (section_at after) (begins_full text first after e)
+
 pub laid_takes : (text first after start : List ℕ) (lines : List (List ℕ)) (rest : List ℕ)
     → line_at (without_line_ends text) ≡ Some (first, after)
     → onto_section first (section_at after) ≡ Some (start ∷ lines, rest)
@@ -290,9 +307,6 @@ laid_takes text first after start lines rest e f =
     (start ∷ lines, rest) f in
     let found = section_takes after m.0 m.1 in
     let skipped = skip_takes text (first ∷ (m.0.0 ++ ([] ∷ []))) m.0.1 (after, line, found.0) in
-    let begins : IsFull first = λ (none : first ≡ []).
-    skip_done text after (empty_line (without_line_ends text) after
-    (subst (λ (xs : List ℕ). IsLine (without_line_ends text) xs after) none line)) in
     record {
       skipped = skipped.0;
       first = first;
@@ -300,7 +314,7 @@ laid_takes text first after start lines rest e f =
       parts = subst (λ (xs : List ℕ).
           IsLines text (replicate skipped.0 [] ++ (first ∷ (m.0.0 ++ ([] ∷ [])))) xs)
           (ap (λ (s : Section). s.1) m.2) skipped.1;
-      first_is = begins;
+      first_is = begins_full text first after e;
       more_are = found.1;
       whole = sym (ap (λ (s : Section). s.0) m.2);
     }

@@ -3,7 +3,7 @@ use Rattle.std.proofs.Common.{◌≡◌, inl, ℕ, ◌^◌, ◌<◌, ◌≤◌, 
 use Rattle.std.specs.Prelude.{IfSome, IsTrue}
 use Rattle.std.specs.List.{flat_map, AllByRecursion, list_all}
 use Rattle.std.specs.Option.{option_map, option_to_list}
-use Rattle.std.proofs.lemmas.Bool.{and_from, le-ltb, lt-ltb}
+use Rattle.std.proofs.lemmas.Bool.{and_from, le-ltb}
 use Rattle.std.proofs.lemmas.Fmt.{length-decimal-le}
 use Rattle.std.proofs.lemmas.List.{append-nil, length-append}
 use Rattle.std.proofs.lemmas.List.Folds.{list_all-append}
@@ -30,7 +30,8 @@ use Rattle.sip_values.specs.declared.numeral.Numeral.TheVariants.{Number}
 use Rattle.sip_values.specs.declared.via.ViaDraft.{ViaDraft}
 use Rattle.sip_headers.specs.Complete.{slot_of, draft_with, faultless}
 use Rattle.sip_headers.specs.Draft.{no_draft}
-use Rattle.sip_headers.specs.Numbers.{via_draft, rack_draft, headers_with, port_words, is_number, is_port, are_numbers}
+use Rattle.sip_headers.specs.Numbers.{via_draft, rack_draft, headers_with, port_words, are_numbers}
+use Rattle.sip_headers.proofs.HeaderNumbers.{is_number, is_port}
 use Rattle.sip_headers.specs.Slot.{met, listed}
 use Rattle.sip_headers.specs.declared.draft.Draft.{Draft}
 use Rattle.sip_headers.specs.declared.slot.Slot.{Slot}
@@ -263,7 +264,7 @@ hops_go m rest lt ready =
     number_goes (with_hops m) (λ n. header_line (codes "Max-Forwards") (decimal n))
     (number_line (codes "Max-Forwards")) refl (λ n. refl)
     (λ n r small ok. let again = number_again n small in
-    slot_goes (with_hops m) (numeral_from (2 ^ 32)) (Number n)
+    slot_goes (with_hops m) numeral_from (Number n)
     (header_line (codes "Max-Forwards") (decimal n) ++ r) (decimal n) r again
     (header_goes (with_hops m Absent) name.MaxForwards (decimal n) r again.good ok))
     m.max_forwards rest lt ready
@@ -377,7 +378,7 @@ rseq_goes m rest lt ready =
     number_goes (with_rseq m) (λ n. header_line (codes "RSeq") (decimal n))
     (number_line (codes "RSeq")) refl (λ n. refl)
     (λ n r small ok. let again = number_again n small in
-    slot_goes (with_rseq m) (numeral_from (2 ^ 32)) (Number n)
+    slot_goes (with_rseq m) numeral_from (Number n)
     (header_line (codes "RSeq") (decimal n) ++ r) (decimal n) r again
     (header_goes (with_rseq m Absent) name.RSeq (decimal n) r again.good ok))
     m.rseq rest lt ready
@@ -407,7 +408,7 @@ length_goes : (m : Message) (rest : List ℕ) → length m.body < 2 ^ 32 → Rea
 length_goes m rest lt ready =
     let again = number_again (length m.body) lt in
     slot_goes (λ s. record (with_others m (Some m.others)) { content_length = s })
-    (numeral_from (2 ^ 32)) (Number (length m.body))
+    numeral_from (Number (length m.body))
     (header_line (codes "Content-Length") (decimal (length m.body)) ++ rest)
     (decimal (length m.body)) rest again
     (header_goes (with_others m (Some m.others)) name.ContentLength
@@ -552,7 +553,7 @@ good_ports (v ∷ vias) all =
     good_port : (port : Option ℕ) → IfSome port (λ n. n < 2 ^ 16)
         → list_all is_port (option_to_list (option_map (λ n. Number n) port)) ≡ true
     good_port None lt = refl
-    good_port (Some n) lt = and_from _ _ (lt-ltb n (2 ^ 16) lt) refl
+    good_port (Some n) lt = rw (le-ltb 65535 n (omega (arith, lt))) refl
 
 good_number : (n : Option ℕ) → list_all is_number (option_to_list (option_map (λ x. Number x) n))
     ≡ true
@@ -628,7 +629,8 @@ read_again m is short =
     kept text (no_end text first rest (is_line first rest free)
     (start_full m.start m.cseq.method)) in
     let read : message_in text ≡ message_of_lines first (whole m) m.body =
-    some_gathered text first rest first rest (whole m) m.body (sym (ended_line first rest free))
+    some_gathered text text first rest first rest (whole m) m.body (sym begins)
+    (sym (ended_line first rest free))
     (ends_here first rest all.ready.line all.ready.after all.ready.line_is all.ready.anew)
     (sym (all.same ∙ end_gathered (whole m) m.body)) in
     ap (λ b. cond b (Err fault.TooLong) (message_in (without_line_ends (written m))))

@@ -13,7 +13,8 @@ use Rattle.sip_message.specs.declared.via.Via.{Via}
 use Rattle.sip_values.specs.declared.via.ViaDraft.{ViaDraft}
 use Rattle.sip_headers.specs.Complete.{draft_with, faultless}
 use Rattle.sip_headers.specs.Draft.{draft_of}
-use Rattle.sip_headers.specs.Folding.{Section, section_at, onto_section}
+use Rattle.sip_headers.specs.Folding.{Section, section_at}
+use Rattle.sip_headers.specs.Steps.Drafted.{onto_section}
 use Rattle.sip_headers.specs.Headers.{Headers, AreHeaders}
 use Rattle.sip_headers.specs.Numbers.{headers_with, are_numbers, numbers_in, via_with, via_draft, message_with}
 use Rattle.sip_headers.specs.declared.numbers.Numbers.{Numbers}
@@ -30,6 +31,7 @@ use Rattle.sip_reader.proofs.Layouts.{laid_takes, laid_again}
 use Rattle.sip_reader.proofs.Making.{start_takes, first_of, first_spelled, start_line_again, body_takes, body_again}
 use Rattle.sip_reader.proofs.Outcomes.{same_Ok, step_ok, result_ok, step_again, result_again}
 use Rattle.sip_reader.proofs.StartLines.{start_reads}
+use Rattle.sip_reader.proofs.Sections.{by_first_line}
 
 -- ---- the stages
 
@@ -156,11 +158,11 @@ lines_take text start lines rest m short first after line_is section_is e =
     }
 
 pub spelled_takes : (text : List ℕ) (m : Message) → message_at text ≡ Ok m → Spells m text
-unfolding message_in
 spelled_takes text m e =
     let size = sized (ltb 65535 (length text)) (message_in (without_line_ends text)) m e in
     let first = step_ok fault.NoEmptyLine (line_at (without_line_ends text))
-    (λ p. message_of_section (onto_section p.0 (section_at p.1))) m size.1 in
+    (λ p. message_of_section (onto_section p.0 (section_at p.1))) m
+    (sym (by_first_line text) ∙ size.1) in
     let section = section_takes (onto_section first.0.0 (section_at first.0.1)) m first.2 in
     lines_take text section.start section.lines section.rest m
     (ltb-false 65535 (length text) size.0) first.0.0 first.0.1 first.1 section.section_is
@@ -222,11 +224,11 @@ unfolding message_of_section
 section_again section start lines rest e = ap message_of_section e
 
 pub spelled_again : (text : List ℕ) (m : Message) → Spells m text → message_at text ≡ Ok m
-unfolding message_in
 spelled_again text m is =
     let laid = laid_again text is.start is.lines is.rest is.laid in
     ap (λ b. cond b (Err fault.TooLong) (message_in (without_line_ends text)))
     (le-ltb 65535 (length text) is.short)
+    ∙ by_first_line text
     ∙ step_again fault.NoEmptyLine (line_at (without_line_ends text))
     (λ p. message_of_section (onto_section p.0 (section_at p.1)))
     (laid.first, laid.after) laid.line_is

@@ -259,7 +259,7 @@ other_again header is =
 
 other_good : (value : List ℕ) → is_header_value value ≡ true → Good value
 other_good value is =
-    record { kept = sym (header_value_kept value is); plain = header_value_plain value is }
+    record { kept = header_value_kept value is; plain = header_value_plain value is }
 
 pub other_goes : (d : Draft) (front : List Header) (header : Header) (rest : List ℕ)
     → IsOtherHeader header → d.others ≡ Some front → Ready rest

@@ -3,7 +3,6 @@
 use Rattle.std.specs.Prelude.{◌≡◌, ℕ, List, [], ◌∷◌, length, take, Option, Some, None, Result, Ok, Err, nat_lt, if◌then◌else◌}
 use Rattle.std.specs.Str.{bytes_eq}
 use Rattle.sip_text.specs.Forms.{each}
-use Rattle.sip_text.specs.Line.{line_at}
 use Rattle.sip_message.specs.Via.{are_vias}
 use Rattle.sip_message.specs.declared.fault.ReadFault.{ReadFault}
 use Rattle.sip_message.specs.declared.fault.ReadFault.TheVariants as fault
@@ -14,7 +13,7 @@ use Rattle.sip_message.specs.declared.via.Via.{Via}
 use Rattle.sip_values.specs.declared.via.ViaDraft.{ViaDraft}
 use Rattle.sip_headers.specs.Complete.{faultless, method_in}
 use Rattle.sip_headers.specs.Draft.{draft_of}
-use Rattle.sip_headers.specs.Folding.{Section, section_at, onto_section}
+use Rattle.sip_headers.specs.Folding.{Section, section_at, whole_section}
 use Rattle.sip_headers.specs.Numbers.{numbers_in, via_with, message_with}
 use Rattle.sip_headers.specs.declared.draft.Draft.{Draft}
 use Rattle.sip_reader.specs.ReadStart.{start_at}
@@ -93,9 +92,7 @@ message_of_section (Some (start_line ∷ lines, rest)) =
 
 -- a text that doesn't begin with a line end
 unfoldable pub message_in : List ℕ → Result Message ReadFault
-message_in text = do
-  line ← or_fault fault.NoEmptyLine (line_at text)
-  message_of_section (onto_section line.0 (section_at line.1))
+message_in text = message_of_section (whole_section (section_at text))
 
 -- the message of a text that isn't too long, line ends before it left out
 abbrev pub message_at : List ℕ → Result Message ReadFault

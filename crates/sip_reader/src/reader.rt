@@ -36,7 +36,6 @@ pub fn read(alloc: Global, text: &[u8]) -> Result<Message, ReadFault>
     read_text(alloc, text)
 }
 
-#[tactic(auto, unfolding(crate::specs::ReadMessage::message_in))]
 fn read_text(alloc: Global, text: &[u8]) -> Result<Message, ReadFault>
     ensures { reading.Gives result (reading.message_at text.now) }
 {

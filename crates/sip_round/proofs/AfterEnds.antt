@@ -14,22 +14,25 @@ use Rattle.sip_message.specs.declared.key.Key.{Key}
 use Rattle.sip_message.specs.declared.message.Message.{Message}
 use Rattle.sip_message.specs.Key.{key_cmp, keys_total}
 use Rattle.sip_model.specs.Laws.{EachKeyAlone, said_by, said_from}
-use Rattle.sip_model.specs.Machine.{Timed, outputs_from, state_after, state_from, tick_at}
+use Rattle.sip_model.specs.Machine.{LifeIn, Timed, outputs_from, said_after, state_after, state_from, state_left, tick_at}
 use Rattle.sip_model.specs.Phase.{Phase, history, inputs_of, own_inputs, states_after, timed_items}
 use Rattle.sip_model.proofs.Ordered.{by_bool}
 use Rattle.sip_model.proofs.Phases.{state_from-append}
 use Rattle.sip_model.proofs.Spoken.{SpeaksForItself, spoken}
 use Rattle.sip_transactions.specs.declared.input.Input.{Input}
+use Rattle.sip_transactions.specs.declared.life.Context.{Context}
 use Rattle.sip_transactions.specs.declared.life.Life.{Life}
 use Rattle.sip_transactions.specs.declared.output.Out.{Out}
 use Rattle.sip_transactions.specs.declared.output.Out.TheVariants as out
+use Rattle.sip_transactions.specs.declared.state.State.{State}
 use Rattle.sip_transactions.specs.declared.step.Handed.{Handed}
 use Rattle.sip_transactions.specs.declared.step.Handed.TheVariants as handed
 use Rattle.sip_transactions.specs.declared.step.Step.{Step}
 use Rattle.sip_transactions.specs.Input.{arrived_in, message_in, role_of}
 use Rattle.sip_transactions.specs.Keys.{exact_keys}
-use Rattle.sip_transactions.specs.Laws.{carries, same_id}
-use Rattle.sip_transactions.specs.Life.{acted_if, life_of, step_for, stepped, stepped_by}
+use Rattle.sip_transactions.specs.Ids.{is_id}
+use Rattle.sip_transactions.specs.Laws.{carries}
+use Rattle.sip_transactions.specs.Life.{acted_if, context_of, state_of, step_for, stepped, stepped_by}
 use Rattle.sip_transactions.specs.Machine.{transaction_machine}
 use Rattle.sip_transactions.specs.Output.{handed_out, made_bytes, outputs_of, send_out, sent_bytes}
 use Rattle.sip_common.specs.Command.{call_of_item}
@@ -44,7 +47,7 @@ use Rattle.sip_round.specs.declared.output.Output.{Output}
 use Rattle.sip_round.specs.declared.round.Round.{Round}
 use Rattle.sip_round.specs.Answers.{Past, answers, answers_from, arrivals, calls_of, first, items_of_round, no_past, past_after, past_from, past_of, said_by_transactions, second, third}
 use Rattle.sip_round.specs.Given.{HasEnded, NoneComesFrom, all_given, comes_from, notice_in, notices_of}
-use Rattle.sip_round.specs.Laws.{NothingAfterEachEnd, call_inputs_of}
+use Rattle.sip_round.specs.Laws.{NothingAfterEachEnd, call_inputs_of, inputs_of}
 use Rattle.sip_round.specs.Outputs.{all_said, joined, outs_of, raised_of, said_at, user_items}
 use Rattle.sip_round.specs.Phases.{call_items}
 use Rattle.sip_round.proofs.GivenNotices.{calls_are, calls_from, given_from, own_from}
@@ -72,7 +75,7 @@ module _ (id : Id) where
   under o = cond (carries id o) (o ∷ []) []
 
   abbrev from : Key → Out → Bool
-  from q (out.Up up) = is_at (key_cmp q) up.key && same_id id up.id
+  from q (out.Up up) = is_at (key_cmp q) up.key && is_id id up.id
   from q (out.Send key to bytes) = false
   from q (out.Dropped place why) = false
 
@@ -97,34 +100,34 @@ module _ (id : Id) where
   own_sent q key to None = own_none (is_at (key_cmp q) key)
   own_sent q key to (Some bytes) = own_none (is_at (key_cmp q) key)
 
-  own_told : (q key : Key) (life : Life) (h : Handed) (arrived : Option (Message × Addr))
+  own_told : (q key : Key) (context : Context) (h : Handed) (arrived : Option (Message × Addr))
       (sent : Option (List ℕ))
-      → Own q key (option_to_list (handed_out key life h arrived)
-      ++ option_to_list (option_map (send_out key life.to) sent))
+      → Own q key (option_to_list (handed_out key context h arrived)
+      ++ option_to_list (option_map (send_out key context.to) sent))
   unfolding handed_out
-  own_told q key life handed.Nothing arrived sent = own_sent q key life.to sent
-  own_told q key life handed.Message None sent = own_sent q key life.to sent
-  own_told q key life handed.Message (Some arrived) sent =
-      one_up (is_at (key_cmp q) key) (same_id id life.id) _ _ _ (own_sent q key life.to sent)
-  own_told q key life handed.Timeout arrived sent =
-      one_up (is_at (key_cmp q) key) (same_id id life.id) _ _ _ (own_sent q key life.to sent)
-  own_told q key life handed.Failed arrived sent =
-      one_up (is_at (key_cmp q) key) (same_id id life.id) _ _ _ (own_sent q key life.to sent)
-  own_told q key life handed.NoTransaction arrived sent = own_sent q key life.to sent
+  own_told q key context handed.Nothing arrived sent = own_sent q key context.to sent
+  own_told q key context handed.Message None sent = own_sent q key context.to sent
+  own_told q key context handed.Message (Some arrived) sent =
+      one_up (is_at (key_cmp q) key) (is_id id context.id) _ _ _ (own_sent q key context.to sent)
+  own_told q key context handed.Timeout arrived sent =
+      one_up (is_at (key_cmp q) key) (is_id id context.id) _ _ _ (own_sent q key context.to sent)
+  own_told q key context handed.Failed arrived sent =
+      one_up (is_at (key_cmp q) key) (is_id id context.id) _ _ _ (own_sent q key context.to sent)
+  own_told q key context handed.NoTransaction arrived sent = own_sent q key context.to sent
 
-  own_acted : (q key : Key) (now : ℕ) (input : Option Input) (o : Option Life) (step : Step)
-      → Own q key (acted_if key now input o step).1
+  own_acted : (q key : Key) (now : ℕ) (input : Option Input) (state : Option State)
+      (o : Option Context) (step : Step) → Own q key (acted_if key now input state o step).1
   unfolding outputs_of
-  own_acted q key now input None step = own_none (is_at (key_cmp q) key)
-  own_acted q key now input (Some life) step =
-      own_told q key life step.handed (arrived_in input)
-      (sent_bytes life.last step.sent (made_bytes life.request step.sent (message_in input)))
+  own_acted q key now input state None step = own_none (is_at (key_cmp q) key)
+  own_acted q key now input state (Some context) step =
+      own_told q key context step.handed (arrived_in input)
+      (sent_bytes context.last step.sent (made_bytes context.request step.sent (message_in input)))
 
   own_by : (q key : Key) (held : Option Life) (now : ℕ) (input : Option Input) (o : Option Step)
       → Own q key (stepped_by key held now input o).1
   own_by q key held now input None = own_none (is_at (key_cmp q) key)
   own_by q key held now input (Some step) =
-      own_acted q key now input (life_of (role_of key) held input) step
+      own_acted q key now input (state_of held) (context_of (role_of key) held input) step
 
   own_ups : SpeaksForItself key_cmp transaction_machine under picked AnyHeld AnyInput
   unfolding stepped
@@ -337,41 +340,44 @@ module _ (over : NothingAfterEachEnd)
   nothing_under key id config earlier later more phases ended =
       let past = (past_of config earlier).transactions in
       let new = history key_cmp tick_at more key in
-      let lived = ended.before ++ ended.first ∷ ended.rest in
+      let life = ended.life in
+      let own = life.first ∷ (life.rest ++ life.after) in
       let whole : history key_cmp tick_at (past_of config (earlier ++ later)).transactions key
-      ≡ ended.before ++ (ended.first ∷ (ended.rest ++ (ended.after ++ new))) =
+      ≡ life.before ++ (life.first ∷ (life.rest ++ (life.after ++ new))) =
       ap (λ all. history key_cmp tick_at all key) phases
       ∙ flat_map-append (λ phase. own_inputs key_cmp tick_at phase key) past more
-      ∙ ap (λ old. old ++ new) ended.are
-      ∙ append_assoc ended.before (ended.first ∷ (ended.rest ++ ended.after)) new
-      ∙ ap (λ rest. ended.before ++ (ended.first ∷ rest))
-      (append_assoc ended.rest ended.after new) in
-      let held : states_after key_cmp transaction_machine tick_at past key
-      ≡ state_from transaction_machine key None ended.after =
-      ap (state_after transaction_machine key)
-      (ended.are ∙ sym (append_assoc ended.before (ended.first ∷ ended.rest) ended.after))
-      ∙ state_from-append transaction_machine key None lived ended.after
-      ∙ ap (λ state. state_from transaction_machine key state ended.after) ended.over in
+      ∙ ap (λ old. old ++ new) life.are
+      ∙ append_assoc life.before own new
+      ∙ ap (λ rest. life.before ++ (life.first ∷ rest)) (append_assoc life.rest life.after new) in
+      let longer : LifeIn transaction_machine key (inputs_of config (earlier ++ later) key) = record {
+        before = life.before;
+        first = life.first;
+        rest = life.rest;
+        after = life.after ++ new;
+        are = whole;
+        none_before = life.none_before;
+        begins = life.begins;
+        within = life.within;
+      } in
+      let left = state_from transaction_machine key (state_left life) life.after in
+      let held : states_after key_cmp transaction_machine tick_at past key ≡ left =
+      ap (state_after transaction_machine key) life.are
+      ∙ state_from-append transaction_machine key None life.before own
+      ∙ ap (λ state. state_from transaction_machine key state own) life.none_before
+      ∙ state_from-append transaction_machine key None (life.first ∷ life.rest) life.after in
       let none : list_any (carries id)
-      (outputs_from transaction_machine key None ended.after
-      ++ outputs_from transaction_machine key
-      (state_from transaction_machine key None ended.after) new) ≡ false =
+      (said_after life ++ outputs_from transaction_machine key left new) ≡ false =
       ap (list_any (carries id))
-      (sym (outputs_append transaction_machine key None ended.after new))
-      ∙ over config (earlier ++ later) key ended.before ended.first ended.rest
-      (ended.after ++ new) id whole ended.life ended.over ended.named in
+      (sym (outputs_append transaction_machine key (state_left life) life.after new))
+      ∙ over config (earlier ++ later) key longer id ended.over ended.named in
       none_under id (said_from key_cmp transaction_machine tick_at key past more)
       (ap (list_any (carries id))
       (transactions_alone past more key
       ∙ ap (λ state. outputs_from transaction_machine key state new) held)
-      ∙ second_false
-      (list_any (carries id) (outputs_from transaction_machine key None ended.after))
-      (list_any (carries id) (outputs_from transaction_machine key
-      (state_from transaction_machine key None ended.after) new))
-      (sym (list_any-append (carries id)
-      (outputs_from transaction_machine key None ended.after)
-      (outputs_from transaction_machine key
-      (state_from transaction_machine key None ended.after) new)) ∙ none))
+      ∙ second_false (list_any (carries id) (said_after life))
+      (list_any (carries id) (outputs_from transaction_machine key left new))
+      (sym (list_any-append (carries id) (said_after life)
+      (outputs_from transaction_machine key left new)) ∙ none))
 
   module _ (config : Config)
       (calls_alone : EachKeyAlone call_cmp (call_machine (calls_of config)) tick_at) where

@@ -8,16 +8,18 @@ use Rattle.sip_message.specs.declared.id.Id.{Id}
 use Rattle.sip_message.specs.declared.key.Key.{Key}
 use Rattle.sip_model.specs.Machine.{adds, Timed, tick_at}
 use Rattle.sip_transactions.specs.declared.input.Input.{Input}
+use Rattle.sip_transactions.specs.declared.life.Context.{Context}
 use Rattle.sip_transactions.specs.declared.life.Life.{Life}
 use Rattle.sip_transactions.specs.declared.output.Kind.{Kind}
 use Rattle.sip_transactions.specs.declared.output.Kind.TheVariants as kind
 use Rattle.sip_transactions.specs.declared.output.Out.{Out}
 use Rattle.sip_transactions.specs.declared.output.Out.TheVariants as out
+use Rattle.sip_transactions.specs.declared.state.State.{State}
 use Rattle.sip_transactions.specs.declared.step.Handed.{Handed}
 use Rattle.sip_transactions.specs.declared.step.Handed.TheVariants as handed
 use Rattle.sip_transactions.specs.declared.step.Step.{Step}
 use Rattle.sip_transactions.specs.Input.{arrived_in, message_in, role_of}
-use Rattle.sip_transactions.specs.Life.{acted_if, life_of, step_for, stepped, stepped_by}
+use Rattle.sip_transactions.specs.Life.{acted_if, context_of, state_of, step_for, stepped, stepped_by}
 use Rattle.sip_transactions.specs.Machine.{transaction_machine}
 use Rattle.sip_transactions.specs.Output.{handed_out, made_bytes, outputs_of, send_out, sent_bytes}
 use Rattle.sip_common.specs.declared.item.Item.{Item}
@@ -54,34 +56,35 @@ few_told id key to (Some (out.Send other there bytes)) (Some more) = inl refl
 few_told id key to (Some (out.Dropped place why)) None = inl refl
 few_told id key to (Some (out.Dropped place why)) (Some bytes) = inl refl
 
-none_told : (id : Id) (key : Key) (life : Life) (h : Handed) (sent : Option (List ℕ))
-    → raised id (option_to_list (handed_out key life h None)
-    ++ option_to_list (option_map (send_out key life.to) sent)) ≡ []
+none_told : (id : Id) (key : Key) (context : Context) (h : Handed) (sent : Option (List ℕ))
+    → raised id (option_to_list (handed_out key context h None)
+    ++ option_to_list (option_map (send_out key context.to) sent)) ≡ []
 unfolding handed_out
-none_told id key life handed.Nothing None = refl
-none_told id key life handed.Nothing (Some bytes) = refl
-none_told id key life handed.Message None = refl
-none_told id key life handed.Message (Some bytes) = refl
-none_told id key life handed.Timeout None = refl
-none_told id key life handed.Timeout (Some bytes) = refl
-none_told id key life handed.Failed None = refl
-none_told id key life handed.Failed (Some bytes) = refl
-none_told id key life handed.NoTransaction None = refl
-none_told id key life handed.NoTransaction (Some bytes) = refl
+none_told id key context handed.Nothing None = refl
+none_told id key context handed.Nothing (Some bytes) = refl
+none_told id key context handed.Message None = refl
+none_told id key context handed.Message (Some bytes) = refl
+none_told id key context handed.Timeout None = refl
+none_told id key context handed.Timeout (Some bytes) = refl
+none_told id key context handed.Failed None = refl
+none_told id key context handed.Failed (Some bytes) = refl
+none_told id key context handed.NoTransaction None = refl
+none_told id key context handed.NoTransaction (Some bytes) = refl
 
-few_acted : (id : Id) (key : Key) (now : ℕ) (input : Option Input) (o : Option Life) (step : Step)
-    → Few id (raised id (acted_if key now input o step).1)
+few_acted : (id : Id) (key : Key) (now : ℕ) (input : Option Input) (state : Option State)
+    (o : Option Context) (step : Step)
+    → Few id (raised id (acted_if key now input state o step).1)
 unfolding outputs_of
-few_acted id key now input None step = inl refl
-few_acted id key now input (Some life) step =
-    few_told id key life.to (handed_out key life step.handed (arrived_in input))
-    (sent_bytes life.last step.sent (made_bytes life.request step.sent (message_in input)))
+few_acted id key now input state None step = inl refl
+few_acted id key now input state (Some context) step =
+    few_told id key context.to (handed_out key context step.handed (arrived_in input))
+    (sent_bytes context.last step.sent (made_bytes context.request step.sent (message_in input)))
 
 few_by : (id : Id) (key : Key) (held : Option Life) (now : ℕ) (input : Option Input) (o : Option Step)
     → Few id (raised id (stepped_by key held now input o).1)
 few_by id key held now input None = inl refl
 few_by id key held now input (Some step) =
-    few_acted id key now input (life_of (role_of key) held input) step
+    few_acted id key now input (state_of held) (context_of (role_of key) held input) step
 
 -- to one input
 pub few_ups : (id : Id) (key : Key) (held : Option Life) (timed : Timed Input)
@@ -90,18 +93,19 @@ unfolding stepped
 few_ups id key held timed =
     few_by id key held timed.moment timed.input (step_for key held timed.moment timed.input)
 
-none_acted : (id : Id) (key : Key) (now : ℕ) (o : Option Life) (step : Step)
-    → raised id (acted_if key now None o step).1 ≡ []
+none_acted : (id : Id) (key : Key) (now : ℕ) (state : Option State) (o : Option Context)
+    (step : Step) → raised id (acted_if key now None state o step).1 ≡ []
 unfolding outputs_of
-none_acted id key now None step = refl
-none_acted id key now (Some life) step =
-    none_told id key life step.handed
-    (sent_bytes life.last step.sent (made_bytes life.request step.sent (message_in None)))
+none_acted id key now state None step = refl
+none_acted id key now state (Some context) step =
+    none_told id key context step.handed
+    (sent_bytes context.last step.sent (made_bytes context.request step.sent (message_in None)))
 
 none_by : (id : Id) (key : Key) (held : Option Life) (now : ℕ) (o : Option Step)
     → raised id (stepped_by key held now None o).1 ≡ []
 none_by id key held now None = refl
-none_by id key held now (Some step) = none_acted id key now (life_of (role_of key) held None) step
+none_by id key held now (Some step) = none_acted id key now (state_of held)
+    (context_of (role_of key) held None) step
 
 -- to a tick
 pub no_ups : (id : Id) (key : Key) (held : Option Life) (now : ℕ)

@@ -1,8 +1,7 @@
 -- Each life among the inputs of a run.
 use Rattle.std.proofs.Common.{◌≡◌, List, [], ◌∷◌, ◌++◌, refl, sym, ◌∙◌, ap, append_assoc}
 use Rattle.std.specs.Prelude.{Option, None}
-use Rattle.sip_model.specs.Machine.{Machine, adds, next, outputs_from, state_after, state_from}
-use Rattle.sip_model.proofs.Phases.{state_from-append}
+use Rattle.sip_model.specs.Machine.{LifeIn, Machine, adds, next, outputs_from, said_after, said_at_first, said_before, said_in_rest, state_from}
 
 module _ {K S I O : Type 0} (machine : Machine K S I O) (key : K) where
   pub outputs_append : (state : Option S) (before after : List I)
@@ -17,26 +16,15 @@ module _ {K S I O : Type 0} (machine : Machine K S I O) (key : K) where
       (outputs_from machine key (state_from machine key (next machine key state input) before)
       after))
 
-  -- what inputs add is what those before a life add, its first, the others of it, and those after
-  pub in_lives : (before : List I) (first : I) (rest after : List I)
-      → outputs_from machine key None (before ++ (first ∷ (rest ++ after)))
-      ≡ outputs_from machine key None before
-      ++ (adds machine key (state_after machine key before) first
-      ++ (outputs_from machine key (state_after machine key (before ++ first ∷ [])) rest
-      ++ outputs_from machine key (state_after machine key (before ++ first ∷ rest)) after))
-  in_lives before first rest after =
-      let held = state_after machine key before in
-      let begun = next machine key held first in
-      outputs_append None before (first ∷ (rest ++ after))
-      ∙ ap (λ more. outputs_from machine key None before ++ (adds machine key held first ++ more))
-      (outputs_append begun rest after)
-      ∙ ap (λ s. outputs_from machine key None before
-      ++ (adds machine key held first
-      ++ (outputs_from machine key s rest
-      ++ outputs_from machine key (state_from machine key begun rest) after)))
-      (sym (state_from-append machine key None before (first ∷ [])))
-      ∙ ap (λ s. outputs_from machine key None before
-      ++ (adds machine key held first
-      ++ (outputs_from machine key (state_after machine key (before ++ first ∷ [])) rest
-      ++ outputs_from machine key s after)))
-      (sym (state_from-append machine key None before (first ∷ rest)))
+  -- what inputs add is what is said before a life, to its first, to the rest of it, and after it
+  pub in_lives : {inputs : List I} (life : LifeIn machine key inputs)
+      → outputs_from machine key None inputs
+      ≡ said_before life ++ (said_at_first life ++ (said_in_rest life ++ said_after life))
+  in_lives life =
+      let from : Option S → List O =
+      λ held. outputs_from machine key held (life.first ∷ (life.rest ++ life.after)) in
+      ap (outputs_from machine key None) life.are
+      ∙ outputs_append None life.before (life.first ∷ (life.rest ++ life.after))
+      ∙ ap (λ held. said_before life ++ from held) life.none_before
+      ∙ ap (λ more. said_before life ++ (said_at_first life ++ more))
+      (outputs_append (next machine key None life.first) life.rest life.after)

@@ -31,7 +31,8 @@ use Rattle.sip_transactions.specs.declared.input.Command.TheVariants as command
 use Rattle.sip_transactions.specs.declared.input.Input.{Input}
 use Rattle.sip_transactions.specs.declared.input.Input.TheVariants.{Receive}
 use Rattle.sip_transactions.specs.declared.output.DropReason.TheVariants.{NotOurs}
-use Rattle.sip_transactions.specs.Laws.{IsServer, arrival_id, naming_id, same_id}
+use Rattle.sip_transactions.specs.Ids.{is_id}
+use Rattle.sip_transactions.specs.Laws.{IsServer, arrival_id, naming_id}
 use Rattle.sip_transactions.specs.Shard.{is_stray, order}
 use Rattle.sip_common.specs.Command.{call_of_item}
 use Rattle.sip_common.specs.declared.item.CallOut.{CallOut}
@@ -451,7 +452,7 @@ module _ (config : Config) where
         (few rounds (suc number) next)
 
   abbrev Differ : Key → List (Phase Key (Timed Input)) → Type 0
-  Differ k phases = IsDistinct same_id (filter_map name_of (history key_cmp tick_at phases k))
+  Differ k phases = IsDistinct is_id (filter_map name_of (history key_cmp tick_at phases k))
 
   names_of_key : (k : Key) (rounds : List Round)
       → Differ k (past_from config config.first no_past rounds).transactions
@@ -467,7 +468,7 @@ module _ (config : Config) where
       (sym all.transactions) (omega (arith, all.holds, started_once config rounds x)))
 
 pub names_differ : (config : Config) (k : Key) (rounds : List Round)
-    → IsDistinct same_id (filter_map name_of
+    → IsDistinct is_id (filter_map name_of
     (history key_cmp tick_at (past_of config rounds).transactions k))
 unfolding past_of
 names_differ config k rounds = names_of_key config k rounds

@@ -16,6 +16,7 @@ use Rattle.sip_model.specs.Machine.{adds, Timed}
 use Rattle.sip_model.proofs.Ordered.{by_bool}
 use Rattle.sip_transactions.specs.declared.input.Input.{Input}
 use Rattle.sip_transactions.specs.declared.input.Input.TheVariants.{Receive, Start, Answer, Failed}
+use Rattle.sip_transactions.specs.declared.life.Context.{Context}
 use Rattle.sip_transactions.specs.declared.life.Life.{Life}
 use Rattle.sip_transactions.specs.declared.output.Kind.{Kind}
 use Rattle.sip_transactions.specs.declared.output.Kind.TheVariants as kind
@@ -27,7 +28,7 @@ use Rattle.sip_transactions.specs.declared.step.Handed.TheVariants as handed
 use Rattle.sip_transactions.specs.declared.step.Step.{Step}
 use Rattle.sip_transactions.specs.Input.{is_method, message_in, role_of}
 use Rattle.sip_transactions.specs.Laws.{arrival_id, is_request_kind, is_request_up, naming_id, requests_in}
-use Rattle.sip_transactions.specs.Life.{acted_if, begun, keeps_request, life_by, step_for, stepped, stepped_by}
+use Rattle.sip_transactions.specs.Life.{acted_if, begun, context_by, keeps_request, step_for, stepped, stepped_by}
 use Rattle.sip_transactions.specs.Machine.{transaction_machine}
 use Rattle.sip_transactions.specs.Output.{handed_out, kind_of, made_bytes, outputs_of, send_out, sent_bytes}
 use Rattle.sip_transactions.proofs.OneRequest.{held_silent}
@@ -103,60 +104,60 @@ message_own id (start.Request uri) message reply_to =
     ]
 message_own id (start.Response status reason) message reply_to = (tt, tt)
 
-handed_own : (key : Key) (life : Life) (h : Handed) (message : Message) (reply_to : Addr)
-    → life.call_id ≡ message.call_id
-    → AreOwnUps (arrival_id message.start life.id)
-    (option_to_list (handed_out key life h (Some (message, reply_to))))
+handed_own : (key : Key) (context : Context) (h : Handed) (message : Message) (reply_to : Addr)
+    → context.call_id ≡ message.call_id
+    → AreOwnUps (arrival_id message.start context.id)
+    (option_to_list (handed_out key context h (Some (message, reply_to))))
 unfolding handed_out
-handed_own key life handed.Nothing message reply_to same = tt
-handed_own key life handed.Message message reply_to same =
-    let own = message_own life.id message.start message reply_to in (
+handed_own key context handed.Nothing message reply_to same = tt
+handed_own key context handed.Message message reply_to same =
+    let own = message_own context.id message.start message reply_to in (
       (
         subst (λ id. IsKindOf id (kind_of message.start message reply_to)) (sym same) own.0,
         own.1,
       ),
       tt,
     )
-handed_own key life handed.Timeout message reply_to same = ((tt, tt), tt)
-handed_own key life handed.Failed message reply_to same = ((tt, tt), tt)
-handed_own key life handed.NoTransaction message reply_to same = (tt, tt)
+handed_own key context handed.Timeout message reply_to same = ((tt, tt), tt)
+handed_own key context handed.Failed message reply_to same = ((tt, tt), tt)
+handed_own key context handed.NoTransaction message reply_to same = (tt, tt)
 
-handed_nothing : (event : Option Id) (key : Key) (life : Life) (h : Handed)
-    → AreOwnUps event (option_to_list (handed_out key life h None))
+handed_nothing : (event : Option Id) (key : Key) (context : Context) (h : Handed)
+    → AreOwnUps event (option_to_list (handed_out key context h None))
 unfolding handed_out
-handed_nothing event key life handed.Nothing = tt
-handed_nothing event key life handed.Message = tt
-handed_nothing event key life handed.Timeout = ((tt, tt), tt)
-handed_nothing event key life handed.Failed = ((tt, tt), tt)
-handed_nothing event key life handed.NoTransaction = (tt, tt)
+handed_nothing event key context handed.Nothing = tt
+handed_nothing event key context handed.Message = tt
+handed_nothing event key context handed.Timeout = ((tt, tt), tt)
+handed_nothing event key context handed.Failed = ((tt, tt), tt)
+handed_nothing event key context handed.NoTransaction = (tt, tt)
 
 begun_own : (key : Key) (now : ℕ) (input : Option Input) (step : Step)
     → AreOwnUps (naming_id input)
-    (acted_if key now input (begun (role_of key) input) step).1
+    (acted_if key now input None (begun (role_of key) input) step).1
 unfolding begun outputs_of
 begun_own key now None step = tt
 begun_own key now (Some (Answer id message)) step = tt
 begun_own key now (Some (Failed id)) step = tt
 begun_own key now (Some (Receive id message reply_to)) step =
-    let life = life_by id message.call_id reply_to None in
+    let context = context_by id message.call_id reply_to None in
     let event = arrival_id message.start id in
     both (IsOwnUp event)
-    (option_to_list (handed_out key life step.handed (Some (message, reply_to))))
-    (option_to_list (option_map (send_out key life.to) (sent_bytes life.last step.sent
-    (made_bytes life.request step.sent (message_in (Some (Receive id message reply_to)))))))
-    (handed_own key life step.handed message reply_to refl)
-    (sends_own event key life.to (sent_bytes life.last step.sent
-    (made_bytes life.request step.sent (message_in (Some (Receive id message reply_to))))))
+    (option_to_list (handed_out key context step.handed (Some (message, reply_to))))
+    (option_to_list (option_map (send_out key context.to) (sent_bytes context.last step.sent
+    (made_bytes context.request step.sent (message_in (Some (Receive id message reply_to)))))))
+    (handed_own key context step.handed message reply_to refl)
+    (sends_own event key context.to (sent_bytes context.last step.sent
+    (made_bytes context.request step.sent (message_in (Some (Receive id message reply_to))))))
 begun_own key now (Some (Start id call_id message to)) step =
-    let life = life_by id call_id to
+    let context = context_by id call_id to
     (if keeps_request (role_of key) then Some message else None) in
     both (IsOwnUp (Some id))
-    (option_to_list (handed_out key life step.handed None))
-    (option_to_list (option_map (send_out key life.to) (sent_bytes life.last step.sent
-    (made_bytes life.request step.sent (message_in (Some (Start id call_id message to)))))))
-    (handed_nothing (Some id) key life step.handed)
-    (sends_own (Some id) key life.to (sent_bytes life.last step.sent
-    (made_bytes life.request step.sent (message_in (Some (Start id call_id message to))))))
+    (option_to_list (handed_out key context step.handed None))
+    (option_to_list (option_map (send_out key context.to) (sent_bytes context.last step.sent
+    (made_bytes context.request step.sent (message_in (Some (Start id call_id message to)))))))
+    (handed_nothing (Some id) key context step.handed)
+    (sends_own (Some id) key context.to (sent_bytes context.last step.sent
+    (made_bytes context.request step.sent (message_in (Some (Start id call_id message to))))))
 
 -- ---- one input
 

@@ -5,11 +5,11 @@ use Rattle.std.specs.List.{AllByRecursion, flat_map}
 use Rattle.sip_message.specs.declared.id.Id.{Id}
 use Rattle.sip_message.specs.declared.key.Key.{Key}
 use Rattle.sip_message.specs.Key.{key_cmp}
-use Rattle.sip_model.specs.Machine.{IsLife, Timed, outputs_from, state_after}
+use Rattle.sip_model.specs.Machine.{LifeIn, Timed, outputs_from, state_after, state_left}
 use Rattle.sip_transactions.specs.declared.input.Input.{Input}
 use Rattle.sip_transactions.specs.declared.output.Out.{Out}
 use Rattle.sip_transactions.specs.declared.output.Out.TheVariants as out
-use Rattle.sip_transactions.specs.Laws.{id_of, same_id}
+use Rattle.sip_transactions.specs.Laws.{id_of}
 use Rattle.sip_transactions.specs.Machine.{transaction_machine}
 use Rattle.sip_common.specs.declared.held_dialog.DialogLife.{DialogLife}
 use Rattle.sip_common.specs.declared.item.CallOut.{CallOut}
@@ -135,18 +135,13 @@ GivesProvisionalsInOrder config rounds given =
 
 -- a life of this transaction, that has this id, has ended in these rounds
 pub record HasEnded (key : Key) (id : Id) (config : Config) (rounds : List Round) : Type 0 where
-  pub before : List (Timed Input)
-  pub first : Timed Input
-  pub rest : List (Timed Input)
-  pub after : List (Timed Input)
-  pub are : inputs_of config rounds key ≡ before ++ (first ∷ (rest ++ after))
-  pub life : IsLife transaction_machine key before first rest
-  pub over : state_after transaction_machine key (before ++ first ∷ rest) ≡ None
-  pub named : id_of first.input ≡ Some id
+  pub life : LifeIn transaction_machine key (inputs_of config rounds key)
+  pub over : state_left life ≡ None
+  pub named : id_of life.first.input ≡ Some id
 
 -- what a call is given comes from that transaction, under that id
 abbrev pub comes_from : Key → Id → Option CallItem → Bool
-comes_from key id (Some (event, Up up)) = is_at (key_cmp key) up.key && same_id id up.id
+comes_from key id (Some (event, Up up)) = is_at (key_cmp key) up.key && is_id id up.id
 comes_from key id _ = false
 
 -- what later rounds give of a call is what some inputs of it add, and none of them comes from that

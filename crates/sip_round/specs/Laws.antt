@@ -1,11 +1,11 @@
 -- What holds of every transaction and of every call over whole runs.
-use Rattle.std.specs.Prelude.{◌≡◌, ◌≢◌, ℕ, false, List, [], ◌∷◌, ◌++◌, AllPairs, None, Some}
+use Rattle.std.specs.Prelude.{◌≡◌, ◌≢◌, ℕ, false, List, [], ◌++◌, AllPairs, None, Some}
 use Rattle.std.specs.List.{list_any}
 use Rattle.sip_message.specs.declared.id.Id.{Id}
 use Rattle.sip_message.specs.Key.{key_cmp}
 use Rattle.sip_message.specs.declared.key.Key.{Key}
 use Rattle.sip_model.specs.Laws.{said_from}
-use Rattle.sip_model.specs.Machine.{IsLife, adds, outputs_from, state_after, Timed, tick_at}
+use Rattle.sip_model.specs.Machine.{LifeIn, Timed, outputs_from, said_after, said_at_first, said_before, said_in_rest, state_left, tick_at}
 use Rattle.sip_model.specs.Phase.{history}
 use Rattle.sip_transactions.specs.declared.input.Input.{Input}
 use Rattle.sip_transactions.specs.declared.output.Out.{Out}
@@ -29,29 +29,21 @@ abbrev pub said_of : Config → List Round → Key → List Out
 said_of config rounds key =
     said_from key_cmp transaction_machine tick_at key [] (past_of config rounds).transactions
 
--- what rounds say of a transaction is what comes before a life, what its first input adds, what the
--- rest of it adds, and what comes after; its request comes up with the first input, and not again
-pub record OneRequestSaid (said : List Out) (key : Key) (before : List (Timed Input))
-    (first : Timed Input) (rest after : List (Timed Input)) : Type 0 where
-  pub said_in_order : said ≡ outputs_from transaction_machine key None before
-      ++ (adds transaction_machine key (state_after transaction_machine key before) first
-      ++ (outputs_from transaction_machine key
-      (state_after transaction_machine key (before ++ first ∷ [])) rest
-      ++ outputs_from transaction_machine key
-      (state_after transaction_machine key (before ++ first ∷ rest)) after))
-  pub once : requests_in (adds transaction_machine key
-      (state_after transaction_machine key before) first) ≡ 1
-  pub no_more : requests_in (outputs_from transaction_machine key
-      (state_after transaction_machine key (before ++ first ∷ [])) rest) ≡ 0
+-- what rounds say of a transaction is what is said before a life, to its first input, to the rest of
+-- it, and after it; its request comes up with the first input, and not again
+pub record OneRequestSaid (said : List Out) (key : Key) (inputs : List (Timed Input))
+    (life : LifeIn transaction_machine key inputs) : Type 0 where
+  pub said_in_order : said ≡ said_before life
+      ++ (said_at_first life ++ (said_in_rest life ++ said_after life))
+  pub once : requests_in (said_at_first life) ≡ 1
+  pub no_more : requests_in (said_in_rest life) ≡ 0
 
 -- each life of a server transaction hands its request up once, by its first input
 abbrev pub OneRequestInLives : Config → List Round → Type 0
 OneRequestInLives config rounds =
-    (key : Key) → IsServer key → (before : List (Timed Input)) (first : Timed Input)
-    (rest after : List (Timed Input))
-    → inputs_of config rounds key ≡ before ++ (first ∷ (rest ++ after))
-    → IsLife transaction_machine key before first rest
-    → OneRequestSaid (said_of config rounds key) key before first rest after
+    (key : Key) → IsServer key
+    → (life : LifeIn transaction_machine key (inputs_of config rounds key))
+    → OneRequestSaid (said_of config rounds key) key (inputs_of config rounds key) life
 
 -- so in any rounds
 abbrev pub OneRequestInEachLife : Type 0
@@ -60,13 +52,9 @@ OneRequestInEachLife = (config : Config) (rounds : List Round) → OneRequestInL
 -- nothing is handed up under the id of a life after it has ended
 abbrev pub NothingAfterEnds : Config → List Round → Type 0
 NothingAfterEnds config rounds =
-    (key : Key) (before : List (Timed Input)) (first : Timed Input)
-    (rest after : List (Timed Input)) (id : Id)
-    → inputs_of config rounds key ≡ before ++ (first ∷ (rest ++ after))
-    → IsLife transaction_machine key before first rest
-    → state_after transaction_machine key (before ++ first ∷ rest) ≡ None
-    → id_of first.input ≡ Some id
-    → list_any (carries id) (outputs_from transaction_machine key None after) ≡ false
+    (key : Key) (life : LifeIn transaction_machine key (inputs_of config rounds key)) (id : Id)
+    → state_left life ≡ None → id_of life.first.input ≡ Some id
+    → list_any (carries id) (said_after life) ≡ false
 
 -- so in any rounds
 abbrev pub NothingAfterEachEnd : Type 0

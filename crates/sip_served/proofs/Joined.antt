@@ -9,6 +9,7 @@ use Rattle.std.proofs.lemmas.List.Folds.{list_all_at, list_all-append}
 use Rattle.sip_model.proofs.Ordered.{by_bool}
 use Rattle.sip_text.specs.Character.{is_blank, is_line_byte, is_token_byte}
 use Rattle.sip_text.specs.Token.{is_token}
+use Rattle.sip_parts.proofs.BlankEnds.{full_has_none, has_full_ends}
 use Rattle.sip_parts.specs.HeaderValue.{has_no_blank_ends, has_no_line_byte, is_header_value}
 
 abbrev pub joined : List (List ℕ) → List ℕ
@@ -83,8 +84,9 @@ token_value b bs all =
     let first = (both (is_token_byte b) (list_all is_token_byte bs) all).0 in
     let last = byte_at (b ∷ bs) (length (b ∷ bs) - 1) (last_within b bs) all in
     and_both (has_no_blank_ends (b ∷ bs)) (has_no_line_byte (b ∷ bs))
+    (full_has_none (b ∷ bs)
     (and_both (not (is_blank b)) (not (is_blank (get_or (b ∷ bs) (length (b ∷ bs) - 1) 0)))
-    (not_blank b first) (not_blank (get_or (b ∷ bs) (length (b ∷ bs) - 1) 0) last))
+    (not_blank b first) (not_blank (get_or (b ∷ bs) (length (b ∷ bs) - 1) 0) last)))
     (no_lines (b ∷ bs) all)
 
 last_moves : (ts : List ℕ) (b : ℕ) (bs : List ℕ)
@@ -105,14 +107,15 @@ joined_value t ts b bs value all =
     let parts = both (has_no_blank_ends (t ∷ ts)) (has_no_line_byte (t ∷ ts)) value in
     let first =
     (both (not (is_blank t)) (not (is_blank (get_or (t ∷ ts) (length (t ∷ ts) - 1) 0)))
-    parts.0).0 in
+    (has_full_ends (t ∷ ts) parts.0)).0 in
     let whole : List ℕ = (t ∷ ts) ++ codes ", " ++ b ∷ bs in
     let last : not (is_blank (get_or whole (length whole - 1) 0)) ≡ true =
     ap (λ k. not (is_blank k)) (last_moves (t ∷ ts) b bs)
     ∙ not_blank (get_or (b ∷ bs) (length (b ∷ bs) - 1) 0)
     (byte_at (b ∷ bs) (length (b ∷ bs) - 1) (last_within b bs) all) in
     let ends : has_no_blank_ends whole ≡ true =
-    and_both (not (is_blank t)) (not (is_blank (get_or whole (length whole - 1) 0))) first last
+    full_has_none whole
+    (and_both (not (is_blank t)) (not (is_blank (get_or whole (length whole - 1) 0))) first last)
     in
     let front : has_no_line_byte ((t ∷ ts) ++ codes ", ") ≡ true =
     list_all-append (λ c. not (is_line_byte c)) (t ∷ ts) (codes ", ")

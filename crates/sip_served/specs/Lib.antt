@@ -8,6 +8,7 @@ pub mod Respond
 pub mod Run
 pub mod ServerSide
 pub mod ForUser
+pub mod Happenings
 pub mod State
 pub mod Step
 pub mod Story

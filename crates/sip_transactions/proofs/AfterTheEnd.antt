@@ -1,6 +1,6 @@
 -- Nothing is handed up under the id of a life that has ended.
-use Rattle.std.proofs.Common.{◌≡◌, ℕ, Bool, true, false, ◌&&◌, ◌||◌, List, [], ◌∷◌, ◌++◌, refl, sym, ◌∙◌, ap, subst, append_assoc}
-use Rattle.std.specs.Prelude.{not, Option, None, Some, IsSome, is_some, option_map, option_to_list, filter_map}
+use Rattle.std.proofs.Common.{◌≡◌, ℕ, Bool, true, false, ◌&&◌, ◌||◌, List, [], ◌∷◌, ◌++◌, refl, sym, ◌∙◌, ap, subst}
+use Rattle.std.specs.Prelude.{not, Option, None, Some, IsSome, is_some, option_map, option_to_list}
 use Rattle.std.specs.List.{cons_option, list_any, AllByRecursion, IsDistinct}
 use Rattle.std.proofs.lemmas.Bool.{false≢true}
 use Rattle.std.proofs.lemmas.List.Folds.{list_any-append}
@@ -12,24 +12,24 @@ use Rattle.sip_message.specs.declared.key.Key.{Key}
 use Rattle.sip_message.specs.declared.message.Message.{Message}
 use Rattle.sip_message.specs.declared.start_line.StartLine.{StartLine}
 use Rattle.sip_message.specs.declared.start_line.StartLine.TheVariants as start
-use Rattle.sip_model.specs.Machine.{outputs_from, Timed}
-use Rattle.sip_model.proofs.History.{state_after-push}
+use Rattle.sip_model.specs.Machine.{outputs_from, state_left, Timed}
 use Rattle.sip_transactions.specs.declared.input.Input.{Input}
 use Rattle.sip_transactions.specs.declared.input.Input.TheVariants.{Receive, Start, Answer, Failed}
+use Rattle.sip_transactions.specs.declared.life.Context.{Context}
 use Rattle.sip_transactions.specs.declared.life.Life.{Life}
 use Rattle.sip_transactions.specs.declared.output.Out.{Out}
+use Rattle.sip_transactions.specs.declared.state.State.{State}
 use Rattle.sip_transactions.specs.declared.step.Step.{Step}
-use Rattle.sip_transactions.specs.declared.step.Next.{Next}
-use Rattle.sip_transactions.specs.declared.step.Next.TheVariants.{Same, Ended, Become}
 use Rattle.sip_transactions.specs.declared.step.Handed.{Handed}
 use Rattle.sip_transactions.specs.declared.step.Handed.TheVariants as up
 use Rattle.sip_transactions.specs.declared.trigger.Trigger.{Trigger}
 use Rattle.sip_transactions.specs.Rows.{rows_of}
+use Rattle.sip_transactions.specs.Ids.{is_id}
 use Rattle.sip_transactions.specs.Input.{role_of, trigger_of, arrival_of, arrived_in}
 use Rattle.sip_transactions.specs.Output.{outputs_of, handed_out, sent_bytes, send_out}
-use Rattle.sip_transactions.specs.Life.{stepped, acted_if, begun, life_after, last_of, entered}
+use Rattle.sip_transactions.specs.Life.{stepped, acted_if, begun, life_after, life_in, last_of, entered, armed}
 use Rattle.sip_transactions.specs.Machine.{transaction_machine}
-use Rattle.sip_transactions.specs.Laws.{NothingAfterTheEnd, carries, same_id, id_of, naming_id, arrival_id}
+use Rattle.sip_transactions.specs.Laws.{NothingAfterTheEnd, carries, id_of, names_in, naming_id, arrival_id}
 use Rattle.sip_transactions.proofs.RowFacts.{and-left, and-right, row_passes}
 use Rattle.sip_transactions.proofs.LawSteps.{by_step, is_ended, is_message, is_report, response_needs_life, responses_in_tables}
 use Rattle.sip_transactions.proofs.OneRequest.{life_after-ended}
@@ -37,11 +37,11 @@ use Rattle.sip_transactions.proofs.OneRequest.{life_after-ended}
 -- a life, an input, that doesn't have this id
 abbrev OtherLife : Id → Option Life → Type 0
 OtherLife id None = Unit {0}
-OtherLife id (Some life) = same_id id life.id ≡ false
+OtherLife id (Some life) = is_id id life.context.id ≡ false
 
 abbrev OtherName : Id → Option Id → Type 0
 OtherName id None = Unit {0}
-OtherName id (Some name) = same_id id name ≡ false
+OtherName id (Some name) = is_id id name ≡ false
 
 -- what a row says and leaves at another life
 record Other (id : Id) (after : Option Life × List Out) : Type 0 where
@@ -52,94 +52,98 @@ or_none : (a b : Bool) → a ≡ false → b ≡ false → (a || b) ≡ false
 or_none true b no_a no_b = no_a
 or_none false b no_a no_b = no_b
 
-sends_none : (id : Id) (key : Key) (life : Life) (o : Option (List ℕ))
-    → list_any (carries id) (option_to_list (option_map (send_out key life.to) o)) ≡ false
-sends_none id key life None = refl
-sends_none id key life (Some bytes) = refl
+sends_none : (id : Id) (key : Key) (context : Context) (o : Option (List ℕ))
+    → list_any (carries id) (option_to_list (option_map (send_out key context.to) o)) ≡ false
+sends_none id key context None = refl
+sends_none id key context (Some bytes) = refl
 
-handed_other : (id : Id) (key : Key) (life : Life) (handed : Handed)
-    (arrived : Option (Message × Addr)) → same_id id life.id ≡ false
-    → list_any (carries id) (option_to_list (handed_out key life handed arrived)) ≡ false
+handed_other : (id : Id) (key : Key) (context : Context) (handed : Handed)
+    (arrived : Option (Message × Addr)) → is_id id context.id ≡ false
+    → list_any (carries id) (option_to_list (handed_out key context handed arrived)) ≡ false
 unfolding handed_out
-handed_other id key life up.Nothing arrived other = refl
-handed_other id key life up.Message None other = refl
-handed_other id key life up.Message (Some came) other = or_none _ false other refl
-handed_other id key life up.Timeout arrived other = or_none _ false other refl
-handed_other id key life up.Failed arrived other = or_none _ false other refl
-handed_other id key life up.NoTransaction arrived other = refl
+handed_other id key context up.Nothing arrived other = refl
+handed_other id key context up.Message None other = refl
+handed_other id key context up.Message (Some came) other = or_none _ false other refl
+handed_other id key context up.Timeout arrived other = or_none _ false other refl
+handed_other id key context up.Failed arrived other = or_none _ false other refl
+handed_other id key context up.NoTransaction arrived other = refl
 
-said_other : (id : Id) (key : Key) (life : Life) (step : Step) (made : Option (List ℕ))
+said_other : (id : Id) (key : Key) (context : Context) (step : Step) (made : Option (List ℕ))
     (arrived : Option (Message × Addr))
-    → list_any (carries id) (option_to_list (handed_out key life step.handed arrived)) ≡ false
-    → list_any (carries id) (outputs_of key life step made arrived) ≡ false
+    → list_any (carries id) (option_to_list (handed_out key context step.handed arrived)) ≡ false
+    → list_any (carries id) (outputs_of key context step made arrived) ≡ false
 unfolding outputs_of
-said_other id key life step made arrived handed =
-    list_any-append (carries id) (option_to_list (handed_out key life step.handed arrived))
-    (option_to_list (option_map (send_out key life.to) (sent_bytes life.last step.sent made)))
-    ∙ or_none _ _ handed (sends_none id key life (sent_bytes life.last step.sent made))
+said_other id key context step made arrived handed =
+    list_any-append (carries id) (option_to_list (handed_out key context step.handed arrived))
+    (option_to_list (option_map (send_out key context.to) (sent_bytes context.last step.sent made)))
+    ∙ or_none _ _ handed (sends_none id key context (sent_bytes context.last step.sent made))
 
-id-last_of : (bytes : Option (List ℕ)) (life : Life) → (last_of bytes life).id ≡ life.id
-id-last_of None life = refl
-id-last_of (Some bytes) life = refl
+id-last_of : (bytes : Option (List ℕ)) (context : Context) → (last_of bytes context).id ≡ context.id
+id-last_of None context = refl
+id-last_of (Some bytes) context = refl
 
-entered_other : (id : Id) (next : Next) (life : Life) → same_id id life.id ≡ false
-    → OtherLife id (entered next life)
-entered_other id Same life other = other
-entered_other id Ended life other = tt
-entered_other id (Become state) life other = other
+entered_other : (id : Id) (context : Context) (state : Option State)
+    → is_id id context.id ≡ false → OtherLife id (option_map (life_in context) state)
+entered_other id context None other = tt
+entered_other id context (Some state) other = other
 
-life_other : (id : Id) (life : Life) (step : Step) (now : ℕ) (bytes : Option (List ℕ))
-    → same_id id life.id ≡ false → OtherLife id (life_after life step now bytes)
+life_other : (id : Id) (state : Option State) (context : Context) (step : Step) (now : ℕ)
+    (bytes : Option (List ℕ)) → is_id id context.id ≡ false
+    → OtherLife id (life_after state context step now bytes)
 unfolding life_after
-life_other id life step now bytes other =
-    entered_other id step.next _ (ap (same_id id) (id-last_of bytes life) ∙ other)
+life_other id state context step now bytes other =
+    entered_other id (armed step.due now (last_of bytes context)) (entered step.next state)
+    (ap (is_id id) (id-last_of bytes context) ∙ other)
 
-acted_other : (id : Id) (key : Key) (now : ℕ) (input : Option Input) (life : Life) (step : Step)
-    → same_id id life.id ≡ false → Other id (acted_if key now input (Some life) step)
-acted_other id key now input life step other = record {
-  life = life_other id life step now _ other;
-  said = said_other id key life step _ (arrived_in input)
-      (handed_other id key life step.handed (arrived_in input) other);
+acted_other : (id : Id) (key : Key) (now : ℕ) (input : Option Input) (state : Option State)
+    (context : Context) (step : Step) → is_id id context.id ≡ false
+    → Other id (acted_if key now input state (Some context) step)
+acted_other id key now input state context step other = record {
+  life = life_other id state context step now _ other;
+  said = said_other id key context step _ (arrived_in input)
+      (handed_other id key context step.handed (arrived_in input) other);
 }
 
 -- a response without a life: nothing is handed up, and nothing begins
-not_handed : (id : Id) (key : Key) (life : Life) (handed : Handed)
+not_handed : (id : Id) (key : Key) (context : Context) (handed : Handed)
     (arrived : Option (Message × Addr)) → not (is_message handed || is_report handed) ≡ true
-    → list_any (carries id) (option_to_list (handed_out key life handed arrived)) ≡ false
+    → list_any (carries id) (option_to_list (handed_out key context handed arrived)) ≡ false
 unfolding handed_out
-not_handed id key life up.Nothing arrived quiet = refl
-not_handed id key life up.Message arrived quiet = absurd (false≢true quiet)
-not_handed id key life up.Timeout arrived quiet = absurd (false≢true quiet)
-not_handed id key life up.Failed arrived quiet = absurd (false≢true quiet)
-not_handed id key life up.NoTransaction arrived quiet = refl
+not_handed id key context up.Nothing arrived quiet = refl
+not_handed id key context up.Message arrived quiet = absurd (false≢true quiet)
+not_handed id key context up.Timeout arrived quiet = absurd (false≢true quiet)
+not_handed id key context up.Failed arrived quiet = absurd (false≢true quiet)
+not_handed id key context up.NoTransaction arrived quiet = refl
 
-response_other : (id : Id) (key : Key) (now : ℕ) (input : Option Input) (life : Life) (step : Step)
+response_other : (id : Id) (key : Key) (now : ℕ) (input : Option Input) (context : Context)
+    (step : Step)
     → (is_ended step.next && not (is_message step.handed || is_report step.handed)) ≡ true
-    → Other id (acted_if key now input (Some life) step)
-response_other id key now input life step quiet = record {
+    → Other id (acted_if key now input None (Some context) step)
+response_other id key now input context step quiet = record {
   life = subst (OtherLife id) (sym
-      (life_after-ended life step now _ (and-left (is_ended step.next) _ quiet))) tt;
-  said = said_other id key life step _ (arrived_in input)
-      (not_handed id key life step.handed (arrived_in input)
+      (life_after-ended None context step now _ (and-left (is_ended step.next) _ quiet))) tt;
+  said = said_other id key context step _ (arrived_in input)
+      (not_handed id key context step.handed (arrived_in input)
       (and-right (is_ended step.next) _ quiet));
 }
 
 -- a message that came without a life
 receive_other : (id : Id) (key : Key) (now : ℕ) (i : Id) (message : Message) (reply_to : Addr)
-    (line : StartLine) (step : Step) (life : Life) → life.id ≡ i → message.start ≡ line
+    (line : StartLine) (step : Step) (context : Context) → context.id ≡ i → message.start ≡ line
     → OtherName id (arrival_id line i)
     → response_needs_life None (arrival_of line message.cseq.method) step ≡ true
-    → Other id (acted_if key now (Some (Receive i message reply_to)) (Some life) step)
-receive_other id key now i message reply_to (start.Request uri) step life named is other passed =
-    acted_other id key now (Some (Receive i message reply_to)) life step (ap (same_id id) named ∙ other)
+    → Other id (acted_if key now (Some (Receive i message reply_to)) None (Some context) step)
+receive_other id key now i message reply_to (start.Request uri) step context named is other passed =
+    acted_other id key now (Some (Receive i message reply_to)) None context step
+    (ap (is_id id) named ∙ other)
 receive_other id key now i message reply_to
-    (start.Response status reason) step life named is other passed =
-    response_other id key now (Some (Receive i message reply_to)) life step passed
+    (start.Response status reason) step context named is other passed =
+    response_other id key now (Some (Receive i message reply_to)) context step passed
 
 begun_other : (id : Id) (key : Key) (now : ℕ) (input : Option Input) (step : Step) (trigger : Trigger)
     → trigger_of None now input ≡ Some trigger → response_needs_life None trigger step ≡ true
     → OtherName id (naming_id input)
-    → Other id (acted_if key now input (begun (role_of key) input) step)
+    → Other id (acted_if key now input None (begun (role_of key) input) step)
 unfolding begun
 begun_other id key now None step trigger triggered passed other = record { life = tt; said = refl }
 begun_other id key now (Some (Answer i message)) step trigger triggered passed other =
@@ -147,7 +151,7 @@ begun_other id key now (Some (Answer i message)) step trigger triggered passed o
 begun_other id key now (Some (Failed i)) step trigger triggered passed other =
     record { life = tt; said = refl }
 begun_other id key now (Some (Start i call_id message to)) step trigger triggered passed other =
-    acted_other id key now (Some (Start i call_id message to)) _ step other
+    acted_other id key now (Some (Start i call_id message to)) None _ step other
 begun_other id key now (Some (Receive i message reply_to)) step trigger triggered passed other =
     let same : trigger ≡ arrival_of message.start message.cseq.method = cc in
     receive_other id key now i message reply_to message.start step _ refl refl other
@@ -158,7 +162,8 @@ input_other : (id : Id) (key : Key) (held : Option Life) (timed : Timed Input) �
     → OtherName id (naming_id timed.input) → Other id (stepped key held timed)
 input_other id key (Some life) timed other named =
     by_step (Other id) key (Some life) timed (record { life = other; said = refl })
-    (λ step row. acted_other id key timed.moment timed.input life step other)
+    (λ step row. acted_other id key timed.moment timed.input (Some life.state) life.context step
+    other)
 input_other id key None timed other named =
     by_step (Other id) key None timed (record { life = tt; said = refl })
     (λ step row. begun_other id key timed.moment timed.input step row.trigger row.triggered
@@ -178,14 +183,11 @@ later_other id key held (timed ∷ inputs) other named =
     ∙ or_none _ _ one.said (later_other id key (stepped key held timed).0 inputs one.life named.1)
 
 -- ---- distinct names
-abbrev names : List (Timed Input) → List Id
-names inputs = filter_map (λ timed. naming_id timed.input) inputs
-
-distinct_later : (xs : List Id) (id : Id) (ys : List Id) → IsDistinct same_id (xs ++ id ∷ ys)
-    → AllByRecursion (λ y. same_id id y ≡ false) ys
-distinct_later [] id ys distinct = IsDistinct-head same_id id ys distinct
+distinct_later : (xs : List Id) (id : Id) (ys : List Id) → IsDistinct is_id (xs ++ id ∷ ys)
+    → AllByRecursion (λ y. is_id id y ≡ false) ys
+distinct_later [] id ys distinct = IsDistinct-head is_id id ys distinct
 distinct_later (x ∷ xs) id ys distinct =
-    distinct_later xs id ys (IsDistinct-tail same_id x (xs ++ id ∷ ys) distinct)
+    distinct_later xs id ys (IsDistinct-tail is_id x (xs ++ id ∷ ys) distinct)
 
 all_right : {X : Type 0} (P : X → Type 0) (xs ys : List X) → AllByRecursion P (xs ++ ys)
     → AllByRecursion P ys
@@ -194,33 +196,33 @@ all_right P (x ∷ xs) ys all = all_right P xs ys all.1
 
 -- a name that comes first, if there is one
 named_first : (id : Id) (name : Option Id) (later : List Id)
-    → AllByRecursion (λ n. same_id id n ≡ false) (cons_option name later)
-    → OtherName id name × AllByRecursion (λ n. same_id id n ≡ false) later
+    → AllByRecursion (λ n. is_id id n ≡ false) (cons_option name later)
+    → OtherName id name × AllByRecursion (λ n. is_id id n ≡ false) later
 named_first id None later all = (tt, all)
 named_first id (Some name) later all = (all.0, all.1)
 
 named_apart : (id : Id) (inputs : List (Timed Input))
-    → AllByRecursion (λ name. same_id id name ≡ false) (names inputs)
+    → AllByRecursion (λ name. is_id id name ≡ false) (names_in inputs)
     → AllByRecursion (λ timed. OtherName id (naming_id timed.input)) inputs
 named_apart id [] all = tt
 named_apart id (timed ∷ inputs) all =
-    let parts = named_first id (naming_id timed.input) (names inputs) all in
+    let parts = named_first id (naming_id timed.input) (names_in inputs) all in
     (parts.0, named_apart id inputs parts.1)
 
 -- the first input of a life names it
 receive_names : (key : Key) (now : ℕ) (i : Id) (message : Message) (reply_to : Addr)
-    (line : StartLine) (step : Step) (life : Life)
+    (line : StartLine) (step : Step) (context : Context)
     → response_needs_life None (arrival_of line message.cseq.method) step ≡ true
-    → IsSome (acted_if key now (Some (Receive i message reply_to)) (Some life) step).0
+    → IsSome (acted_if key now (Some (Receive i message reply_to)) None (Some context) step).0
     → arrival_id line i ≡ Some i
-receive_names key now i message reply_to (start.Request uri) step life passed goes_on = refl
-receive_names key now i message reply_to (start.Response status reason) step life passed goes_on =
+receive_names key now i message reply_to (start.Request uri) step context passed goes_on = refl
+receive_names key now i message reply_to (start.Response status reason) step context passed goes_on =
     absurd (false≢true (sym (ap is_some
-    (life_after-ended life step now _ (and-left (is_ended step.next) _ passed))) ∙ goes_on))
+    (life_after-ended None context step now _ (and-left (is_ended step.next) _ passed))) ∙ goes_on))
 
 begun_names : (key : Key) (now : ℕ) (input : Option Input) (step : Step) (trigger : Trigger)
     → trigger_of None now input ≡ Some trigger → response_needs_life None trigger step ≡ true
-    → IsSome (acted_if key now input (begun (role_of key) input) step).0
+    → IsSome (acted_if key now input None (begun (role_of key) input) step).0
     → naming_id input ≡ id_of input
 unfolding begun
 begun_names key now None step trigger triggered passed goes_on = refl
@@ -243,23 +245,20 @@ first_names key first =
     (responses_in_tables (role_of key)) None row.trigger step row.row))
 
 pub nothing_after_the_end : NothingAfterTheEnd
-nothing_after_the_end key before first rest after id life ended named distinct =
-    let goes_on : IsSome (stepped key None first).0 =
-    subst (λ s. IsSome (stepped key s first).0) life.none_before
-    (subst IsSome (state_after-push transaction_machine key before first) life.begins) in
-    let name : naming_id first.input ≡ Some id = first_names key first goes_on ∙ named in
-    let parts : names (before ++ first ∷ rest ++ after)
-    ≡ (names before ++ cons_option (naming_id first.input) (names rest)) ++ names after =
-    filter_map-append (λ timed. naming_id timed.input) (before ++ first ∷ rest) after
-    ∙ ap (λ l. l ++ names after) (filter_map-append (λ timed. naming_id timed.input) before
-    (first ∷ rest)) in
-    let with_name : names (before ++ first ∷ rest ++ after) ≡ names before
-    ++ id ∷ (names rest ++ names after) =
-    parts ∙ ap (λ n. (names before ++ cons_option n (names rest)) ++ names after) name
-    ∙ append_assoc (names before) (id ∷ names rest) (names after) in
-    let later : AllByRecursion (λ y. same_id id y ≡ false) (names rest ++ names after) =
-    distinct_later (names before) id (names rest ++ names after)
-    (subst (IsDistinct same_id) with_name distinct) in
-    later_other id key None after tt
-    (named_apart id after (all_right (λ y. same_id id y ≡ false) (names rest)
-    (names after) later))
+nothing_after_the_end key inputs life id ended named distinct =
+    let name : naming_id life.first.input ≡ Some id =
+    first_names key life.first life.begins ∙ named in
+    let with_name : names_in inputs
+    ≡ names_in life.before ++ (id ∷ names_in (life.rest ++ life.after)) =
+    ap names_in life.are
+    ∙ filter_map-append (λ timed. naming_id timed.input) life.before
+    (life.first ∷ (life.rest ++ life.after))
+    ∙ ap (λ n. names_in life.before ++ cons_option n (names_in (life.rest ++ life.after))) name in
+    let later : AllByRecursion (λ y. is_id id y ≡ false) (names_in (life.rest ++ life.after)) =
+    distinct_later (names_in life.before) id (names_in (life.rest ++ life.after))
+    (subst (IsDistinct is_id) with_name distinct) in
+    later_other id key (state_left life) life.after (subst (OtherLife id) (sym ended) tt)
+    (named_apart id life.after
+    (all_right (λ y. is_id id y ≡ false) (names_in life.rest) (names_in life.after)
+    (subst (AllByRecursion (λ y. is_id id y ≡ false))
+    (filter_map-append (λ timed. naming_id timed.input) life.rest life.after) later)))

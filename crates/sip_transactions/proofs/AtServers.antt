@@ -83,13 +83,13 @@ again_row Server server Completed answering = refl
 again_row Server server Accepted answering = absurd (false≢true answering)
 again_row Server server Confirmed answering = absurd (false≢true answering)
 
-acted_again : (key : Key) (life : Life) (bytes : List ℕ) → life.last ≡ Some bytes
+acted_again : (key : Key) (life : Life) (bytes : List ℕ) → life.context.last ≡ Some bytes
     → (id : Id) (message : Message) (reply_to : Addr) (now : ℕ)
-    → acted key now (Some (input.Receive id message reply_to)) life again
-    ≡ (Some life, Send key life.to bytes ∷ [])
+    → acted key now (Some (input.Receive id message reply_to)) (Some life.state) life.context again
+    ≡ (Some life, Send key life.context.to bytes ∷ [])
 unfolding again life_after outputs_of made_of handed_out
 acted_again key life bytes last id message reply_to now =
-    ap (λ o. (Some life, option_to_list (option_map (λ b. Send key life.to b) o))) last
+    ap (λ o. (Some life, option_to_list (option_map (λ b. Send key life.context.to b) o))) last
 
 pub answered_again : AnsweredAgain
 answered_again key server life bytes answering last id message reply_to now request =
@@ -122,7 +122,7 @@ failed_row Server server Accepted = inr refl
 failed_row Server server Confirmed = inr refl
 
 acted_failed : (key : Key) (life : Life) (id : Id) (now : ℕ)
-    → (acted key now (Some (input.Failed id)) life keeps).0 ≡ Some life
+    → (acted key now (Some (input.Failed id)) (Some life.state) life.context keeps).0 ≡ Some life
 unfolding keeps life_after
 acted_failed key life id now = refl
 
@@ -172,14 +172,17 @@ answer_row Proceeding unanswered (on.Answer class.Failure) final = refl
 
 -- the life after it
 answered : ℕ → Message → Life → Life
-answered now response life = record life {
+answered now response life = record {
   state = Completed;
-  last = Some (written response);
-  timers = record { repeat = None; fired = 0; ending = Some (now + LIFETIME) };
+  context = record life.context {
+    last = Some (written response);
+    timers = record { repeat = None; fired = 0; ending = Some (now + LIFETIME) };
+  };
 }
 
 acted_answer : (key : Key) (life : Life) (id : Id) (response : Message) (now : ℕ)
-    → (acted key now (Some (input.Answer id response)) life answers).0 ≡ Some (answered now response life)
+    → (acted key now (Some (input.Answer id response)) (Some life.state) life.context answers).0
+    ≡ Some (answered now response life)
 unfolding answers answered life_after made_of
 acted_answer key life id response now = refl
 
@@ -203,7 +206,7 @@ unfolding ends
 ends_row = refl
 
 acted_end : (key : Key) (life : Life) (moment : ℕ)
-    → (acted key moment None life ends).0 ≡ None
+    → (acted key moment None (Some life.state) life.context ends).0 ≡ None
 unfolding ends life_after
 acted_end key life moment = refl
 

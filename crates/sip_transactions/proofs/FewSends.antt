@@ -20,9 +20,9 @@ use Rattle.sip_message.specs.HopByHop.{ack_of}
 use Rattle.sip_message.specs.Message.{is_request_message, is_request_line}
 use Rattle.sip_message.specs.Written.{written, head_text, start_text, identity_text, routes_text, extensions_text, content_text, via_line, number_line}
 use Rattle.sip_model.specs.Machine.{outputs_from, IsWithinLife, Timed, given_at}
-use Rattle.sip_model.proofs.History.{state_after-push}
 use Rattle.sip_transactions.specs.declared.input.Input.{Input}
 use Rattle.sip_transactions.specs.declared.input.Input.TheVariants.{Receive, Start, Answer, Failed}
+use Rattle.sip_transactions.specs.declared.life.Context.{Context}
 use Rattle.sip_transactions.specs.declared.life.Life.{Life}
 use Rattle.sip_transactions.specs.declared.output.Out.{Out}
 use Rattle.sip_transactions.specs.declared.state.Role.{Role}
@@ -45,7 +45,7 @@ use Rattle.sip_transactions.specs.declared.trigger.Trigger.TheVariants as on
 use Rattle.sip_transactions.specs.Dues.{Dues}
 use Rattle.sip_transactions.specs.Input.{role_of, trigger_of, is_method, arrival_of, answer_of, class_of, message_in, arrived_in}
 use Rattle.sip_transactions.specs.Laws.{FewSends, is_send_of, sends_of, most_repeats}
-use Rattle.sip_transactions.specs.Life.{stepped, acted_if, begun, life_after, entered, last_of, armed, keeps_request, life_by}
+use Rattle.sip_transactions.specs.Life.{stepped, acted_if, begun, life_after, life_in, entered, last_of, armed, keeps_request, context_by}
 use Rattle.sip_transactions.specs.Machine.{transaction_machine}
 use Rattle.sip_transactions.specs.Output.{outputs_of, handed_out, made_of, made_bytes, sent_bytes, send_out}
 use Rattle.sip_transactions.specs.Rows.{row_of, rows_of}
@@ -256,9 +256,10 @@ is_acked InviteClient Completed = true
 is_acked role state = false
 
 record Fit (role : Role) (text : List ℕ) (life : Life) : Type 0 where
-  paced : Paced role life.timers.repeat life.timers.fired life.timers.ending
-  apart : is_acked role life.state ≡ true → Apart text life.last
-  keeps : keeps_request role ≡ true → IsSome life.request
+  paced : Paced role life.context.timers.repeat life.context.timers.fired
+      life.context.timers.ending
+  apart : is_acked role life.state ≡ true → Apart text life.context.last
+  keeps : keeps_request role ≡ true → IsSome life.context.request
 
 FitAfter : Role → List ℕ → Option Life → Type 0
 FitAfter role text None = Unit {0}
@@ -266,7 +267,7 @@ FitAfter role text (Some life) = Fit role text life
 
 abbrev budget : Role → Option Life → ℕ
 budget role None = 0
-budget role (Some life) = left role life.timers.repeat life.timers.fired
+budget role (Some life) = left role life.context.timers.repeat life.context.timers.fired
 
 record Few (role : Role) (text : List ℕ) (room : ℕ) (after : Option Life × List Out) : Type 0 where
   few : sends_of text after.1 + budget role after.0 ≤ room
@@ -330,31 +331,31 @@ client_tables InviteServer client = absurd (false≢true client)
 client_tables Server client = absurd (false≢true client)
 
 -- only what is sent counts
-none_sent : (text : List ℕ) (key : Key) (life : Life) (handed : Handed)
+none_sent : (text : List ℕ) (key : Key) (context : Context) (handed : Handed)
     (arrived : Option (Message × Addr))
-    → sends_of text (option_to_list (handed_out key life handed arrived)) ≡ 0
+    → sends_of text (option_to_list (handed_out key context handed arrived)) ≡ 0
 unfolding handed_out
-none_sent text key life up.Nothing arrived = refl
-none_sent text key life up.Message None = refl
-none_sent text key life up.Message (Some came) = refl
-none_sent text key life up.Timeout arrived = refl
-none_sent text key life up.Failed arrived = refl
-none_sent text key life up.NoTransaction arrived = refl
+none_sent text key context up.Nothing arrived = refl
+none_sent text key context up.Message None = refl
+none_sent text key context up.Message (Some came) = refl
+none_sent text key context up.Timeout arrived = refl
+none_sent text key context up.Failed arrived = refl
+none_sent text key context up.NoTransaction arrived = refl
 
-abbrev sends : Key → Life → Sent → Option (List ℕ) → List Out
-sends key life sent made =
-    option_to_list (option_map (send_out key life.to) (sent_bytes life.last sent made))
+abbrev sends : Key → Context → Sent → Option (List ℕ) → List Out
+sends key context sent made =
+    option_to_list (option_map (send_out key context.to) (sent_bytes context.last sent made))
 
-sends-outputs : (text : List ℕ) (key : Key) (life : Life) (step : Step) (made : Option (List ℕ))
+sends-outputs : (text : List ℕ) (key : Key) (context : Context) (step : Step) (made : Option (List ℕ))
     (arrived : Option (Message × Addr))
-    → sends_of text (outputs_of key life step made arrived)
-    ≡ sends_of text (sends key life step.sent made)
+    → sends_of text (outputs_of key context step made arrived)
+    ≡ sends_of text (sends key context step.sent made)
 unfolding outputs_of
-sends-outputs text key life step made arrived =
+sends-outputs text key context step made arrived =
     sum_by-append (λ o. cond (is_send_of text o) 1 0)
-    (option_to_list (handed_out key life step.handed arrived)) (sends key life step.sent made)
-    ∙ ap (λ n. n + sends_of text (sends key life step.sent made))
-    (none_sent text key life step.handed arrived) ∙ zero-add _
+    (option_to_list (handed_out key context step.handed arrived)) (sends key context step.sent made)
+    ∙ ap (λ n. n + sends_of text (sends key context step.sent made))
+    (none_sent text key context step.handed arrived) ∙ zero-add _
 
 one_or_none : (b : Bool) → 0 + cond {A = ℕ} b 1 0 ≤ 1
 one_or_none true = omega arith
@@ -382,16 +383,17 @@ latest-made request None = refl
 latest-made request (Some m) = refl
 
 -- the state after a row
-none_entered : (role : Role) (text : List ℕ) (next : Next) (life : Life) (room : ℕ)
-    (outs : List Out) → enters_no_ack role next ≡ true → Fit role text life
-    → left role life.timers.repeat life.timers.fired ≤ room → sends_of text outs ≡ 0
-    → Few role text room (entered next life, outs)
+none_entered : (role : Role) (text : List ℕ) (next : Next) (state : State) (context : Context)
+    (room : ℕ) (outs : List Out) → enters_no_ack role next ≡ true
+    → Fit role text (life_in context state)
+    → left role context.timers.repeat context.timers.fired ≤ room → sends_of text outs ≡ 0
+    → Few role text room (option_map (life_in context) (entered next (Some state)), outs)
 unfolding FitAfter
-none_entered role text Same life room outs ok fit fewer silent =
+none_entered role text Same state context room outs ok fit fewer silent =
     record { few = omega arith; fit = fit }
-none_entered role text Ended life room outs ok fit fewer silent =
+none_entered role text Ended state context room outs ok fit fewer silent =
     record { few = omega arith; fit = tt }
-none_entered role text (Become state) life room outs ok fit fewer silent = record {
+none_entered role text (Become new) state context room outs ok fit fewer silent = record {
   few = omega arith;
   fit = record {
     paced = fit.paced;
@@ -400,16 +402,16 @@ none_entered role text (Become state) life room outs ok fit fewer silent = recor
   };
 }
 
-acked_entered : (role : Role) (text : List ℕ) (next : Next) (life : Life) (room : ℕ)
-    (outs : List Out) → Apart text life.last → Fit role text life
-    → left role life.timers.repeat life.timers.fired ≤ room → sends_of text outs ≡ 0
-    → Few role text room (entered next life, outs)
+acked_entered : (role : Role) (text : List ℕ) (next : Next) (state : State) (context : Context)
+    (room : ℕ) (outs : List Out) → Apart text context.last → Fit role text (life_in context state)
+    → left role context.timers.repeat context.timers.fired ≤ room → sends_of text outs ≡ 0
+    → Few role text room (option_map (life_in context) (entered next (Some state)), outs)
 unfolding FitAfter
-acked_entered role text Same life room outs apart fit fewer silent =
+acked_entered role text Same state context room outs apart fit fewer silent =
     record { few = omega arith; fit = fit }
-acked_entered role text Ended life room outs apart fit fewer silent =
+acked_entered role text Ended state context room outs apart fit fewer silent =
     record { few = omega arith; fit = tt }
-acked_entered role text (Become state) life room outs apart fit fewer silent = record {
+acked_entered role text (Become new) state context room outs apart fit fewer silent = record {
   few = omega arith;
   fit = record { paced = fit.paced; apart = λ acked. apart; keeps = fit.keeps };
 }
@@ -448,9 +450,11 @@ answer_no_repeat (start.Response status reason) trigger is repeat =
 
 repeat_due : (life : Life) (now : ℕ) (input : Option Input) (trigger : Trigger)
     → trigger_of (Some life) now input ≡ Some trigger → is_repeat trigger ≡ true
-    → (is_due now life.timers.repeat ≡ true) × (is_due now life.timers.ending ≡ false)
+    → (is_due now life.context.timers.repeat ≡ true)
+    × (is_due now life.context.timers.ending ≡ false)
 repeat_due life now None trigger is repeat =
-    tick_repeat (is_due now life.timers.ending) (is_due now life.timers.repeat) trigger is repeat
+    tick_repeat (is_due now life.context.timers.ending) (is_due now life.context.timers.repeat)
+    trigger is repeat
 repeat_due life now (Some (Receive id message reply_to)) trigger is repeat =
     let same : arrival_of message.start message.cseq.method ≡ trigger = cc in
     absurd (false≢true (sym (arrival_no_repeat message.start message.cseq.method)
@@ -466,8 +470,8 @@ response_message : (life : Life) (now : ℕ) (input : Option Input) (trigger : T
     → trigger_of (Some life) now input ≡ Some trigger → comes_as_response trigger ≡ true
     → IsSome (message_in input)
 response_message life now None trigger is response =
-    absurd (tick_response (is_due now life.timers.ending)
-    (is_due now life.timers.repeat) trigger is response)
+    absurd (tick_response (is_due now life.context.timers.ending)
+    (is_due now life.context.timers.repeat) trigger is response)
 response_message life now (Some (Receive id message reply_to)) trigger is response = refl
 response_message life now (Some (Start id call_id message to)) trigger is response = refl
 response_message life now (Some (Answer id message)) trigger is response = refl
@@ -495,19 +499,20 @@ ack_made text invite (Some request) (Some message) one other =
 module _ (role : Role) (client : is_client role ≡ true) (key : Key) (text : List ℕ)
     (invite : keeps_request role ≡ true → first_of text ≡ Some 73) where
   abbrev room : Life → ℕ
-  room life = left role life.timers.repeat life.timers.fired
+  room life = left role life.context.timers.repeat life.context.timers.fired
 
   armed_fit : (due : Due) (now : ℕ) (life : Life) → Fit role text life
-      → Left role life.timers (rearmed due now life.timers) → Fit role text (armed due now life)
+      → Left role life.context.timers (rearmed due now life.context.timers)
+      → Fit role text (life_in (armed due now life.context) life.state)
   armed_fit due now life fit l = record { paced = l.paced; apart = fit.apart; keeps = fit.keeps }
 
   -- the request is sent again
   repeated : (life : Life) (now : ℕ) (handed : Handed) (pace : Pace)
       (arrived : Option (Message × Addr)) → Fit role text life
-      → Fired role life.timers (Again pace) now
+      → Fired role life.context.timers (Again pace) now
       → Few role text (room life) (
-        Some (armed (Again pace) now life),
-        outputs_of key life (record {
+        Some (life_in (armed (Again pace) now life.context) life.state),
+        outputs_of key life.context (record {
           next = Same;
           handed = handed;
           sent = send.Latest;
@@ -516,10 +521,10 @@ module _ (role : Role) (client : is_client role ≡ true) (key : Key) (text : Li
       )
   unfolding FitAfter
   repeated life now handed pace arrived fit f =
-      let said = sends-outputs text key life
+      let said = sends-outputs text key life.context
       (record { next = Same; handed = handed; sent = send.Latest; due = Again pace }) None
       arrived in
-      let one = one_send text key life.to life.last in
+      let one = one_send text key life.context.to life.context.last in
       let fewer = f.fewer in
       record {
         few = omega (arith, said, one, fewer);
@@ -530,51 +535,54 @@ module _ (role : Role) (client : is_client role ≡ true) (key : Key) (text : Li
       → trigger_of (Some life) now input ≡ Some trigger → Fit role text life
       → (next : Next) (handed : Handed) (sent : Sent) (due : Due)
       → sends_well role life.state trigger next sent due ≡ true
-      → Few role text (room life) (acted_if key now input (Some life)
+      → Few role text (room life) (acted_if key now input (Some life.state) (Some life.context)
       (record { next = next; handed = handed; sent = sent; due = due }))
   unfolding life_after Apart
   row_few life now input trigger is fit next handed send.Given due ok = absurd (false≢true ok)
   row_few life now input trigger is fit next handed send.Trying due ok = absurd (false≢true ok)
   row_few life now input trigger is fit next handed send.Nothing due ok =
       let step : Step = record { next = next; handed = handed; sent = send.Nothing; due = due } in
-      let l = plain_left role due now life.timers (and-left (is_plain due) _ ok) fit.paced in
+      let l = plain_left role due now life.context.timers (and-left (is_plain due) _ ok) fit.paced in
       subst (λ made. Few role text (room life) (
-        entered next (armed due now (last_of made life)),
-        outputs_of key life step made (arrived_in input),
+        option_map (life_in (armed due now (last_of made life.context)))
+            (entered next (Some life.state)),
+        outputs_of key life.context step made (arrived_in input),
       ))
-      (sym (none-made life.request (message_in input)))
-      (none_entered role text next (armed due now life) (room life)
-      (outputs_of key life step None (arrived_in input)) (and-right (is_plain due) _ ok)
+      (sym (none-made life.context.request (message_in input)))
+      (none_entered role text next life.state (armed due now life.context) (room life)
+      (outputs_of key life.context step None (arrived_in input)) (and-right (is_plain due) _ ok)
       (armed_fit due now life fit l) l.fewer
-      (sends-outputs text key life step None (arrived_in input)))
+      (sends-outputs text key life.context step None (arrived_in input)))
   row_few life now input trigger is fit next handed send.Ack due ok =
       let step : Step = record { next = next; handed = handed; sent = send.Ack; due = due } in
       let keeping = and-left (keeps_request role) _ ok in
       let rest = and-right (keeps_request role) _ ok in
-      let l = plain_left role due now life.timers (and-left (is_plain due) _ rest) fit.paced in
-      let m = ack_made text (invite keeping) life.request (message_in input) (fit.keeps keeping)
+      let l = plain_left role due now life.context.timers (and-left (is_plain due) _ rest) fit.paced in
+      let m = ack_made text (invite keeping) life.context.request (message_in input) (fit.keeps keeping)
       (response_message life now input trigger is (and-right (is_plain due) _ rest)) in
-      let acked : Life = record life { last = Some m.bytes } in
+      let acked : Context = record life.context { last = Some m.bytes } in
       subst (λ made. Few role text (room life) (
-        entered next (armed due now (last_of made life)),
-        outputs_of key life step made (arrived_in input),
+        option_map (life_in (armed due now (last_of made life.context)))
+            (entered next (Some life.state)),
+        outputs_of key life.context step made (arrived_in input),
       )) (sym m.is)
-      (acked_entered role text next (armed due now acked) (room life)
-      (outputs_of key life step (Some m.bytes) (arrived_in input)) m.apart
+      (acked_entered role text next life.state (armed due now acked) (room life)
+      (outputs_of key life.context step (Some m.bytes) (arrived_in input)) m.apart
       (record { paced = l.paced; apart = λ at_ack. m.apart; keeps = fit.keeps }) l.fewer
-      (sends-outputs text key life step (Some m.bytes) (arrived_in input)
-      ∙ no_send text key life.to (Some m.bytes) m.apart))
+      (sends-outputs text key life.context step (Some m.bytes) (arrived_in input)
+      ∙ no_send text key life.context.to (Some m.bytes) m.apart))
   row_few life now input trigger is fit Same handed send.Latest Keep ok =
       let step : Step = record { next = Same; handed = handed; sent = send.Latest; due = Keep } in
       subst (λ made. Few role text (room life) (
-        entered Same (armed Keep now (last_of made life)),
-        outputs_of key life step made (arrived_in input),
+        option_map (life_in (armed Keep now (last_of made life.context)))
+            (entered Same (Some life.state)),
+        outputs_of key life.context step made (arrived_in input),
       ))
-      (sym (latest-made life.request (message_in input)))
-      (none_entered role text Same (armed Keep now life) (room life)
-      (outputs_of key life step None (arrived_in input)) refl fit (omega arith)
-      (sends-outputs text key life step None (arrived_in input)
-      ∙ no_send text key life.to life.last
+      (sym (latest-made life.context.request (message_in input)))
+      (none_entered role text Same life.state (armed Keep now life.context) (room life)
+      (outputs_of key life.context step None (arrived_in input)) refl fit (omega arith)
+      (sends-outputs text key life.context step None (arrived_in input)
+      ∙ no_send text key life.context.to life.context.last
       (fit.apart (and-left (is_acked role life.state) _ ok))))
   row_few life now input trigger is fit Ended handed send.Latest Keep ok =
       absurd (false≢true (and-right (is_acked role life.state) _ ok))
@@ -596,15 +604,17 @@ module _ (role : Role) (client : is_client role ≡ true) (key : Key) (text : Li
       let step : Step =
       record { next = Same; handed = handed; sent = send.Latest; due = Again pace } in
       let due_now = repeat_due life now input trigger is (and-left (is_repeat trigger) _ ok) in
-      let f = fired_at role client pace now life.timers.fired life.timers.repeat life.timers.ending
-      (least_interval role pace (life.timers.fired + 1)
+      let f = fired_at role client pace now life.context.timers.fired life.context.timers.repeat
+      life.context.timers.ending
+      (least_interval role pace (life.context.timers.fired + 1)
       (and-left (paces role (Again pace)) _ (and-right (is_repeat trigger) _ ok))) due_now.0
       due_now.1 fit.paced in
       subst (λ made. Few role text (room life) (
-        entered Same (armed (Again pace) now (last_of made life)),
-        outputs_of key life step made (arrived_in input),
+        option_map (life_in (armed (Again pace) now (last_of made life.context)))
+            (entered Same (Some life.state)),
+        outputs_of key life.context step made (arrived_in input),
       ))
-      (sym (latest-made life.request (message_in input)))
+      (sym (latest-made life.context.request (message_in input)))
       (repeated life now handed pace (arrived_in input) fit f)
 
   input_few : (life : Life) (timed : Timed Input) → role_of key ≡ role → Fit role text life
@@ -637,7 +647,7 @@ module _ (role : Role) (client : is_client role ≡ true) (key : Key) (text : Li
   start_few : (now : ℕ) (id : Id) (call_id : List ℕ) (request : Message) (to : Addr) (next : Next)
       (handed : Handed) (sent : Sent) (due : Due) → starts_well role on.Start next sent due ≡ true
       → Few role text (1 + most_repeats role)
-      (acted_if key now (Some (Start id call_id request to))
+      (acted_if key now (Some (Start id call_id request to)) None
       (begun role (Some (Start id call_id request to)))
       (record { next = next; handed = handed; sent = sent; due = due }))
   unfolding begun life_after made_of FitAfter Paced
@@ -659,8 +669,8 @@ module _ (role : Role) (client : is_client role ≡ true) (key : Key) (text : Li
   start_few now id call_id request to (Become state) handed send.Given (Again pace) ok =
       absurd (false≢true ok)
   start_few now id call_id request to (Become state) handed send.Given Both ok =
-      let life : Life = life_by id call_id to (cond (keeps_request role) (Some request) None) in
-      let said = sends-outputs text key life
+      let context : Context = context_by id call_id to (cond (keeps_request role) (Some request) None) in
+      let said = sends-outputs text key context
       (record { next = Become state; handed = handed; sent = send.Given; due = Both })
       (Some (written request)) None in
       let one = one_send text key to (Some (written request)) in
@@ -700,9 +710,17 @@ invite_method branch method keeping =
     (λ miss. absurd (false≢true (sym (ap (λ b. keeps_request (cond b InviteClient Client)) miss)
     ∙ keeping)))
 
-pub few_sends : FewSends
+-- of a life that begins so
+few_from : (branch method : List ℕ) (now : ℕ) (id : Id) (call_id : List ℕ) (request : Message)
+    (to : Addr) (rest : List (Timed Input)) → is_request_message request ≡ true
+    → request.cseq.method ≡ method
+    → IsWithinLife transaction_machine (key.Client branch method)
+    (stepped (key.Client branch method) None (given_at now (Start id call_id request to))).0 rest
+    → sends_of (written request) (outputs_from transaction_machine (key.Client branch method) None
+    (given_at now (Start id call_id request to) ∷ rest))
+    ≤ 1 + most_repeats (role_of (key.Client branch method))
 unfolding FitAfter
-few_sends branch method before now id call_id request to rest life line same =
+few_from branch method now id call_id request to rest line same within =
     let k = key.Client branch method in
     let role = role_of k in
     let client = role_client branch method in
@@ -715,13 +733,17 @@ few_sends branch method before now id call_id request to rest life line same =
     (record { few = omega arith; fit = tt })
     (λ step row. start_few role client k text invite now id call_id request to step.next step.handed
     step.sent step.due (start_row role client row.trigger step row.triggered row.row)) in
-    let within : IsWithinLife transaction_machine k (stepped k None first).0 rest =
-    subst (λ s. IsWithinLife transaction_machine k (stepped k s first).0 rest) life.none_before
-    (subst (λ s. IsWithinLife transaction_machine k s rest)
-    (state_after-push transaction_machine k before first) life.within) in
     let later = rest_few role client k text invite
     (stepped k None first).0 rest refl within one.fit in
     let both = sum_by-append (λ o. cond (is_send_of text o) 1 0) (stepped k None first).1
     (outputs_from transaction_machine k (stepped k None first).0 rest) in
     let few = one.few in
     omega (arith, later, both, few)
+
+pub few_sends : FewSends
+few_sends branch method inputs life now id call_id request to started line same =
+    let k = key.Client branch method in
+    subst (λ first. IsWithinLife transaction_machine k (stepped k None first).0 life.rest
+    → sends_of (written request) (outputs_from transaction_machine k None (first ∷ life.rest))
+    ≤ 1 + most_repeats (role_of k)) (sym started)
+    (few_from branch method now id call_id request to life.rest line same) life.within

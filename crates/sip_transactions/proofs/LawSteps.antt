@@ -16,6 +16,7 @@ use Rattle.sip_transactions.specs.declared.input.Command.{Command}
 use Rattle.sip_transactions.specs.declared.input.Command.TheVariants as command
 use Rattle.sip_transactions.specs.declared.input.Input.{Input}
 use Rattle.sip_model.specs.Machine.{Timed}
+use Rattle.sip_transactions.specs.declared.life.Context.{Context}
 use Rattle.sip_transactions.specs.declared.life.Life.{Life}
 use Rattle.sip_transactions.specs.declared.output.Out.{Out}
 use Rattle.sip_transactions.specs.declared.state.State.{State}
@@ -31,7 +32,7 @@ use Rattle.sip_transactions.specs.declared.trigger.Trigger.TheVariants as on
 use Rattle.sip_transactions.specs.Rows.{row_of, rows_of}
 use Rattle.sip_transactions.specs.Input.{role_of, trigger_of, is_method, answer_of, class_of, arrived_in, message_in}
 use Rattle.sip_transactions.specs.Output.{outputs_of, handed_out, sent_bytes, made_bytes, send_out}
-use Rattle.sip_transactions.specs.Life.{stepped, step_for, stepped_by, acted_if, life_of}
+use Rattle.sip_transactions.specs.Life.{stepped, step_for, stepped_by, acted_if, context_of, state_of}
 use Rattle.sip_transactions.specs.Laws.{IsSend, CommandsOnlySend, IsServer, is_request_up, requests_in}
 use Rattle.sip_transactions.specs.Shard.{order}
 use Rattle.sip_transactions.proofs.RowFacts.{by_test, table_passes, row_passes}
@@ -41,7 +42,7 @@ pub record RowFor (key : Key) (held : Option Life) (timed : Timed Input)
     (step : Step) : Type 0 where
   pub trigger : Trigger
   pub triggered : trigger_of held timed.moment timed.input ≡ Some trigger
-  pub row : row_of (rows_of (role_of key)) (option_map (λ life. life.state) held) trigger
+  pub row : row_of (rows_of (role_of key)) (state_of held) trigger
       ≡ Some step
 
 row_for : (key : Key) (held : Option Life) (timed : Timed Input) (step : Step)
@@ -49,7 +50,7 @@ row_for : (key : Key) (held : Option Life) (timed : Timed Input) (step : Step)
 unfolding step_for
 row_for key held timed step found =
     option_and_then_some {P = RowFor key held timed step}
-    (row_of (rows_of (role_of key)) (option_map (λ life. life.state) held))
+    (row_of (rows_of (role_of key)) (state_of held))
     (trigger_of held timed.moment timed.input) step found
     (λ trigger is row. record { trigger = trigger; triggered = is; row = row })
 
@@ -62,7 +63,8 @@ by_option G (Some x) none some = some x refl
 pub by_step : (G : Option Life × List Out → Type 0) (key : Key) (held : Option Life)
     (timed : Timed Input)
     → G (held, []) → ((step : Step) → RowFor key held timed step
-    → G (acted_if key timed.moment timed.input (life_of (role_of key) held timed.input) step))
+    → G (acted_if key timed.moment timed.input (state_of held)
+    (context_of (role_of key) held timed.input) step))
     → G (stepped key held timed)
 unfolding stepped
 by_step G key held timed nothing acts =
@@ -176,37 +178,37 @@ server_tables (key.Server branch sent_by method) server =
 
 -- ---- what a row says
 -- it is nothing, where what it hands up and what it sends are nothing that counts
-counts_none : (life : Life) (key : Key) (o : Option (List ℕ))
-    → requests_in (option_to_list (option_map (send_out key life.to) o)) ≡ 0
-counts_none life key None = refl
-counts_none life key (Some bytes) = refl
+counts_none : (context : Context) (key : Key) (o : Option (List ℕ))
+    → requests_in (option_to_list (option_map (send_out key context.to) o)) ≡ 0
+counts_none context key None = refl
+counts_none context key (Some bytes) = refl
 
-pub requests-outputs : (key : Key) (life : Life) (step : Step) (made : Option (List ℕ))
+pub requests-outputs : (key : Key) (context : Context) (step : Step) (made : Option (List ℕ))
     (arrived : Option (Message × Addr))
-    → requests_in (outputs_of key life step made arrived)
-    ≡ requests_in (option_to_list (handed_out key life step.handed arrived))
+    → requests_in (outputs_of key context step made arrived)
+    ≡ requests_in (option_to_list (handed_out key context step.handed arrived))
 unfolding outputs_of
-requests-outputs key life step made arrived =
+requests-outputs key context step made arrived =
     sum_by-append (λ o. cond (is_request_up o) 1 0)
-    (option_to_list (handed_out key life step.handed arrived))
-    (option_to_list (option_map (send_out key life.to) (sent_bytes life.last step.sent made)))
-    ∙ ap (λ n. requests_in (option_to_list (handed_out key life step.handed arrived)) + n)
-    (counts_none life key (sent_bytes life.last step.sent made)) ∙ add-zero _
+    (option_to_list (handed_out key context step.handed arrived))
+    (option_to_list (option_map (send_out key context.to) (sent_bytes context.last step.sent made)))
+    ∙ ap (λ n. requests_in (option_to_list (handed_out key context step.handed arrived)) + n)
+    (counts_none context key (sent_bytes context.last step.sent made)) ∙ add-zero _
 
 -- ---- a command only sends
-sends_only : (key : Key) (life : Life) (o : Option (List ℕ))
-    → AllByRecursion IsSend (option_to_list (option_map (send_out key life.to) o))
-sends_only key life None = tt
-sends_only key life (Some bytes) = (tt, tt)
+sends_only : (key : Key) (context : Context) (o : Option (List ℕ))
+    → AllByRecursion IsSend (option_to_list (option_map (send_out key context.to) o))
+sends_only key context None = tt
+sends_only key context (Some bytes) = (tt, tt)
 
-order_handed : (key : Key) (life : Life) (handed : Handed) → not (is_told handed) ≡ true
-    → handed_out key life handed None ≡ None
+order_handed : (key : Key) (context : Context) (handed : Handed) → not (is_told handed) ≡ true
+    → handed_out key context handed None ≡ None
 unfolding handed_out
-order_handed key life up.Nothing quiet = refl
-order_handed key life up.Message quiet = refl
-order_handed key life up.Timeout quiet = absurd (false≢true quiet)
-order_handed key life up.Failed quiet = absurd (false≢true quiet)
-order_handed key life up.NoTransaction quiet = absurd (false≢true quiet)
+order_handed key context up.Nothing quiet = refl
+order_handed key context up.Message quiet = refl
+order_handed key context up.Timeout quiet = absurd (false≢true quiet)
+order_handed key context up.Failed quiet = absurd (false≢true quiet)
+order_handed key context up.NoTransaction quiet = absurd (false≢true quiet)
 
 -- nothing came by a command
 arrived-order : (id : Id) (command : Command) (now : ℕ)
@@ -214,15 +216,15 @@ arrived-order : (id : Id) (command : Command) (now : ℕ)
 arrived-order id (command.Start k call_id message to) now = refl
 arrived-order id (command.Answer k message) now = refl
 
-order_outputs : (key : Key) (life : Life) (step : Step) (made : Option (List ℕ))
-    → not (is_told step.handed) ≡ true → AllByRecursion IsSend (outputs_of key life step made None)
+order_outputs : (key : Key) (context : Context) (step : Step) (made : Option (List ℕ))
+    → not (is_told step.handed) ≡ true → AllByRecursion IsSend (outputs_of key context step made None)
 unfolding outputs_of
-order_outputs key life step made quiet =
+order_outputs key context step made quiet =
     subst (λ o. AllByRecursion IsSend
     (option_to_list o ++ option_to_list
-    (option_map (send_out key life.to) (sent_bytes life.last step.sent made))))
-    (sym (order_handed key life step.handed quiet))
-    (sends_only key life (sent_bytes life.last step.sent made))
+    (option_map (send_out key context.to) (sent_bytes context.last step.sent made))))
+    (sym (order_handed key context step.handed quiet))
+    (sends_only key context (sent_bytes context.last step.sent made))
 
 answer_is_order : (line : StartLine) (trigger : Trigger) → answer_of line ≡ Some trigger
     → is_order trigger ≡ true
@@ -242,15 +244,15 @@ moment-order : (id : Id) (command : Command) (now : ℕ) → (order id command n
 moment-order id (command.Start k call_id message to) now = refl
 moment-order id (command.Answer k message) now = refl
 
-orders_send : (key : Key) (life : Option Life) (step : Step) (id : Id) (command : Command)
+orders_send : (key : Key) (state : Option State) (context : Option Context) (step : Step) (id : Id) (command : Command)
     (now moment : ℕ) → not (is_told step.handed) ≡ true
-    → AllByRecursion IsSend (acted_if key moment (order id command now).input life step).1
-orders_send key None step id command now moment quiet = tt
-orders_send key (Some life) step id command now moment quiet =
+    → AllByRecursion IsSend (acted_if key moment (order id command now).input state context step).1
+orders_send key state None step id command now moment quiet = tt
+orders_send key state (Some context) step id command now moment quiet =
     subst (λ a. AllByRecursion IsSend
-    (outputs_of key life step (made_bytes life.request step.sent
+    (outputs_of key context step (made_bytes context.request step.sent
     (message_in (order id command now).input)) a)) (sym (arrived-order id command now))
-    (order_outputs key life step _ quiet)
+    (order_outputs key context step _ quiet)
 
 pub commands_only_send : CommandsOnlySend
 commands_only_send key held id command now =
@@ -260,10 +262,11 @@ commands_only_send key held id command now =
     is_order_trigger held id command now row.trigger
     (subst (λ m. trigger_of held m (order id command now).input ≡ Some row.trigger)
     (moment-order id command now) row.triggered) in
-    let passed : orders_report_nothing (option_map (λ life. life.state) held) row.trigger step
+    let passed : orders_report_nothing (state_of held) row.trigger step
     ≡ true = row_passes orders_report_nothing (rows_of (role_of key))
     (orders_in_tables (role_of key)) _ row.trigger step row.row in
     let quiet : not (is_told step.handed) ≡ true =
     sym (ap (λ b. not b || not (is_told step.handed)) ordered) ∙ passed in
-    orders_send key (life_of (role_of key) held (order id command now).input) step id command now
+    orders_send key (state_of held) (context_of (role_of key) held (order id command now).input)
+    step id command now
     (order id command now).moment quiet)

@@ -2,6 +2,7 @@ pub mod AfterTheEnd
 pub mod AtServers
 pub mod LawSteps
 pub mod OneRequest
+mod RequestsById
 pub mod Pace
 pub mod RowFacts
 pub mod Passing

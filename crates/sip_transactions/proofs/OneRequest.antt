@@ -1,6 +1,6 @@
 -- A life of a server key hands its request up once.
-use Rattle.std.proofs.Common.{◌≡◌, ℕ, ◌+◌, true, cond, ◌&&◌, ◌||◌, List, [], ◌∷◌, ◌++◌, inl, inr, refl, sym, ◌∙◌, ap, subst, zero-add}
-use Rattle.std.specs.Prelude.{not, Option, None, Some, IsSome, is_some, option_to_list, codes}
+use Rattle.std.proofs.Common.{◌≡◌, ℕ, ◌+◌, true, cond, ◌&&◌, ◌||◌, List, [], ◌∷◌, inl, inr, refl, sym, ◌∙◌, ap, zero-add}
+use Rattle.std.specs.Prelude.{not, Option, None, Some, IsSome, is_some, option_map, option_to_list, codes}
 use Rattle.std.proofs.lemmas.Bool.{false≢true}
 use Rattle.std.proofs.lemmas.List.Sums.{sum_by-append}
 use Rattle.sip_message.specs.declared.addr.Addr.{Addr}
@@ -8,12 +8,13 @@ use Rattle.sip_message.specs.declared.key.Key.{Key}
 use Rattle.sip_message.specs.declared.message.Message.{Message}
 use Rattle.sip_message.specs.declared.start_line.StartLine.{StartLine}
 use Rattle.sip_message.specs.declared.start_line.StartLine.TheVariants as start
-use Rattle.sip_model.specs.Machine.{state_after, outputs_from, IsWithinLife, Timed}
-use Rattle.sip_model.proofs.History.{state_after-push}
+use Rattle.sip_model.specs.Machine.{outputs_from, IsWithinLife, Timed}
 use Rattle.sip_transactions.specs.declared.input.Input.{Input}
 use Rattle.sip_transactions.specs.declared.input.Input.TheVariants.{Receive, Start, Answer, Failed}
+use Rattle.sip_transactions.specs.declared.life.Context.{Context}
 use Rattle.sip_transactions.specs.declared.life.Life.{Life}
 use Rattle.sip_transactions.specs.declared.output.Kind.TheVariants as kind
+use Rattle.sip_transactions.specs.declared.state.State.{State}
 use Rattle.sip_transactions.specs.declared.step.Step.{Step}
 use Rattle.sip_transactions.specs.declared.step.Next.{Next}
 use Rattle.sip_transactions.specs.declared.step.Next.TheVariants.{Same, Ended, Become}
@@ -24,56 +25,60 @@ use Rattle.sip_transactions.specs.declared.trigger.Trigger.TheVariants as on
 use Rattle.sip_transactions.specs.Rows.{rows_of}
 use Rattle.sip_transactions.specs.Input.{role_of, trigger_of, is_method, arrival_of, arrived_in}
 use Rattle.sip_transactions.specs.Output.{handed_out, kind_of, up_out}
-use Rattle.sip_transactions.specs.Life.{stepped, acted_if, begun, life_after, entered}
+use Rattle.sip_transactions.specs.Life.{stepped, acted_if, begun, life_after, life_in, entered, armed, last_of}
 use Rattle.sip_transactions.specs.Machine.{transaction_machine}
 use Rattle.sip_transactions.specs.Laws.{IsServer, OneRequestUp, is_request_up, requests_in}
 use Rattle.sip_transactions.proofs.RowFacts.{by_test, or_cases, and-left, and-right, row_passes, not_both}
 use Rattle.sip_transactions.proofs.LawSteps.{by_step, is_request, is_ended, is_message, begins_by_request, later_not_handed_up, later_in_tables, server_tables, requests-outputs}
 
 -- an ended life isn't held
-entered-ended : (next : Next) (life : Life) → is_ended next ≡ true → entered next life ≡ None
-entered-ended Same life ended = absurd (false≢true ended)
-entered-ended Ended life ended = refl
-entered-ended (Become state) life ended = absurd (false≢true ended)
+entered-ended : (next : Next) (state : Option State) → is_ended next ≡ true
+    → entered next state ≡ None
+entered-ended Same state ended = absurd (false≢true ended)
+entered-ended Ended state ended = refl
+entered-ended (Become new) state ended = absurd (false≢true ended)
 
-pub life_after-ended : (life : Life) (step : Step) (now : ℕ) (bytes : Option (List ℕ))
-    → is_ended step.next ≡ true → life_after life step now bytes ≡ None
+pub life_after-ended : (state : Option State) (context : Context) (step : Step) (now : ℕ)
+    (bytes : Option (List ℕ)) → is_ended step.next ≡ true
+    → life_after state context step now bytes ≡ None
 unfolding life_after
-life_after-ended life step now bytes ended = entered-ended step.next _ ended
+life_after-ended state context step now bytes ended =
+    ap (option_map (life_in (armed step.due now (last_of bytes context))))
+    (entered-ended step.next state ended)
 
 none_is_none : {T : Type 0} (o : Option T) → o ≡ None → IsSome o → ⊥
 none_is_none o none some = false≢true (sym (ap is_some none) ∙ some)
 
 -- a request that came is handed up as one
-up_request : (key : Key) (life : Life) (handed : Handed) (message : Message) (reply_to : Addr)
+up_request : (key : Key) (context : Context) (handed : Handed) (message : Message) (reply_to : Addr)
     (line : StartLine) → message.start ≡ line → is_message handed ≡ true
     → is_request (arrival_of line message.cseq.method) ≡ true
-    → requests_in (option_to_list (handed_out key life handed (Some (message, reply_to)))) ≡ 1
+    → requests_in (option_to_list (handed_out key context handed (Some (message, reply_to)))) ≡ 1
 unfolding handed_out
-up_request key life up.Nothing message reply_to line is handed request = absurd (false≢true handed)
-up_request key life up.Message message reply_to (start.Request uri) is handed request =
+up_request key context up.Nothing message reply_to line is handed request = absurd (false≢true handed)
+up_request key context up.Message message reply_to (start.Request uri) is handed request =
     by_test (is_method message.cseq.method (codes "ACK"))
     (λ ack. absurd (not_both _ request (ap (λ b. is_request (cond b on.Ack on.Request)) ack)))
     (λ other. ap (λ l. requests_in
-    (option_to_list (Some (up_out key life (kind_of l message reply_to))))) is
+    (option_to_list (Some (up_out key context (kind_of l message reply_to))))) is
     ∙ ap (λ b. requests_in (option_to_list
-    (Some (up_out key life (cond b (kind.Ack message) (kind.Request message reply_to))))))
+    (Some (up_out key context (cond b (kind.Ack message) (kind.Request message reply_to))))))
     other)
-up_request key life up.Message message reply_to (start.Response status reason) is handed request =
+up_request key context up.Message message reply_to (start.Response status reason) is handed request =
     absurd (false≢true request)
-up_request key life up.Timeout message reply_to line is handed request = absurd (false≢true handed)
-up_request key life up.Failed message reply_to line is handed request = absurd (false≢true handed)
-up_request key life up.NoTransaction message reply_to line is handed request =
+up_request key context up.Timeout message reply_to line is handed request = absurd (false≢true handed)
+up_request key context up.Failed message reply_to line is handed request = absurd (false≢true handed)
+up_request key context up.NoTransaction message reply_to line is handed request =
     absurd (false≢true handed)
 
 -- what goes on isn't ended, so it was begun by a request
-begun_by_request : (life : Life) (step : Step) (now : ℕ) (bytes : Option (List ℕ))
+begun_by_request : (context : Context) (step : Step) (now : ℕ) (bytes : Option (List ℕ))
     (trigger : Trigger) → (is_ended step.next || (is_message step.handed && is_request trigger))
-    ≡ true → IsSome (life_after life step now bytes)
+    ≡ true → IsSome (life_after None context step now bytes)
     → (is_message step.handed && is_request trigger) ≡ true
-begun_by_request life step now bytes trigger passed goes_on =
+begun_by_request context step now bytes trigger passed goes_on =
     elim (or_cases (is_ended step.next) (is_message step.handed && is_request trigger) passed) [
-      | inl ended ↦ absurd (none_is_none _ (life_after-ended life step now bytes ended) goes_on)
+      | inl ended ↦ absurd (none_is_none _ (life_after-ended None context step now bytes ended) goes_on)
       | inr request ↦ request
     ]
 
@@ -81,8 +86,8 @@ begun_by_request life step now bytes trigger passed goes_on =
 begins_once : (key : Key) (now : ℕ) (input : Option Input) (step : Step) (trigger : Trigger)
     → trigger_of None now input ≡ Some trigger
     → (is_ended step.next || (is_message step.handed && is_request trigger)) ≡ true
-    → IsSome (acted_if key now input (begun (role_of key) input) step).0
-    → requests_in (acted_if key now input (begun (role_of key) input) step).1 ≡ 1
+    → IsSome (acted_if key now input None (begun (role_of key) input) step).0
+    → requests_in (acted_if key now input None (begun (role_of key) input) step).1 ≡ 1
 unfolding begun
 begins_once key now None step trigger triggered passed goes_on = absurd (false≢true goes_on)
 begins_once key now (Some (Answer id message)) step trigger triggered passed goes_on =
@@ -114,44 +119,45 @@ first_once key server first =
     (server_tables key server) None row.trigger step row.row))
 
 -- a later input
-later_receive : (key : Key) (life : Life) (message : Message) (reply_to : Addr) (line : StartLine)
+later_receive : (key : Key) (context : Context) (message : Message) (reply_to : Addr) (line : StartLine)
     → message.start ≡ line → not (is_request (arrival_of line message.cseq.method)) ≡ true
-    → requests_in (option_to_list (Some (up_out key life (kind_of message.start message reply_to))))
+    → requests_in (option_to_list (Some (up_out key context (kind_of message.start message reply_to))))
     ≡ 0
-later_receive key life message reply_to (start.Response status reason) is other =
-    ap (λ l. requests_in (option_to_list (Some (up_out key life (kind_of l message reply_to))))) is
-later_receive key life message reply_to (start.Request uri) is other =
-    ap (λ l. requests_in (option_to_list (Some (up_out key life (kind_of l message reply_to))))) is
+later_receive key context message reply_to (start.Response status reason) is other =
+    ap (λ l. requests_in (option_to_list (Some (up_out key context (kind_of l message reply_to))))) is
+later_receive key context message reply_to (start.Request uri) is other =
+    ap (λ l. requests_in (option_to_list (Some (up_out key context (kind_of l message reply_to))))) is
     ∙ by_test (is_method message.cseq.method (codes "ACK"))
     (λ ack. ap (λ b. requests_in (option_to_list
-    (Some (up_out key life (cond b (kind.Ack message) (kind.Request message reply_to)))))) ack)
+    (Some (up_out key context (cond b (kind.Ack message) (kind.Request message reply_to)))))) ack)
     (λ plain. absurd (false≢true (sym (ap (λ b. not (is_request (cond b on.Ack on.Request))) plain)
     ∙ other)))
 
-pub later_once : (key : Key) (life : Life) (handed : Handed) (now : ℕ) (input : Option Input)
-    (trigger : Trigger) → trigger_of (Some life) now input ≡ Some trigger
+pub later_once : (key : Key) (held : Option Life) (context : Context) (handed : Handed) (now : ℕ)
+    (input : Option Input) (trigger : Trigger) → trigger_of held now input ≡ Some trigger
     → not (is_message handed && is_request trigger) ≡ true
-    → requests_in (option_to_list (handed_out key life handed (arrived_in input))) ≡ 0
+    → requests_in (option_to_list (handed_out key context handed (arrived_in input))) ≡ 0
 unfolding handed_out
-later_once key life up.Nothing now input trigger triggered passed = refl
-later_once key life up.Timeout now input trigger triggered passed = refl
-later_once key life up.Failed now input trigger triggered passed = refl
-later_once key life up.NoTransaction now input trigger triggered passed = refl
-later_once key life up.Message now None trigger triggered passed = refl
-later_once key life up.Message now (Some (Start id call_id message to)) trigger triggered passed = refl
-later_once key life up.Message now (Some (Answer id message)) trigger triggered passed = refl
-later_once key life up.Message now (Some (Failed id)) trigger triggered passed = refl
-later_once key life up.Message now (Some (Receive id message reply_to)) trigger triggered passed =
+later_once key held context up.Nothing now input trigger triggered passed = refl
+later_once key held context up.Timeout now input trigger triggered passed = refl
+later_once key held context up.Failed now input trigger triggered passed = refl
+later_once key held context up.NoTransaction now input trigger triggered passed = refl
+later_once key held context up.Message now None trigger triggered passed = refl
+later_once key held context up.Message now (Some (Start id call_id message to)) trigger triggered passed = refl
+later_once key held context up.Message now (Some (Answer id message)) trigger triggered passed = refl
+later_once key held context up.Message now (Some (Failed id)) trigger triggered passed = refl
+later_once key held context up.Message now (Some (Receive id message reply_to)) trigger triggered passed =
     let same : arrival_of message.start message.cseq.method ≡ trigger = cc in
-    later_receive key life message reply_to message.start refl
+    later_receive key context message reply_to message.start refl
     (ap (λ t. not (is_request t)) same ∙ passed)
 
 pub held_silent : (key : Key) (life : Life) (timed : Timed Input)
     → requests_in (stepped key (Some life) timed).1 ≡ 0
 held_silent key life timed =
     by_step (λ after. requests_in after.1 ≡ 0) key (Some life) timed refl
-    (λ step row. requests-outputs key life step _ _
-    ∙ later_once key life step.handed timed.moment timed.input row.trigger row.triggered
+    (λ step row. requests-outputs key life.context step _ _
+    ∙ later_once key (Some life) life.context step.handed timed.moment timed.input row.trigger
+    row.triggered
     (row_passes later_not_handed_up (rows_of (role_of key)) (later_in_tables (role_of key))
     (Some life.state) row.trigger step row.row))
 
@@ -168,11 +174,7 @@ rest_silent key (Some life) (timed ∷ inputs) within =
     ∙ rest_silent key (stepped key (Some life) timed).0 inputs within.1
 
 pub one_request_up : OneRequestUp
-one_request_up key server before first rest life =
-    let goes_on : IsSome (stepped key None first).0 =
-    subst (λ s. IsSome (stepped key s first).0) life.none_before
-    (subst IsSome (state_after-push transaction_machine key before first) life.begins) in (
-      subst (λ s. requests_in (stepped key s first).1 ≡ 1) (sym life.none_before)
-          (first_once key server first goes_on),
-      rest_silent key (state_after transaction_machine key (before ++ first ∷ [])) rest life.within,
-    )
+one_request_up key server inputs life = (
+  first_once key server life.first life.begins,
+  rest_silent key (stepped key None life.first).0 life.rest life.within,
+)

@@ -16,5 +16,5 @@ pub ticks_are_idle : (now : ℕ) → IsIdle transaction_machine life_due now (ti
 unfolding stepped step_for
 ticks_are_idle now key None calm = refl
 ticks_are_idle now key (Some life) calm =
-    let none = neither_due now life.timers.ending life.timers.repeat calm in
-    rw (nothing_due now life.timers.ending life.timers.repeat none.0 none.1) refl
+    let none = neither_due now life.context.timers.ending life.context.timers.repeat calm in
+    rw (nothing_due now life.context.timers.ending life.context.timers.repeat none.0 none.1) refl

@@ -70,7 +70,7 @@ due_of now ending repeat = if is_due now ending then Some on.TimeoutDue else if 
 -- what is due at a moment, the ending before the repeat
 abbrev pub tick_of : ℕ → Option Life → Option Trigger
 tick_of now None = None
-tick_of now (Some life) = due_of now life.timers.ending life.timers.repeat
+tick_of now (Some life) = due_of now life.context.timers.ending life.context.timers.repeat
 
 -- what an input at a moment is to a transaction
 abbrev pub trigger_of : Option Life → ℕ → Option Input → Option Trigger

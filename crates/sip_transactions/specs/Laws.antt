@@ -1,5 +1,5 @@
 -- What holds of every transaction, over any list of its inputs.
-use Rattle.std.specs.Prelude.{◌≡◌, ℕ, ◌+◌, ◌==◌, ◌≤◌, ◌&&◌, Bool, true, false, List, [], ◌∷◌, ◌++◌, Option, None, Some, count_by, filter_map}
+use Rattle.std.specs.Prelude.{◌≡◌, ℕ, ◌+◌, ◌≤◌, Bool, true, false, if◌then◌else◌, List, ◌++◌, Option, None, Some, count_by, filter_map}
 use Rattle.std.specs.List.{AllByRecursion, list_any, IsDistinct}
 use Rattle.std.specs.Str.{bytes_eq}
 use Rattle.sip_message.specs.declared.id.Id.{Id}
@@ -11,7 +11,7 @@ use Rattle.sip_message.specs.declared.addr.Addr.{Addr}
 use Rattle.sip_message.specs.declared.message.Message.{Message}
 use Rattle.sip_message.specs.Message.{is_request_message}
 use Rattle.sip_message.specs.Written.{written}
-use Rattle.sip_model.specs.Machine.{adds, state_after, outputs_from, IsLife, Timed, given_at}
+use Rattle.sip_model.specs.Machine.{LifeIn, Timed, adds, given_at, outputs_from, said_after, said_at_first, said_in_rest, state_left}
 use Rattle.sip_transactions.specs.declared.input.Command.{Command}
 use Rattle.sip_transactions.specs.declared.input.Input.{Input}
 use Rattle.sip_transactions.specs.declared.input.Input.TheVariants.{Receive, Start, Answer, Failed}
@@ -24,6 +24,7 @@ use Rattle.sip_transactions.specs.declared.state.Role.{Role}
 use Rattle.sip_transactions.specs.declared.state.Role.TheVariants.{InviteClient, Client, InviteServer, Server}
 use Rattle.sip_transactions.specs.declared.state.State.{State}
 use Rattle.sip_transactions.specs.declared.trigger.Trigger.{Trigger}
+use Rattle.sip_transactions.specs.Ids.{IdsRise, is_id}
 use Rattle.sip_transactions.specs.Input.{role_of}
 use Rattle.sip_transactions.specs.Machine.{transaction_machine}
 use Rattle.sip_transactions.specs.Rows.{fits, rows_of}
@@ -71,12 +72,8 @@ requests_in outs = count_by is_request_up outs
 -- a life of a server key hands its request up once, by its first input
 abbrev pub OneRequestUp : Type 0
 OneRequestUp = (key : Key) → IsServer key
-    → (before : List (Timed Input)) (first : Timed Input) (rest : List (Timed Input))
-    → IsLife transaction_machine key before first rest
-    → (requests_in (adds transaction_machine key (state_after transaction_machine key before) first)
-    ≡ 1)
-    × (requests_in (outputs_from transaction_machine key
-    (state_after transaction_machine key (before ++ first ∷ [])) rest) ≡ 0)
+    → (inputs : List (Timed Input)) (life : LifeIn transaction_machine key inputs)
+    → (requests_in (said_at_first life) ≡ 1) × (requests_in (said_in_rest life) ≡ 0)
 
 -- the id of an input, where it has one
 abbrev pub id_of : Option Input → Option Id
@@ -98,26 +95,38 @@ naming_id (Some (Start id call_id message to)) = Some id
 naming_id (Some (Answer id message)) = None
 naming_id (Some (Failed id)) = None
 
--- the same event
-abbrev pub same_id : Id → Id → Bool
-same_id a b = (a.round == b.round) && (a.place == b.place)
+-- the ids of the requests that came and of the starts, in order
+abbrev pub names_in : List (Timed Input) → List Id
+names_in inputs = filter_map (λ timed. naming_id timed.input) inputs
+
+-- the id of a request that is handed up
+abbrev pub request_id : Out → Option Id
+request_id (out.Up up) = if is_request_kind up.kind then Some up.id else None
+request_id (out.Send key to bytes) = None
+request_id (out.Dropped place reason) = None
+
+-- those of all requests that are handed up, in order
+abbrev pub request_ids : List Out → List Id
+request_ids outs = filter_map request_id outs
+
+-- where ids rise, requests come up by id: in the order of their ids, under one id one at most
+abbrev pub RequestsComeUpById : Type 0
+RequestsComeUpById = (key : Key) (inputs : List (Timed Input)) → IdsRise (names_in inputs)
+    → IdsRise (request_ids (outputs_from transaction_machine key None inputs))
 
 -- something handed up under this id
 abbrev pub carries : Id → Out → Bool
-carries id (out.Up up) = same_id id up.id
+carries id (out.Up up) = is_id id up.id
 carries id (out.Send key to bytes) = false
 carries id (out.Dropped place reason) = false
 
 -- where ids differ, nothing is handed up under a life's id after the life has ended
 abbrev pub NothingAfterTheEnd : Type 0
-NothingAfterTheEnd = (key : Key) (before : List (Timed Input)) (first : Timed Input)
-    (rest after : List (Timed Input))
-    (id : Id) → IsLife transaction_machine key before first rest
-    → state_after transaction_machine key (before ++ first ∷ rest) ≡ None
-    → id_of first.input ≡ Some id
-    → IsDistinct same_id (filter_map (λ timed. naming_id timed.input)
-    (before ++ first ∷ rest ++ after))
-    → list_any (carries id) (outputs_from transaction_machine key None after) ≡ false
+NothingAfterTheEnd = (key : Key) (inputs : List (Timed Input))
+    (life : LifeIn transaction_machine key inputs) (id : Id)
+    → state_left life ≡ None → id_of life.first.input ≡ Some id
+    → IsDistinct is_id (names_in inputs)
+    → list_any (carries id) (said_after life) ≡ false
 
 -- ---- how often a client sends its request
 
@@ -142,11 +151,10 @@ sends_of bytes outs = count_by (is_send_of bytes) outs
 -- a life that is begun by a start with a request of its key's method sends that request so often at
 -- most
 abbrev pub FewSends : Type 0
-FewSends = (branch method : List ℕ) (before : List (Timed Input)) (now : ℕ) (id : Id)
-    (call_id : List ℕ) (request : Message) (to : Addr) (rest : List (Timed Input))
-    → IsLife transaction_machine (key.Client branch method) before
-    (given_at now (Start id call_id request to)) rest
+FewSends = (branch method : List ℕ) (inputs : List (Timed Input))
+    (life : LifeIn transaction_machine (key.Client branch method) inputs)
+    (now : ℕ) (id : Id) (call_id : List ℕ) (request : Message) (to : Addr)
+    → life.first ≡ given_at now (Start id call_id request to)
     → is_request_message request ≡ true → request.cseq.method ≡ method
-    → sends_of (written request) (outputs_from transaction_machine (key.Client branch method) None
-    ((given_at now (Start id call_id request to)) ∷ rest))
+    → sends_of (written request) (said_at_first life ++ said_in_rest life)
     ≤ 1 + most_repeats (role_of (key.Client branch method))

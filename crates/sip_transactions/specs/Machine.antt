@@ -14,4 +14,4 @@ transaction_machine = record { step = λ key held timed. stepped key held timed 
 
 -- the moment at which something is due of a life
 abbrev pub life_due : Life → Option ℕ
-life_due life = first_due life.timers
+life_due life = first_due life.context.timers

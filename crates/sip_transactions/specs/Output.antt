@@ -8,7 +8,7 @@ use Rattle.sip_message.specs.declared.start_line.StartLine.TheVariants as start
 use Rattle.sip_message.specs.HopByHop.{ack_of}
 use Rattle.sip_message.specs.Response.{response_of}
 use Rattle.sip_message.specs.Written.{written}
-use Rattle.sip_transactions.specs.declared.life.Life.{Life}
+use Rattle.sip_transactions.specs.declared.life.Context.{Context}
 use Rattle.sip_transactions.specs.declared.output.Kind.{Kind}
 use Rattle.sip_transactions.specs.declared.output.Kind.TheVariants as kind
 use Rattle.sip_transactions.specs.declared.output.DropReason.TheVariants as reason
@@ -31,21 +31,21 @@ kind_of (start.Request uri) message reply_to =
 kind_of (start.Response status reason) message reply_to = kind.Response message
 
 -- under the id and the Call-ID of the life
-abbrev pub up_out : Key → Life → Kind → Out
-up_out key life kind =
-    out.Up (record { key = key; id = life.id; call_id = life.call_id; kind = kind })
+abbrev pub up_out : Key → Context → Kind → Out
+up_out key context kind =
+    out.Up (record { key = key; id = context.id; call_id = context.call_id; kind = kind })
 
 -- what came goes up
-abbrev pub arrived_out : Key → Life → Message × Addr → Out
-arrived_out key life arrived = up_out key life (kind_of arrived.0.start arrived.0 arrived.1)
+abbrev pub arrived_out : Key → Context → Message × Addr → Out
+arrived_out key context arrived = up_out key context (kind_of arrived.0.start arrived.0 arrived.1)
 
 -- what a row hands up: the message that came, or a report; or that it drops the message that came
-unfoldable pub handed_out : Key → Life → Handed → Option (Message × Addr) → Option Out
-handed_out key life up.Nothing arrived = None
-handed_out key life up.Message arrived = option_map (arrived_out key life) arrived
-handed_out key life up.Timeout arrived = Some (up_out key life kind.Timeout)
-handed_out key life up.Failed arrived = Some (up_out key life kind.Failed)
-handed_out key life up.NoTransaction arrived = Some (out.Dropped life.id.place reason.NoTransaction)
+unfoldable pub handed_out : Key → Context → Handed → Option (Message × Addr) → Option Out
+handed_out key context up.Nothing arrived = None
+handed_out key context up.Message arrived = option_map (arrived_out key context) arrived
+handed_out key context up.Timeout arrived = Some (up_out key context kind.Timeout)
+handed_out key context up.Failed arrived = Some (up_out key context kind.Failed)
+handed_out key context up.NoTransaction arrived = Some (out.Dropped context.id.place reason.NoTransaction)
 
 -- ---- what a row sends
 
@@ -82,7 +82,7 @@ send_out key to bytes = out.Send key to bytes
 -- ---- both
 
 -- what a row gives: first what it hands up or drops, then what it sends
-unfoldable pub outputs_of : Key → Life → Step → Option (List ℕ) → Option (Message × Addr) → List Out
-outputs_of key life step made arrived =
-    option_to_list (handed_out key life step.handed arrived)
-    ++ option_to_list (option_map (send_out key life.to) (sent_bytes life.last step.sent made))
+unfoldable pub outputs_of : Key → Context → Step → Option (List ℕ) → Option (Message × Addr) → List Out
+outputs_of key context step made arrived =
+    option_to_list (handed_out key context step.handed arrived)
+    ++ option_to_list (option_map (send_out key context.to) (sent_bytes context.last step.sent made))

@@ -15,13 +15,13 @@ RepeatsInTime (Ending after) now held = Unit {0}
 RepeatsInTime Both now held = Unit {0}
 RepeatsInTime (Again pace) now None = ⊥
 RepeatsInTime (Again pace) now (Some life) =
-    (is_due now life.timers.repeat ≡ true) × (is_due now life.timers.ending ≡ false)
+    (is_due now life.context.timers.repeat ≡ true) × (is_due now life.context.timers.ending ≡ false)
 
 -- the trigger that the repeat is due comes only to such a life
 abbrev pub RepeatIsDue : Trigger → ℕ → Option Life → Type 0
 RepeatIsDue on.RetransmitDue now None = ⊥
 RepeatIsDue on.RetransmitDue now (Some life) =
-    (is_due now life.timers.repeat ≡ true) × (is_due now life.timers.ending ≡ false)
+    (is_due now life.context.timers.repeat ≡ true) × (is_due now life.context.timers.ending ≡ false)
 RepeatIsDue on.Start now held = Unit {0}
 RepeatIsDue on.TimeoutDue now held = Unit {0}
 RepeatIsDue on.Failed now held = Unit {0}

@@ -35,11 +35,11 @@ is_answering Confirmed = false
 -- 3261, sections 17.2.1 and 17.2.2).
 abbrev pub AnsweredAgain : Type 0
 AnsweredAgain = (key : Key) → IsServer key → (life : Life) (bytes : List ℕ)
-    → is_answering life.state ≡ true → life.last ≡ Some bytes
+    → is_answering life.state ≡ true → life.context.last ≡ Some bytes
     → (id : Id) (message : Message) (reply_to : Addr) (now : ℕ)
     → arrival_of message.start message.cseq.method ≡ on.Request
     → stepped key (Some life) (receipt id message reply_to now)
-    ≡ (Some life, Send key life.to bytes ∷ [])
+    ≡ (Some life, Send key life.context.to bytes ∷ [])
 
 -- no final response was sent
 abbrev pub is_open : State → Bool

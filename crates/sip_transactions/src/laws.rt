@@ -1,6 +1,6 @@
 //! Laws of transactions: what holds over any list of inputs of one transaction.
 
-ghost use Rattle.sip_transactions.specs.Laws.{AtMostOneRow, CommandsOnlySend, OneRequestUp, NothingAfterTheEnd, FewSends};
+ghost use Rattle.sip_transactions.specs.Laws.{AtMostOneRow, CommandsOnlySend, OneRequestUp, RequestsComeUpById, NothingAfterTheEnd, FewSends};
 ghost use Rattle.sip_transactions.specs.ServerLaws.{AnsweredAgain, EndsAfterItsAnswer, FailedSendKeeps};
 
 /// Of each table at most one row fits a state and a trigger.
@@ -16,6 +16,12 @@ pub fn commands_only_send()
 /// A life of a server transaction hands its request up once, by its first input.
 pub fn one_request_up()
     ensures { OneRequestUp }
+{}
+
+/// Where the ids of requests and starts rise, a transaction hands requests up in the order of their
+/// ids, and under one id one at most.
+pub fn requests_come_up_by_id()
+    ensures { RequestsComeUpById }
 {}
 
 /// Where the ids of requests and starts differ, nothing is handed up under the id of a life that

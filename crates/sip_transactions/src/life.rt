@@ -2,11 +2,11 @@
 
 ghost use Rattle.std.specs.Prelude.{◌≡◌, ◌≤◌, ◌^◌, None, Some, if◌then◌else◌};
 ghost use Rattle.std.specs.Option.{option_copied};
-ghost use Rattle.sip_transactions.specs.Life.{life_by, life_after};
-ghost use Rattle.sip_transactions.specs.Timers.{IsTimely, no_dues};
+ghost use Rattle.sip_transactions.specs.Life.{armed, context_by, last_of, life_after};
+ghost use Rattle.sip_transactions.specs.Timers.{IsTimely};
 
 use crate::state::State;
-use crate::step::{Next, Step};
+use crate::step::{Due, Next, Step};
 use crate::timers::Timers;
 use sip_message::{Addr, CallId, Id, Message};
 use sip_text::{Boxed, Text};
@@ -15,6 +15,12 @@ use sip_text::{Boxed, Text};
 #[derive(Drop)]
 pub struct Life {
     pub state: State,
+    pub context: Context,
+}
+
+/// What is held of a transaction beside its state.
+#[derive(Drop)]
+pub struct Context {
     /// The event of the first input.
     pub id: Id,
     /// The Call-ID of the first input.
@@ -29,13 +35,13 @@ pub struct Life {
     pub timers: Timers,
 }
 
-impl Life {
-    /// The life of an input with this id and this Call-ID, before its row gives it its state.
-    pub(crate) fn new(id: Id, call_id: CallId, to: Addr, request: Option<Boxed<Message>>) -> Life
-        ensures { result ≡ life_by id call_id to request }
+impl Context {
+    /// What an input with this id and this Call-ID begins a life with: nothing was sent yet, and
+    /// nothing is due.
+    pub(crate) fn new(id: Id, call_id: CallId, to: Addr, request: Option<Boxed<Message>>) -> Context
+        ensures { result ≡ context_by id call_id to request }
     {
-        Life {
-            state: State::Trying,
+        Context {
             id,
             call_id,
             to,
@@ -55,17 +61,46 @@ impl Life {
         }
     }
 
-    /// Goes on by a row that made a message of these bytes. Says whether the life goes on.
+    /// Begins a life by a row that made a message of these bytes, if there is a state after it.
     #[tactic(auto, unfolding(crate::specs::Life::life_after))]
-    pub(crate) fn go_on(&mut self, step: Step, now: u64, made: Option<Text>) -> bool
+    pub(crate) fn begin(mut self, step: Step, now: u64, made: Option<Text>) -> Option<Life>
         requires bound { now ≤ 2 ^ 62 }
-        requires timely { IsTimely step.due now self.old.timers }
-        ensures { (if result then Some self.new else None) ≡ life_after self.old step now made }
+        requires timely { IsTimely step.due now self.timers }
+        ensures { result ≡ life_after None self step now made }
+    {
+        let Next::Become(state) = step.next else {
+            return None;
+        };
+        self.go_on(step.due, now, made);
+        Some(Life {
+            state,
+            context: self,
+        })
+    }
+
+    // Takes what a row sent, and the due moments after it.
+    fn go_on(&mut self, due: Due, now: u64, made: Option<Text>)
+        requires bound { now ≤ 2 ^ 62 }
+        requires timely { IsTimely due now self.old.timers }
+        ensures { self.new ≡ armed due now (last_of made self.old) }
     {
         if let Some(bytes) = made {
             self.last = Some(bytes);
         }
-        self.timers.rearm(step.due, now);
+        self.timers.rearm(due, now);
+    }
+}
+
+impl Life {
+    /// Goes on by a row that made a message of these bytes. Says whether the life goes on.
+    #[tactic(auto, unfolding(crate::specs::Life::life_after))]
+    pub(crate) fn go_on(&mut self, step: Step, now: u64, made: Option<Text>) -> bool
+        requires bound { now ≤ 2 ^ 62 }
+        requires timely { IsTimely step.due now self.old.context.timers }
+        ensures { (if result then Some self.new else None)
+            ≡ life_after (Some self.old.state) self.old.context step now made }
+    {
+        self.context.go_on(step.due, now, made);
         match step.next {
             Next::Same => true,
             Next::Ended => false,

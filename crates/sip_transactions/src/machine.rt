@@ -9,7 +9,7 @@ ghost use Rattle.sip_transactions.specs.Repeats.{RepeatsInTime};
 ghost use Rattle.sip_transactions.specs.Output.{outputs_of};
 
 use crate::input::Input;
-use crate::life::Life;
+use crate::life::{Context, Life};
 use crate::made::made_bytes;
 use crate::output::Out;
 use crate::rows::step_of;
@@ -50,27 +50,29 @@ fn step_for(key: &Key, held: Option<&Life>, now: u64, input: Option<&Input>) -> 
     step_of(role_of(key), held.map(|life| life.state), trigger)
 }
 
-// A row at a life that made a message of these bytes.
+// A row in no state that made a message of these bytes.
 fn act(
     alloc: Global,
     key: &Key,
     now: u64,
-    mut life: Life,
+    context: Context,
     step: Step,
     made: Option<Text>,
     arrived: Option<(Boxed<Message>, Addr)>,
 ) -> Result<After, AllocError>
     requires bound { now ≤ 2 ^ 62 }
-    requires timely { IsTimely step.due now life.timers }
-    ensures next { IfOk result (λ after. after.0 ≡ life_after life step now made) }
+    requires timely { IsTimely step.due now context.timers }
+    ensures next { IfOk result (λ after. after.0 ≡ life_after None context step now made) }
     ensures adds { IfOk result (λ after. after.1.items
-        ≡ outputs_of key.now life step made arrived) }
+        ≡ outputs_of key.now context step made arrived) }
 {
-    let (goes_on, outputs) = act_on(alloc, key, now, &mut life, step, made, arrived)?;
-    Ok((if goes_on { Some(life) } else { None }, outputs))
+    // The copy has no spare room, which what is written has.
+    let kept = made.clone()?;
+    let outputs = said(alloc, key, &context, step, made, arrived)?;
+    Ok((context.begin(step, now, kept), outputs))
 }
 
-// The same at a life where it stands. Gives whether it goes on, and what the row says.
+// The same at a life that is held. Gives whether it goes on, and what the row says.
 fn act_on(
     alloc: Global,
     key: &Key,
@@ -81,15 +83,14 @@ fn act_on(
     arrived: Option<(Boxed<Message>, Addr)>,
 ) -> Result<(bool, Vec<Out>), AllocError>
     requires bound { now ≤ 2 ^ 62 }
-    requires timely { IsTimely step.due now life.old.timers }
+    requires timely { IsTimely step.due now life.old.context.timers }
     ensures next { IfOk result (λ after. (if after.0 then Some life.new else None)
-        ≡ life_after life.old step now made) }
+        ≡ life_after (Some life.old.state) life.old.context step now made) }
     ensures adds { IfOk result (λ after. after.1.items
-        ≡ outputs_of key.now life.old step made arrived) }
+        ≡ outputs_of key.now life.old.context step made arrived) }
 {
-    // The copy has no spare room, which what is written has.
     let kept = made.clone()?;
-    let outputs = said(alloc, key, life, step, made, arrived)?;
+    let outputs = said(alloc, key, &life.context, step, made, arrived)?;
     Ok((life.go_on(step, now, kept), outputs))
 }
 
@@ -103,13 +104,13 @@ fn go_on(
     step: Step,
 ) -> Result<(bool, Vec<Out>), AllocError>
     requires bound { now ≤ 2 ^ 62 }
-    requires timely { IsTimely step.due now life.old.timers }
+    requires timely { IsTimely step.due now life.old.context.timers }
     ensures next { IfOk result (λ after. (if after.0 then Some life.new else None)
-        ≡ (acted key.now now (Some input) life.old step).0) }
+        ≡ (acted key.now now (Some input) (Some life.old.state) life.old.context step).0) }
     ensures adds { IfOk result (λ after. after.1.items
-        ≡ (acted key.now now (Some input) life.old step).1) }
+        ≡ (acted key.now now (Some input) (Some life.old.state) life.old.context step).1) }
 {
-    let made = made_bytes(alloc, life.request(), step.sent, input.message())?;
+    let made = made_bytes(alloc, life.context.request(), step.sent, input.message())?;
     act_on(alloc, key, now, life, step, made, input.into_arrived())
 }
 
@@ -118,10 +119,12 @@ fn go_on(
 fn begin(alloc: Global, key: &Key, now: u64, input: Input, step: Step) -> Result<After, AllocError>
     requires bound { now ≤ 2 ^ 62 }
     requires timely { RepeatsInTime step.due now None }
-    ensures next { let life = begun (role_of key.now) (Some input) in
-        IfOk result (λ after. after.0 ≡ (acted_if key.now now (Some input) life step).0) }
-    ensures adds { let life = begun (role_of key.now) (Some input) in
-        IfOk result (λ after. after.1.items ≡ (acted_if key.now now (Some input) life step).1) }
+    ensures next { let context = begun (role_of key.now) (Some input) in
+        IfOk result (λ after. after.0
+        ≡ (acted_if key.now now (Some input) None context step).0) }
+    ensures adds { let context = begun (role_of key.now) (Some input) in
+        IfOk result (λ after. after.1.items
+        ≡ (acted_if key.now now (Some input) None context step).1) }
 {
     match input {
         Input::Receive {
@@ -143,7 +146,7 @@ fn begin(alloc: Global, key: &Key, now: u64, input: Input, step: Step) -> Result
                 alloc,
                 key,
                 now,
-                Life::new(id, call_id, to, request),
+                Context::new(id, call_id, to, request),
                 step,
                 made,
                 None,
@@ -223,8 +226,16 @@ fn begin_by_message(
         ≡ (acted_at_arrival key.now now id message reply_to step).1) }
 {
     let made = made_bytes(alloc, None, step.sent, Some(message.get()))?;
-    let life = Life::new(id, message.get().call_id.clone()?, reply_to, None);
-    act(alloc, key, now, life, step, made, Some((message, reply_to)))
+    let context = Context::new(id, message.get().call_id.clone()?, reply_to, None);
+    act(
+        alloc,
+        key,
+        now,
+        context,
+        step,
+        made,
+        Some((message, reply_to)),
+    )
 }
 
 /// The machine of every transaction.
@@ -252,7 +263,7 @@ impl StateMachine for Transactions {
     ghost due = { life_due };
 
     fn due_of(&self, state: &Life) -> Option<u64> {
-        state.timers.first_due()
+        state.context.timers.first_due()
     }
 
     #[tactic(auto, unfolding(crate::specs::Life::stepped))]
@@ -301,7 +312,7 @@ impl StateMachine for Transactions {
         &self,
         alloc: Global,
         key: &Key,
-        state: Life,
+        mut state: Life,
         moment: u64,
     ) -> Result<(Option<Life>, Vec<Out>), AllocError>
         requires { moment ≤ 2 ^ 62 }
@@ -313,8 +324,9 @@ impl StateMachine for Transactions {
         let Some(step) = step_for(key, Some(&state), moment, None) else {
             return Ok((Some(state), Vec::new(alloc)));
         };
-        let made = made_bytes(alloc, state.request(), step.sent, None)?;
-        act(alloc, key, moment, state, step, made, None)
+        let made = made_bytes(alloc, state.context.request(), step.sent, None)?;
+        let (goes_on, outputs) = act_on(alloc, key, moment, &mut state, step, made, None)?;
+        Ok((if goes_on { Some(state) } else { None }, outputs))
     }
 
     ghost exact = { exact_keys };

@@ -2,10 +2,10 @@
 
 ghost use Rattle.std.specs.Prelude.{◌≡◌, ◌++◌, IfOk, Some, option_to_list, option_map};
 ghost use Rattle.std.specs.Option.{option_copied};
-ghost use Rattle.sip_transactions.specs.Life.{life_by};
+ghost use Rattle.sip_transactions.specs.Life.{context_by};
 ghost use Rattle.sip_transactions.specs.Output.{handed_out, sent_bytes, outputs_of, up_out, send_out, kind_of};
 
-use crate::life::Life;
+use crate::life::Context;
 use crate::output::{DropReason, Kind, Out, Up};
 use crate::step::{Handed, Sent, Step};
 use crate::trigger::is_ack;
@@ -13,28 +13,27 @@ use sip_message::{Addr, CallId, Id, Key, Message, StartLine};
 use sip_text::{Boxed, Text};
 use std::alloc::{AllocError, Global};
 
-/// What a row at a life says of a message that came, if one did, where it made a message of these
-/// bytes.
+/// What a row says of a message that came, if one did, where it made a message of these bytes.
 #[tactic(auto, unfolding(crate::specs::Output::outputs_of))]
 pub(crate) fn said(
     alloc: Global,
     key: &Key,
-    life: &Life,
+    context: &Context,
     step: Step,
     made: Option<Text>,
     arrived: Option<(Boxed<Message>, Addr)>,
 ) -> Result<Vec<Out>, AllocError>
     ensures { IfOk result (λ outputs. outputs.items
-        ≡ outputs_of key.now life.now step made arrived) }
+        ≡ outputs_of key.now context.now step made arrived) }
 {
     let mut outputs = Vec::new(alloc);
-    if let Some(out) = hand_up(key, life, step.handed, arrived)? {
+    if let Some(out) = hand_up(key, context, step.handed, arrived)? {
         outputs.reserve_exact(1)?;
         outputs.push(out)?;
     }
-    if let Some(bytes) = bytes_sent(&life.last, step.sent, made)? {
+    if let Some(bytes) = bytes_sent(&context.last, step.sent, made)? {
         outputs.reserve_exact(1)?;
-        outputs.push(send_out(key, life.to, bytes)?)?;
+        outputs.push(send_out(key, context.to, bytes)?)?;
     }
     Ok(outputs)
 }
@@ -49,8 +48,8 @@ pub(crate) fn passed_on(
     reply_to: Addr,
     handed: Handed,
 ) -> Result<Vec<Out>, AllocError>
-    ensures { let life = life_by id message.call_id reply_to None in
-        let out = handed_out key.now life handed (Some (message, reply_to)) in
+    ensures { let context = context_by id message.call_id reply_to None in
+        let out = handed_out key.now context handed (Some (message, reply_to)) in
         IfOk result (λ outputs. outputs.items ≡ option_to_list out) }
 {
     let mut outputs = Vec::new(alloc);
@@ -69,8 +68,8 @@ fn pass_on(
     reply_to: Addr,
     handed: Handed,
 ) -> Result<Option<Out>, AllocError>
-    ensures { let life = life_by id message.call_id reply_to None in
-        IfOk result (λ out. out ≡ handed_out key.now life handed (Some (message, reply_to))) }
+    ensures { let context = context_by id message.call_id reply_to None in
+        IfOk result (λ out. out ≡ handed_out key.now context handed (Some (message, reply_to))) }
 {
     match handed {
         Handed::Nothing => Ok(None),
@@ -93,20 +92,20 @@ fn pass_on(
 #[tactic(auto, unfolding(crate::specs::Output::handed_out))]
 fn hand_up(
     key: &Key,
-    life: &Life,
+    context: &Context,
     handed: Handed,
     arrived: Option<(Boxed<Message>, Addr)>,
 ) -> Result<Option<Out>, AllocError>
-    ensures { IfOk result (λ out. out ≡ handed_out key.now life.now handed arrived) }
+    ensures { IfOk result (λ out. out ≡ handed_out key.now context.now handed arrived) }
 {
     let kind = match (handed, arrived) {
         (Handed::Nothing, _) | (Handed::Message, None) => return Ok(None),
-        (Handed::NoTransaction, _) => return Ok(Some(no_transaction(life.id))),
+        (Handed::NoTransaction, _) => return Ok(Some(no_transaction(context.id))),
         (Handed::Message, Some((message, reply_to))) => kind_of(message, reply_to),
         (Handed::Timeout, _) => Kind::Timeout,
         (Handed::Failed, _) => Kind::Failed,
     };
-    Ok(Some(up_out(key, life.id, life.call_id.clone()?, kind)?))
+    Ok(Some(up_out(key, context.id, context.call_id.clone()?, kind)?))
 }
 
 fn up_out(key: &Key, id: Id, call_id: CallId, kind: Kind) -> Result<Out, AllocError>

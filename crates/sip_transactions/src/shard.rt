@@ -40,6 +40,7 @@ impl Model for Shard {
 }
 
 impl Shard {
+    ghost use Rattle.sip_transactions.specs.Life.{state_of};
     ghost use Rattle.sip_transactions.specs.Shard.{Lives, life_at, is_stray, receipt, failure, command_key, order};
 
     /// A shard without transactions, of the agent at the address `local`.
@@ -64,7 +65,7 @@ impl Shard {
 
     /// The state of a transaction, if it has one.
     pub fn state_of(&self, key: &Key) -> Option<State>
-        ensures { result ≡ option_map (λ life. life.state) (life_at self.now key.now) }
+        ensures { result ≡ state_of (life_at self.now key.now) }
     {
         self.table.state(key).map(|life| life.state)
     }

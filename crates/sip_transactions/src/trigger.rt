@@ -103,8 +103,8 @@ fn tick_of(now: u64, held: Option<&Life>) -> Option<Trigger>
 {
     match held {
         None => None,
-        Some(life) if life.timers.is_ending_due(now) => Some(Trigger::TimeoutDue),
-        Some(life) if life.timers.is_repeat_due(now) => Some(Trigger::RetransmitDue),
+        Some(life) if life.context.timers.is_ending_due(now) => Some(Trigger::TimeoutDue),
+        Some(life) if life.context.timers.is_repeat_due(now) => Some(Trigger::RetransmitDue),
         Some(_) => None,
     }
 }

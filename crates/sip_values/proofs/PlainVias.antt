@@ -1,5 +1,5 @@
 -- Via values and addresses without white space.
-use Rattle.std.proofs.Common.{◌≡◌, ◌^◌, ℕ, true, List, [], ◌∷◌, ◌++◌, Option, Some, None, refl, sym, ap, ◌∙◌, append_assoc}
+use Rattle.std.proofs.Common.{◌≡◌, ℕ, true, List, [], ◌∷◌, ◌++◌, Option, Some, None, refl, sym, ap, ◌∙◌, append_assoc}
 use Rattle.std.specs.List.{list_all}
 use Rattle.std.proofs.lemmas.Bool.{and_parts}
 use Rattle.std.proofs.lemmas.List.{append-nil}
@@ -74,7 +74,7 @@ token_word (b ∷ bs) token =
     (b ∷ bs) token
 
 port_kept : (port : List ℕ) → is_token port ≡ true
-    → port_from port ≡ Some (numeral (2 ^ 16) port)
+    → port_from port ≡ Some (numeral port)
 port_kept port token = rw (solid_kept port (token_solid port token), token_word port token) refl
 
 host_alone : (host : List ℕ) → IsHostRun host → sent_by_from host ≡ Some (host, None)
@@ -82,7 +82,7 @@ host_alone host run =
     rw (none_here Colon host (host_passes_colon host run), host_kept host run) refl
 
 host_and_port : (host port : List ℕ) → IsHostRun host → is_token port ≡ true
-    → sent_by_from (host ++ (58 ∷ port)) ≡ Some (host, Some (numeral (2 ^ 16) port))
+    → sent_by_from (host ++ (58 ∷ port)) ≡ Some (host, Some (numeral port))
 host_and_port host port run token =
     rw (
       cut_here Colon host 58 port (host_passes_colon host run) refl,
@@ -114,14 +114,14 @@ host_first text host rest next whole run e =
 pub port_first : (text host port rest : List ℕ) (next : Option (List ℕ)) → text ≡ port ++ rest
     → IsHostRun host → is_token port ≡ true → behind 59 rest ≡ Some next
     → first (Anywhere 59) sent_by_from (host ++ (58 ∷ text))
-    ≡ Some ((host, Some (numeral (2 ^ 16) port)), next)
+    ≡ Some ((host, Some (numeral port)), next)
 port_first text host port rest next whole run token e =
-    let value : SentBy = (host, Some (numeral (2 ^ 16) port)) in
+    let value : SentBy = (host, Some (numeral port)) in
     let both = host ++ (58 ∷ port) in
     ap (λ (t : List ℕ). first (Anywhere 59) sent_by_from (host ++ (58 ∷ t))) whole
     ∙ follows (λ (r : List ℕ) (n : Option (List ℕ)).
     first (Anywhere 59) sent_by_from (host ++ (58 ∷ (port ++ r)))
-    ≡ Some ((host, Some (numeral (2 ^ 16) port)), n)) rest next e
+    ≡ Some ((host, Some (numeral port)), n)) rest next e
     (ap (λ (t : List ℕ). first (Anywhere 59) sent_by_from (host ++ (58 ∷ t))) (append-nil port)
     ∙ first_ends (Anywhere 59) sent_by_from both value (port_passes host port run token)
     (host_and_port host port run token))

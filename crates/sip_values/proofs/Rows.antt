@@ -1,5 +1,5 @@
 -- Each value of a header is read as it stands in its form: the proof is composed as the form is.
-use Rattle.std.proofs.Common.{ℕ, ◌^◌, Bool, List, codes}
+use Rattle.std.proofs.Common.{ℕ, Bool, List, codes}
 use Rattle.sip_text.specs.Token.{is_token}
 use Rattle.sip_text.specs.Trimmed.{trimmed}
 use Rattle.sip_text.specs.declared.separator.Separator.TheVariants.{Byte, Anywhere, Blank, Colon}
@@ -23,8 +23,8 @@ use Rattle.sip_values.specs.ParameterValues as parameters
 use Rattle.sip_values.specs.Sequence as sequence
 use Rattle.sip_values.specs.ViaValue as via
 
-pub numeral_reads : (limit : ℕ) → Reads (List ℕ) Numeral (numeral_from limit) (IsNumeral limit)
-numeral_reads limit = told_reads (numeral limit) (passing_reads is_word)
+pub numeral_reads : Reads (List ℕ) Numeral numeral_from IsNumeral
+numeral_reads = told_reads numeral (passing_reads is_word)
 
 -- ---- parameters
 
@@ -72,7 +72,7 @@ host_reads : Reads (List ℕ) (List ℕ) via.host_from via.IsHostText
 host_reads = of_reads trimmed (passing_reads is_host)
 
 port_reads : Reads (List ℕ) Numeral via.port_from via.IsPortText
-port_reads = of_reads trimmed (numeral_reads (2 ^ 16))
+port_reads = of_reads trimmed numeral_reads
 
 sent_by_reads : Reads (List ℕ) via.SentBy via.sent_by_from via.IsSentBy
 sent_by_reads = cut_reads Colon (told_reads via.with_port (both_reads host_reads port_reads))
@@ -110,8 +110,8 @@ call_id_reads = passing_reads is_word
 
 pub cseq_reads : Reads (List ℕ) CSeqDraft sequence.cseq_from sequence.IsCSeqText
 cseq_reads = cut_reads Blank (told_reads sequence.cseq_of
-    (both_reads (numeral_reads (2 ^ 32)) token_reads)) never_reads
+    (both_reads numeral_reads token_reads)) never_reads
 
 pub rack_reads : Reads (List ℕ) RAckDraft sequence.rack_from sequence.IsRAckText
 rack_reads = cut_reads Blank (told_reads sequence.rack_of
-    (both_reads (numeral_reads (2 ^ 32)) (of_reads trimmed cseq_reads))) never_reads
+    (both_reads numeral_reads (of_reads trimmed cseq_reads))) never_reads

@@ -1,5 +1,5 @@
 -- What is written has no line ends inside its lines and no white space at the ends of its values.
-use Rattle.std.proofs.Common.{◌≡◌, ℕ, ◌-◌, ◌^◌, ◌<◌, ◌≤◌, Bool, true, false, cond, eqb, not, ◌&&◌, List, [], ◌∷◌, ◌++◌, length, get_or, decimal, refl, sym, ap, ◌∙◌, arith}
+use Rattle.std.proofs.Common.{◌≡◌, ℕ, ◌^◌, ◌<◌, Bool, true, false, cond, eqb, not, ◌&&◌, List, [], ◌∷◌, ◌++◌, length, decimal, refl, sym, ap, ◌∙◌, arith}
 use Rattle.std.specs.Char.{is_ascii_digit}
 use Rattle.std.specs.List.{list_all}
 use Rattle.std.specs.Str.{all_ascii_digits}
@@ -9,7 +9,6 @@ use Rattle.std.proofs.lemmas.Fmt.{digits_decimal, digits_value-decimal, decimal_
 use Rattle.std.proofs.lemmas.List.{append-nil}
 use Rattle.std.proofs.lemmas.List.Folds.{list_all-append}
 use Rattle.std.proofs.lemmas.Str.Parse.{numerals_by_value, tells_all_ascii_digits}
-use Rattle.sip_text.proofs.Ends.{other_last}
 use Rattle.sip_text.specs.Character.{is_blank, is_line_byte, is_token_byte}
 use Rattle.sip_text.specs.Number.{is_digits}
 use Rattle.sip_text.specs.Token.{is_run, is_token}
@@ -19,6 +18,7 @@ use Rattle.sip_text.specs.Parameter.{is_value_byte, is_value_word}
 use Rattle.sip_parts.specs.Uri.{is_uri_byte, is_uri}
 use Rattle.sip_parts.specs.Word.{is_word_byte, is_word}
 use Rattle.sip_text.specs.Lines.{has_no}
+use Rattle.sip_parts.proofs.BlankEnds.{trims_to_itself}
 use Rattle.sip_values.proofs.Blanks.{end_is, starts_full}
 use Rattle.sip_values.proofs.Characters.{token_bytes, full_at}
 use Rattle.sip_values.proofs.Cuts.{all_imply, run_all}
@@ -116,25 +116,10 @@ longer_end (c ∷ cs) b bs e =
     ∙ and_right (list_all is_blank cs) (list_all is_blank (b ∷ bs)) some in
     rw (and_right (is_blank c) (list_all is_blank (cs ++ (b ∷ bs))) all, longer_end cs b bs e) refl
 
--- a value behind the space that is written before it
-pub behind_space : (b : ℕ) (bs : List ℕ) → is_blank b ≡ false → trimmed_end (b ∷ bs) ≡ b ∷ bs
-    → b ∷ bs ≡ trimmed (32 ∷ (b ∷ bs))
-behind_space b bs full end = sym (ap trimmed_end (starts_full b bs full) ∙ end)
-
-pub kept_end : (value : List ℕ) → 1 ≤ length value
-    → not (is_blank (get_or value (length value - 1) 0)) ≡ true → trimmed_end value ≡ value
-kept_end value some last =
-    other_last value some (not-true (is_blank (get_or value (length value - 1) 0)) last)
-
-pub header_value_kept : (value : List ℕ) → is_header_value value ≡ true
-    → value ≡ trimmed (32 ∷ value)
+pub header_value_kept : (value : List ℕ) → is_header_value value ≡ true → trimmed value ≡ value
 unfolding is_header_value
-header_value_kept [] is = refl
-header_value_kept (b ∷ bs) is =
-    let ends = and_parts (not (is_blank b))
-    (not (is_blank (get_or (b ∷ bs) (length (b ∷ bs) - 1) 0)))
-    (and_parts (has_no_blank_ends (b ∷ bs)) (has_no_line_byte (b ∷ bs)) is).0 in
-    behind_space b bs (not-true (is_blank b) ends.0) (kept_end (b ∷ bs) (omega arith) ends.1)
+header_value_kept value is =
+    trims_to_itself value (and_parts (has_no_blank_ends value) (has_no_line_byte value) is).0
 
 pub header_value_plain : (value : List ℕ) → is_header_value value ≡ true
     → has_no_line_byte value ≡ true

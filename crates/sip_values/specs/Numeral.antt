@@ -1,22 +1,25 @@
 -- Words in the place of a number (RFC 3261, section 25.1).
-use Rattle.std.specs.Prelude.{ℕ, List, Option, ◌&&◌, nat_lt, if◌then◌else◌}
-use Rattle.std.specs.Str.Parse.{digits_value}
+use Rattle.std.specs.Prelude.{ℕ, List, Option, Result, Ok, Err}
 use Rattle.sip_text.specs.Forms.{Passing, passing, Told, told}
-use Rattle.sip_text.specs.Number.{is_digits}
+use Rattle.sip_text.specs.Number.{number_of}
+use Rattle.sip_text.specs.declared.fault.TextFault.{TextFault}
 use Rattle.sip_parts.specs.Word.{is_word}
 use Rattle.sip_values.specs.declared.numeral.Numeral.{Numeral}
 use Rattle.sip_values.specs.declared.numeral.Numeral.TheVariants.{Number, NotANumber}
 
--- the number of a word of digits that is below the limit
-abbrev pub numeral : ℕ → List ℕ → Numeral
-numeral limit word =
-    if is_digits word && nat_lt (digits_value 10 word) limit then Number (digits_value 10 word)
-    else NotANumber
+-- the number that reading gave, or that there is none
+abbrev pub as_numeral : Result ℕ TextFault → Numeral
+as_numeral (Ok number) = Number number
+as_numeral (Err fault) = NotANumber
+
+-- the number that a word of digits stands for
+abbrev pub numeral : List ℕ → Numeral
+numeral word = as_numeral (number_of word)
 
 -- a word without white space, and the number that it stands for, if any
-abbrev pub IsNumeral : ℕ → Numeral → List ℕ → Type 0
-IsNumeral limit value text = Told (numeral limit) (Passing is_word) value text
+abbrev pub IsNumeral : Numeral → List ℕ → Type 0
+IsNumeral value text = Told numeral (Passing is_word) value text
 
 -- what reading such a word finds
-abbrev pub numeral_from : ℕ → List ℕ → Option Numeral
-numeral_from limit text = told (numeral limit) (passing is_word) text
+abbrev pub numeral_from : List ℕ → Option Numeral
+numeral_from text = told numeral (passing is_word) text

@@ -1,6 +1,6 @@
 -- CSeq and RAck, with words in the place of their numbers (RFC 3261, section 20.16; RFC 3262,
 -- section 7.2), and tokens.
-use Rattle.std.specs.Prelude.{ℕ, ◌^◌, List, Option}
+use Rattle.std.specs.Prelude.{ℕ, List, Option}
 use Rattle.sip_text.specs.Forms.{Passing, passing, Never, never, Of, reading_of, Told, told, Both, both, OnCut, on_cut, OrEmpty, or_empty, Split, split}
 use Rattle.sip_text.specs.Token.{is_token}
 use Rattle.sip_text.specs.Trimmed.{trimmed}
@@ -48,11 +48,11 @@ cseq_of parts = record { number = parts.0; method = parts.1 }
 -- the value of a CSeq: a number, a blank, a method
 abbrev pub IsCSeqText : CSeqDraft → List ℕ → Type 0
 IsCSeqText cseq text =
-    OnCut Blank (Told cseq_of (Both (IsNumeral (2 ^ 32)) IsTokenText)) Never cseq text
+    OnCut Blank (Told cseq_of (Both IsNumeral IsTokenText)) Never cseq text
 
 -- what reading it finds
 abbrev pub cseq_from : List ℕ → Option CSeqDraft
-cseq_from text = on_cut Blank (told cseq_of (both (numeral_from (2 ^ 32)) token_from)) never text
+cseq_from text = on_cut Blank (told cseq_of (both numeral_from token_from)) never text
 
 -- a RAck of these parts
 abbrev pub rack_of : Numeral × CSeqDraft → RAckDraft
@@ -61,9 +61,9 @@ rack_of parts = record { rseq = parts.0; cseq = parts.1.number; method = parts.1
 -- the value of a RAck: a number, a blank, and a CSeq
 abbrev pub IsRAckText : RAckDraft → List ℕ → Type 0
 IsRAckText rack text =
-    OnCut Blank (Told rack_of (Both (IsNumeral (2 ^ 32)) (Of IsCSeqText trimmed))) Never rack text
+    OnCut Blank (Told rack_of (Both IsNumeral (Of IsCSeqText trimmed))) Never rack text
 
 -- what reading it finds
 abbrev pub rack_from : List ℕ → Option RAckDraft
 rack_from text = on_cut Blank (told rack_of
-    (both (numeral_from (2 ^ 32)) (reading_of cseq_from trimmed))) never text
+    (both numeral_from (reading_of cseq_from trimmed))) never text

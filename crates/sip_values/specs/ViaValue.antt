@@ -1,5 +1,5 @@
 -- Via values (RFC 3261, section 20.42), with words in the place of their ports.
-use Rattle.std.specs.Prelude.{ℕ, ◌^◌, Bool, not, List, [], Option, Some, None, codes}
+use Rattle.std.specs.Prelude.{ℕ, Bool, not, List, [], Option, Some, None, codes}
 use Rattle.std.specs.Borrow.{Bor}
 use Rattle.std.specs.Str.{str_eq_ignore_ascii_case}
 use Rattle.sip_text.specs.Forms.{Passing, passing, Never, never, Of, reading_of, Guarded, guarded, Told, told, Both, both, Behind, behind, OnCut, on_cut, Split, split}
@@ -30,11 +30,11 @@ host_from text = reading_of (passing is_host) trimmed text
 
 -- the word of the port, with blanks allowed round it
 abbrev pub IsPortText : Numeral → List ℕ → Type 0
-IsPortText port text = Of (IsNumeral (2 ^ 16)) trimmed port text
+IsPortText port text = Of IsNumeral trimmed port text
 
 -- what reading it finds
 abbrev pub port_from : List ℕ → Option Numeral
-port_from text = reading_of (numeral_from (2 ^ 16)) trimmed text
+port_from text = reading_of numeral_from trimmed text
 
 -- a sent-by with a port
 abbrev pub with_port : List ℕ × Numeral → SentBy

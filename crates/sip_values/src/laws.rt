@@ -49,6 +49,6 @@ pub fn one_rack()
 
 /// A text is one word for a number at most: what reading from left to right gives.
 pub fn one_number()
-    ensures { (text : List ℕ) (x : Numeral) → (numeral_from (2 ^ 32) text ≡ Some x)
-        ↔ IsNumeral (2 ^ 32) x text }
+    ensures { (text : List ℕ) (x : Numeral) → (numeral_from text ≡ Some x)
+        ↔ IsNumeral x text }
 {}

@@ -1,5 +1,5 @@
 //! Words in the place of a number.
-ghost use Rattle.std.specs.Prelude.{◌≡◌, ◌+◌, IfOk};
+ghost use Rattle.std.specs.Prelude.{◌≡◌, IfOk};
 ghost use Rattle.sip_values.specs.Numeral as numerals;
 
 use crate::row::Row;
@@ -20,34 +20,32 @@ pub enum Numeral {
 pub struct NumberRow;
 
 impl Row for NumberRow {
-    ghost use Rattle.std.specs.Prelude.{◌^◌};
     ghost use Rattle.sip_values.specs.Numeral.{numeral_from};
 
     type Value = Numeral;
 
-    ghost reads = { numeral_from (2 ^ 32) };
+    ghost reads = { numeral_from };
 
     fn read(_alloc: Global, text: &[u8]) -> Result<Option<Numeral>, AllocError> {
-        Ok(numeral_in(text, u32::MAX))
+        Ok(numeral_in(text))
     }
 }
 
-/// The word as a number up to this one, or None where the text isn't a word.
-pub(crate) fn numeral_in(text: &[u8], most: u32) -> Option<Numeral>
-    ensures { result ≡ numerals.numeral_from (most + 1) text.now }
+/// The word as a number, or None where the text isn't a word.
+pub(crate) fn numeral_in(text: &[u8]) -> Option<Numeral>
+    ensures { result ≡ numerals.numeral_from text.now }
 {
     if !is_word(text) {
         return None;
     }
-    Some(numeral_of(text, most))
+    Some(numeral_of(text))
 }
 
-#[tactic(auto, unfolding(sip_text::specs::Number::number_of))]
-pub(crate) fn numeral_of(word: &[u8], most: u32) -> Numeral
-    ensures { result ≡ numerals.numeral (most + 1) word.now }
+pub(crate) fn numeral_of(word: &[u8]) -> Numeral
+    ensures { result ≡ numerals.numeral word.now }
 {
     match number_u32(word) {
-        Ok(number) if number <= most => Numeral::Number(number),
-        _ => Numeral::NotANumber,
+        Ok(number) => Numeral::Number(number),
+        Err(_) => Numeral::NotANumber,
     }
 }

@@ -37,7 +37,7 @@ impl Row for CSeqRow {
         let Some((number, rest)) = Separator::Blank.cut(text) else {
             return Ok(None);
         };
-        let Some(number) = numeral_in(number, u32::MAX) else {
+        let Some(number) = numeral_in(number) else {
             return Ok(None);
         };
         let Some(method) = token_in(alloc, rest)? else {
@@ -61,7 +61,7 @@ impl Row for RAckRow {
         let Some((rseq, rest)) = Separator::Blank.cut(text) else {
             return Ok(None);
         };
-        let Some(rseq) = numeral_in(rseq, u32::MAX) else {
+        let Some(rseq) = numeral_in(rseq) else {
             return Ok(None);
         };
         let Some(

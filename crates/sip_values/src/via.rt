@@ -214,7 +214,7 @@ fn plain_port<'a>(host: &'a [u8], text: &'a [u8]) -> Option<(SentByText<'a>, Opt
         return None;
     }
     let after = behind_semicolon(rest)?;
-    let port = numeral_of(port, u32::from(u16::MAX));
+    let port = numeral_of(port);
     Some(((host, Some(port)), after))
 }
 
@@ -226,7 +226,7 @@ fn sent_by_in(text: &[u8]) -> Option<SentByText<'_>>
         None => Some((host_in(text)?, None)),
         Some((host, port)) => {
             let host = host_in(host)?;
-            let port = numeral_in(trimmed(port), u32::from(u16::MAX))?;
+            let port = numeral_in(trimmed(port))?;
             Some((host, Some(port)))
         }
     }

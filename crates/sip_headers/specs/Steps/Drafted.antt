@@ -1,9 +1,21 @@
--- What a draft says once more lines were added to it.
-use Rattle.std.specs.Prelude.{ℕ, List, Option, fold}
+-- A line and those that go on with it, and what a draft says once more lines were added to it.
+use Rattle.std.specs.Prelude.{ℕ, List, ◌∷◌, Option, fold}
 use Rattle.std.specs.Option.{option_map}
-use Rattle.sip_headers.specs.Draft.{with_line}
-use Rattle.sip_headers.specs.Folding.{Section, section_at, whole_section}
+use Rattle.sip_headers.specs.Draft.{draft_of, with_line}
+use Rattle.sip_headers.specs.Folding.{Section, folded_onto, section_at, whole_section}
 use Rattle.sip_headers.specs.declared.draft.Draft.{Draft}
+
+-- one more line before those of a section, which may go on with it
+abbrev pub onto_section : List ℕ → Option Section → Option Section
+onto_section line section = option_map (λ s. (folded_onto line s.0, s.1)) section
+
+-- one more line before those of a section, which don't go on with it
+abbrev pub behind_line : List ℕ → Option Section → Option Section
+behind_line line section = option_map (λ s. (line ∷ s.0, s.1)) section
+
+-- what the header lines of a text say, and what follows the empty line
+abbrev pub gathered_at : List ℕ → Option (Draft × List ℕ)
+gathered_at text = option_map (λ s. (draft_of s.0, s.1)) (whole_section (section_at text))
 
 -- what the lines of a section say behind those of a draft, and what follows the empty line
 abbrev pub drafted_on : Draft → Option Section → Option (Draft × List ℕ)

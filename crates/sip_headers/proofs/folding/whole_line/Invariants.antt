@@ -1,5 +1,6 @@
 use Rattle.std.proofs.Common.{◌≡◌, ◌≤◌, length}
-use Rattle.sip_headers.specs.Folding.{onto_section, section_at}
+use Rattle.sip_headers.specs.Folding.{section_at}
+use Rattle.sip_headers.specs.Steps.Drafted.{onto_section}
 use Rattle.sip_headers.specs.Whole.{whole_now}
 use Rattle.sip_headers.proofs.folding.whole_line.Given as goal
 

@@ -1,13 +1,13 @@
 use Rattle.std.proofs.Common.{◌≡◌, ◌∙◌, ap, None, Some}
-use Rattle.sip_transactions.specs.Life.{life_by}
+use Rattle.sip_transactions.specs.Life.{context_by}
 use Rattle.sip_transactions.specs.Output.{made_bytes}
 use Rattle.sip_transactions.proofs.machine.begin_by_message.Goals as goal
 
 pub returns-clause-adds : goal.returns-clause-adds
 returns-clause-adds c =
-    let life : c.new-life.result ≡ life_by c.args.id c.args.message.call_id c.args.reply_to None =
-    c.new-life.ensures ∙ ap (λ call_id. life_by c.args.id call_id c.args.reply_to None)
+    let context : c.new-context.result ≡ context_by c.args.id c.args.message.call_id c.args.reply_to None =
+    c.new-context.ensures ∙ ap (λ call_id. context_by c.args.id call_id c.args.reply_to None)
     (c.in_ok-clone.ensures.cases ∙ ap (λ message. message.call_id) c.get-2.ensures) in
     let made = c.in_ok-made.ensures
     ∙ ap (λ message. made_bytes None (c.args.step).sent (Some message)) c.get.ensures in
-    rw (← made, ← life) c.act.ensures.adds
+    rw (← made, ← context) c.act.ensures.adds

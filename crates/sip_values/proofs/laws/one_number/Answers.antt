@@ -1,6 +1,5 @@
-use Rattle.std.proofs.Common.{◌^◌}
 use Rattle.sip_values.proofs.Rows.{numeral_reads}
 use Rattle.sip_values.proofs.laws.one_number.Goals as goal
 
 pub returns : goal.returns
-returns c text x = let reads = numeral_reads (2 ^ 32) in (reads.takes text x, reads.again text x)
+returns c text x = (numeral_reads.takes text x, numeral_reads.again text x)

@@ -1,4 +1,4 @@
-use Rattle.std.proofs.Common.{◌≡◌, ◌+◌, Some, sym, ap, ◌∙◌}
+use Rattle.std.proofs.Common.{◌≡◌, Some, sym, ap, ◌∙◌}
 use Rattle.std.specs.Option.{option_copied}
 use Rattle.sip_text.specs.Character.{is_token_byte}
 use Rattle.sip_values.specs.Numeral.{numeral}
@@ -13,8 +13,7 @@ returns-clause-exact c =
     c.split_at.result.1.now c.run_len.result c.run_len.ensures.run c.split_at.ensures.front
     c.split_at.ensures.back (sym c.is_empty.ensures ∙ c.if-is_empty.false) in
     let port = c.split_at.result.0.now in
-    let known : numeral 65536 port ≡ c.numeral_of-port.result =
-    sym (c.numeral_of-port.ensures ∙ ap (λ k. numeral (k + 1) port) c.from.ensures) in
+    let known : numeral port ≡ c.numeral_of-port.result = sym c.numeral_of-port.ensures in
     port_first c.args.text.now c.args.host.now port c.split_at.result.1.now
     (option_copied c.in_ok-after.after) front.parts c.requires (token_is port front.run)
     (sym c.in_ok-after.ensures)

@@ -1,0 +1,14 @@
+use Rattle.sip_calls.proofs.Histories.{counts_its_requests, has_the_greatest_number, has_the_latest_route, holds_its_history}
+use Rattle.sip_calls.proofs.laws.a_dialog_holds_its_history.Goals as goal
+
+pub returns-clause-history : goal.returns-clause-history
+returns-clause-history c = holds_its_history
+
+pub returns-clause-local : goal.returns-clause-local
+returns-clause-local c = counts_its_requests
+
+pub returns-clause-remote : goal.returns-clause-remote
+returns-clause-remote c = has_the_greatest_number
+
+pub returns-clause-route : goal.returns-clause-route
+returns-clause-route c = has_the_latest_route

@@ -1,0 +1,149 @@
+-- The history of the dialog of a name over all inputs of a call: how it opened, and what happened in
+-- it since (RFC 3261, section 12).
+use Rattle.std.specs.Prelude.{◌≡◌, ℕ, ◌+◌, Bool, false, List, [], ◌∷◌, ◌++◌, Option, None, Some, count_by, filter_map, fold, if◌then◌else◌}
+use Rattle.std.specs.Option.{option_map, option_map_or}
+use Rattle.sip_model.specs.Machine.{Timed}
+use Rattle.sip_message.specs.declared.id.Id.{Id}
+use Rattle.sip_dialog.specs.declared.dialog.Dialog.{Dialog}
+use Rattle.sip_dialog.specs.Life.{Happening, accepted_number, dialog_after, greater, routes_by, takes_number, target_by}
+use Rattle.sip_dialog.specs.Opening.{Opening, opened}
+use Rattle.sip_transactions.specs.declared.output.Kind.{Kind}
+use Rattle.sip_transactions.specs.declared.output.Kind.TheVariants as kind
+use Rattle.sip_common.specs.declared.command.UserCommand.{UserCommand}
+use Rattle.sip_common.specs.declared.command.UserCommand.TheVariants.{Respond}
+use Rattle.sip_common.specs.declared.held_dialog.DialogName.{DialogName}
+use Rattle.sip_common.specs.declared.held_dialog.HeldDialog.{HeldDialog}
+use Rattle.sip_common.specs.declared.item.CallOut.{CallOut}
+use Rattle.sip_common.specs.declared.item.Item.{Item}
+use Rattle.sip_common.specs.declared.item.Item.TheVariants.{Up, User}
+use Rattle.sip_common.specs.Dialogs.{Dialogs, dialog_at, lives}
+use Rattle.sip_common.specs.Sent.{sent_in}
+use Rattle.sip_served.specs.Happenings.{accepts, answer_confirms, answer_opens}
+use Rattle.sip_clients.specs.Happenings.{response_brings, response_opens}
+use Rattle.sip_calls.specs.declared.call.Call.{Call}
+use Rattle.sip_calls.specs.declared.calls.Calls.{Calls}
+use Rattle.sip_calls.specs.Call.{CallItem, call_step}
+use Rattle.sip_calls.specs.Provisionals.{EventsDiffer, event_in, side_held}
+
+-- ---- one input
+
+-- what a message that comes up does in the dialog that is held
+abbrev pub brought_by_kind : Call → Id → Kind → DialogName → HeldDialog → List Happening
+brought_by_kind call id (kind.Request request reply_to) name held = accepts request name held
+brought_by_kind call id (kind.Ack ack) name held = []
+brought_by_kind call id (kind.Response response) name held =
+    response_brings id response call.clients name held
+brought_by_kind call id kind.Timeout name held = []
+brought_by_kind call id kind.Failed name held = []
+
+-- of the user's commands an answer may do something by itself
+abbrev pub brought_by_command : Call → UserCommand → List CallOut → DialogName → HeldDialog
+    → List Happening
+brought_by_command call (Respond respond) outs name held =
+    answer_confirms (call.served).state respond outs name held
+brought_by_command call _ outs name held = []
+
+abbrev pub brought_by : Call → Item → List CallOut → DialogName → HeldDialog → List Happening
+brought_by call (Up up) outs name held = brought_by_kind call up.id up.kind name held
+brought_by call (User command) outs name held = brought_by_command call command outs name held
+
+-- all that an input makes happen in it: that, and the requests that go out in it
+abbrev pub life_in : Option Call → Option CallItem → List CallOut → DialogName → HeldDialog
+    → List Happening
+life_in (Some call) (Some (id, item)) outs name held =
+    brought_by call item outs name held ++ sent_in name outs
+life_in _ _ outs name held = sent_in name outs
+
+-- the opening of a dialog that an input makes: a response with its request, or a request with the
+-- answer to it
+abbrev pub opening_by_kind : Call → Id → Kind → Option Opening
+opening_by_kind call id (kind.Response response) = response_opens id response call.clients
+opening_by_kind call id _ = None
+
+abbrev pub opening_by_command : Call → UserCommand → Option Opening
+opening_by_command call (Respond respond) = answer_opens (call.served).state respond
+opening_by_command call _ = None
+
+abbrev pub opening_by : Call → Item → Option Opening
+opening_by call (Up up) = opening_by_kind call up.id up.kind
+opening_by call (User command) = opening_by_command call command
+
+abbrev pub opening_in : Option Call → Option CallItem → Option Opening
+opening_in (Some call) (Some (id, item)) = opening_by call item
+opening_in _ _ = None
+
+-- the dialog of the name is held, and was made by this event
+abbrev pub is_born_of : DialogName → Option Id → Dialogs → Bool
+is_born_of name event dialogs =
+    option_map_or (λ id. lives dialogs record { name = name; born = id }) event false
+
+-- ---- a list of inputs
+
+-- how a dialog opened, and what happened in it since
+pub record History : Type 0 where
+  pub opening : Opening
+  pub life : List Happening
+
+-- more happens in it
+abbrev pub lasted : List Happening → History → History
+lasted more history = record history { life = history.life ++ more }
+
+-- the call after all inputs
+abbrev pub call_from : Calls → Option Call → List (Timed CallItem) → Option Call
+call_from calls call [] = call
+call_from calls call (input ∷ inputs) =
+    call_from calls (call_step calls call input.input input.moment).0 inputs
+
+module _ (calls : Calls) (name : DialogName) where
+  -- it begins anew where the input makes the dialog; then the requests that go out in it are all
+  -- that happened
+  abbrev pub history_after : Option Call → Option History → Timed CallItem → Option History
+  history_after call history timed =
+      let done = call_step calls call timed.input timed.moment in
+      if is_born_of name (event_in timed.input) (side_held done.0).dialogs
+      then option_map (λ opening. record { opening = opening; life = sent_in name done.1 })
+      (opening_in call timed.input)
+      else option_map (lasted (option_map_or (life_in call timed.input done.1 name)
+      (dialog_at name (side_held call).dialogs) [])) history
+
+  abbrev pub history_from : Option Call → Option History → List (Timed CallItem) → Option History
+  history_from call history [] = history
+  history_from call history (input ∷ inputs) =
+      history_from (call_step calls call input.input input.moment).0
+      (history_after call history input) inputs
+
+  -- over all inputs of a call, of which nothing was held before
+  abbrev pub history_of : List (Timed CallItem) → Option History
+  history_of inputs = history_from None None inputs
+
+-- ---- the laws
+
+-- A law of each dialog that is held after a list of inputs, and its history.
+abbrev pub OfEachDialog : (History → Dialog → Type 0) → Type 0
+OfEachDialog Law = (calls : Calls) (inputs : List (Timed CallItem)) → EventsDiffer inputs
+    → (name : DialogName) (held : HeldDialog)
+    → dialog_at name (side_held (call_from calls None inputs)).dialogs ≡ Some held
+    → (history : History) × (history_of calls name inputs ≡ Some history)
+    × Law history held.dialog
+
+-- Whatever comes to a call: a dialog that is held is what its opening and all that happened in it
+-- since make.
+abbrev pub HoldsItsHistory : Type 0
+HoldsItsHistory =
+    OfEachDialog (λ history dialog. dialog ≡ dialog_after history.opening history.life)
+
+-- its local CSeq is that of its opening, and one more for each request that went out in it
+abbrev pub CountsItsRequests : Type 0
+CountsItsRequests = OfEachDialog (λ history dialog. dialog.local_cseq
+    ≡ (opened history.opening).local_cseq + count_by takes_number history.life)
+
+-- its remote CSeq is the greatest number that was accepted
+abbrev pub HasTheGreatestNumber : Type 0
+HasTheGreatestNumber = OfEachDialog (λ history dialog. dialog.remote_cseq
+    ≡ fold greater (opened history.opening).remote_cseq (filter_map accepted_number history.life))
+
+-- its routes and its target are those of its opening, and then of what gave it others
+abbrev pub HasTheLatestRoute : Type 0
+HasTheLatestRoute = OfEachDialog (λ history dialog. let start = opened history.opening in
+    (dialog.route_set ≡ fold (routes_by start.side) start.route_set history.life)
+    × (dialog.target ≡ fold (target_by start.side) start.target history.life))

@@ -1,0 +1,52 @@
+-- What a response makes happen in the held dialog of a name, and how a dialog opens by it (RFC 3261,
+-- sections 12.1.2, 12.2.1.2 and 13.2.2.4). The requests that go out in a dialog are read off what is
+-- given.
+use Rattle.std.specs.Prelude.{ℕ, Bool, not, ◌&&◌, List, [], Option, Some, if◌then◌else◌}
+use Rattle.std.specs.Option.{option_map, option_map_or}
+use Rattle.sip_message.specs.declared.id.Id.{Id}
+use Rattle.sip_message.specs.declared.message.Message.{Message}
+use Rattle.sip_dialog.specs.Life.{Happening}
+use Rattle.sip_dialog.specs.Opening.{Opening, ByResponse, contact_uri}
+use Rattle.sip_common.specs.declared.held_dialog.DialogName.{DialogName}
+use Rattle.sip_common.specs.declared.held_dialog.HeldDialog.{HeldDialog}
+use Rattle.sip_common.specs.Dialogs.{confirms, is_named, retargets}
+use Rattle.sip_common.specs.Requests.{is_success}
+use Rattle.sip_clients.specs.declared.client.Client.{Client}
+use Rattle.sip_clients.specs.declared.client.RequestKind.{RequestKind}
+use Rattle.sip_clients.specs.declared.client.RequestKind.TheVariants.{First, Again, Inside, Plain}
+use Rattle.sip_clients.specs.Answers.{has_answer}
+use Rattle.sip_clients.specs.Client.{Clients, client_at}
+use Rattle.sip_clients.specs.Clients.{reply_name, status_of}
+use Rattle.sip_clients.specs.Reply.{is_there}
+
+-- the 2xx to the first INVITE confirms the dialog, and that to a re-INVITE gives it another target
+-- where it has a Contact
+abbrev pub success_brings : RequestKind → Message → HeldDialog → List Happening
+success_brings First response held = confirms response held
+success_brings (Again life) response held = retargets (contact_uri response) held
+success_brings (Inside life) response held = []
+success_brings Plain response held = []
+
+-- a response to this request is the first 2xx of the dialog
+abbrev pub is_first_success : ℕ → Client → DialogName → Bool
+is_first_success status client name = is_success status && not (has_answer name client.answers)
+
+-- it does something in the dialog that it is of, where that is the dialog of the request
+abbrev pub reply_brings : ℕ → Client → Message → DialogName → HeldDialog → List Happening
+reply_brings status client response name held =
+    let own = reply_name client.kind client response in
+    if is_named own name && is_first_success status client own && is_there client.kind (Some held)
+    then success_brings client.kind response held else []
+
+-- the response to the request of this id
+abbrev pub response_brings : Id → Message → Clients → DialogName → HeldDialog → List Happening
+response_brings id response clients name held =
+    option_map_or
+    (λ client. option_map_or (λ status. reply_brings status client response name held)
+    (status_of response.start) [])
+    (client_at id clients) []
+
+-- the opening of a dialog that it makes is that request with it
+abbrev pub response_opens : Id → Message → Clients → Option Opening
+response_opens id response clients =
+    option_map (λ client. ByResponse client.request response) (client_at id clients)

@@ -1,0 +1,54 @@
+-- What the server side makes happen in the held dialog of a name, and how a dialog opens there (RFC
+-- 3261, sections 12.1.1, 12.2.2 and 13.3.1.4).
+use Rattle.std.specs.Prelude.{ℕ, Bool, not, ◌&&◌, List, [], Option, find, if◌then◌else◌}
+use Rattle.std.specs.List.{flat_map, list_any}
+use Rattle.std.specs.Option.{option_map, option_map_or}
+use Rattle.sip_message.specs.declared.message.Message.{Message}
+use Rattle.sip_message.specs.Party.{tag_of}
+use Rattle.sip_dialog.specs.Life.{Happening}
+use Rattle.sip_dialog.specs.Opening.{Opening, ByRequest}
+use Rattle.sip_common.specs.declared.command.Respond.{Respond}
+use Rattle.sip_common.specs.declared.held_dialog.DialogName.{DialogName}
+use Rattle.sip_common.specs.declared.held_dialog.HeldDialog.{HeldDialog}
+use Rattle.sip_common.specs.declared.item.CallOut.{CallOut}
+use Rattle.sip_common.specs.Dialogs.{confirms, is_named, takes, visits}
+use Rattle.sip_common.specs.Requests.{dialog_name, is_cancel, is_inside, is_unknown_option, name_of_tags}
+use Rattle.sip_common.specs.Sent.{responses_out}
+use Rattle.sip_served.specs.declared.held_request.HeldRequest.{HeldRequest}
+use Rattle.sip_served.specs.Respond.{confirms_dialog}
+use Rattle.sip_served.specs.State.{State, has_id}
+
+-- a request of the peer has the tags of the dialog
+abbrev pub is_of_name : Message → DialogName → Bool
+is_of_name request name =
+    is_inside request && is_named (name_of_tags (tag_of request.to) (tag_of request.from)) name
+
+-- one whose options the agent knows is accepted where its number is above those before it; a CANCEL
+-- never is
+abbrev pub accepts : Message → DialogName → HeldDialog → List Happening
+accepts request name held =
+    if is_of_name request name && not (is_cancel request)
+    && not (list_any is_unknown_option request.require)
+    && takes held request.cseq.number
+    then visits request held else []
+
+-- a 2xx that goes out to an INVITE outside of dialogs confirms the dialog of their tags
+abbrev pub success_confirms : HeldRequest → ℕ → List Message → DialogName → HeldDialog
+    → List Happening
+success_confirms request status responses name held =
+    if is_named (dialog_name request.request request.tag) name && confirms_dialog request status
+    then flat_map (λ response. confirms response held) responses else []
+
+-- so does the user's answer to the request of its id, where it isn't refused
+abbrev pub answer_confirms : State → Respond → List CallOut → DialogName → HeldDialog
+    → List Happening
+answer_confirms state respond outs name held =
+    option_map_or
+    (λ request. success_confirms request respond.status (responses_out outs) name held)
+    (find (has_id respond.id) state.requests) []
+
+-- the opening of a dialog that an answer makes is the request with that answer
+abbrev pub answer_opens : State → Respond → Option Opening
+answer_opens state respond =
+    option_map (λ request. ByRequest request.request request.tag respond.status)
+    (find (has_id respond.id) state.requests)

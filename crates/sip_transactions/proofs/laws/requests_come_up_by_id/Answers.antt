@@ -1,0 +1,5 @@
+use Rattle.sip_transactions.proofs.RequestsById as by_id
+use Rattle.sip_transactions.proofs.laws.requests_come_up_by_id.Goals as goal
+
+pub returns : goal.returns
+returns c = by_id.requests_come_up_by_id
