@@ -351,7 +351,7 @@ module _ (over : NothingAfterEachEnd)
       ∙ append_assoc life.before own new
       ∙ ap (λ rest. life.before ++ (life.first ∷ rest)) (append_assoc life.rest life.after new) in
       let longer : LifeIn transaction_machine key (laws.inputs_of config (earlier ++ later) key) =
-          record {
+      record {
         before = life.before;
         first = life.first;
         rest = life.rest;
