@@ -47,7 +47,8 @@ use Rattle.sip_round.specs.declared.output.Output.{Output}
 use Rattle.sip_round.specs.declared.round.Round.{Round}
 use Rattle.sip_round.specs.Answers.{Past, answers, answers_from, arrivals, calls_of, first, items_of_round, no_past, past_after, past_from, past_of, said_by_transactions, second, third}
 use Rattle.sip_round.specs.Given.{HasEnded, NoneComesFrom, all_given, comes_from, notice_in, notices_of}
-use Rattle.sip_round.specs.Laws.{NothingAfterEachEnd, call_inputs_of, inputs_of}
+use Rattle.sip_round.specs.Laws.{NothingAfterEachEnd, call_inputs_of}
+use Rattle.sip_round.specs.Laws as laws
 use Rattle.sip_round.specs.Outputs.{all_said, joined, outs_of, raised_of, said_at, user_items}
 use Rattle.sip_round.specs.Phases.{call_items}
 use Rattle.sip_round.proofs.GivenNotices.{calls_are, calls_from, given_from, own_from}
@@ -349,7 +350,8 @@ module _ (over : NothingAfterEachEnd)
       ∙ ap (λ old. old ++ new) life.are
       ∙ append_assoc life.before own new
       ∙ ap (λ rest. life.before ++ (life.first ∷ rest)) (append_assoc life.rest life.after new) in
-      let longer : LifeIn transaction_machine key (inputs_of config (earlier ++ later) key) = record {
+      let longer : LifeIn transaction_machine key (laws.inputs_of config (earlier ++ later) key) =
+      record {
         before = life.before;
         first = life.first;
         rest = life.rest;
