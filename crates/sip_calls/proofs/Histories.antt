@@ -1,30 +1,33 @@
 -- Over all inputs of a call: the dialog that is held under a name is what its history makes.
-use Rattle.std.proofs.Common.{◌≡◌, inl, inr, ℕ, ◌+◌, Bool, true, false, List, [], ◌∷◌, ◌++◌, refl, sym, ap, subst, ◌∙◌, add-zero}
+use Rattle.std.proofs.Common.{◌≡◌, ◌⊎◌, inl, inr, ℕ, ◌+◌, Bool, true, false, List, [], ◌∷◌, ◌++◌, length, refl, sym, ap, subst, ◌∙◌, add-zero, arith}
 use Rattle.std.specs.Prelude.{Option, None, Some, filter_map, fold, if◌then◌else◌}
-use Rattle.std.specs.List.{AllByRecursion, IsDistinct, cons_option}
+use Rattle.std.specs.List.{IsDistinct, cons_option}
 use Rattle.std.specs.Option.{option_map, option_map_or}
+use Rattle.std.proofs.lemmas.List.{length-append}
 use Rattle.std.proofs.lemmas.Map.Keys.{IsDistinct-tail}
 use Rattle.sip_model.specs.Machine.{Timed}
+use Rattle.sip_message.specs.declared.cseq.CSeq.{CSeq}
 use Rattle.sip_message.specs.declared.id.Id.{Id}
 use Rattle.sip_dialog.specs.declared.dialog.Dialog.{Dialog}
 use Rattle.sip_dialog.specs.Life.{Happening, dialog_after}
 use Rattle.sip_dialog.specs.Opening.{Opening, opened}
 use Rattle.sip_common.specs.declared.held_dialog.DialogName.{DialogName}
 use Rattle.sip_common.specs.declared.held_dialog.HeldDialog.{HeldDialog}
-use Rattle.sip_common.specs.Dialogs.{Dialogs, dialog_at, happened, is_named}
+use Rattle.sip_common.specs.Dialogs.{dialog_at, happened, is_named}
 use Rattle.sip_common.specs.Ids.{is_id}
 use Rattle.sip_common.specs.Lives.{AllFit}
-use Rattle.sip_common.specs.Sent.{name_of_dialog, sent_in}
+use Rattle.sip_common.specs.Sent.{NumberedAfter, NumberedFrom, cseqs_in, name_of_dialog, number_before, requests_made}
 use Rattle.sip_common.proofs.Entries.{none_apart}
-use Rattle.sip_common.proofs.Heard.{AreApart, Begins, Goes, Grows, Life, OpensBy, Stays, id_laws}
+use Rattle.sip_common.proofs.Heard.{AreApart, Begins, Goes, Life, OpensBy, Stays, id_laws}
 use Rattle.sip_common.proofs.Lives.{all_on}
 use Rattle.sip_clients.proofs.ClientLives.{AreNamed}
 use Rattle.sip_clients.proofs.Hearing.{NoneOf, apart_now}
 use Rattle.sip_calls.specs.declared.call.Call.{Call}
 use Rattle.sip_calls.specs.declared.calls.Calls.{Calls}
 use Rattle.sip_calls.specs.Call.{CallItem, call_step}
-use Rattle.sip_calls.specs.Histories.{CountsItsRequests, HasTheGreatestNumber, HasTheLatestRoute, History, HoldsItsHistory, OfEachDialog, call_from, history_after, history_from, history_of, lasted, life_in, opening_in}
+use Rattle.sip_calls.specs.Histories.{CountsItsRequests, HasItsName, HasTheGreatestNumber, HasTheLatestRoute, HasTheNextNumber, History, HoldsItsHistory, NumbersItsRequests, begun_with, call_from, history_after, history_from, history_of, with_more, life_in, opening_in}
 use Rattle.sip_calls.specs.Provisionals.{EventsDiffer, event_in, side_held}
+use Rattle.sip_calls.proofs.Counts.{count_both, counted, how_many, life_counts, made_count}
 use Rattle.sip_calls.proofs.LifeSteps.{by_input}
 
 -- a dialog in which nothing happened is as it was opened
@@ -43,17 +46,18 @@ Stands name (Some held) (Some history) ids =
     (held.dialog ≡ dialog_after history.opening history.life)
     × (is_named name (name_of_dialog (opened history.opening)) ≡ true)
     × NoneOf held.born ids
+    × (how_many history.life ≡ length history.sent)
+    × NumberedAfter (opened history.opening).local_cseq history.sent
 
 -- it was made by this event
 abbrev born_of : Option Id → Option HeldDialog → Bool
 born_of event after = option_map_or
     (λ id. option_map_or (λ (held : HeldDialog). is_id held.born id) after false) event false
 
-abbrev next_history : Bool → Option Opening → List Happening → List Happening → Option History
+abbrev next_history : Bool → Option Opening → List CSeq → List Happening → Option History
     → Option History
-next_history born start begun more history =
-    if born then option_map (λ opening. record { opening = opening; life = begun }) start
-    else option_map (lasted more) history
+next_history born start cseqs more history =
+    if born then option_map (begun_with cseqs) start else option_map (with_more more cseqs) history
 
 not_born : (event : Option Id) (ids : List Id) (held after : HeldDialog)
     → after.born ≡ held.born → NoneOf held.born (cons_option event ids)
@@ -66,62 +70,119 @@ others_left : (born : Id) (event : Option Id) (ids : List Id)
 others_left born None ids others = others
 others_left born (Some id) ids others = others.1
 
+-- ---- numbers
+
+none_added : (last n : ℕ) (cseqs : List CSeq) → n ≡ 0 → NumberedAfter (last + n) cseqs
+    → NumberedAfter last cseqs
+none_added last n cseqs none numbers =
+    subst (λ m. NumberedAfter m cseqs) (ap (λ m. last + m) none ∙ add-zero last) numbers
+
+one_on : (last n m : ℕ) → m ≡ n + 1 → last + m ≡ (last + 1) + n
+one_on last n m e = omega arith
+
+numbered_on : (last : ℕ) (xs ys : List CSeq) → NumberedAfter last xs
+    → NumberedAfter (last + length xs) ys → NumberedAfter last (xs ++ ys)
+numbered_on last [] ys first second = none_added last 0 ys refl second
+numbered_on last (x ∷ xs) ys first second = (
+  first.0,
+  numbered_on (last + 1) xs ys first.1
+      (subst (λ n. NumberedAfter n ys)
+      (one_on last (length xs) (length (x ∷ xs)) (counted x xs)) second),
+)
+
+none_made : (cseqs : List CSeq) → requests_made cseqs ≡ [] → cseqs ≡ []
+none_made [] none = refl
+none_made (cseq ∷ cseqs) none = absurd cc
+
+-- ---- one input
+
 module _ (name : DialogName) (event : Option Id) (ids : List Id) (start : Option Opening)
-    (came : Option ℕ) (begun : List Happening)
+    (came : Option ℕ) (cseqs : List CSeq)
     (later : (born : Id) → event ≡ Some born → NoneOf born ids) where
   abbrev Next : Option HeldDialog → List Happening → Option History → Type 0
   Next after more history =
-      Stands name after (next_history (born_of event after) start begun more history) ids
+      Stands name after (next_history (born_of event after) start cseqs more history) ids
 
   stays_on : (life : Life) (held after : HeldDialog) (history : Option History)
+      → how_many (life held) ≡ length cseqs → NumberedAfter held.dialog.local_cseq cseqs
       → Stands name (Some held) history (cons_option event ids)
       → Stays came life (Some held) (Some after) → Next (Some after) (life held) history
-  stays_on life held after None stands stays = absurd stands
-  stays_on life held after (Some history) stands stays =
+  stays_on life held after None counts numbers stands stays = absurd stands
+  stays_on life held after (Some history) counts numbers stands stays =
       let more = life held in
+      let first = (opened history.opening).local_cseq in
       let fits : AllFit (dialog_after history.opening history.life) more =
       subst (λ (dialog : Dialog). AllFit dialog more) stands.0 stays.2.0 in
       let same : after.dialog ≡ dialog_after history.opening (history.life ++ more) =
       stays.2.1 ∙ ap (λ dialog. fold happened dialog more) stands.0
       ∙ all_on history.opening history.life more fits in
+      let last : held.dialog.local_cseq ≡ first + length history.sent =
+      ap (λ (dialog : Dialog). dialog.local_cseq) stands.0 ∙ ap (λ n. first + n) stands.3 in
+      let counted : how_many (history.life ++ more) ≡ length (history.sent ++ cseqs) =
+      count_both history.life more ∙ (λ i. stands.3 i + counts i)
+      ∙ sym (length-append history.sent cseqs) in
       subst (λ (b : Bool). Stands name (Some after)
-      (next_history b start begun more (Some history)) ids)
+      (next_history b start cseqs more (Some history)) ids)
       (sym (not_born event ids held after stays.0 stands.2)) (
         same,
         stands.1,
         subst (λ (born : Id). NoneOf born ids) (sym stays.0)
             (others_left held.born event ids stands.2),
+        counted,
+        numbered_on first history.sent cseqs stands.4
+            (subst (λ n. NumberedAfter n cseqs) last numbers),
       )
 
-  begins_now : (after : HeldDialog) (more : List Happening) (history : Option History)
-      → Begins event (OpensBy start name) came begun (Some after) → Next (Some after) more history
-  begins_now after more history begins =
+  -- a dialog that is made has the numbers after that of its opening
+  begun_numbers : (before : Option HeldDialog) (opening : Opening) → start ≡ Some opening
+      → NumberedFrom (number_before start before) cseqs
+      → ((before ≡ None) ⊎ (requests_made cseqs ≡ []))
+      → NumberedAfter (opened opening).local_cseq cseqs
+  begun_numbers before opening opens numbers (inl none) =
+      subst (λ (o : Option Opening). NumberedFrom (number_before o None) cseqs) opens
+      (subst (λ (o : Option HeldDialog). NumberedFrom (number_before start o) cseqs) none numbers)
+  begun_numbers before opening opens numbers (inr none) =
+      subst (NumberedAfter (opened opening).local_cseq) (sym (none_made cseqs none)) tt
+
+  begins_now : (before : Option HeldDialog) (after : HeldDialog) (more : List Happening)
+      (history : Option History) → NumberedFrom (number_before start before) cseqs
+      → Begins event (OpensBy start name) came (requests_made cseqs) before (Some after)
+      → Next (Some after) more history
+  begins_now before after more history numbers begins =
       let opening = begins.2.0 in
       let opens = begins.2.1 in
       let grows = begins.2.2 in
+      let life = requests_made cseqs in
       let born : born_of event (Some after) ≡ true =
       ap (λ event. born_of event (Some after)) begins.0 ∙ id_laws.refl after.born in
-      let fits : AllFit (dialog_after opening []) begun =
-      subst (λ (dialog : Dialog). AllFit dialog begun) (nothing_yet opening) grows.0 in
-      let same : after.dialog ≡ dialog_after opening begun =
-      grows.1 ∙ ap (λ dialog. fold happened dialog begun) (nothing_yet opening)
-      ∙ all_on opening [] begun fits in
-      subst (λ (b : Bool). Stands name (Some after) (next_history b start begun more history) ids)
+      let fits : AllFit (dialog_after opening []) life =
+      subst (λ (dialog : Dialog). AllFit dialog life) (nothing_yet opening) grows.0 in
+      let same : after.dialog ≡ dialog_after opening life =
+      grows.1 ∙ ap (λ dialog. fold happened dialog life) (nothing_yet opening)
+      ∙ all_on opening [] life fits in
+      subst (λ (b : Bool). Stands name (Some after) (next_history b start cseqs more history) ids)
       (sym born)
-      (subst (λ (o : Option Opening). Stands name (Some after)
-      (option_map (λ opening. record { opening = opening; life = begun }) o) ids)
-      (sym opens.0) (same, opens.1, later after.born begins.0))
+      (subst (λ (o : Option Opening). Stands name (Some after) (option_map (begun_with cseqs) o) ids)
+      (sym opens.0) (
+        same,
+        opens.1,
+        later after.born begins.0,
+        made_count cseqs,
+        begun_numbers before opening opens.0 numbers begins.3,
+      ))
 
   pub next_stands : (life : Life) (before after : Option HeldDialog) (history : Option History)
+      → ((held : HeldDialog) → how_many (life held) ≡ length cseqs)
+      → NumberedFrom (number_before start before) cseqs
       → Stands name before history (cons_option event ids)
-      → Goes event (OpensBy start name) came life begun before after
+      → Goes event (OpensBy start name) came life (requests_made cseqs) before after
       → Next after (option_map_or life before []) history
-  next_stands life before None history stands goes = tt
-  next_stands life None (Some after) history stands (inl stays) = absurd stays
-  next_stands life (Some held) (Some after) history stands (inl stays) =
-      stays_on life held after history stands stays
-  next_stands life before (Some after) history stands (inr begins) =
-      begins_now after (option_map_or life before []) history begins
+  next_stands life before None history counts numbers stands goes = tt
+  next_stands life None (Some after) history counts numbers stands (inl stays) = absurd stays
+  next_stands life (Some held) (Some after) history counts numbers stands (inl stays) =
+      stays_on life held after history (counts held) numbers stands stays
+  next_stands life before (Some after) history counts numbers stands (inr begins) =
+      begins_now before after (option_map_or life before []) history numbers begins
 
 -- ---- all inputs
 
@@ -147,60 +208,116 @@ abbrev AllStand : Option Call → (DialogName → Option History) → List Id �
 AllStand state histories ids = (name : DialogName)
     → Stands name (dialog_at name (side_held state).dialogs) (histories name) ids
 
+-- the names of what is held differ, and each dialog stands
+record Sound (state : Option Call) (histories : DialogName → Option History) (ids : List Id)
+    : Type 0 where
+  pub apart : AreApart (side_held state).dialogs
+  pub stand : AllStand state histories ids
+
+are_named : (state : Option Call) (histories : DialogName → Option History) (ids : List Id)
+    → AllStand state histories ids → AreNamed (side_held state).dialogs
+are_named state histories ids stand name held at =
+    named_so name (dialog_at name (side_held state).dialogs) (histories name) ids (stand name) held at
+
 from : (calls : Calls) (inputs : List (Timed CallItem)) (state : Option Call)
-    (histories : DialogName → Option History) → AreApart (side_held state).dialogs
-    → IsDistinct is_id (ids_of inputs) → AllStand state histories (ids_of inputs)
-    → AllStand (call_from calls state inputs)
+    (histories : DialogName → Option History) → IsDistinct is_id (ids_of inputs)
+    → Sound state histories (ids_of inputs)
+    → Sound (call_from calls state inputs)
     (λ name. history_from calls name state (histories name) inputs) []
-from calls [] state histories apart differ stand = stand
-from calls (input ∷ inputs) state histories apart differ stand =
+from calls [] state histories differ sound = sound
+from calls (input ∷ inputs) state histories differ sound =
     let done = call_step calls state input.input input.moment in
     let event = event_in input.input in
-    let named : AreNamed (side_held state).dialogs = λ name held at.
-    named_so name (dialog_at name (side_held state).dialogs) (histories name)
-    (ids_of (input ∷ inputs)) (stand name) held at in
-    let step = by_input calls state input.input input.moment apart named in
+    let named = are_named state histories (ids_of (input ∷ inputs)) sound.stand in
+    let step = by_input calls state input.input input.moment sound.apart named in
     let moves = step.1 in
     from calls inputs done.0 (λ name. history_after calls name state (histories name) input)
-    moves.apart (rest_differ event (ids_of inputs) differ)
-    (λ name. next_stands name event (ids_of inputs) (opening_in state input.input) (step.0 name)
-    (sent_in name done.1)
-    (λ born is. (apart_now born event (ids_of inputs) differ).1 is)
-    (life_in state input.input done.1 name)
-    (dialog_at name (side_held state).dialogs)
-    (dialog_at name (side_held done.0).dialogs) (histories name) (stand name) (moves.goes name))
+    (rest_differ event (ids_of inputs) differ) record {
+      apart = moves.apart;
+      stand = λ name. next_stands name event (ids_of inputs) (opening_in state input.input)
+          (step.0 name) (cseqs_in name done.1)
+          (λ born is. (apart_now born event (ids_of inputs) differ).1 is)
+          (life_in state input.input done.1 name)
+          (dialog_at name (side_held state).dialogs)
+          (dialog_at name (side_held done.0).dialogs)
+          (histories name) (life_counts state input.input done.1 name) (step.2 name)
+          (sound.stand name) (moves.goes name);
+    }
+
+-- after all inputs, of which nothing was held before
+sound_after : (calls : Calls) (inputs : List (Timed CallItem)) → EventsDiffer inputs
+    → Sound (call_from calls None inputs) (λ name. history_of calls name inputs) []
+sound_after calls inputs differ =
+    from calls inputs None (λ name. None) differ
+    record { apart = none_apart is_named; stand = λ name. tt }
 
 told_so : (name : DialogName) (o : Option HeldDialog) (told : Option History)
     → Stands name o told [] → (held : HeldDialog) → o ≡ Some held
     → (history : History) × (told ≡ Some history)
     × (held.dialog ≡ dialog_after history.opening history.life)
+    × (how_many history.life ≡ length history.sent)
+    × NumberedAfter (opened history.opening).local_cseq history.sent
 told_so name None told stands held at = absurd cc
 told_so name (Some there) None stands held at = absurd stands
 told_so name (Some there) (Some history) stands held at =
-    let same : there ≡ held = cc in
-    (history, refl, ap (λ (held : HeldDialog). held.dialog) (sym same) ∙ stands.0)
+    let same : there ≡ held = cc in (
+      history,
+      refl,
+      ap (λ (held : HeldDialog). held.dialog) (sym same) ∙ stands.0,
+      stands.3,
+      stands.4,
+    )
+
+told_at : (calls : Calls) (inputs : List (Timed CallItem)) → EventsDiffer inputs
+    → (name : DialogName) (held : HeldDialog)
+    → dialog_at name (side_held (call_from calls None inputs)).dialogs ≡ Some held
+    → (history : History) × (history_of calls name inputs ≡ Some history)
+    × (held.dialog ≡ dialog_after history.opening history.life)
+    × (how_many history.life ≡ length history.sent)
+    × NumberedAfter (opened history.opening).local_cseq history.sent
+told_at calls inputs differ name held at =
+    told_so name (dialog_at name (side_held (call_from calls None inputs)).dialogs)
+    (history_of calls name inputs) ((sound_after calls inputs differ).stand name) held at
 
 pub holds_its_history : HoldsItsHistory
 holds_its_history calls inputs differ name held at =
-    told_so name (dialog_at name (side_held (call_from calls None inputs)).dialogs)
-    (history_of calls name inputs)
-    (from calls inputs None (λ name. None) (none_apart is_named) differ (λ name. tt) name) held at
+    let so = told_at calls inputs differ name held at in (so.0, so.1, so.2)
+
+pub has_its_name : HasItsName
+has_its_name calls inputs differ name held at =
+    are_named (call_from calls None inputs) (λ name. history_of calls name inputs) []
+    (sound_after calls inputs differ).stand name held at
 
 -- ---- what follows
 
 pub counts_its_requests : CountsItsRequests
 counts_its_requests calls inputs differ name held at =
-    let so = holds_its_history calls inputs differ name held at in
-    (so.0, so.1, ap (λ (dialog : Dialog). dialog.local_cseq) so.2)
+    let so = told_at calls inputs differ name held at in
+    let first = (opened (so.0).opening).local_cseq in (
+      so.0,
+      so.1,
+      ap (λ (dialog : Dialog). dialog.local_cseq) so.2 ∙ ap (λ n. first + n) so.3,
+    )
+
+pub numbers_its_requests : NumbersItsRequests
+numbers_its_requests calls inputs differ name held at =
+    let so = told_at calls inputs differ name held at in (so.0, so.1, so.4)
+
+pub has_the_next_number : HasTheNextNumber
+has_the_next_number calls inputs input differ name =
+    let call = call_from calls None inputs in
+    let sound = sound_after calls inputs differ in
+    let named = are_named call (λ name. history_of calls name inputs) [] sound.stand in
+    (by_input calls call input.input input.moment sound.apart named).2 name
 
 pub has_the_greatest_number : HasTheGreatestNumber
 has_the_greatest_number calls inputs differ name held at =
-    let so = holds_its_history calls inputs differ name held at in
+    let so = told_at calls inputs differ name held at in
     (so.0, so.1, ap (λ (dialog : Dialog). dialog.remote_cseq) so.2)
 
 pub has_the_latest_route : HasTheLatestRoute
 has_the_latest_route calls inputs differ name held at =
-    let so = holds_its_history calls inputs differ name held at in (
+    let so = told_at calls inputs differ name held at in (
       so.0,
       so.1,
       (

@@ -10,7 +10,7 @@ use Rattle.sip_calls.specs.Call.{kept_call}
 use Rattle.sip_calls.specs.Sides.{holds_any, side_of}
 use Rattle.sip_calls.specs.Provisionals.{side_held}
 
-some_items : {X : Type 0} (x : X) (xs : List X) → nat_lt 0 (length (x ∷ xs)) ≡ true
+pub some_items : {X : Type 0} (x : X) (xs : List X) → nat_lt 0 (length (x ∷ xs)) ≡ true
 some_items x xs = grind (arith, common_steps)
 
 not_none : {X : Type 0} (x : X) (xs : List X) → not (length (x ∷ xs) == 0) ≡ true

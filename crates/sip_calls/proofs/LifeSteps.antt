@@ -1,8 +1,7 @@
 -- Each input of a call: what happens in the dialog of each name, which stays, is over or is made anew.
-use Rattle.std.proofs.Common.{◌≡◌, ℕ, Bool, true, false, not, List, [], ◌∷◌, ◌++◌, refl, sym, ap, subst, ◌∙◌, append-nil}
+use Rattle.std.proofs.Common.{◌≡◌, ℕ, Bool, true, false, not, List, [], ◌++◌, refl, sym, ap, subst, ◌∙◌, append-nil}
 use Rattle.std.specs.Prelude.{Option, None, Some}
 use Rattle.sip_message.specs.declared.id.Id.{Id}
-use Rattle.sip_dialog.specs.Life.{Happening}
 use Rattle.sip_dialog.specs.Opening.{Opening}
 use Rattle.sip_transactions.specs.declared.output.Kind.{Kind}
 use Rattle.sip_transactions.specs.declared.output.Kind.TheVariants as kind
@@ -16,20 +15,20 @@ use Rattle.sip_common.specs.declared.item.Item.TheVariants.{Up, User}
 use Rattle.sip_common.specs.declared.notice.Notice.{Notice}
 use Rattle.sip_common.specs.declared.notice.Notice.TheVariants as notice
 use Rattle.sip_common.specs.Dialogs.{Dialogs, dialog_at, is_named}
-use Rattle.sip_common.specs.Sent.{sent_in}
+use Rattle.sip_common.specs.Sent.{cseqs_in, number_before, sent_in}
 use Rattle.sip_common.proofs.Entries.{none_apart}
-use Rattle.sip_common.proofs.Heard.{AreApart, Leads, Lives, Moves, leads_as, leads_filtered, leads_same, moves_as, moves_led, none_came, quiet}
-use Rattle.sip_common.proofs.Starts.{none_sent, starts}
+use Rattle.sip_common.proofs.Heard.{AreApart, Leads, Lives, Moves, leads_filtered, leads_same, moves_as, moves_led, none_came, quiet}
+use Rattle.sip_common.proofs.Starts.{none_sent, numbered_silent, starts}
 use Rattle.sip_served.specs.Happenings.{accepts, answer_confirms, answer_opens}
 use Rattle.sip_served.proofs.DialogSteps.{ack_leads as server_ack, request_leads as server_request, respond_moves}
 use Rattle.sip_served.proofs.NoStarts.{kind_starts, respond_starts}
 use Rattle.sip_clients.specs.Client.{Side, client_at}
 use Rattle.sip_clients.specs.Tick.{ends_at}
-use Rattle.sip_clients.proofs.ClientLives.{AreNamed, ack_lives, by_outs, cancel_lives, lost_lives, prack_lives, request_lives, response_lives, silent_outs}
+use Rattle.sip_clients.proofs.ClientLives.{AreNamed, AreNumbered, Sends, ack_lives, by_outs, cancel_lives, lost_lives, prack_lives, request_lives, response_lives, sends_none, silent_outs}
 use Rattle.sip_calls.specs.declared.call.Call.{Call}
 use Rattle.sip_calls.specs.declared.calls.Calls.{Calls}
 use Rattle.sip_calls.specs.Call.{CallItem, call_step, command_taken, event_of, first_command_taken, kept, lost_taken, new_call, tag_of_answers, up_taken}
-use Rattle.sip_calls.specs.Histories.{brought_by, brought_by_command, brought_by_kind, life_in, opening_by, opening_by_command, opening_by_kind, opening_in}
+use Rattle.sip_calls.specs.Histories.{brought_by_command, brought_by_kind, life_in, opening_by_command, opening_by_kind, opening_in}
 use Rattle.sip_calls.specs.Provisionals.{event_in, event_of_kind, side_held}
 use Rattle.sip_calls.specs.Sides.{CallTaken, side_of, ticked}
 use Rattle.sip_calls.proofs.CallStarts.{tick_silent_of}
@@ -42,20 +41,21 @@ dialogs_of call = ((call.served).state).dialogs
 abbrev with_outs : Lives → List CallOut → Lives
 with_outs brought outs name held = brought name held ++ sent_in name outs
 
--- after this is given, whatever was heard
+-- after this is given, whatever was heard; the requests that go out have the next numbers
 abbrev pub MovesTo : Option Id → Option Opening → Lives → List CallOut → Dialogs → Dialogs → Type 0
 MovesTo event start lives outs before after = (came : DialogName → Option ℕ)
     × Moves event start came lives (λ name. sent_in name outs) before after
+    × AreNumbered start before outs
 
 abbrev Step : Option Id → Option Opening → Lives → Call → CallTaken → Type 0
 Step event start brought call taken =
     MovesTo event start (with_outs brought taken.1) taken.1 (dialogs_of call) (dialogs_of taken.0)
 
-led : (event : Option Id) (start : Option Opening) (lives : Lives) (outs : List CallOut)
-    (before after : Dialogs) → Leads lives before after
-    → MovesTo event start lives outs before after
-led event start lives outs before after leads =
-    (none_came, moves_led event start (λ name. sent_in name outs) lives before after leads)
+led : (event : Option Id) (lives : Lives) (outs : List CallOut) (before after : Dialogs)
+    → Leads lives before after → AreNumbered None before outs
+    → MovesTo event None lives outs before after
+led event lives outs before after leads numbered =
+    (none_came, moves_led event None (λ name. sent_in name outs) lives before after leads, numbered)
 
 -- where nothing goes out
 without_outs : (event : Option Id) (start : Option Opening) (brought : Lives) (call : Call)
@@ -69,6 +69,7 @@ without_outs event start brought call taken none moves = (
       (λ name held at. sym (ap (λ xs. brought name held ++ xs) (none_sent name taken.1 none)
       ∙ append-nil (brought name held)))
       (λ name. sym (none_sent name taken.1 none)) moves,
+  λ name. numbered_silent (number_before start (dialog_at name (dialogs_of call))) name taken.1 none,
 )
 
 -- ---- what comes up
@@ -78,8 +79,9 @@ lost_step : (call : Call) (id : Id) (notice : Notice) (timed_out : Bool)
     → Step None None quiet call (lost_taken call id notice timed_out)
 lost_step call id notice timed_out apart =
     let taken = lost_taken call id notice timed_out in
-    led None None (with_outs quiet taken.1) taken.1 (dialogs_of call) (dialogs_of taken.0)
-    (lost_lives id timed_out (client_at id call.clients) (side_of call) apart)
+    let sends = lost_lives id timed_out (client_at id call.clients) (side_of call) apart in
+    led None (with_outs quiet taken.1) taken.1 (dialogs_of call) (dialogs_of taken.0) sends.leads
+    sends.numbered
 
 up_step : (call : Call) (calls : Calls) (id : Id) (now : ℕ) (up : AnUp) (k : Kind)
     → AreApart (dialogs_of call) → AreNamed (dialogs_of call)
@@ -109,11 +111,20 @@ up_step call calls id now up kind.Failed apart named =
 
 -- ---- a command of the user, and a tick
 
-command_leads : (id : Id) (call : Call) (taken : CallTaken)
-    → Leads (by_outs taken.1) (dialogs_of call) (dialogs_of taken.0)
+command_sends : (id : Id) (call : Call) (taken : CallTaken)
+    → Sends taken.1 (dialogs_of call) (dialogs_of taken.0)
     → Step (Some id) None quiet call taken
-command_leads id call taken leads =
-    led (Some id) None (with_outs quiet taken.1) taken.1 (dialogs_of call) (dialogs_of taken.0) leads
+command_sends id call taken sends =
+    led (Some id) (with_outs quiet taken.1) taken.1 (dialogs_of call) (dialogs_of taken.0)
+    sends.leads sends.numbered
+
+-- a command that is refused, since the call is held
+command_refused : (id : Id) (call : Call) (outs : List CallOut)
+    → ((name : DialogName) → [] ≡ cseqs_in name outs) → AreApart (dialogs_of call)
+    → Step (Some id) None quiet call (call, outs)
+command_refused id call outs none apart =
+    command_sends id call (call, outs)
+    (sends_none outs none (dialogs_of call) (dialogs_of call) (leads_same (dialogs_of call) apart))
 
 command_step : (call : Call) (calls : Calls) (id : Id) (now : ℕ) (command : UserCommand)
     → AreApart (dialogs_of call) → AreNamed (dialogs_of call)
@@ -122,13 +133,13 @@ command_step : (call : Call) (calls : Calls) (id : Id) (now : ℕ) (command : Us
     (command_taken call (event_of calls id now) command).1 name held) call
     (command_taken call (event_of calls id now) command)
 command_step call calls id now (Invite invite) apart named =
-    command_leads id call (command_taken call (event_of calls id now) (Invite invite))
-    (leads_same (dialogs_of call) apart)
+    command_refused id call (command_taken call (event_of calls id now) (Invite invite)).1
+    (λ name. refl) apart
 command_step call calls id now (PlainCommand plain) apart named =
-    command_leads id call (command_taken call (event_of calls id now) (PlainCommand plain))
-    (leads_same (dialogs_of call) apart)
+    command_refused id call (command_taken call (event_of calls id now) (PlainCommand plain)).1
+    (λ name. refl) apart
 command_step call calls id now (Request request) apart named =
-    command_leads id call (command_taken call (event_of calls id now) (Request request))
+    command_sends id call (command_taken call (event_of calls id now) (Request request))
     (request_lives (event_of calls id now) (side_of call) apart named request)
 command_step call calls id now (Respond respond) apart named =
     let taken = command_taken call (event_of calls id now) (Respond respond) in
@@ -137,13 +148,13 @@ command_step call calls id now (Respond respond) apart named =
     (respond_starts (call.served).state id respond now)
     (respond_moves id (call.served).state respond now apart)
 command_step call calls id now (Ack ack) apart named =
-    command_leads id call (command_taken call (event_of calls id now) (Ack ack))
+    command_sends id call (command_taken call (event_of calls id now) (Ack ack))
     (ack_lives (event_of calls id now) (side_of call) apart named ack)
 command_step call calls id now (Prack prack) apart named =
-    command_leads id call (command_taken call (event_of calls id now) (Prack prack))
+    command_sends id call (command_taken call (event_of calls id now) (Prack prack))
     (prack_lives (event_of calls id now) (side_of call) apart named prack)
 command_step call calls id now (Cancel cancel) apart named =
-    command_leads id call (command_taken call (event_of calls id now) (Cancel cancel))
+    command_sends id call (command_taken call (event_of calls id now) (Cancel cancel))
     (cancel_lives (event_of calls id now) (side_of call) apart named cancel)
 
 tick_step : (call : Call) (now : ℕ) → AreApart (dialogs_of call)
@@ -151,16 +162,17 @@ tick_step : (call : Call) (now : ℕ) → AreApart (dialogs_of call)
     (dialogs_of (ticked call now).0)
 tick_step call now apart =
     let taken = ticked call now in
-    led None None (by_outs taken.1) taken.1 (dialogs_of call) (dialogs_of taken.0)
-    (silent_outs taken.1 (tick_silent_of call now) (dialogs_of call) (dialogs_of taken.0)
-    (leads_filtered (λ held. not (ends_at now call.clients held)) (dialogs_of call) apart))
+    let sends = silent_outs taken.1 (tick_silent_of call now) (dialogs_of call) (dialogs_of taken.0)
+    (leads_filtered (λ held. not (ends_at now call.clients held)) (dialogs_of call) apart) in
+    led None (by_outs taken.1) taken.1 (dialogs_of call) (dialogs_of taken.0) sends.leads
+    sends.numbered
 
 -- ---- a call of which nothing is held
 
-none_held : (event : Option Id) (start : Option Opening) (lives : Lives) (outs : List CallOut)
-    → MovesTo event start lives outs [] []
-none_held event start lives outs =
-    led event start lives outs [] [] record { apart = none_apart is_named; stays = λ name. tt }
+none_held : (event : Option Id) (lives : Lives) (outs : List CallOut)
+    → MovesTo event None lives outs [] []
+none_held event lives outs =
+    led event lives outs [] [] record { apart = none_apart is_named; stays = λ name. tt } (λ name. tt)
 
 no_opening : (local : Calls) (id : Id) (k : Kind)
     → opening_by_kind (new_call local.local) id k ≡ None
@@ -171,15 +183,16 @@ no_opening local id kind.Timeout = refl
 no_opening local id kind.Failed = refl
 
 -- what happens in a dialog of none is whatever is said of it
-of_none : (event : Option Id) (start other : Option Opening) (lives others : Lives)
-    (outs : List CallOut) (after : Dialogs) → start ≡ other → MovesTo event start lives outs [] after
-    → MovesTo event other others outs [] after
-of_none event start other lives others outs after same moves = (
+of_none : (event : Option Id) (start : Option Opening) (lives others : Lives)
+    (outs : List CallOut) (after : Dialogs) → start ≡ None → MovesTo event start lives outs [] after
+    → MovesTo event None others outs [] after
+of_none event start lives others outs after none moves = (
   moves.0,
-  moves_as event other moves.0 lives others (λ name. sent_in name outs) (λ name. sent_in name outs)
+  moves_as event None moves.0 lives others (λ name. sent_in name outs) (λ name. sent_in name outs)
       [] after (λ name held at. absurd (never held at)) (λ name. refl)
       (subst (λ (o : Option Opening). Moves event o moves.0 lives (λ name. sent_in name outs) []
-      after) same moves.1),
+      after) none moves.1),
+  λ name. tt,
 )
   where
     never : (held : HeldDialog) → None ≡ Some held → ⊥
@@ -203,7 +216,7 @@ first_command : (calls : Calls) (id : Id) (now : ℕ) (command : UserCommand)
 first_command calls id now command =
     let outs = (first_command_taken (new_call calls.local) (event_of calls id now) command).1 in
     subst (λ (after : Dialogs). MovesTo (Some id) None (by_outs outs) outs [] after)
-    (first_none calls id now command) (none_held (Some id) None (by_outs outs) outs)
+    (first_none calls id now command) (none_held (Some id) (by_outs outs) outs)
 
 -- ---- all of it
 
@@ -221,7 +234,7 @@ kept_step event start lives before taken step =
 pub by_input : (calls : Calls) (state : Option Call) (input : Option CallItem) (now : ℕ)
     → AreApart (side_held state).dialogs → AreNamed (side_held state).dialogs
     → InputMoves state input (call_step calls state input now)
-by_input calls None None now apart named = none_held None None (by_outs []) []
+by_input calls None None now apart named = none_held None (by_outs []) []
 by_input calls (Some call) None now apart named =
     let taken = ticked call now in
     kept_step None None (by_outs taken.1) (dialogs_of call) taken (tick_step call now apart)
@@ -229,7 +242,7 @@ by_input calls None (Some (id, Up up)) now apart named =
     let call = new_call calls.local in
     let taken = up_taken call (event_of calls id now) up up.kind in
     kept_step (event_of_kind id up.kind) None (by_outs taken.1) [] taken
-    (of_none (event_of_kind id up.kind) (opening_by_kind call up.id up.kind) None
+    (of_none (event_of_kind id up.kind) (opening_by_kind call up.id up.kind)
     (with_outs (brought_by_kind call up.id up.kind) taken.1) (by_outs taken.1) taken.1
     (dialogs_of taken.0) (no_opening calls up.id up.kind)
     (up_step call calls id now up up.kind apart named))

@@ -1,11 +1,12 @@
 -- The history of the dialog of a name over all inputs of a call: how it opened, and what happened in
 -- it since (RFC 3261, section 12).
-use Rattle.std.specs.Prelude.{◌≡◌, ℕ, ◌+◌, Bool, false, List, [], ◌∷◌, ◌++◌, Option, None, Some, count_by, filter_map, fold, if◌then◌else◌}
+use Rattle.std.specs.Prelude.{◌≡◌, ◌+◌, Bool, true, false, List, [], ◌∷◌, ◌++◌, Option, None, Some, filter_map, fold, length, if◌then◌else◌}
 use Rattle.std.specs.Option.{option_map, option_map_or}
 use Rattle.sip_model.specs.Machine.{Timed}
+use Rattle.sip_message.specs.declared.cseq.CSeq.{CSeq}
 use Rattle.sip_message.specs.declared.id.Id.{Id}
 use Rattle.sip_dialog.specs.declared.dialog.Dialog.{Dialog}
-use Rattle.sip_dialog.specs.Life.{Happening, accepted_number, dialog_after, greater, routes_by, takes_number, target_by}
+use Rattle.sip_dialog.specs.Life.{Happening, accepted_number, dialog_after, greater, routes_by, target_by}
 use Rattle.sip_dialog.specs.Opening.{Opening, opened}
 use Rattle.sip_transactions.specs.declared.output.Kind.{Kind}
 use Rattle.sip_transactions.specs.declared.output.Kind.TheVariants as kind
@@ -16,8 +17,8 @@ use Rattle.sip_common.specs.declared.held_dialog.HeldDialog.{HeldDialog}
 use Rattle.sip_common.specs.declared.item.CallOut.{CallOut}
 use Rattle.sip_common.specs.declared.item.Item.{Item}
 use Rattle.sip_common.specs.declared.item.Item.TheVariants.{Up, User}
-use Rattle.sip_common.specs.Dialogs.{Dialogs, dialog_at, lives}
-use Rattle.sip_common.specs.Sent.{sent_in}
+use Rattle.sip_common.specs.Dialogs.{Dialogs, dialog_at, is_named, lives}
+use Rattle.sip_common.specs.Sent.{NumberedAfter, NumberedFrom, cseqs_in, name_of_dialog, number_before, requests_made, sent_in}
 use Rattle.sip_served.specs.Happenings.{accepts, answer_confirms, answer_opens}
 use Rattle.sip_clients.specs.Happenings.{response_brings, response_opens}
 use Rattle.sip_calls.specs.declared.call.Call.{Call}
@@ -43,6 +44,7 @@ brought_by_command call (Respond respond) outs name held =
     answer_confirms (call.served).state respond outs name held
 brought_by_command call _ outs name held = []
 
+-- what an item does so
 abbrev pub brought_by : Call → Item → List CallOut → DialogName → HeldDialog → List Happening
 brought_by call (Up up) outs name held = brought_by_kind call up.id up.kind name held
 brought_by call (User command) outs name held = brought_by_command call command outs name held
@@ -54,20 +56,22 @@ life_in (Some call) (Some (id, item)) outs name held =
     brought_by call item outs name held ++ sent_in name outs
 life_in _ _ outs name held = sent_in name outs
 
--- the opening of a dialog that an input makes: a response with its request, or a request with the
--- answer to it
+-- the opening of a dialog that a message makes: a response, with its request
 abbrev pub opening_by_kind : Call → Id → Kind → Option Opening
 opening_by_kind call id (kind.Response response) = response_opens id response call.clients
 opening_by_kind call id _ = None
 
+-- that which a command of the user makes: a request, with the answer to it
 abbrev pub opening_by_command : Call → UserCommand → Option Opening
 opening_by_command call (Respond respond) = answer_opens (call.served).state respond
 opening_by_command call _ = None
 
+-- that which an item makes
 abbrev pub opening_by : Call → Item → Option Opening
 opening_by call (Up up) = opening_by_kind call up.id up.kind
 opening_by call (User command) = opening_by_command call command
 
+-- that which an input makes; where nothing is held none is made
 abbrev pub opening_in : Option Call → Option CallItem → Option Opening
 opening_in (Some call) (Some (id, item)) = opening_by call item
 opening_in _ _ = None
@@ -79,14 +83,21 @@ is_born_of name event dialogs =
 
 -- ---- a list of inputs
 
--- how a dialog opened, and what happened in it since
+-- how a dialog opened, what happened in it since, and the CSeqs of the requests that went out in it
 pub record History : Type 0 where
   pub opening : Opening
   pub life : List Happening
+  pub sent : List CSeq
 
 -- more happens in it
-abbrev pub lasted : List Happening → History → History
-lasted more history = record history { life = history.life ++ more }
+abbrev pub with_more : List Happening → List CSeq → History → History
+with_more more cseqs history =
+    record history { life = history.life ++ more; sent = history.sent ++ cseqs }
+
+-- the requests that went out are all that happened
+abbrev pub begun_with : List CSeq → Opening → History
+begun_with cseqs opening =
+    record { opening = opening; life = requests_made cseqs; sent = cseqs }
 
 -- the call after all inputs
 abbrev pub call_from : Calls → Option Call → List (Timed CallItem) → Option Call
@@ -95,17 +106,17 @@ call_from calls call (input ∷ inputs) =
     call_from calls (call_step calls call input.input input.moment).0 inputs
 
 module _ (calls : Calls) (name : DialogName) where
-  -- it begins anew where the input makes the dialog; then the requests that go out in it are all
-  -- that happened
+  -- it begins anew where the input makes the dialog
   abbrev pub history_after : Option Call → Option History → Timed CallItem → Option History
   history_after call history timed =
       let done = call_step calls call timed.input timed.moment in
+      let cseqs = cseqs_in name done.1 in
       if is_born_of name (event_in timed.input) (side_held done.0).dialogs
-      then option_map (λ opening. record { opening = opening; life = sent_in name done.1 })
-      (opening_in call timed.input)
-      else option_map (lasted (option_map_or (life_in call timed.input done.1 name)
-      (dialog_at name (side_held call).dialogs) [])) history
+      then option_map (begun_with cseqs) (opening_in call timed.input)
+      else option_map (with_more (option_map_or (life_in call timed.input done.1 name)
+      (dialog_at name (side_held call).dialogs) []) cseqs) history
 
+  -- after a list of inputs, from what was held and its history
   abbrev pub history_from : Option Call → Option History → List (Timed CallItem) → Option History
   history_from call history [] = history
   history_from call history (input ∷ inputs) =
@@ -132,10 +143,31 @@ abbrev pub HoldsItsHistory : Type 0
 HoldsItsHistory =
     OfEachDialog (λ history dialog. dialog ≡ dialog_after history.opening history.life)
 
+-- it is held under the name of its tags
+abbrev pub HasItsName : Type 0
+HasItsName = (calls : Calls) (inputs : List (Timed CallItem)) → EventsDiffer inputs
+    → (name : DialogName) (held : HeldDialog)
+    → dialog_at name (side_held (call_from calls None inputs)).dialogs ≡ Some held
+    → is_named name (name_of_dialog held.dialog) ≡ true
+
 -- its local CSeq is that of its opening, and one more for each request that went out in it
 abbrev pub CountsItsRequests : Type 0
 CountsItsRequests = OfEachDialog (λ history dialog. dialog.local_cseq
-    ≡ (opened history.opening).local_cseq + count_by takes_number history.life)
+    ≡ (opened history.opening).local_cseq + length history.sent)
+
+-- each of these had the number after that of the one before it
+abbrev pub NumbersItsRequests : Type 0
+NumbersItsRequests = OfEachDialog (λ history dialog.
+    NumberedAfter (opened history.opening).local_cseq history.sent)
+
+-- Whatever came to a call before: the requests that an input sends in a dialog, one that is held or
+-- that it opens, have the numbers after its local CSeq; so has the BYE that ends it.
+abbrev pub HasTheNextNumber : Type 0
+HasTheNextNumber = (calls : Calls) (inputs : List (Timed CallItem)) (input : Timed CallItem)
+    → EventsDiffer inputs → (name : DialogName) → let call = call_from calls None inputs in
+    NumberedFrom
+    (number_before (opening_in call input.input) (dialog_at name (side_held call).dialogs))
+    (cseqs_in name (call_step calls call input.input input.moment).1)
 
 -- its remote CSeq is the greatest number that was accepted
 abbrev pub HasTheGreatestNumber : Type 0

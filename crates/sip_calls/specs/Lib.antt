@@ -1,3 +1,4 @@
+pub mod Awaiting
 pub mod Call
 pub mod CallShard
 pub mod Histories

@@ -1,6 +1,7 @@
 //! Laws of calls.
 
-ghost use Rattle.sip_calls.specs.Histories.{CountsItsRequests, HasTheGreatestNumber, HasTheLatestRoute, HoldsItsHistory};
+ghost use Rattle.sip_calls.specs.Awaiting.{AwaitsAsTold};
+ghost use Rattle.sip_calls.specs.Histories.{CountsItsRequests, HasItsName, HasTheGreatestNumber, HasTheLatestRoute, HasTheNextNumber, HoldsItsHistory, NumbersItsRequests};
 ghost use Rattle.sip_calls.specs.OwnCall.{EachNoticeIsOwn};
 ghost use Rattle.sip_calls.specs.Provisionals.{ShownConsecutive, ShownInOrder, ShownOnce};
 ghost use Rattle.sip_calls.specs.RefusedCommands.{RefusedAlone};
@@ -39,11 +40,22 @@ pub fn each_request_is_told_once()
 /// its opening and all that happened in it since make. It opened by a message at one of the inputs;
 /// since then requests of the peer were accepted in it, responses and answers confirmed it or gave
 /// it another target, and requests of the agent went out in it. So its local CSeq is that of its
-/// opening and one more for each request that went out in it, its remote CSeq the greatest that was
-/// accepted, and its routes and its target are those that came last (RFC 3261, section 12).
+/// opening and one more for each request that went out in it, and each of these had the number after
+/// the one before it; its remote CSeq is the greatest that was accepted, and its routes and its
+/// target are those that came last (RFC 3261, section 12).
 pub fn a_dialog_holds_its_history()
     ensures history { HoldsItsHistory }
+    ensures name { HasItsName }
     ensures local { CountsItsRequests }
+    ensures numbers { NumbersItsRequests }
+    ensures next { HasTheNextNumber }
     ensures remote { HasTheGreatestNumber }
     ensures route { HasTheLatestRoute }
+{}
+
+/// Whatever comes to a call, where no id of a request comes up twice: a held INVITE awaits its ACK
+/// where a 2xx to it went out, and the user was told neither of its ACK nor that none came since
+/// (RFC 3261, section 13.3.1.4).
+pub fn an_invite_awaits_its_ack_as_told()
+    ensures { AwaitsAsTold }
 {}

@@ -1,7 +1,7 @@
 -- What the client side makes happen in the dialog of each name, which stays, is over or is made anew,
 -- and what is heard in it of the reliable provisional responses to the first INVITE.
-use Rattle.std.proofs.Common.{◌≡◌, inl, inr, ℕ, Bool, true, false, not, ◌&&◌, cond, List, [], ◌∷◌, refl, sym, ap, subst, ◌∙◌}
-use Rattle.std.specs.Prelude.{Option, None, Some, codes, filter, if◌then◌else◌}
+use Rattle.std.proofs.Common.{◌≡◌, inl, inr, ℕ, Bool, true, false, not, ◌&&◌, cond, List, [], refl, sym, ap, subst, ◌∙◌}
+use Rattle.std.specs.Prelude.{Option, None, Some, codes, filter, fold, if◌then◌else◌}
 use Rattle.indexmap.specs.IndexMap.{insert_entry}
 use Rattle.sip_message.specs.declared.id.Id.{Id}
 use Rattle.sip_message.specs.declared.message.Message.{Message}
@@ -9,17 +9,16 @@ use Rattle.sip_message.specs.Party.{tag_of}
 use Rattle.sip_dialog.specs.declared.dialog.Dialog.{Dialog}
 use Rattle.sip_dialog.specs.declared.fault.DialogFault.{DialogFault}
 use Rattle.sip_dialog.specs.Fault.{request_fault}
-use Rattle.sip_dialog.specs.Life.{Happening, Requests}
+use Rattle.sip_dialog.specs.Life.{Happening}
 use Rattle.sip_dialog.specs.Opening.{ByResponse, Opening, contact_uri, opened as dialog_opened}
 use Rattle.sip_common.specs.declared.debt.Debt.{Debt}
 use Rattle.sip_common.specs.declared.debt.Debt.TheVariants.{Ack, Prack}
 use Rattle.sip_common.specs.declared.held_dialog.DialogName.{DialogName}
 use Rattle.sip_common.specs.declared.held_dialog.HeldDialog.{HeldDialog}
 use Rattle.sip_common.specs.declared.item.CallOut.{CallOut}
-use Rattle.sip_common.specs.Dialogs.{dialog_at, ended_at, is_early_of, is_named, lives, Dialogs}
-use Rattle.sip_common.specs.Lives.{AllFit}
+use Rattle.sip_common.specs.Dialogs.{dialog_at, ended_at, happened, is_early_of, is_named, lives, Dialogs}
 use Rattle.sip_common.specs.Requests.{is_final, name_of_tags}
-use Rattle.sip_common.specs.Sent.{name_of_dialog}
+use Rattle.sip_common.specs.Sent.{name_of_dialog, requests_made}
 use Rattle.sip_clients.specs.declared.client.RequestKind.{RequestKind}
 use Rattle.sip_clients.specs.declared.client.RequestKind.TheVariants.{First, Again, Inside, Plain}
 use Rattle.sip_clients.specs.declared.client.Client.{Client}
@@ -41,17 +40,19 @@ use Rattle.sip_clients.specs.Replied.{ack_owed, by_case, heard_first, offer_to, 
 use Rattle.sip_clients.specs.Reply.{heard_of, is_of_dialog, is_there, reliable_case, reply_case, rseq_of}
 use Rattle.sip_clients.specs.Service.{Outcome, discharged, sending_in, sends}
 use Rattle.sip_common.proofs.Entries as entries
-use Rattle.sip_common.proofs.Heard.{AreApart, Goes, Keeps, Leads, Life, Moves, OpensBy, Stays, in_one, keeps_same, keeps_then, leads_changed, leads_filtered, leads_removed, leads_same, leads_then, name_laws, none_either, nothing, quiet, same_name, stays_same, tag_kept}
+use Rattle.sip_common.proofs.Heard.{AreApart, Goes, Grows, Keeps, Leads, Life, Moves, OpensBy, Stays, in_one, keeps_same, keeps_then, leads_changed, leads_filtered, leads_removed, leads_same, leads_then, name_laws, none_either, nothing, quiet, same_name, stays_same, tag_kept}
 use Rattle.sip_common.proofs.Lives.{cases_fit}
-use Rattle.sip_clients.proofs.SentIn.{discharge_life, request_life, unless_refused}
+use Rattle.sip_clients.proofs.SentIn.{asks, discharge_life, request_life, unless_refused}
 use Rattle.sip_clients.proofs.Served.{served_dialogs}
 
 -- ---- what is sent in a dialog, owed and paid
 
-sends_fit : (method : List ℕ) (fault : Option DialogFault) (dialog : Dialog)
-    → AllFit dialog (sends method fault)
-sends_fit method None dialog = (tt, tt)
-sends_fit method (Some fault) dialog = tt
+-- the requests that a dialog doesn't refuse are made in it
+sends_made : (method : List ℕ) (fault : Option DialogFault) (dialog : Dialog)
+    → Grows dialog (requests_made (asks method fault dialog))
+    (fold happened dialog (sends method fault))
+sends_made method None dialog = ((tt, tt), refl)
+sends_made method (Some fault) dialog = (tt, refl)
 
 discharged_keeps : (event : Event) (debt : Debt) (offer : Option (List ℕ)) (held : HeldDialog)
     → Keeps None (discharge_life debt offer held.dialog) held (discharged event debt offer held).0
@@ -61,7 +62,7 @@ discharged_keeps event (Prack rseq number) None held = keeps_same held
 discharged_keeps event (Ack invite number) (Some body) held = keeps_same held
 discharged_keeps event (Prack rseq number) (Some body) held =
     let fault = request_fault held.dialog (codes "PRACK") in
-    (refl, refl, (sends_fit (codes "PRACK") fault held.dialog, refl))
+    (refl, refl, sends_made (codes "PRACK") fault held.dialog)
 
 unless_sent_keeps : (debt : Debt) (service : Service) (held : HeldDialog)
     → Keeps None [] held (kept_unless_sent debt service held)
@@ -100,7 +101,7 @@ request_keeps event method body held =
     unless (first_refusal (request_refusals held.dialog method) None)
   where
     unless : (refusal : Option ARefusal)
-        → Keeps None (unless_refused refusal method) held
+        → Keeps None (requests_made (unless_refused refusal method held.dialog)) held
         (sent_unless refusal (sending_in event method None body held) held).0
     unless None = (refl, refl, ((tt, tt), refl))
     unless (Some refusal) = keeps_same held
@@ -280,7 +281,7 @@ module _ (event : Option Id) (client : Client) (answer : Answer)
   opened_goes : (found : Option HeldDialog) → IsNamedSo client answer found
       → GoesHere reply.Early found (opened client answer found)
   opened_goes None named other same =
-      inr (made, refl, (start, opens_so named other same, (tt, refl)))
+      inr (made, refl, (start, opens_so named other same, (tt, refl)), inl refl)
   opened_goes (Some held) named other same = inl (keeps_same held)
 
   ack_goes : (found : Option HeldDialog) → IsNamedSo client answer found
@@ -301,6 +302,7 @@ module _ (event : Option Id) (client : Client) (answer : Answer)
             made ∙ ap (λ id. Some id) (sym kept.0),
             kept.1,
             (start, opens_so named other same, kept.2),
+            inl refl,
           )
       by_found (Some held) named =
           let before = accepted_in client.kind answer.response held in
@@ -322,6 +324,7 @@ module _ (event : Option Id) (client : Client) (answer : Answer)
         made ∙ ap (λ id. Some id) (sym kept.0),
         kept.1,
         (start, opens_so named other same, kept.2),
+        inl refl,
       )
   owed_goes number (Some held) named other same =
       inl (owed_keeps answer.event (Prack number ((client.request).cseq).number)
@@ -340,6 +343,7 @@ module _ (event : Option Id) (client : Client) (answer : Answer)
         made ∙ ap (λ id. Some id) (sym kept.0),
         kept.1,
         (start, opens_so named other same, kept.2),
+        inl refl,
       )
   heard_goes number (Some held) named other same =
       inl (owed_keeps answer.event (Prack number ((client.request).cseq).number)

@@ -2,10 +2,11 @@
 -- it and what goes out in it.
 use Rattle.std.proofs.Common.{◌≡◌, ℕ, Bool, true, false, not, ◌&&◌, cond, List, [], ◌∷◌, ◌++◌, refl, sym, ap, subst, ◌∙◌, append-nil, nat_le, nat_lt}
 use Rattle.std.specs.Prelude.{Option, None, Some, Result, Ok, Err, find, if◌then◌else◌}
-use Rattle.std.specs.Cmp.{first_so, second_so}
+use Rattle.std.specs.Cmp.{first_so}
 use Rattle.std.specs.List.{cons_option}
 use Rattle.std.specs.Map.{set_value}
 use Rattle.std.specs.Option.{option_map, option_map_or}
+use Rattle.sip_message.specs.declared.cseq.CSeq.{CSeq}
 use Rattle.sip_message.specs.declared.id.Id.{Id}
 use Rattle.sip_message.specs.declared.message.Message.{Message}
 use Rattle.sip_dialog.specs.Life.{Happening}
@@ -27,10 +28,10 @@ use Rattle.sip_common.specs.Dialogs.{Dialogs, dialog_at, is_named}
 use Rattle.sip_common.specs.Ids.{is_id}
 use Rattle.sip_common.specs.Notices.{refused}
 use Rattle.sip_common.specs.Requests.{is_final, is_success}
-use Rattle.sip_common.specs.Sent.{name_of_dialog, request_sent, sent_in}
+use Rattle.sip_common.specs.Sent.{NumberedAfter, NumberedFrom, cseq_of_request, cseqs_in, name_of_dialog, number_before, requests_made, sent_in}
 use Rattle.sip_common.proofs.Entries as entries
 use Rattle.sip_common.proofs.Heard.{AreApart, Leads, Lives, Moves, in_one, leads_as, leads_same, moves_as, moves_led, name_laws, none_came, none_either, quiet}
-use Rattle.sip_common.proofs.Starts.{none_sent, sent_both, starts}
+use Rattle.sip_common.proofs.Starts.{cseqs_both, none_numbered, numbered_none, starts}
 use Rattle.sip_clients.specs.declared.cancel.CancelCase.{CancelCase}
 use Rattle.sip_clients.specs.declared.cancel.CancelCase.TheVariants as asked
 use Rattle.sip_clients.specs.declared.client.Client.{Client}
@@ -46,20 +47,20 @@ use Rattle.sip_clients.specs.declared.reply.ReplyCase.TheVariants as reply
 use Rattle.sip_clients.specs.declared.service.Service.{Service}
 use Rattle.sip_clients.specs.declared.service.Service.TheVariants.{Sent, Waits, Refused}
 use Rattle.sip_clients.specs.Answers.{has_answer}
-use Rattle.sip_clients.specs.Cancel.{cancel_case, cancel_freed, cancel_taken, cancelled_as, cancelled_of, freed_by, noted}
+use Rattle.sip_clients.specs.Cancel.{cancel_case, cancel_taken, cancelled_as, cancelled_of, freed_by, noted}
 use Rattle.sip_clients.specs.Client.{Clients, Side, Taken as ClientTaken, client_at}
 use Rattle.sip_clients.specs.Clients.{ack_paid, ack_taken, found_taken, lost_of, paid_or_refused, prack_paid, prack_taken, reply_name, reply_of, reply_settled, request_taken, response_taken, settled, status_of}
 use Rattle.sip_clients.specs.Commands.{bye_ended, debt_for, debt_or_refusal, name_in, oldest_debt, request_in, requested_at}
 use Rattle.sip_clients.specs.Debts.{is_of, paid}
 use Rattle.sip_clients.specs.Dialogs.{opened, paid_at, served_at}
-use Rattle.sip_clients.specs.Happenings.{reply_brings, response_brings, response_opens, success_brings}
+use Rattle.sip_clients.specs.Happenings.{reply_brings, success_brings}
 use Rattle.sip_clients.specs.Outputs.{request_said, start_command}
 use Rattle.sip_clients.specs.Replied.{Replied, after_dialog, by_case, ends_dialog, finished, heard_first, offer_to, prack_owed, reply_taken}
 use Rattle.sip_clients.specs.Reply.{offer_case, heard_of, is_inviting, is_last, is_of_dialog, is_there, reliable_case, reply_case, rseq_of}
 use Rattle.sip_clients.proofs.ClientDialogs.{IsNamedSo, case_begun, case_life, case_moves, ended_leads, heard_number, may_make, prack_life, reply_names}
 use Rattle.sip_clients.proofs.FewStarts.{ack_said_none, bye_none, lost_none, replies, request_said_none}
-use Rattle.sip_clients.proofs.FirstSides.{ack_leads, lost_leads, paid_in, pay_leads, prack_leads, request_leads, requested_in}
-use Rattle.sip_clients.proofs.SentIn.{beside_sent, discharge_life, owed_sent, paid_sent, request_life, request_sent_in, said_sent, served_sent, service_sent}
+use Rattle.sip_clients.proofs.FirstSides.{ack_leads, lost_leads, paid_in, pay_leads, request_leads}
+use Rattle.sip_clients.proofs.SentIn.{beside_sent, discharge_cseqs, discharge_numbered, owed_sent, paid_sent, request_cseqs, request_numbered, request_sent_in, said_sent, served_sent, service_cseqs}
 
 -- each dialog is held under the name of its tags
 abbrev pub AreNamed : Dialogs → Type 0
@@ -70,28 +71,78 @@ AreNamed dialogs = (name : DialogName) (held : HeldDialog) → dialog_at name di
 abbrev pub by_outs : List CallOut → Lives
 by_outs outs name held = sent_in name outs
 
+-- the requests that go out in it have the numbers after its local CSeq
+abbrev pub AreNumbered : Option Opening → Dialogs → List CallOut → Type 0
+AreNumbered start dialogs outs = (name : DialogName)
+    → NumberedFrom (number_before start (dialog_at name dialogs)) (cseqs_in name outs)
+
+pub record Sends (outs : List CallOut) (before after : Dialogs) : Type 0 where
+  pub leads : Leads (by_outs outs) before after
+  pub numbered : AreNumbered None before outs
+
+pub sends_none : (outs : List CallOut) → ((name : DialogName) → [] ≡ cseqs_in name outs)
+    → (dialogs after : Dialogs) → Leads quiet dialogs after → Sends outs dialogs after
+sends_none outs none dialogs after leads = record {
+  leads = leads_as quiet (by_outs outs) dialogs after (λ name held at. ap requests_made (none name))
+      leads;
+  numbered = λ name. let last = number_before None (dialog_at name dialogs) in
+      subst (NumberedFrom last) (none name) (numbered_none last);
+}
+
 pub silent_outs : (outs : List CallOut) → starts outs ≡ [] → (dialogs after : Dialogs)
-    → Leads quiet dialogs after → Leads (by_outs outs) dialogs after
+    → Leads quiet dialogs after → Sends outs dialogs after
 silent_outs outs none dialogs after leads =
-    leads_as quiet (by_outs outs) dialogs after (λ name held at. sym (none_sent name outs none)) leads
+    sends_none outs (λ name. sym (none_numbered name outs none)) dialogs after leads
 
-sent_after : (name : DialogName) (xs ys : List CallOut) → starts xs ≡ []
-    → sent_in name (xs ++ ys) ≡ sent_in name ys
-sent_after name xs ys none =
-    sent_both name xs ys ∙ ap (λ zs. zs ++ sent_in name ys) (none_sent name xs none)
+made_either : (b : Bool) (cseqs : List CSeq)
+    → cond b (requests_made cseqs) [] ≡ requests_made (cond b cseqs [])
+made_either true cseqs = refl
+made_either false cseqs = refl
 
-sent_between : (name : DialogName) (xs ys zs : List CallOut) → starts xs ≡ [] → starts zs ≡ []
-    → sent_in name ((xs ++ ys) ++ zs) ≡ sent_in name ys
-sent_between name xs ys zs none_x none_z =
-    sent_both name (xs ++ ys) zs
-    ∙ (λ i. sent_after name xs ys none_x i ++ none_sent name zs none_z i)
-    ∙ append-nil (sent_in name ys)
+numbered_either : (b : Bool) (last : ℕ) (cseqs : List CSeq) → NumberedAfter last cseqs
+    → NumberedAfter last (cond b cseqs [])
+numbered_either true last cseqs numbers = numbers
+numbered_either false last cseqs numbers = tt
+
+-- in the dialog of one name
+sends_one : (own : DialogName) (cseqs : HeldDialog → List CSeq) (outs : List CallOut)
+    (dialogs after : Dialogs)
+    → ((held : HeldDialog) → NumberedAfter held.dialog.local_cseq (cseqs held))
+    → ((name : DialogName) (held : HeldDialog) → dialog_at name dialogs ≡ Some held
+    → cond (is_named own name) (cseqs held) [] ≡ cseqs_in name outs)
+    → Leads (in_one own (λ held. requests_made (cseqs held))) dialogs after
+    → Sends outs dialogs after
+sends_one own cseqs outs dialogs after numbers same leads = record {
+  leads = leads_as (in_one own (λ held. requests_made (cseqs held))) (by_outs outs) dialogs after
+      (λ name held at. made_either (is_named own name) (cseqs held)
+      ∙ ap requests_made (same name held at)) leads;
+  numbered = λ name. by_found name (dialog_at name dialogs) refl;
+}
+  where
+    by_found : (name : DialogName) (o : Option HeldDialog) → dialog_at name dialogs ≡ o
+        → NumberedFrom (number_before None o) (cseqs_in name outs)
+    by_found name None at = tt
+    by_found name (Some held) at =
+        subst (NumberedAfter held.dialog.local_cseq) (same name held at)
+        (numbered_either (is_named own name) held.dialog.local_cseq (cseqs held) (numbers held))
+
+after_silent : (name : DialogName) (xs ys : List CallOut) → starts xs ≡ []
+    → cseqs_in name (xs ++ ys) ≡ cseqs_in name ys
+after_silent name xs ys none =
+    cseqs_both name xs ys ∙ ap (λ zs. zs ++ cseqs_in name ys) (none_numbered name xs none)
+
+between_silent : (name : DialogName) (xs ys zs : List CallOut) → starts xs ≡ [] → starts zs ≡ []
+    → cseqs_in name ((xs ++ ys) ++ zs) ≡ cseqs_in name ys
+between_silent name xs ys zs none_x none_z =
+    cseqs_both name (xs ++ ys) zs
+    ∙ (λ i. after_silent name xs ys none_x i ++ none_numbered name zs none_z i)
+    ∙ append-nil (cseqs_in name ys)
 
 -- ---- a request that is lost, and commands of the user
 
 pub lost_lives : (id : Id) (timed_out : Bool) (o : Option Client) (side : Side)
     → AreApart side.dialogs
-    → Leads (by_outs (lost_of id timed_out o side).1) side.dialogs
+    → Sends (lost_of id timed_out o side).1 side.dialogs
     ((lost_of id timed_out o side).0).dialogs
 lost_lives id timed_out o side apart =
     silent_outs (lost_of id timed_out o side).1 (lost_none id timed_out o side) side.dialogs
@@ -100,7 +151,7 @@ lost_lives id timed_out o side apart =
 module _ (event : Event) (side : Side) (apart : AreApart side.dialogs)
     (named : AreNamed side.dialogs) where
   abbrev ByOuts : ClientTaken → Type 0
-  ByOuts taken = Leads (by_outs taken.1) side.dialogs (taken.0).dialogs
+  ByOuts taken = Sends taken.1 side.dialogs (taken.0).dialogs
 
   pub request_lives : (command : DialogRequest) → ByOuts (request_taken event command side)
   unfolding requested_at
@@ -111,14 +162,16 @@ module _ (event : Event) (side : Side) (apart : AreApart side.dialogs)
       let said = request_said event command.call_id name done.1 in
       let after = settled event event.id said.1 side.clients in
       let bye = bye_ended name command.method done.1 done.0 in
-      leads_as (requested_in command) (by_outs (request_taken event command side).1) side.dialogs
+      sends_one name (λ held. request_cseqs command.method held.dialog)
+      (request_taken event command side).1 side.dialogs
       ((request_taken event command side).0).dialogs
+      (λ held. request_numbered command.method held.dialog)
       (λ other held at. served_sent name serve (Refused NoSuchDialog)
-      (λ held. request_life command.method held.dialog) side.dialogs other
+      (λ held. request_cseqs command.method held.dialog) side.dialogs other
       (λ there is. request_sent_in other name event there (named name there is) command.method
       command.body) refl held at
       ∙ sym (said_sent other event event.id command.call_id name done.1 side.clients)
-      ∙ sym (sent_between other said.0 after.1 bye.1
+      ∙ sym (between_silent other said.0 after.1 bye.1
       (request_said_none event command.call_id name done.1)
       (bye_none event name command.method done.1 done.0)))
       (request_leads event command side apart)
@@ -180,13 +233,16 @@ module _ (event : Event) (side : Side) (apart : AreApart side.dialogs)
       let done = paid_at name event debt command.body side.dialogs in
       let said = request_said event command.call_id name done.1 in
       let after = settled event event.id said.1 side.clients in
-      leads_as (paid_in command (Ok debt)) (by_outs (said.0 ++ after.1)) side.dialogs done.0
+      sends_one name (λ held. discharge_cseqs debt (Some command.body) held.dialog)
+      (said.0 ++ after.1) side.dialogs done.0
+      (λ held. discharge_numbered debt (Some command.body) held.dialog)
       (λ other held at. served_sent name (paid event debt command.body) Waits
-      (λ held. discharge_life debt (Some command.body) held.dialog) side.dialogs other
+      (λ held. discharge_cseqs debt (Some command.body) held.dialog) side.dialogs other
       (λ there is. paid_sent other name event there (named name there is) debt command.body) refl
       held at
       ∙ sym (said_sent other event event.id command.call_id name done.1 side.clients)
-      ∙ sym (sent_after other said.0 after.1 (request_said_none event command.call_id name done.1)))
+      ∙ sym (after_silent other said.0 after.1
+      (request_said_none event command.call_id name done.1)))
       (pay_leads event command debt side.dialogs apart)
 
   pub prack_lives : (command : DialogBody) → ByOuts (prack_taken event command side)
@@ -195,41 +251,45 @@ module _ (event : Event) (side : Side) (apart : AreApart side.dialogs)
       (name_in command.local_tag command.remote_tag) side.dialogs)
 
   cancel_by : (as_case : CancelCase) (command : Cancel) (invite : Client) (name : DialogName)
-      → [] ≡ sent_in name (cancelled_as as_case event command invite side.clients).1
+      → [] ≡ cseqs_in name (cancelled_as as_case event command invite side.clients).1
   cancel_by (asked.Refused refusal) command invite name = refl
   cancel_by asked.Repeated command invite name = refl
   cancel_by asked.Waits command invite name = refl
   cancel_by asked.Starts command invite name = sym (beside_sent name (Some event.id) invite (side.clients, []))
 
   cancel_found : (o : Option Client) (command : Cancel) (name : DialogName)
-      → [] ≡ sent_in name (cancelled_of o event command side.clients).1
+      → [] ≡ cseqs_in name (cancelled_of o event command side.clients).1
   cancel_found None command name = refl
   cancel_found (Some invite) command name = cancel_by (cancel_case invite) command invite name
 
   pub cancel_lives : (command : Cancel) → ByOuts (cancel_taken event command side)
   cancel_lives command =
-      leads_as quiet (by_outs (cancel_taken event command side).1) side.dialogs side.dialogs
-      (λ name held at. cancel_found (client_at command.id side.clients) command name)
-      (leads_same side.dialogs apart)
+      sends_none (cancel_taken event command side).1
+      (λ name. cancel_found (client_at command.id side.clients) command name) side.dialogs
+      side.dialogs (leads_same side.dialogs apart)
 
 -- ---- a response
 
 -- what goes out with what becomes of its request
-abbrev change_sent : DialogName → ClientChange → List Happening
-change_sent name Stays = []
-change_sent name Over = []
-change_sent name (Starts client) = cons_option (request_sent name client.request) []
+abbrev change_cseqs : DialogName → ClientChange → List CSeq
+change_cseqs name Stays = []
+change_cseqs name Over = []
+change_cseqs name (Starts client) = cons_option (cseq_of_request name client.request) []
 
-settled_sent : (name : DialogName) (event : Event) (id : Id) (change : ClientChange)
-    (clients : Clients) → sent_in name (settled event id change clients).1 ≡ change_sent name change
+abbrev change_sent : DialogName → ClientChange → List Happening
+change_sent name change = requests_made (change_cseqs name change)
+
+settled_cseqs : (name : DialogName) (event : Event) (id : Id) (change : ClientChange)
+    (clients : Clients)
+    → cseqs_in name (settled event id change clients).1 ≡ change_cseqs name change
 unfolding start_command
-settled_sent name event id Stays clients = refl
-settled_sent name event id Over clients = refl
-settled_sent name event id (Starts client) clients = refl
+settled_cseqs name event id Stays clients = refl
+settled_cseqs name event id Over clients = refl
+settled_cseqs name event id (Starts client) clients = refl
 
 said_change : (name : DialogName) (event : Event) (call_id : List ℕ) (own : DialogName)
     (service : Service)
-    → change_sent name (request_said event call_id own service).1 ≡ service_sent name service
+    → change_cseqs name (request_said event call_id own service).1 ≡ service_cseqs name service
 said_change name event call_id own (Sent sending) = refl
 said_change name event call_id own Waits = refl
 said_change name event call_id own (Refused refusal) = refl
@@ -323,29 +383,93 @@ module _ (event : Event) (id : Id) (call_id : List ℕ) (response : Message) (st
     opened_named None is so = so is
     opened_named (Some held) is so = named own held is
 
-    -- what goes out
-    changes : (case : ReplyCase) → Named case → (name : DialogName)
-        → change_sent name (by_case case client found answer).3
-        ≡ cond (is_named own name) (case_begun (Some event.id) client answer refl case found) []
+    -- what goes out, in a dialog that is opened so
+    abbrev case_cseqs : ReplyCase → Option HeldDialog → List CSeq
+    case_cseqs reply.Repeated o = []
+    case_cseqs reply.Accepted o = []
+    case_cseqs reply.Late o = []
+    case_cseqs (reply.Reliable number) o =
+        discharge_cseqs (Prack number ((client.request).cseq).number) (offer_to client response)
+        (opened client answer o).dialog
+    case_cseqs reply.Passed o = []
+    case_cseqs reply.Early o = []
+    case_cseqs reply.Told o = []
+
+    begun_made : (case : ReplyCase)
+        → requests_made (case_cseqs case found) ≡ case_begun (Some event.id) client answer refl case found
+    begun_made reply.Repeated = refl
+    begun_made reply.Accepted = refl
+    begun_made reply.Late = refl
+    begun_made (reply.Reliable number) = refl
+    begun_made reply.Passed = refl
+    begun_made reply.Early = refl
+    begun_made reply.Told = refl
+
+    goes_out : (case : ReplyCase) → Named case → (name : DialogName)
+        → change_cseqs name (by_case case client found answer).3
+        ≡ cond (is_named own name) (case_cseqs case found) []
     unfolding prack_owed
-    changes reply.Repeated so name = sym (none_either (is_named own name))
-    changes reply.Accepted so name = sym (none_either (is_named own name))
-    changes reply.Late so name = sym (none_either (is_named own name))
-    changes (reply.Reliable number) so name =
+    goes_out reply.Repeated so name = sym (none_either (is_named own name))
+    goes_out reply.Accepted so name = sym (none_either (is_named own name))
+    goes_out reply.Late so name = sym (none_either (is_named own name))
+    goes_out (reply.Reliable number) so name =
         let held = opened client answer found in
         let heard = heard_first client.kind number held in
         let same = heard_dialog client.kind number held in
-        said_change name event call_id own
-        (prack_owed number client held answer).1
+        let debt = Prack number ((client.request).cseq).number in
+        said_change name event call_id own (prack_owed number client held answer).1
         ∙ owed_sent name own event heard
         (ap (λ dialog. is_named own (name_of_dialog dialog)) same
         ∙ opened_named found refl (so refl))
-        (Prack number ((client.request).cseq).number) (offer_to client response)
+        debt (offer_to client response)
         ∙ ap (λ dialog. cond (is_named own name)
-        (prack_life (Some event.id) client answer refl number dialog) []) same
-    changes reply.Passed so name = sym (none_either (is_named own name))
-    changes reply.Early so name = sym (none_either (is_named own name))
-    changes reply.Told so name = sym (none_either (is_named own name))
+        (discharge_cseqs debt (offer_to client response) dialog) []) same
+    goes_out reply.Passed so name = sym (none_either (is_named own name))
+    goes_out reply.Early so name = sym (none_either (is_named own name))
+    goes_out reply.Told so name = sym (none_either (is_named own name))
+
+    changes : (case : ReplyCase) → Named case → (name : DialogName)
+        → change_sent name (by_case case client found answer).3
+        ≡ cond (is_named own name) (case_begun (Some event.id) client answer refl case found) []
+    changes case so name =
+        ap requests_made (goes_out case so name)
+        ∙ sym (made_either (is_named own name) (case_cseqs case found))
+        ∙ ap (λ life. cond (is_named own name) life []) (begun_made case)
+
+    -- with the next numbers
+    abbrev start : Opening
+    start = ByResponse client.request response
+
+    case_numbered : (case : ReplyCase) (o : Option HeldDialog)
+        → NumberedFrom (number_before (Some start) o) (case_cseqs case o)
+    case_numbered reply.Repeated o = numbered_none (number_before (Some start) o)
+    case_numbered reply.Accepted o = numbered_none (number_before (Some start) o)
+    case_numbered reply.Late o = numbered_none (number_before (Some start) o)
+    case_numbered (reply.Reliable number) None =
+        discharge_numbered (Prack number ((client.request).cseq).number) (offer_to client response)
+        (opened client answer None).dialog
+    case_numbered (reply.Reliable number) (Some held) =
+        discharge_numbered (Prack number ((client.request).cseq).number) (offer_to client response)
+        held.dialog
+    case_numbered reply.Passed o = numbered_none (number_before (Some start) o)
+    case_numbered reply.Early o = numbered_none (number_before (Some start) o)
+    case_numbered reply.Told o = numbered_none (number_before (Some start) o)
+
+    numbered_so : (case : ReplyCase) → Named case → (name : DialogName)
+        → NumberedFrom (number_before (Some start) (dialog_at name dialogs))
+        (change_cseqs name (by_case case client found answer).3)
+    numbered_so case so name =
+        subst (NumberedFrom (number_before (Some start) (dialog_at name dialogs)))
+        (sym (goes_out case so name)) (by_name (is_named own name) refl)
+      where
+        by_name : (b : Bool) → is_named own name ≡ b
+            → NumberedFrom (number_before (Some start) (dialog_at name dialogs))
+            (cond b (case_cseqs case found) [])
+        by_name false is = numbered_none (number_before (Some start) (dialog_at name dialogs))
+        by_name true is =
+            subst (λ (o : Option HeldDialog). NumberedFrom (number_before (Some start) o)
+            (case_cseqs case found)) (sym (entries.same_key name_laws own name dialogs is))
+            (case_numbered case found)
 
     -- what happens in the dialog of each name
     abbrev brings : ReplyCase → Lives
@@ -430,9 +554,11 @@ module _ (event : Event) (id : Id) (call_id : List ℕ) (response : Message) (st
 
     abbrev RepliedSo : Replied → Type 0
     RepliedSo done = (came : DialogName → Option ℕ)
-        × Moves (Some event.id) (Some (ByResponse client.request response)) came
+        × Moves (Some event.id) (Some start) came
         (λ name held. reply_brings status asker response name held ++ change_sent name done.3)
         (λ name. change_sent name done.3) dialogs done.1
+        × ((name : DialogName) → NumberedFrom (number_before (Some start) (dialog_at name dialogs))
+        (change_cseqs name done.3))
 
     by_last : (last : Bool) → is_last client.kind status ≡ last
         → RepliedSo (cond {A = Replied} last (finished client dialogs answer)
@@ -446,6 +572,7 @@ module _ (event : Event) (id : Id) (call_id : List ℕ) (response : Message) (st
               (leads_as quiet life dialogs after
               (λ name held at. sym (ap (λ xs. xs ++ []) (last_brings last name held)))
               (ended_leads client (ends_dialog status) dialogs apart)),
+          λ name. numbered_none (number_before (Some start) (dialog_at name dialogs)),
         )
     by_last false last =
         let done = by_case case_now client found answer in
@@ -465,6 +592,7 @@ module _ (event : Event) (id : Id) (call_id : List ℕ) (response : Message) (st
               (λ name held at. lives case_now so name held at
               ∙ ap (λ xs. xs ++ change_sent name done.3) (brings_so last name held at))
               (λ name. sym (changes case_now so name)) moves,
+          numbered_so case_now so,
         )
 
     replied_so : RepliedSo (reply_taken client dialogs answer)
@@ -483,13 +611,16 @@ module _ (event : Event) (id : Id) (call_id : List ℕ) (response : Message) (si
       × Moves (Some event.id) (option_map (λ client. ByResponse client.request response) o) came
       (λ name held. brings_by status o name held ++ sent_in name taken.1)
       (λ name. sent_in name taken.1) side.dialogs (taken.0).dialogs
+      × AreNumbered (option_map (λ client. ByResponse client.request response) o) side.dialogs taken.1
 
   unchanged : (start : Option Opening) → (came : DialogName → Option ℕ)
       × Moves (Some event.id) start came quiet (λ name. []) side.dialogs side.dialogs
+      × AreNumbered start side.dialogs []
   unchanged start = (
     none_came,
     moves_led (Some event.id) start (λ name. []) quiet side.dialogs side.dialogs
         (leads_same side.dialogs apart),
+    λ name. numbered_none (number_before start (dialog_at name side.dialogs)),
   )
 
   settles : (status : ℕ) (client : Client)
@@ -506,18 +637,21 @@ module _ (event : Event) (id : Id) (call_id : List ℕ) (response : Message) (si
       let after = settled event id done.3 clients in
       let taken = reply_settled answer client side in
       let so = replied_so event id call_id response status client side.dialogs apart named in
-      let same : (name : DialogName) → change_sent name done.3 ≡ sent_in name taken.1 =
+      let same : (name : DialogName) → change_cseqs name done.3 ≡ cseqs_in name taken.1 =
       λ name. sym (beside_sent name (freed_by final client.cancel) client (after.0, done.2 ++ after.1)
-      ∙ sent_after name done.2 after.1 (replies with_note side.dialogs answer).silent
-      ∙ settled_sent name event id done.3 clients) in (
+      ∙ after_silent name done.2 after.1 (replies with_note side.dialogs answer).silent
+      ∙ settled_cseqs name event id done.3 clients) in (
         so.0,
         moves_as (Some event.id) (Some (ByResponse client.request response)) so.0
             (λ name held. reply_brings status client response name held ++ change_sent name done.3)
             (λ name held. reply_brings status client response name held ++ sent_in name taken.1)
             (λ name. change_sent name done.3) (λ name. sent_in name taken.1) side.dialogs done.1
-            (λ name held at. ap (λ xs. reply_brings status client response name held ++ xs)
-            (same name))
-            same so.1,
+            (λ name held at. ap (λ xs. reply_brings status client response name held
+            ++ requests_made xs) (same name))
+            (λ name. ap requests_made (same name)) so.1,
+        λ name. subst (NumberedFrom (number_before
+            (Some (ByResponse client.request response)) (dialog_at name side.dialogs)))
+            (same name) (so.2 name),
       )
 
   by_client : (status : Option ℕ) (o : Option Client)

@@ -95,18 +95,20 @@ abbrev pub Stays : Option ℕ → Life → Option HeldDialog → Option HeldDial
 Stays came life before None = Unit {0}
 Stays came life before (Some after) = KeptFrom came life after before
 
--- an event made it by an opening, and this happened in it since
+-- an event made it by an opening, and this happened in it since; where one of the name was held
+-- before, nothing did
 abbrev pub Begins : Option Id → (Opening → Type 0) → Option ℕ → List Happening → Option HeldDialog
-    → Type 0
-Begins event Opens came life None = ⊥
-Begins event Opens came life (Some held) =
+    → Option HeldDialog → Type 0
+Begins event Opens came life before None = ⊥
+Begins event Opens came life before (Some held) =
     (event ≡ Some held.born) × (held.heard ≡ heard_with came None)
     × ((opening : Opening) × Opens opening × Grows (opened opening) life held.dialog)
+    × ((before ≡ None) ⊎ (life ≡ []))
 
 abbrev pub Goes : Option Id → (Opening → Type 0) → Option ℕ → Life → List Happening
     → Option HeldDialog → Option HeldDialog → Type 0
 Goes event Opens came life begun before after =
-    Stays came life before after ⊎ Begins event Opens came begun after
+    Stays came life before after ⊎ Begins event Opens came begun before after
 
 pub grows_then : (x y z : Dialog) (life : List Happening) → Grows x life y → z ≡ y → Grows x life z
 grows_then x y z life first same = (first.0, same ∙ first.1)
@@ -275,7 +277,7 @@ moves_as event start came lives others begun later before after same same_begun 
         inl (subst (λ (life : List Happening). Keeps (came name) life x y) (same x refl) stays)
     goes_as name x (Some y) same (inr begins) =
         inr (subst (λ (life : List Happening).
-        Begins event (OpensBy start name) (came name) life (Some y)) (same_begun name) begins)
+        Begins event (OpensBy start name) (came name) life x (Some y)) (same_begun name) begins)
 
 -- what has the tags of a dialog of the name has the name
 pub same_name : (name other tags : DialogName) → is_named name tags ≡ true
@@ -314,5 +316,6 @@ moves_made event lives name held opening own still born none is dialogs apart = 
           ap (λ id. Some id) (sym born),
           none,
           (opening, (refl, same_name name other tags own named), (tt, is)),
+          inr refl,
         )
     by_name other false apart o = inl (still_there other apart o)

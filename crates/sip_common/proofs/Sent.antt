@@ -1,23 +1,23 @@
--- A request that is made in a dialog is sent in the dialog of its name.
+-- A request that is made in a dialog goes out in the dialog of its name.
 use Rattle.std.proofs.Common.{◌≡◌, ℕ, Bool, true, not, ◌&&◌, ◌||◌, List, [], ◌∷◌, refl, sym, ◌∙◌}
 use Rattle.std.specs.Prelude.{Option, None, Some, codes, if◌then◌else◌}
 use Rattle.std.specs.Str.{bytes_eq}
 use Rattle.sip_parts.specs.Parameters.{value_named}
 use Rattle.sip_message.specs.declared.addr.Addr.{Addr}
+use Rattle.sip_message.specs.declared.cseq.CSeq.{CSeq}
 use Rattle.sip_message.specs.declared.message.Message.{Message}
 use Rattle.sip_message.specs.Message.{with_body_of}
 use Rattle.sip_message.specs.Party.{party_of, tag_of}
 use Rattle.sip_dialog.specs.declared.dialog.Dialog.{Dialog}
-use Rattle.sip_dialog.specs.Life.{Requests}
 use Rattle.sip_dialog.specs.Request.{bare_request_in, request_in}
 use Rattle.sip_common.specs.declared.held_dialog.DialogName.{DialogName}
 use Rattle.sip_common.specs.Dialogs.{is_named, tag_text}
 use Rattle.sip_common.specs.Requests.{name_of_tags}
-use Rattle.sip_common.specs.Sent.{name_of_dialog, request_sent}
+use Rattle.sip_common.specs.Sent.{cseq_of_request, name_of_dialog}
 use Rattle.sip_common.proofs.Heard.{name_laws}
 
 body_kept : (name : DialogName) (message : Message) (body : List ℕ)
-    → request_sent name (with_body_of message body) ≡ request_sent name message
+    → cseq_of_request name (with_body_of message body) ≡ cseq_of_request name message
 unfolding with_body_of
 body_kept name message [] = refl
 body_kept name message (b ∷ bs) = refl
@@ -31,10 +31,13 @@ party_tag uri (Some tag) = refl
 abbrev pub numbered : List ℕ → Bool
 numbered method = not (bytes_eq method (codes "ACK") || bytes_eq method (codes "CANCEL"))
 
+abbrev pub cseq_for : ℕ → List ℕ → CSeq
+cseq_for number method = record { number = number; method = method }
+
 pub made_in : (name own : DialogName) (dialog : Dialog) (method : List ℕ) (number : ℕ)
     (body branch : List ℕ) (local : Addr) → is_named own (name_of_dialog dialog) ≡ true
-    → request_sent name (request_in dialog method number body branch local)
-    ≡ (if numbered method && is_named own name then Some (Requests method) else None)
+    → cseq_of_request name (request_in dialog method number body branch local)
+    ≡ (if numbered method && is_named own name then Some (cseq_for number method) else None)
 made_in name own dialog method number body branch local named =
     let tags = name_of_dialog dialog in
     let same : is_named name tags ≡ is_named own name =
@@ -42,5 +45,5 @@ made_in name own dialog method number body branch local named =
     body_kept name (bare_request_in dialog method number branch local) body
     ∙ (λ i. if numbered method && is_named name (name_of_tags
     (party_tag dialog.local.uri dialog.local.tag i)
-    (party_tag dialog.remote.uri dialog.remote.tag i)) then Some (Requests method) else None)
-    ∙ (λ i. if numbered method && same i then Some (Requests method) else None)
+    (party_tag dialog.remote.uri dialog.remote.tag i)) then Some (cseq_for number method) else None)
+    ∙ (λ i. if numbered method && same i then Some (cseq_for number method) else None)

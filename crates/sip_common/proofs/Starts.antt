@@ -1,5 +1,5 @@
 -- The transactions of clients that outputs start; the ends of dialogs start none.
-use Rattle.std.proofs.Common.{◌≡◌, List, [], ◌∷◌, ◌++◌, map, refl, ◌∙◌}
+use Rattle.std.proofs.Common.{◌≡◌, ℕ, List, [], ◌∷◌, ◌++◌, map, refl, sym, ap, subst, ◌∙◌}
 use Rattle.std.specs.Prelude.{Option, None, Some, filter, filter_map}
 use Rattle.std.specs.List.{cons_option, flat_map}
 use Rattle.std.specs.Map.{values_of}
@@ -14,7 +14,7 @@ use Rattle.sip_common.specs.declared.held_dialog.HeldDialog.{HeldDialog}
 use Rattle.sip_common.specs.declared.item.CallOut.{CallOut}
 use Rattle.sip_common.specs.declared.item.CallOut.TheVariants as out
 use Rattle.sip_common.specs.Dialogs.{Dialogs, dialog_at, early_ended, ended_at, ended_notice, is_early_of}
-use Rattle.sip_common.specs.Sent.{sent_by, sent_in}
+use Rattle.sip_common.specs.Sent.{NumberedFrom, cseq_of_output, cseqs_in, requests_made, sent_in}
 
 -- a transaction of a client that is started, by its id and its key
 abbrev pub start_of : Id → Order → Option (Id × Key)
@@ -64,14 +64,30 @@ ended_starts name dialogs = by_dialog (dialog_at name dialogs)
 started : (start : Id × Key) (rest : List (Id × Key)) → start ∷ rest ≡ [] → ⊥
 started start rest e = absurd cc
 
-pub none_sent : (name : DialogName) (outs : List CallOut) → starts outs ≡ [] → sent_in name outs ≡ []
-none_sent name [] none = refl
-none_sent name (out.Notice notice ∷ outs) none = none_sent name outs none
-none_sent name (out.Direct to bytes ∷ outs) none = none_sent name outs none
-none_sent name (out.Command id (order.Answer key message) ∷ outs) none = none_sent name outs none
-none_sent name (out.Command id (order.Start key call_id message to) ∷ outs) none =
+pub none_numbered : (name : DialogName) (outs : List CallOut) → starts outs ≡ []
+    → cseqs_in name outs ≡ []
+none_numbered name [] none = refl
+none_numbered name (out.Notice notice ∷ outs) none = none_numbered name outs none
+none_numbered name (out.Direct to bytes ∷ outs) none = none_numbered name outs none
+none_numbered name (out.Command id (order.Answer key message) ∷ outs) none =
+    none_numbered name outs none
+none_numbered name (out.Command id (order.Start key call_id message to) ∷ outs) none =
     absurd (started (id, key) (starts outs) none)
 
-pub sent_both : (name : DialogName) (xs ys : List CallOut)
-    → sent_in name (xs ++ ys) ≡ sent_in name xs ++ sent_in name ys
-sent_both name xs ys = filter_map-append (sent_by name) xs ys
+pub none_sent : (name : DialogName) (outs : List CallOut) → starts outs ≡ [] → sent_in name outs ≡ []
+none_sent name outs none = ap requests_made (none_numbered name outs none)
+
+pub cseqs_both : (name : DialogName) (xs ys : List CallOut)
+    → cseqs_in name (xs ++ ys) ≡ cseqs_in name xs ++ cseqs_in name ys
+cseqs_both name xs ys = filter_map-append (cseq_of_output name) xs ys
+
+-- ---- numbers
+
+pub numbered_none : (o : Option ℕ) → NumberedFrom o []
+numbered_none None = tt
+numbered_none (Some last) = tt
+
+pub numbered_silent : (o : Option ℕ) (name : DialogName) (outs : List CallOut) → starts outs ≡ []
+    → NumberedFrom o (cseqs_in name outs)
+numbered_silent o name outs none =
+    subst (NumberedFrom o) (sym (none_numbered name outs none)) (numbered_none o)

@@ -1,13 +1,17 @@
 -- What goes out in the dialog of a name, read off what a call gives (RFC 3261, section 12.2.1.1).
-use Rattle.std.specs.Prelude.{Bool, not, ◌&&◌, ◌||◌, List, Option, None, Some, codes, if◌then◌else◌}
+use Rattle.std.specs.Prelude.{◌≡◌, ℕ, ◌+◌, Bool, not, ◌&&◌, ◌||◌, List, [], ◌∷◌, map, Option, None, Some, codes, if◌then◌else◌}
 use Rattle.std.specs.List.{filter_map}
+use Rattle.std.specs.Option.{option_map}
+use Rattle.sip_message.specs.declared.cseq.CSeq.{CSeq}
 use Rattle.sip_message.specs.declared.message.Message.{Message}
 use Rattle.sip_message.specs.Party.{tag_of}
 use Rattle.sip_dialog.specs.declared.dialog.Dialog.{Dialog}
 use Rattle.sip_dialog.specs.Life.{Happening, Requests}
+use Rattle.sip_dialog.specs.Opening.{Opening, opened}
 use Rattle.sip_transactions.specs.declared.input.Command.{Command as Order}
 use Rattle.sip_transactions.specs.declared.input.Command.TheVariants as order
 use Rattle.sip_common.specs.declared.held_dialog.DialogName.{DialogName}
+use Rattle.sip_common.specs.declared.held_dialog.HeldDialog.{HeldDialog}
 use Rattle.sip_common.specs.declared.item.CallOut.{CallOut}
 use Rattle.sip_common.specs.declared.item.CallOut.TheVariants as out
 use Rattle.sip_common.specs.Dialogs.{is_named, tag_text}
@@ -21,33 +25,58 @@ name_of_dialog dialog = name_of_tags (tag_text dialog.local.tag) (tag_text dialo
 abbrev pub has_own_number : Message → Bool
 has_own_number request = not (is_method (codes "ACK") request || is_cancel request)
 
--- a request with the tags of the dialog is sent in it
-abbrev pub request_sent : DialogName → Message → Option Happening
-request_sent name request =
+-- the CSeq of a request that has the tags of the dialog
+abbrev pub cseq_of_request : DialogName → Message → Option CSeq
+cseq_of_request name request =
     if has_own_number request
     && is_named name (name_of_tags (tag_of request.from) (tag_of request.to))
-    then Some (Requests request.cseq.method) else None
+    then Some request.cseq else None
 
 -- by what is asked of a transaction
-abbrev pub sent_by_order : DialogName → Order → Option Happening
-sent_by_order name (order.Start key call_id request to) = request_sent name request
-sent_by_order name (order.Answer key response) = None
+abbrev pub cseq_of_order : DialogName → Order → Option CSeq
+cseq_of_order name (order.Start key call_id request to) = cseq_of_request name request
+cseq_of_order name (order.Answer key response) = None
 
 -- an ACK alone goes out without a transaction
-abbrev pub sent_by : DialogName → CallOut → Option Happening
-sent_by name (out.Notice notice) = None
-sent_by name (out.Command id order) = sent_by_order name order
-sent_by name (out.Direct to bytes) = None
+abbrev pub cseq_of_output : DialogName → CallOut → Option CSeq
+cseq_of_output name (out.Notice notice) = None
+cseq_of_output name (out.Command id order) = cseq_of_order name order
+cseq_of_output name (out.Direct to bytes) = None
 
--- the requests that outputs send in it
+-- the CSeqs of the requests that outputs send in it
+abbrev pub cseqs_in : DialogName → List CallOut → List CSeq
+cseqs_in name outs = filter_map (cseq_of_output name) outs
+
+-- requests with these CSeqs are made in it
+abbrev pub requests_made : List CSeq → List Happening
+requests_made cseqs = map (λ cseq. Requests cseq.method) cseqs
+
+-- what outputs make happen in it
 abbrev pub sent_in : DialogName → List CallOut → List Happening
-sent_in name outs = filter_map (sent_by name) outs
+sent_in name outs = requests_made (cseqs_in name outs)
 
--- the response that an output gives to a transaction
+-- each has the number after that of the one before it
+abbrev pub NumberedAfter : ℕ → List CSeq → Type 0
+NumberedAfter last [] = Unit {0}
+NumberedAfter last (cseq ∷ cseqs) =
+    (cseq.number ≡ last + 1) × NumberedAfter (last + 1) cseqs
+
+-- the same from a number that may not be there
+abbrev pub NumberedFrom : Option ℕ → List CSeq → Type 0
+NumberedFrom None cseqs = Unit {0}
+NumberedFrom (Some last) cseqs = NumberedAfter last cseqs
+
+-- the local CSeq of the dialog that is held, or of one that opens so
+abbrev pub number_before : Option Opening → Option HeldDialog → Option ℕ
+number_before start None = option_map (λ opening. (opened opening).local_cseq) start
+number_before start (Some held) = Some held.dialog.local_cseq
+
+-- the response that is asked of a transaction
 abbrev pub response_to_order : Order → Option Message
 response_to_order (order.Start key call_id request to) = None
 response_to_order (order.Answer key response) = Some response
 
+-- the response that an output gives
 abbrev pub response_in : CallOut → Option Message
 response_in (out.Notice notice) = None
 response_in (out.Command id order) = response_to_order order

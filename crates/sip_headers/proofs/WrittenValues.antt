@@ -1,33 +1,30 @@
 -- What is written of each header's value is read again.
 use Rattle.std.proofs.Common.{◌≡◌, ◌^◌, ◌<◌, ℕ, Bool, true, false, cond, not, eqb, ltb, ◌&&◌, ◌||◌, List, [], ◌∷◌, ◌++◌, codes, decimal, Option, Some, None, refl, sym, ap, subst, ◌∙◌, append_assoc, arith}
-use Rattle.std.specs.Prelude.{fold, option_and_then, IfSome, IsTrue}
+use Rattle.std.specs.Prelude.{option_and_then, IfSome, IsTrue}
 use Rattle.std.specs.Char.{is_ascii_digit}
 use Rattle.std.specs.List.{AllByRecursion, flat_map, list_all}
 use Rattle.std.specs.Option.{option_map}
 use Rattle.std.specs.Str.Parse.{digits_value}
-use Rattle.std.proofs.lemmas.Bool.{and_parts, and_from, not-true, lt-ltb, eqb-true}
+use Rattle.std.proofs.lemmas.Bool.{and_parts, and_from, not-true, lt-ltb}
 use Rattle.std.proofs.lemmas.List.{append-nil}
 use Rattle.std.proofs.lemmas.List.Folds.{list_all-append}
 use Rattle.sip_text.specs.Character.{is_blank, is_line_byte, is_token_byte}
-use Rattle.sip_text.specs.Cut.{cut_at}
-use Rattle.sip_text.specs.Forms.{each, by_cut, on_cut, both, told, split}
+use Rattle.sip_text.specs.Forms.{each, by_cut, both, told, split}
 use Rattle.sip_text.specs.Number.{is_digits, number_of}
 use Rattle.sip_text.specs.Parameter.{is_parameter_value, is_value_word, name_from, value_from, with_value, without_value}
 use Rattle.sip_text.specs.Quoted.{is_quoted}
 use Rattle.sip_text.specs.OpenQuote.{has_open_quote, is_in_quotes}
-use Rattle.sip_text.specs.Separator.{after, next_place, place_after}
+use Rattle.sip_text.specs.Separator.{place_after}
 use Rattle.sip_text.specs.Token.{is_run, is_token}
 use Rattle.sip_text.specs.Trimmed.{trimmed, trimmed_start, trimmed_end}
-use Rattle.sip_text.specs.declared.separator.Separator.TheVariants.{Byte, Anywhere, Blank, Colon}
-use Rattle.sip_text.specs.declared.separator.Place.{Place}
-use Rattle.sip_text.specs.declared.separator.Place.TheVariants.{Plain, Quoted, Escaped, Bracketed}
+use Rattle.sip_text.specs.declared.separator.Separator.TheVariants.{Byte, Blank}
+use Rattle.sip_text.specs.declared.separator.Place.TheVariants.{Plain, Bracketed}
 use Rattle.sip_text.proofs.Ends.{trimmed_end-blank, trimmed_end-other}
-use Rattle.sip_text.proofs.Separators.{and_then_some}
 use Rattle.sip_text.proofs.Splits.{split_some, split_none}
 use Rattle.sip_parts.proofs.BlankEnds.{ends_kept}
 use Rattle.sip_parts.specs.DisplayText.{is_display_text_byte, is_display_text}
 use Rattle.sip_parts.specs.HeaderValue.{has_no_blank_ends, has_no_line_byte}
-use Rattle.sip_parts.specs.Host.{is_host_byte, is_bracket_byte, is_closed, is_host}
+use Rattle.sip_parts.specs.Host.{is_host}
 use Rattle.sip_parts.specs.PartyDisplay.{is_party_display_byte, is_party_display}
 use Rattle.sip_parts.specs.Uri.{is_uri_byte, is_uri}
 use Rattle.sip_parts.specs.Word.{is_word}
@@ -46,11 +43,15 @@ use Rattle.sip_values.specs.Sequence as sequence
 use Rattle.sip_values.specs.ViaValue as via
 use Rattle.sip_headers.specs.Numbers.{via_draft, rack_draft}
 use Rattle.sip_message.specs.Rules.{IsParameter, IsVia, IsParty, IsNameAddr, IsRAck}
+use Rattle.sip_values.proofs.Blanks.{End, starts_full}
 use Rattle.sip_values.proofs.Characters.{full_at}
-use Rattle.sip_values.proofs.Cuts.{all_imply, run_all, at_takes}
-use Rattle.sip_values.proofs.Passing.{Passes, clear, all_pass, both_pass, place_append, cut_here, none_here, byte_clear, anywhere_clear, class_passes, class_passes_blank, Marks, semicolon_marks, comma_marks, token_passes, token_passes_blank, quoted_begins, quoted_passes, quoted_ends, quoted_plain, value_passes}
+use Rattle.sip_values.proofs.Cuts.{all_imply, none_of, run_all}
+use Rattle.sip_values.proofs.Hosts.{host_solid, host_passes_comma}
+use Rattle.sip_values.proofs.Passing.{Passes, both_pass, place_append, cut_here, none_here, class_passes, class_passes_blank, Marks, semicolon_marks, comma_marks, token_passes, quoted_begins, quoted_passes, quoted_ends, quoted_plain, value_passes}
 use Rattle.sip_values.proofs.Pieces.{by_bool}
-use Rattle.sip_values.proofs.WrittenBytes.{is_solid, solid, token_solid, word_solid, uri_solid, value_solid, digits_solid, solid_both, solid_full, solid_line, solid_end, longer_end, decimal_digits, decimal_value, digits_word}
+use Rattle.sip_values.proofs.Quotes.{place_is}
+use Rattle.sip_values.proofs.Rows.{all_reads, numeral_reads, via_reads}
+use Rattle.sip_values.proofs.WrittenBytes.{is_solid, solid, token_solid, word_solid, uri_solid, value_solid, digits_solid, solid_both, solid_full, solid_line, solid_end, solid_kept, longer_end, decimal_digits, decimal_value, digits_word}
 
 -- ---- the ends of a text
 
@@ -58,9 +59,6 @@ use Rattle.sip_values.proofs.WrittenBytes.{is_solid, solid, token_solid, word_so
 pub record Good (text : List ℕ) : Type 0 where
   pub kept : trimmed text ≡ text
   pub plain : has_no_line_byte text ≡ true
-
-abbrev End : List ℕ → Type 0
-End text = trimmed_end text ≡ text
 
 abbrev Full : List ℕ → Type 0
 Full text = text ≡ [] → ⊥
@@ -73,11 +71,8 @@ end_behind : (front text : List ℕ) → Full text → End text → End (front +
 end_behind front [] full e = absurd (full refl)
 end_behind front (b ∷ bs) full e = longer_end front b bs e
 
-start_kept : (b : ℕ) (bs : List ℕ) → is_blank b ≡ false → trimmed_start (b ∷ bs) ≡ b ∷ bs
-start_kept b bs e = ap (λ r. cond r (trimmed_start bs) (b ∷ bs)) e
-
 kept_by : (b : ℕ) (bs : List ℕ) → is_blank b ≡ false → End (b ∷ bs) → trimmed (b ∷ bs) ≡ b ∷ bs
-kept_by b bs e f = ap trimmed_end (start_kept b bs e) ∙ f
+kept_by b bs e f = ap trimmed_end (starts_full b bs e) ∙ f
 
 -- a text of solid bytes, and what stands behind it
 kept_behind : (front text : List ℕ) → Full front → solid front ≡ true → End (front ++ text)
@@ -86,12 +81,6 @@ kept_behind [] text full s e = absurd (full refl)
 kept_behind (b ∷ bs) text full s e =
     kept_by b (bs ++ text) (not-true (is_blank b)
     (solid_full b (and_parts (is_solid b) (list_all is_solid bs) s).0)) e
-
-solid_kept : (text : List ℕ) → solid text ≡ true → trimmed text ≡ text
-solid_kept [] s = refl
-solid_kept (b ∷ bs) s =
-    kept_by b bs (not-true (is_blank b)
-    (solid_full b (and_parts (is_solid b) (list_all is_solid bs) s).0)) (solid_end (b ∷ bs) s)
 
 solid_good : (text : List ℕ) → solid text ≡ true → Good text
 solid_good text s = record { kept = solid_kept text s; plain = solid_line text s }
@@ -295,11 +284,11 @@ shown_by is_display b bs is passes kept full end plain = record {
   passes = both_pass (Byte 60) (b ∷ bs) (32 ∷ []) passes refl;
   read = trimmed_one;
   plain = plain_both (b ∷ bs) (32 ∷ []) plain refl;
-  starts = λ text. start_kept b ((bs ++ (32 ∷ [])) ++ (60 ∷ text)) full;
+  starts = λ text. starts_full b ((bs ++ (32 ∷ [])) ++ (60 ∷ text)) full;
 }
   where
     cut_end : trimmed ((b ∷ bs) ++ (32 ∷ [])) ≡ b ∷ bs
-    cut_end = ap trimmed_end (start_kept b (bs ++ (32 ∷ [])) full)
+    cut_end = ap trimmed_end (starts_full b (bs ++ (32 ∷ [])) full)
         ∙ trimmed_end-blank (b ∷ bs) 32 refl ∙ end
 
     trimmed_one : address.display_from is_display ((b ∷ bs) ++ (32 ∷ [])) ≡ Some (b ∷ bs)
@@ -682,94 +671,10 @@ tokens_again token tokens is all = record {
 
 -- ---- Via
 
-closed_by : (bs : List ℕ) (o : Option (List ℕ × List ℕ)) → cut_at 93 bs ≡ o → is_closed o ≡ true
-    → (inside : List ℕ) × (bs ≡ inside ++ (93 ∷ [])) × (list_all is_bracket_byte inside ≡ true)
-closed_by bs None is e = absurd cc
-closed_by bs (Some (inside, [])) is e = (inside, (at_takes 93 bs (inside, []) is).0, e)
-closed_by bs (Some (inside, b ∷ more)) is e = absurd cc
-
--- all bytes of a host
-host_all : (q : ℕ → Bool) → ((b : ℕ) → is_host_byte b ≡ true → q b ≡ true)
-    → ((b : ℕ) → is_bracket_byte b ≡ true → q b ≡ true) → q 91 ≡ true → q 93 ≡ true
-    → (host : List ℕ) → is_host host ≡ true → list_all q host ≡ true
-unfolding is_host
-host_all q bytes inner open_q close_q [] is = refl
-host_all q bytes inner open_q close_q (b ∷ bs) is = by_first (eqb b 91) refl is
-  where
-    by_first : (r : Bool) → eqb b 91 ≡ r
-        → cond r (is_closed (cut_at 93 bs)) (list_all is_host_byte (b ∷ bs)) ≡ true
-        → list_all q (b ∷ bs) ≡ true
-    by_first true e f =
-        let closed = closed_by bs (cut_at 93 bs) refl f in
-        let first : q b ≡ true = ap q (eqb-true b 91 e) ∙ open_q in
-        and_from _ _ first (ap (list_all q) closed.1 ∙ list_all-append q closed.0 (93 ∷ [])
-        ∙ and_from _ _ (all_imply is_bracket_byte q inner closed.0 closed.2)
-        (and_from _ _ close_q refl))
-    by_first false e f = all_imply is_host_byte q bytes (b ∷ bs) f
-
 host_full : (host : List ℕ) → is_host host ≡ true → Full host
 unfolding is_host
 host_full [] is e = absurd cc
 host_full (b ∷ bs) is e = absurd cc
-
-host_solid : (host : List ℕ) → is_host host ≡ true → solid host ≡ true
-unfolding is_host_byte is_bracket_byte
-host_solid host is =
-    host_all is_solid (λ b p. rw (
-      full_at is_host_byte b 32 refl p,
-      full_at is_host_byte b 9 refl p,
-      full_at is_host_byte b 13 refl p,
-      full_at is_host_byte b 10 refl p,
-    ) refl)
-    (λ b p. rw (
-      full_at is_bracket_byte b 32 refl p,
-      full_at is_bracket_byte b 9 refl p,
-      full_at is_bracket_byte b 13 refl p,
-      full_at is_bracket_byte b 10 refl p,
-    ) refl) refl refl
-    host is
-
-host_passes_semicolon : (host : List ℕ) → is_host host ≡ true → Passes (Anywhere 59) host
-unfolding is_host_byte is_bracket_byte
-host_passes_semicolon host is =
-    all_pass (Anywhere 59) host (host_all (clear (Anywhere 59))
-    (anywhere_clear is_host_byte 59 refl) (anywhere_clear is_bracket_byte 59 refl) refl refl
-    host is)
-
-host_passes_comma : (host : List ℕ) → is_host host ≡ true → Passes (Byte 44) host
-unfolding is_host_byte is_bracket_byte
-host_passes_comma host is =
-    all_pass (Byte 44) host (host_all (clear (Byte 44)) (byte_clear is_host_byte 44 refl refl refl)
-    (byte_clear is_bracket_byte 44 refl refl refl) refl refl host is)
-
-inside_hidden : (inside : List ℕ) → list_all is_bracket_byte inside ≡ true
-    → place_after Colon Bracketed inside ≡ Some Bracketed
-unfolding is_bracket_byte
-inside_hidden [] all = refl
-inside_hidden (b ∷ bs) all =
-    let parts = and_parts (is_bracket_byte b) (list_all is_bracket_byte bs) all in
-    ap (λ r. place_after Colon (cond r Plain Bracketed) bs)
-    (full_at is_bracket_byte b 93 refl parts.0) ∙ inside_hidden bs parts.1
-
-host_passes_colon : (host : List ℕ) → is_host host ≡ true → Passes Colon host
-unfolding is_host is_host_byte
-host_passes_colon [] is = refl
-host_passes_colon (b ∷ bs) is = by_first (eqb b 91) refl is
-  where
-    by_first : (r : Bool) → eqb b 91 ≡ r
-        → cond r (is_closed (cut_at 93 bs)) (list_all is_host_byte (b ∷ bs)) ≡ true
-        → Passes Colon (b ∷ bs)
-    by_first true e f =
-        let closed = closed_by bs (cut_at 93 bs) refl f in
-        subst (λ (xs : List ℕ). Passes Colon xs)
-        (sym (ap (λ (c : ℕ). c ∷ bs) (eqb-true b 91 e)
-        ∙ ap (λ (xs : List ℕ). 91 ∷ xs) closed.1))
-        (place_append Colon Bracketed Bracketed Plain closed.0 (93 ∷ [])
-        (inside_hidden closed.0 closed.2) refl)
-    by_first false e f =
-        all_pass Colon (b ∷ bs) (all_imply is_host_byte (clear Colon)
-        (λ c p. rw (full_at is_host_byte c 58 refl p, full_at is_host_byte c 91 refl p) refl)
-        (b ∷ bs) f)
 
 abbrev GoodPort : Option ℕ → Type 0
 GoodPort port = IfSome port (λ n. n < 2 ^ 16)
@@ -777,29 +682,19 @@ GoodPort port = IfSome port (λ n. n < 2 ^ 16)
 abbrev sent_by : List ℕ → Option ℕ → List ℕ
 sent_by host port = host ++ port_text port
 
-host_read : (host : List ℕ) → is_host host ≡ true → via.host_from host ≡ Some host
-host_read host is = trimmed_some is_host host (solid_kept host (host_solid host is)) is
-
-sent_by_read : (host : List ℕ) (port : Option ℕ) → is_host host ≡ true → GoodPort port
-    → via.sent_by_from (sent_by host port) ≡ Some (host, option_map (λ n. Number n) port)
-sent_by_read host None is good =
-    ap via.sent_by_from (append-nil host)
-    ∙ ap (λ o. by_cut o (told via.with_port (both via.host_from via.port_from))
-    (told via.without_port via.host_from host))
-    (none_here Colon host (host_passes_colon host is))
-    ∙ ap (option_map via.without_port) (host_read host is)
-sent_by_read host (Some n) is good =
-    ap (λ o. by_cut o (told via.with_port (both via.host_from via.port_from))
-    (told via.without_port via.host_from (host ++ (58 ∷ decimal n))))
-    (cut_here Colon host 58 (decimal n) (host_passes_colon host is) refl)
-    ∙ ap (λ o. option_map via.with_port
-    (option_and_then (λ x. option_and_then (λ y. Some (x, y)) (via.port_from (decimal n))) o))
-    (host_read host is)
-    ∙ ap (λ (xs : List ℕ). option_map via.with_port
-    (option_and_then (λ y. Some (host, y)) (numeral_from xs)))
-    (solid_kept (decimal n) (decimal_solid n (omega (arith, good))))
-    ∙ ap (λ o. option_map via.with_port (option_and_then (λ y. Some (host, y)) o))
-    (decimal_read n (omega (arith, good)))
+port_part : (port : Option ℕ) → GoodPort port
+    → via.IsPortPart (option_map (λ n. Number n) port) (port_text port)
+port_part None good = refl
+port_part (Some n) good =
+    let digits = run_all is_ascii_digit (decimal n) (decimal_digits n (omega (arith, good))) in
+    record {
+      colon = 58 ∷ [];
+      word = decimal n;
+      parts = refl;
+      colon_is = refl;
+      word_is = numeral_reads.takes (decimal n) (Number n) (decimal_read n (omega (arith, good)));
+      no_semicolon = none_of is_ascii_digit 59 refl (decimal n) digits;
+    }
 
 port_passes : (c : ℕ) → is_ascii_digit c ≡ false → eqb 58 c ≡ false → (port : Option ℕ)
     → GoodPort port → Passes (Byte c) (port_text port)
@@ -810,54 +705,9 @@ port_passes c digit colon (Some n) good =
     (class_passes is_ascii_digit c digit refl refl (decimal n)
     (run_all is_ascii_digit (decimal n) (decimal_digits n (omega (arith, good)))))
 
-port_passes_semicolon : (port : Option ℕ) → GoodPort port → Passes (Anywhere 59) (port_text port)
-port_passes_semicolon None good = refl
-port_passes_semicolon (Some n) good =
-    both_pass (Anywhere 59) (58 ∷ []) (decimal n) refl
-    (all_pass (Anywhere 59) (decimal n) (all_imply is_ascii_digit (clear (Anywhere 59))
-    (anywhere_clear is_ascii_digit 59 refl) (decimal n)
-    (run_all is_ascii_digit (decimal n) (decimal_digits n (omega (arith, good))))))
-
-sent_by_passes_semicolon : (host : List ℕ) (port : Option ℕ) → is_host host ≡ true → GoodPort port
-    → Passes (Anywhere 59) (sent_by host port)
-sent_by_passes_semicolon host port is good =
-    both_pass (Anywhere 59) host (port_text port) (host_passes_semicolon host is)
-    (port_passes_semicolon port good)
-
-sent_by_passes_comma : (host : List ℕ) (port : Option ℕ) → is_host host ≡ true → GoodPort port
-    → Passes (Byte 44) (sent_by host port)
-sent_by_passes_comma host port is good =
-    both_pass (Byte 44) host (port_text port) (host_passes_comma host is)
-    (port_passes 44 refl refl port good)
-
--- what has no comma outside quotes and brackets ends outside of these
-place_is : (c : ℕ) (place last : Place) (text : List ℕ)
-    → place_after (Byte c) place text ≡ Some last → fold after place text ≡ last
-place_is c place last [] e = cc
-place_is c place last (b ∷ bs) e =
-    let m = and_then_some (λ p. place_after (Byte c) p bs) (next_place (Byte c) place b) last e in
-    ap (λ p. fold after p bs) (stepped place m.0 m.1) ∙ place_is c m.0 last bs m.2
-  where
-    by_class : (r : Bool) (p q : Place) → cond r None (Some p) ≡ Some q → p ≡ q
-    by_class true p q is = absurd cc
-    by_class false p q is = cc
-
-    stepped : (p q : Place) → next_place (Byte c) p b ≡ Some q → after p b ≡ q
-    stepped Plain q is = by_class (eqb b c) (after Plain b) q is
-    stepped Quoted q is = cc
-    stepped Escaped q is = cc
-    stepped Bracketed q is = cc
-
 ends_closed : (text : List ℕ) → Passes (Byte 44) text → via.is_closed text ≡ true
 unfolding has_open_quote
 ends_closed text passes = ap (λ p. not (is_in_quotes p)) (place_is 44 Plain Plain text passes)
-
--- the end of a Via is cut where its quotes are closed
-end_cut : (text : List ℕ) → Passes (Byte 44) text
-    → via.end_from text ≡ on_cut (Anywhere 59) (both via.sent_by_from many_parameters)
-    (told via.without_parameters via.sent_by_from) text
-end_cut text passes = ap (λ b. cond b (on_cut (Anywhere 59) (both via.sent_by_from many_parameters)
-    (told via.without_parameters via.sent_by_from) text) None) (ends_closed text passes)
 
 port_solid : (port : Option ℕ) → GoodPort port → solid (port_text port) ≡ true
 port_solid None good = refl
@@ -867,33 +717,6 @@ sent_by_solid : (host : List ℕ) (port : Option ℕ) → is_host host ≡ true 
     → solid (sent_by host port) ≡ true
 sent_by_solid host port is good =
     solid_both host (port_text port) (host_solid host is) (port_solid port good)
-
-end_read : (host : List ℕ) (port : Option ℕ) (ps : List Parameter) → is_host host ≡ true
-    → GoodPort port → AllByRecursion IsParameter ps
-    → via.end_from (sent_by host port ++ parameters_text ps)
-    ≡ Some ((host, option_map (λ n. Number n) port), ps)
-unfolding parameter_text
-end_read host port [] is good all =
-    ap via.end_from (append-nil (sent_by host port))
-    ∙ end_cut (sent_by host port) (sent_by_passes_comma host port is good)
-    ∙ ap (λ o. by_cut o (both via.sent_by_from many_parameters)
-    (told via.without_parameters via.sent_by_from (sent_by host port)))
-    (none_here (Anywhere 59) (sent_by host port) (sent_by_passes_semicolon host port is good))
-    ∙ ap (option_map via.without_parameters) (sent_by_read host port is good)
-end_read host port (p ∷ ps) is good all =
-    end_cut (sent_by host port ++ (59 ∷ (body p ++ parameters_text ps)))
-    (both_pass (Byte 44) (sent_by host port) (parameters_text (p ∷ ps))
-    (sent_by_passes_comma host port is good) (parameters_pass 44 comma_marks refl (p ∷ ps) all))
-    ∙ ap (λ o. by_cut o (both via.sent_by_from many_parameters)
-    (told via.without_parameters via.sent_by_from
-    (sent_by host port ++ (59 ∷ (body p ++ parameters_text ps)))))
-    (cut_here (Anywhere 59) (sent_by host port) 59 (body p ++ parameters_text ps)
-    (sent_by_passes_semicolon host port is good) refl)
-    ∙ ap (λ o. option_and_then (λ x.
-    option_and_then (λ y. Some (x, y)) (many_parameters (body p ++ parameters_text ps))) o)
-    (sent_by_read host port is good)
-    ∙ ap (λ o. option_and_then (λ y. Some ((host, option_map (λ n. Number n) port), y)) o)
-    (many_again p ps all.0 all.1)
 
 abbrev hop_text : Via → List ℕ
 hop_text v = v.transport ++ (32 ∷ (sent_by v.host v.port ++ parameters_text v.parameters))
@@ -924,14 +747,6 @@ tail_full v is =
     full_front (sent_by v.host v.port) (parameters_text v.parameters)
     (full_front v.host (port_text v.port) (host_full v.host is.host))
 
-tail_kept : (v : Via) → IsVia v
-    → trimmed (sent_by v.host v.port ++ parameters_text v.parameters) ≡ sent_by v.host v.port
-    ++ parameters_text v.parameters
-tail_kept v is =
-    kept_behind (sent_by v.host v.port) (parameters_text v.parameters)
-    (full_front v.host (port_text v.port) (host_full v.host is.host))
-    (sent_by_solid v.host v.port is.host is.port) (tail_end v is)
-
 hop_end : (v : Via) → IsVia v → End (hop_text v)
 hop_end v is =
     subst (λ (xs : List ℕ). End xs)
@@ -939,43 +754,11 @@ hop_end v is =
     (end_behind (v.transport ++ (32 ∷ [])) (sent_by v.host v.port ++ parameters_text v.parameters)
     (tail_full v is) (tail_end v is))
 
-hop_kept : (v : Via) → IsVia v → trimmed (hop_text v) ≡ hop_text v
-hop_kept v is =
-    kept_behind v.transport (32 ∷ (sent_by v.host v.port ++ parameters_text v.parameters))
-    (token_is_full v.transport is.transport) (token_solid v.transport is.transport)
-    (hop_end v is)
-
-hop_read : (v : Via) → IsVia v → via.hop_from (hop_text v) ≡ Some (via_draft v)
-hop_read v is =
-    let tail = sent_by v.host v.port ++ parameters_text v.parameters in
-    ap (λ o. by_cut o (told via.via_of
-    (both (λ text. cond (is_token text) (Some text) None)
-    (λ text. via.end_from (trimmed text)))) None)
-    (cut_here Blank v.transport 32 tail (token_passes_blank v.transport is.transport) refl)
-    ∙ ap (λ o. option_map via.via_of
-    (option_and_then (λ x. option_and_then (λ y. Some (x, y)) (via.end_from (trimmed tail))) o))
-    (passing_some (is_token v.transport) v.transport is.transport)
-    ∙ ap (λ (xs : List ℕ). option_map via.via_of
-    (option_and_then (λ y. Some (v.transport, y)) (via.end_from xs))) (tail_kept v is)
-    ∙ ap (λ o. option_map via.via_of (option_and_then (λ y. Some (v.transport, y)) o))
-    (end_read v.host v.port v.parameters is.host is.port is.parameters)
-
 shown_end : (v : Via) → IsVia v → End (shown_via v)
 shown_end v is = end_after (codes "SIP/2.0/") (hop_text v) refl (hop_end v is)
 
 shown_kept : (v : Via) → IsVia v → trimmed (shown_via v) ≡ shown_via v
 shown_kept v is = shown_end v is
-
-protocol_read : (v : Via) → IsVia v
-    → via.behind_protocol_from (codes "2.0/" ++ hop_text v) ≡ Some (via_draft v)
-protocol_read v is = ap via.hop_from (hop_kept v is) ∙ hop_read v is
-
-via_read : (v : Via) → IsVia v → via.via_from (shown_via v) ≡ Some (via_draft v)
-via_read v is =
-    ap (λ (xs : List ℕ). on_cut (Byte 47)
-    (λ (parts : List ℕ × List ℕ). cond (via.is_like (codes "SIP") parts.0)
-    (via.behind_protocol_from parts.1) None) (λ (text : List ℕ). None) xs) (shown_kept v is)
-    ∙ protocol_read v is
 
 via_passes : (v : Via) → IsVia v → Passes (Byte 44) (shown_via v)
 via_passes v is =
@@ -986,6 +769,34 @@ via_passes v is =
     (both_pass (Byte 44) v.host (port_text v.port) (host_passes_comma v.host is.host)
     (port_passes 44 refl refl v.port is.port))
     (parameters_pass 44 comma_marks refl v.parameters is.parameters)))
+
+via_spelled : (v : Via) → IsVia v → via.IsVia (via_draft v) (shown_via v)
+via_spelled v is = record {
+  protocol = codes "SIP";
+  slash = 47 ∷ [];
+  version = codes "2.0";
+  next_slash = 47 ∷ [];
+  space = 32 ∷ [];
+  port = port_text v.port;
+  parameters = parameters_text v.parameters;
+  parts = shown_kept v is
+      ∙ ap (λ (xs : List ℕ). codes "SIP/2.0/" ++ (v.transport ++ (32 ∷ xs)))
+      (append_assoc v.host (port_text v.port) (parameters_text v.parameters));
+  protocol_is = refl;
+  slash_is = refl;
+  version_is = refl;
+  next_slash_is = refl;
+  transport_is = is.transport;
+  space_is = refl;
+  host_is = is.host;
+  port_is = port_part v.port is.port;
+  parameters_is = all_reads.takes (parameters_text v.parameters) v.parameters
+      (all_again v.parameters is.parameters);
+  quotes_end = ends_closed (shown_via v) (via_passes v is);
+}
+
+via_read : (v : Via) → IsVia v → via.via_from (shown_via v) ≡ Some (via_draft v)
+via_read v is = via_reads.again (shown_via v) (via_draft v) (via_spelled v is)
 
 pub via_again : (v : Via) → IsVia v → Again via.vias_from (via_draft v ∷ []) (via_text v)
 via_again v is =

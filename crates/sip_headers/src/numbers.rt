@@ -89,7 +89,7 @@ fn port_of(word: Numeral) -> Option<u16>
     ensures { result ≡ numbered.port_of word }
 {
     let number = known(word)?;
-    if number > 65535 {
+    if number > u32::from(u16::MAX) {
         return None;
     }
     Some(number as u16)

@@ -81,11 +81,7 @@ module _ {K S I O : Type 0} {machine : Machine K S I O} {key : K} {inputs : List
   abbrev pub state_left : LifeIn machine key inputs → Option S
   state_left life = state_from machine key None (life.first ∷ life.rest)
 
-  -- what is said before a life
-  abbrev pub said_before : LifeIn machine key inputs → List O
-  said_before life = outputs_from machine key None life.before
-
-  -- to its first input
+  -- what is said to the first input of a life
   abbrev pub said_at_first : LifeIn machine key inputs → List O
   said_at_first life = adds machine key None life.first
 

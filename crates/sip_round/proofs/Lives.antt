@@ -1,7 +1,7 @@
 -- Each life among the inputs of a run.
 use Rattle.std.proofs.Common.{◌≡◌, List, [], ◌∷◌, ◌++◌, refl, sym, ◌∙◌, ap, append_assoc}
 use Rattle.std.specs.Prelude.{Option, None}
-use Rattle.sip_model.specs.Machine.{LifeIn, Machine, adds, next, outputs_from, said_after, said_at_first, said_before, said_in_rest, state_from}
+use Rattle.sip_model.specs.Machine.{LifeIn, Machine, adds, next, outputs_from, said_after, said_at_first, said_in_rest, state_from}
 
 module _ {K S I O : Type 0} (machine : Machine K S I O) (key : K) where
   pub outputs_append : (state : Option S) (before after : List I)
@@ -19,12 +19,13 @@ module _ {K S I O : Type 0} (machine : Machine K S I O) (key : K) where
   -- what inputs add is what is said before a life, to its first, to the rest of it, and after it
   pub in_lives : {inputs : List I} (life : LifeIn machine key inputs)
       → outputs_from machine key None inputs
-      ≡ said_before life ++ (said_at_first life ++ (said_in_rest life ++ said_after life))
+      ≡ outputs_from machine key None life.before
+      ++ (said_at_first life ++ (said_in_rest life ++ said_after life))
   in_lives life =
       let from : Option S → List O =
       λ held. outputs_from machine key held (life.first ∷ (life.rest ++ life.after)) in
       ap (outputs_from machine key None) life.are
       ∙ outputs_append None life.before (life.first ∷ (life.rest ++ life.after))
-      ∙ ap (λ held. said_before life ++ from held) life.none_before
-      ∙ ap (λ more. said_before life ++ (said_at_first life ++ more))
+      ∙ ap (λ held. outputs_from machine key None life.before ++ from held) life.none_before
+      ∙ ap (λ more. outputs_from machine key None life.before ++ (said_at_first life ++ more))
       (outputs_append (next machine key None life.first) life.rest life.after)

@@ -5,7 +5,7 @@ use Rattle.sip_message.specs.declared.id.Id.{Id}
 use Rattle.sip_message.specs.Key.{key_cmp}
 use Rattle.sip_message.specs.declared.key.Key.{Key}
 use Rattle.sip_model.specs.Laws.{said_from}
-use Rattle.sip_model.specs.Machine.{LifeIn, Timed, outputs_from, said_after, said_at_first, said_before, said_in_rest, state_left, tick_at}
+use Rattle.sip_model.specs.Machine.{LifeIn, Timed, outputs_from, said_after, said_at_first, said_in_rest, state_left, tick_at}
 use Rattle.sip_model.specs.Phase.{history}
 use Rattle.sip_transactions.specs.declared.input.Input.{Input}
 use Rattle.sip_transactions.specs.declared.output.Out.{Out}
@@ -33,7 +33,7 @@ said_of config rounds key =
 -- it, and after it; its request comes up with the first input, and not again
 pub record OneRequestSaid (said : List Out) (key : Key) (inputs : List (Timed Input))
     (life : LifeIn transaction_machine key inputs) : Type 0 where
-  pub said_in_order : said ≡ said_before life
+  pub said_in_order : said ≡ outputs_from transaction_machine key None life.before
       ++ (said_at_first life ++ (said_in_rest life ++ said_after life))
   pub once : requests_in (said_at_first life) ≡ 1
   pub no_more : requests_in (said_in_rest life) ≡ 0
@@ -88,6 +88,7 @@ pub record ProvisionalsShown (config : Config) (rounds : List Round) (call_id : 
   pub once : AllPairs (λ x y. x ≢ y)
       (shown (calls_of config) invite life (call_inputs_of config rounds call_id))
 
+-- of every call, INVITE and life of a dialog
 abbrev pub ProvisionalsInLives : Config → List Round → Type 0
 ProvisionalsInLives config rounds =
     (call_id : List ℕ) (invite : AnInvite) (life : DialogLife)

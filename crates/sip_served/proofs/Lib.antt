@@ -1,4 +1,5 @@
 pub mod QuietBeforeDue
+pub mod Awaiting
 pub mod Changes
 pub mod DialogSteps
 pub mod Dues
@@ -11,6 +12,7 @@ pub mod OwnCall
 pub mod FewWait
 pub mod FirstChanged
 pub mod Places
+pub mod RequestIds
 pub mod Shows
 pub mod Stories
 pub mod Terminations

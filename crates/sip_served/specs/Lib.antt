@@ -1,5 +1,6 @@
 pub mod Acknowledgment
 pub mod Arrival
+pub mod Awaiting
 pub mod Cancel
 pub mod Lending
 pub mod OwnCall

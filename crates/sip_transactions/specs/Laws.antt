@@ -88,6 +88,7 @@ abbrev pub arrival_id : StartLine → Id → Option Id
 arrival_id (start.Request uri) id = Some id
 arrival_id (start.Response status reason) id = None
 
+-- the id of a request that came, or of a start; an answer names nothing
 abbrev pub naming_id : Option Input → Option Id
 naming_id None = None
 naming_id (Some (Receive id message reply_to)) = arrival_id message.start id
@@ -145,6 +146,7 @@ is_send_of bytes (out.Up up) = false
 is_send_of bytes (out.Send key to sent) = bytes_eq sent bytes
 is_send_of bytes (out.Dropped place reason) = false
 
+-- how often these bytes are sent
 abbrev pub sends_of : List ℕ → List Out → ℕ
 sends_of bytes outs = count_by (is_send_of bytes) outs
 

@@ -17,17 +17,15 @@ use Rattle.sip_values.specs.ViaValue.{SentBy, host_from, port_from, sent_by_from
 use Rattle.sip_values.proofs.Characters.{full_at, token_bytes}
 use Rattle.sip_values.proofs.Cuts.{all_imply, run_all}
 use Rattle.sip_values.proofs.Firsts.{first_ends, first_goes_on, follows}
+use Rattle.sip_values.proofs.Hosts.{host_passes_colon, host_passes_semicolon, host_solid}
 use Rattle.sip_values.proofs.Passing.{Passes, all_pass, anywhere_clear, both_pass, class_passes, clear, cut_here, none_here, token_passes_blank}
 use Rattle.sip_values.proofs.PlainRuns.{token_is}
-use Rattle.sip_values.proofs.WrittenBytes.{full_to, is_solid, solid_byte, solid_kept, token_solid, uri_solid}
+use Rattle.sip_values.proofs.WrittenBytes.{full_to, solid_kept, token_solid, uri_solid}
 
 -- ---- hosts and ports
 
 abbrev IsHostRun : List ℕ → Type 0
 IsHostRun host = is_run is_host_byte host ≡ true
-
-host_bytes : (host : List ℕ) → IsHostRun host → list_all is_host_byte host ≡ true
-host_bytes host run = run_all is_host_byte host run
 
 pub host_is : (host : List ℕ) → IsHostRun host → is_host host ≡ true
 unfolding is_host is_host_byte
@@ -37,28 +35,8 @@ host_is (b ∷ bs) run =
     rw (full_at is_host_byte b 91 refl here) run
 
 host_kept : (host : List ℕ) → IsHostRun host → host_from host ≡ Some host
-unfolding is_host_byte
 host_kept host run =
-    rw (
-      solid_kept host (all_imply is_host_byte is_solid
-          (solid_byte is_host_byte refl refl refl refl) host (host_bytes host run)),
-      host_is host run,
-    ) refl
-
-host_passes : (host : List ℕ) → IsHostRun host → Passes (Anywhere 59) host
-unfolding is_host_byte
-host_passes host run =
-    all_pass (Anywhere 59) host (all_imply is_host_byte (clear (Anywhere 59))
-    (anywhere_clear is_host_byte 59 refl) host (host_bytes host run))
-
-host_passes_colon : (host : List ℕ) → IsHostRun host → Passes Colon host
-unfolding is_host_byte
-host_passes_colon host run =
-    all_pass Colon host (all_imply is_host_byte (clear Colon)
-    (λ b passes. rw (
-      full_at is_host_byte b 58 refl passes,
-      full_at is_host_byte b 91 refl passes,
-    ) refl) host (host_bytes host run))
+    let is = host_is host run in rw (solid_kept host (host_solid host is), is) refl
 
 token_word : (text : List ℕ) → is_token text ≡ true → is_word text ≡ true
 unfolding is_token is_token_byte is_word is_word_byte
@@ -79,13 +57,13 @@ port_kept port token = rw (solid_kept port (token_solid port token), token_word 
 
 host_alone : (host : List ℕ) → IsHostRun host → sent_by_from host ≡ Some (host, None)
 host_alone host run =
-    rw (none_here Colon host (host_passes_colon host run), host_kept host run) refl
+    rw (none_here Colon host (host_passes_colon host (host_is host run)), host_kept host run) refl
 
 host_and_port : (host port : List ℕ) → IsHostRun host → is_token port ≡ true
     → sent_by_from (host ++ (58 ∷ port)) ≡ Some (host, Some (numeral port))
 host_and_port host port run token =
     rw (
-      cut_here Colon host 58 port (host_passes_colon host run) refl,
+      cut_here Colon host 58 port (host_passes_colon host (host_is host run)) refl,
       host_kept host run,
       port_kept port token,
     ) refl
@@ -94,7 +72,7 @@ port_passes : (host port : List ℕ) → IsHostRun host → is_token port ≡ tr
     → Passes (Anywhere 59) (host ++ (58 ∷ port))
 unfolding is_token_byte
 port_passes host port run token =
-    both_pass (Anywhere 59) host (58 ∷ port) (host_passes host run)
+    both_pass (Anywhere 59) host (58 ∷ port) (host_passes_semicolon host (host_is host run))
     (all_pass (Anywhere 59) port (all_imply is_token_byte (clear (Anywhere 59))
     (anywhere_clear is_token_byte 59 refl) port (token_bytes port token)))
 
@@ -106,10 +84,11 @@ host_first text host rest next whole run e =
     ∙ follows (λ (r : List ℕ) (n : Option (List ℕ)).
     first (Anywhere 59) sent_by_from (host ++ r) ≡ Some ((host, None), n)) rest next e
     (ap (first (Anywhere 59) sent_by_from) (append-nil host)
-    ∙ first_ends (Anywhere 59) sent_by_from host (host, None) (host_passes host run)
+    ∙ first_ends (Anywhere 59) sent_by_from host (host, None)
+    (host_passes_semicolon host (host_is host run))
     (host_alone host run))
     (λ after. first_goes_on (Anywhere 59) sent_by_from host 59 after (host, None)
-    (host_passes host run) refl (host_alone host run))
+    (host_passes_semicolon host (host_is host run)) refl (host_alone host run))
 
 pub port_first : (text host port rest : List ℕ) (next : Option (List ℕ)) → text ≡ port ++ rest
     → IsHostRun host → is_token port ≡ true → behind 59 rest ≡ Some next

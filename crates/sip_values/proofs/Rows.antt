@@ -1,5 +1,6 @@
 -- Each value of a header is read as it stands in its form: the proof is composed as the form is.
 use Rattle.std.proofs.Common.{ℕ, Bool, List, codes}
+use Rattle.sip_text.specs.Forms.{Guarded}
 use Rattle.sip_text.specs.Token.{is_token}
 use Rattle.sip_text.specs.Trimmed.{trimmed}
 use Rattle.sip_text.specs.declared.separator.Separator.TheVariants.{Byte, Anywhere, Blank, Colon}
@@ -22,6 +23,8 @@ use Rattle.sip_values.specs.Numeral.{numeral, numeral_from, IsNumeral}
 use Rattle.sip_values.specs.ParameterValues as parameters
 use Rattle.sip_values.specs.Sequence as sequence
 use Rattle.sip_values.specs.ViaValue as via
+use Rattle.sip_values.proofs.SentBys.{HostCut, PortCut, SentByCut, EndCut}
+use Rattle.sip_values.proofs.CutVias.{HopCut, BehindProtocol, ViaCut, as_parts, as_cuts}
 
 pub numeral_reads : Reads (List ℕ) Numeral numeral_from IsNumeral
 numeral_reads = told_reads numeral (passing_reads is_word)
@@ -34,7 +37,7 @@ one_reads = told_reads parameters.parameter_of parameter_reads
 many_reads : Reads (List ℕ) (List Parameter) parameters.many_parameters parameters.ManyParameters
 many_reads = split_reads (Byte 59) one_reads
 
-all_reads : Reads (List ℕ) (List Parameter) parameters.all_parameters parameters.AllParameters
+pub all_reads : Reads (List ℕ) (List Parameter) parameters.all_parameters parameters.AllParameters
 all_reads = parameters_reads one_reads
 
 -- ---- addresses
@@ -68,31 +71,37 @@ name_addrs_reads = split_reads (Byte 44) name_addr_reads
 
 -- ---- Via
 
-host_reads : Reads (List ℕ) (List ℕ) via.host_from via.IsHostText
+host_reads : Reads (List ℕ) (List ℕ) via.host_from HostCut
 host_reads = of_reads trimmed (passing_reads is_host)
 
-port_reads : Reads (List ℕ) Numeral via.port_from via.IsPortText
+port_reads : Reads (List ℕ) Numeral via.port_from PortCut
 port_reads = of_reads trimmed numeral_reads
 
-sent_by_reads : Reads (List ℕ) via.SentBy via.sent_by_from via.IsSentBy
+sent_by_reads : Reads (List ℕ) via.SentBy via.sent_by_from SentByCut
 sent_by_reads = cut_reads Colon (told_reads via.with_port (both_reads host_reads port_reads))
     (told_reads via.without_port host_reads)
 
-end_reads : Reads (List ℕ) (via.SentBy × List Parameter) via.end_from via.IsEnd
+end_reads : Reads (List ℕ) (via.SentBy × List Parameter) via.end_from (Guarded via.is_closed EndCut)
 end_reads = guarded_reads via.is_closed (cut_reads (Anywhere 59)
     (both_reads sent_by_reads many_reads) (told_reads via.without_parameters sent_by_reads))
 
-hop_reads : Reads (List ℕ) ViaDraft via.hop_from via.IsHop
+hop_reads : Reads (List ℕ) ViaDraft via.hop_from HopCut
 hop_reads = cut_reads Blank (told_reads via.via_of
     (both_reads (passing_reads is_token) (of_reads trimmed end_reads))) never_reads
 
-behind_protocol_reads : Reads (List ℕ) ViaDraft via.behind_protocol_from via.IsBehindProtocol
+behind_protocol_reads : Reads (List ℕ) ViaDraft via.behind_protocol_from BehindProtocol
 behind_protocol_reads = cut_reads (Byte 47)
     (behind_reads (via.is_like (codes "2.0")) (of_reads trimmed hop_reads)) never_reads
 
-via_reads : Reads (List ℕ) ViaDraft via.via_from via.IsVia
-via_reads = of_reads trimmed (cut_reads (Byte 47)
+via_cut_reads : Reads (List ℕ) ViaDraft via.via_from ViaCut
+via_cut_reads = of_reads trimmed (cut_reads (Byte 47)
     (behind_reads (via.is_like (codes "SIP")) behind_protocol_reads) never_reads)
+
+pub via_reads : Reads (List ℕ) ViaDraft via.via_from via.IsVia
+via_reads = record {
+  takes = λ text v e. as_parts v text (via_cut_reads.takes text v e);
+  again = λ text v is. via_cut_reads.again text v (as_cuts v text is);
+}
 
 pub vias_reads : Reads (List ℕ) (List ViaDraft) via.vias_from via.AreVias
 vias_reads = split_reads (Byte 44) via_reads

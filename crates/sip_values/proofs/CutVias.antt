@@ -1,0 +1,461 @@
+-- A Via value that is cut at its separators from left to right is its parts, one behind the other.
+use Rattle.std.proofs.Common.{◌≡◌, ◌<◌, inl, inr, ℕ, Bool, true, not, eqb, List, [], ◌∷◌, ◌++◌, codes, refl, sym, ap, subst, ◌∙◌, append_assoc, arith}
+use Rattle.std.specs.List.{list_all}
+use Rattle.std.specs.Str.{str_eq_ignore_ascii_case, str_to_ascii_lowercase}
+use Rattle.std.proofs.lemmas.Bool.{and_parts, and_from, not-true, eqb-true}
+use Rattle.std.proofs.lemmas.List.{append-nil}
+use Rattle.std.proofs.lemmas.List.Folds.{list_all-append}
+use Rattle.sip_text.specs.Character.{is_blank, is_token_byte}
+use Rattle.sip_text.specs.Forms.{Passing, Never, Of, Guarded, Told, Behind, Both, OnCut}
+use Rattle.sip_text.specs.Lines.{has_no}
+use Rattle.sip_text.specs.OpenQuote.{has_open_quote}
+use Rattle.sip_text.specs.Token.{is_run, is_token}
+use Rattle.sip_text.specs.Trimmed.{trimmed, trimmed_start, trimmed_end}
+use Rattle.sip_text.specs.declared.separator.Separator.TheVariants.{Byte, Blank}
+use Rattle.sip_parts.specs.Host.{is_host}
+use Rattle.sip_parts.specs.declared.parameter.Parameter.{Parameter}
+use Rattle.sip_values.specs.ParameterValues.{AllParameters}
+use Rattle.sip_values.specs.ViaValue.{SentBy, IsMark, IsPortPart, IsVia, is_closed, is_like, via_of}
+use Rattle.sip_values.specs.declared.via.ViaDraft.{ViaDraft}
+use Rattle.sip_values.proofs.Blanks.{End, around, around_trimmed, end_behind_byte, end_is, end_tail, full_starts, start_gap, start_past, start_stays, trimmed_starts, trimmed_stays}
+use Rattle.sip_values.proofs.Characters.{lower_not_blank, lower_without, no_slash, same_lower, token_full, token_run}
+use Rattle.sip_values.proofs.Cuts.{all_imply, run_all}
+use Rattle.sip_values.proofs.Hosts.{host_solid}
+use Rattle.sip_values.proofs.Marks.{stops_here, cut_parts, cut_at, slash_clear, comma_clear, blanks_pass, around_passes, mark_text, mark_is, mark_passes, mark_regroup}
+use Rattle.sip_values.proofs.Passing.{Passes, all_pass, clear, token_passes, token_passes_blank}
+use Rattle.sip_values.proofs.Quotes.{open_behind, open_trimmed}
+use Rattle.sip_values.proofs.SentBys.{EndCut, EndParts, end_parts, end_cut}
+use Rattle.sip_values.proofs.WrittenBytes.{is_solid, solid_full}
+
+-- ---- the forms by cuts
+
+-- the transport, a blank, and what stands behind it
+abbrev pub HopCut : ViaDraft → List ℕ → Type 0
+HopCut via text =
+    OnCut Blank (Told via_of (Both (Passing is_token) (Of (Guarded is_closed EndCut) trimmed)))
+    Never via text
+
+-- `2.0`, a slash, and that
+abbrev pub BehindProtocol : ViaDraft → List ℕ → Type 0
+BehindProtocol via text =
+    OnCut (Byte 47) (Behind (is_like (codes "2.0")) (Of HopCut trimmed)) Never via text
+
+-- `SIP`, a slash, and that
+abbrev pub ViaCut : ViaDraft → List ℕ → Type 0
+ViaCut via text =
+    Of (OnCut (Byte 47) (Behind (is_like (codes "SIP")) BehindProtocol) Never) trimmed via text
+
+-- ---- the protocol and its version
+
+record HasNoMark (text : List ℕ) : Type 0 where
+  pub slash : has_no 47 text ≡ true
+  pub quote : has_no 34 text ≡ true
+  pub bracket : has_no 60 text ≡ true
+
+sip_marks : HasNoMark (str_to_ascii_lowercase (codes "SIP"))
+sip_marks = record { slash = refl; quote = refl; bracket = refl }
+
+version_marks : HasNoMark (str_to_ascii_lowercase (codes "2.0"))
+version_marks = record { slash = refl; quote = refl; bracket = refl }
+
+all_clear : (text : List ℕ) → HasNoMark text → list_all (clear (Byte 47)) text ≡ true
+all_clear [] none = refl
+all_clear (b ∷ bs) none =
+    let s = and_parts (not (eqb b 47)) (has_no 47 bs) none.slash in
+    let q = and_parts (not (eqb b 34)) (has_no 34 bs) none.quote in
+    let a = and_parts (not (eqb b 60)) (has_no 60 bs) none.bracket in
+    rw (
+      not-true (eqb b 47) s.0,
+      not-true (eqb b 34) q.0,
+      not-true (eqb b 60) a.0,
+      all_clear bs (record { slash = s.1; quote = q.1; bracket = a.1 }),
+    ) refl
+
+-- a word without marks, in any case of its letters
+word_passes : (word text : List ℕ) → HasNoMark (str_to_ascii_lowercase word)
+    → str_eq_ignore_ascii_case text word ≡ true → Passes (Byte 47) text
+word_passes word text none is =
+    let same = same_lower text word is in
+    let without : (at : ℕ) → at < 65 → has_no at (str_to_ascii_lowercase word) ≡ true
+    → has_no at text ≡ true =
+    λ at small e. sym (lower_without at small text) ∙ ap (has_no at) same ∙ e in
+    all_pass (Byte 47) text (all_clear text (record {
+      slash = without 47 (omega arith) none.slash;
+      quote = without 34 (omega arith) none.quote;
+      bracket = without 60 (omega arith) none.bracket;
+    }))
+
+like_passes : (word text : List ℕ) → HasNoMark (str_to_ascii_lowercase word)
+    → is_like word text ≡ true → Passes (Byte 47) text
+like_passes word text none like =
+    around_passes (Byte 47) slash_clear text (word_passes word (trimmed text) none like)
+
+-- ---- the transport
+
+-- the transport, a blank and the end
+record HopParts (via : ViaDraft) (text : List ℕ) : Type 0 where
+  pub blank : ℕ
+  pub end : List ℕ
+  pub parts : text ≡ via.transport ++ (blank ∷ end)
+  pub transport_is : is_token via.transport ≡ true
+  pub blank_is : is_blank blank ≡ true
+  pub quotes_end : is_closed (trimmed end) ≡ true
+  pub end_is : EndParts ((via.host, via.port), via.parameters) (trimmed end)
+
+hop_parts : (via : ViaDraft) (text : List ℕ) → HopCut via text → HopParts via text
+hop_parts via text (inr p) = absurd p.1
+hop_parts via text (inl p) =
+    let cut = p.1 in
+    let told = p.2 in
+    let token = told.2.0 in
+    subst (λ (v : ViaDraft). HopParts v text) (sym told.1) (record {
+      blank = cut.byte;
+      end = p.0.1;
+      parts = cut.together ∙ ap (λ (xs : List ℕ). xs ++ (cut.byte ∷ p.0.1)) (sym token.0);
+      transport_is = ap is_token token.0 ∙ token.1;
+      blank_is = stops_here Blank cut.last cut.byte cut.stops;
+      quotes_end = told.2.1.0;
+      end_is = end_parts told.0.1 (trimmed p.0.1) told.2.1.1;
+    })
+
+-- what stands behind the second slash
+record HopText (via : ViaDraft) (text : List ℕ) : Type 0 where
+  pub gap : List ℕ
+  pub space : List ℕ
+  pub port : List ℕ
+  pub parameters : List ℕ
+  pub parts : text ≡ gap ++ (via.transport ++ (space ++ (via.host ++ (port ++ parameters))))
+  pub gap_is : list_all is_blank gap ≡ true
+  pub transport_is : is_token via.transport ≡ true
+  pub space_is : is_run is_blank space ≡ true
+  pub host_is : is_host via.host ≡ true
+  pub port_is : IsPortPart via.port port
+  pub parameters_is : AllParameters via.parameters parameters
+  pub quotes_end : is_closed (via.host ++ (port ++ parameters)) ≡ true
+
+hop_text : (via : ViaDraft) (text : List ℕ) → End text → HopParts via (trimmed text)
+    → HopText via text
+hop_text via text stays hop =
+    let end = hop.end_is in
+    let rest = via.host ++ (end.port ++ end.parameters) in
+    let start = start_gap text in
+    let kept : trimmed text ≡ trimmed_start text = start_stays text stays in
+    let hop_is = sym kept ∙ hop.parts in
+    let behind = start_gap hop.end in
+    let behind_kept : trimmed hop.end ≡ trimmed_start hop.end =
+    start_stays hop.end
+    (end_behind_byte via.transport hop.blank hop.end
+    (subst (λ (xs : List ℕ). End xs) hop_is kept)) in
+    let end_is : hop.end ≡ (behind.gap ++ end.front) ++ rest =
+    behind.parts ∙ ap (λ (xs : List ℕ). behind.gap ++ xs) (sym behind_kept ∙ end.parts)
+    ∙ sym (append_assoc behind.gap end.front rest) in
+    record {
+      gap = start.gap;
+      space = hop.blank ∷ (behind.gap ++ end.front);
+      port = end.port;
+      parameters = end.parameters;
+      parts = start.parts ∙ ap (λ (xs : List ℕ). start.gap ++ xs)
+          (hop_is ∙ ap (λ (xs : List ℕ). via.transport ++ (hop.blank ∷ xs)) end_is);
+      gap_is = start.gap_is;
+      transport_is = hop.transport_is;
+      space_is = and_from _ _ hop.blank_is (list_all-append is_blank behind.gap end.front
+          ∙ and_from _ _ behind.gap_is end.front_is);
+      host_is = end.host_is;
+      port_is = end.port_is;
+      parameters_is = end.parameters_is;
+      quotes_end = ap not (sym (open_behind 44 end.front rest
+          (blanks_pass (Byte 44) comma_clear end.front end.front_is))
+          ∙ ap has_open_quote (sym end.parts))
+          ∙ hop.quotes_end;
+    }
+
+-- ---- and back
+
+run_implies : (p q : ℕ → Bool) → ((b : ℕ) → p b ≡ true → q b ≡ true) → (text : List ℕ)
+    → is_run p text ≡ true → is_run q text ≡ true
+run_implies p q implies [] run = absurd cc
+run_implies p q implies (b ∷ bs) run = all_imply p q implies (b ∷ bs) run
+
+token_is_full : (text : List ℕ) → is_token text ≡ true → is_run (λ b. not (is_blank b)) text ≡ true
+token_is_full text token =
+    run_implies is_token_byte (λ b. not (is_blank b)) (λ b p. ap not (token_full b p)) text
+    (token_run text token)
+
+host_is_full : (host : List ℕ) → is_host host ≡ true → is_run (λ b. not (is_blank b)) host ≡ true
+unfolding is_host
+host_is_full [] is = absurd cc
+host_is_full (b ∷ bs) is =
+    all_imply is_solid (λ c. not (is_blank c)) solid_full (b ∷ bs) (host_solid (b ∷ bs) is)
+
+-- behind the first blank other blanks may stand
+space_cut : (via : ViaDraft) (text space rest : List ℕ) → is_token via.transport ≡ true
+    → is_run is_blank space ≡ true → text ≡ via.transport ++ (space ++ rest)
+    → trimmed_start rest ≡ rest → End rest
+    → Guarded is_closed EndCut ((via.host, via.port), via.parameters) rest → HopCut via text
+space_cut via text [] rest token blanks parts starts stays end = absurd cc
+space_cut via text (b ∷ bs) rest token blanks parts starts stays end =
+    let both = and_parts (is_blank b) (list_all is_blank bs) blanks in
+    let value : SentBy × List Parameter = ((via.host, via.port), via.parameters) in
+    let kept : trimmed (bs ++ rest) ≡ rest =
+    ap trimmed_end (start_past bs rest both.1 ∙ starts) ∙ stays in
+    inl (
+      (via.transport, bs ++ rest),
+      cut_at Blank via.transport b (bs ++ rest) text parts (token_passes_blank via.transport token)
+          both.0,
+      (
+        (via.transport, value),
+        refl,
+        (
+          (refl, token),
+          subst (λ (xs : List ℕ). Guarded is_closed EndCut value xs) (sym kept) end,
+        ),
+      ),
+    )
+
+hop_cut : (via : ViaDraft) (text : List ℕ) → End text → HopText via text → HopCut via (trimmed text)
+hop_cut via text stays is =
+    let rest = via.host ++ (is.port ++ is.parameters) in
+    let behind = via.transport ++ (is.space ++ rest) in
+    let stays_behind : End behind =
+    end_tail is.gap behind (subst (λ (xs : List ℕ). End xs) is.parts stays) in
+    let rest_stays : End rest =
+    end_tail is.space rest (end_tail via.transport (is.space ++ rest) stays_behind) in
+    let whole : trimmed text ≡ behind =
+    start_stays text stays ∙ ap trimmed_start is.parts ∙ start_past is.gap behind is.gap_is
+    ∙ full_starts via.transport (is.space ++ rest)
+    (token_is_full via.transport is.transport_is) in
+    space_cut via (trimmed text) is.space rest is.transport_is is.space_is whole
+    (full_starts via.host (is.port ++ is.parameters) (host_is_full via.host is.host_is))
+    rest_stays (
+      is.quotes_end,
+      end_cut via.host via.port via.parameters is.port is.parameters is.host_is is.port_is
+          is.parameters_is,
+    )
+
+-- ---- the whole
+
+-- the parts up to the host
+record Before (via : ViaDraft) (text protocol slash version next_slash space rest : List ℕ)
+    : Type 0 where
+  pub parts : trimmed text ≡ protocol ++ (slash ++ (version ++ (next_slash
+      ++ (via.transport ++ (space ++ rest)))))
+  pub protocol_is : str_eq_ignore_ascii_case protocol (codes "SIP") ≡ true
+  pub slash_is : IsMark 47 slash
+  pub version_is : str_eq_ignore_ascii_case version (codes "2.0") ≡ true
+  pub next_slash_is : IsMark 47 next_slash
+  pub transport_is : is_token via.transport ≡ true
+  pub space_is : is_run is_blank space ≡ true
+
+-- they open no quote
+open_after : (via : ViaDraft) (text protocol slash version next_slash space rest : List ℕ)
+    → Before via text protocol slash version next_slash space rest
+    → has_open_quote text ≡ has_open_quote rest
+open_after via text protocol slash version next_slash space rest is =
+    let hop = via.transport ++ (space ++ rest) in
+    open_trimmed text
+    ∙ ap has_open_quote is.parts
+    ∙ open_behind 47 protocol (slash ++ (version ++ (next_slash ++ hop)))
+    (word_passes (codes "SIP") protocol sip_marks is.protocol_is)
+    ∙ open_behind 44 slash (version ++ (next_slash ++ hop))
+    (mark_passes (Byte 44) comma_clear 47 refl slash is.slash_is)
+    ∙ open_behind 47 version (next_slash ++ hop)
+    (word_passes (codes "2.0") version version_marks is.version_is)
+    ∙ open_behind 44 next_slash hop
+    (mark_passes (Byte 44) comma_clear 47 refl next_slash is.next_slash_is)
+    ∙ open_behind 47 via.transport (space ++ rest)
+    (token_passes 47 no_slash via.transport is.transport_is)
+    ∙ open_behind 44 space rest
+    (blanks_pass (Byte 44) comma_clear space (run_all is_blank space is.space_is))
+
+-- what stands behind the second slash keeps its end
+hop_stays : (text protocol version hop : List ℕ)
+    → trimmed text ≡ protocol ++ (47 ∷ (version ++ (47 ∷ hop))) → End hop
+hop_stays text protocol version hop parts =
+    end_behind_byte version 47 hop
+    (end_behind_byte protocol 47 (version ++ (47 ∷ hop))
+    (subst (λ (xs : List ℕ). End xs) parts (trimmed_stays text)))
+
+same_is_full : (text word : List ℕ) → is_run (λ b. not (is_blank b)) (str_to_ascii_lowercase word)
+    ≡ true → str_eq_ignore_ascii_case text word ≡ true
+    → is_run (λ b. not (is_blank b)) text ≡ true
+same_is_full [] word full same =
+    let e : [] ≡ str_to_ascii_lowercase word = same_lower [] word same in
+    ap (is_run (λ b. not (is_blank b))) e ∙ full
+same_is_full (b ∷ bs) word full same =
+    sym (lower_not_blank (b ∷ bs))
+    ∙ ap (list_all (λ c. not (is_blank c))) (same_lower (b ∷ bs) word same)
+    ∙ run_all (λ c. not (is_blank c)) (str_to_ascii_lowercase word) full
+
+full_kept : (text : List ℕ) → is_run (λ b. not (is_blank b)) text ≡ true → trimmed text ≡ text
+full_kept text full =
+    ap trimmed (sym (append-nil text))
+    ∙ ap trimmed_end (full_starts text [] full)
+    ∙ end_is text [] (run_all (λ b. not (is_blank b)) text full) refl
+
+like_around : (front text back word : List ℕ) → list_all is_blank front ≡ true
+    → list_all is_blank back ≡ true
+    → is_run (λ b. not (is_blank b)) (str_to_ascii_lowercase word) ≡ true
+    → str_eq_ignore_ascii_case text word ≡ true → is_like word (front ++ (text ++ back)) ≡ true
+like_around front text back word front_is back_is full same =
+    ap (λ (xs : List ℕ). str_eq_ignore_ascii_case xs word)
+    (around_trimmed front text back front_is back_is
+    (full_kept text (same_is_full text word full same))) ∙ same
+
+-- the mark between two texts, with the blanks on both its sides
+abbrev between : List ℕ → ℕ → List ℕ → List ℕ
+between text mark gap = (around text).back ++ (mark ∷ gap)
+
+whole_parts : (text protocol version gap rest : List ℕ)
+    → trimmed text ≡ protocol ++ (47 ∷ (version ++ (47 ∷ (gap ++ rest))))
+    → is_like (codes "SIP") protocol ≡ true
+    → trimmed text ≡ trimmed protocol ++ (between protocol 47 (around version).front
+    ++ (trimmed version ++ (between version 47 gap ++ rest)))
+whole_parts text protocol version gap rest parts protocol_is =
+    let p = around protocol in
+    let v = around version in
+    let behind = trimmed version ++ (between version 47 gap ++ rest) in
+    let whole = trimmed protocol ++ (between protocol 47 v.front ++ behind) in
+    let version_part : version ++ (47 ∷ (gap ++ rest)) ≡ v.front ++ behind =
+    ap (λ (xs : List ℕ). xs ++ (47 ∷ (gap ++ rest))) v.parts
+    ∙ mark_regroup v.front (trimmed version) v.back 47 gap rest in
+    let with_gap : trimmed text ≡ p.front ++ whole =
+    parts ∙ ap (λ (xs : List ℕ). protocol ++ (47 ∷ xs)) version_part
+    ∙ ap (λ (xs : List ℕ). xs ++ (47 ∷ (v.front ++ behind))) p.parts
+    ∙ mark_regroup p.front (trimmed protocol) p.back 47 v.front behind in
+    sym (trimmed_starts text) ∙ ap trimmed_start with_gap ∙ start_past p.front whole p.front_is
+    ∙ full_starts (trimmed protocol) (between protocol 47 v.front ++ behind)
+    (same_is_full (trimmed protocol) (codes "SIP") refl protocol_is)
+
+via_parts : (via : ViaDraft) (text protocol version behind : List ℕ)
+    → trimmed text ≡ protocol ++ (47 ∷ (version ++ (47 ∷ behind)))
+    → is_like (codes "SIP") protocol ≡ true → is_like (codes "2.0") version ≡ true
+    → HopText via behind → IsVia via text
+via_parts via text protocol version behind parts protocol_is version_is hop =
+    let p = around protocol in
+    let v = around version in
+    let rest = via.host ++ (hop.port ++ hop.parameters) in
+    let before : Before via text (trimmed protocol) (between protocol 47 v.front) (trimmed version)
+    (between version 47 hop.gap) hop.space rest =
+    record {
+      parts = whole_parts text protocol version hop.gap (via.transport ++ (hop.space ++ rest))
+          (parts ∙ ap (λ (xs : List ℕ). protocol ++ (47 ∷ (version ++ (47 ∷ xs)))) hop.parts)
+          protocol_is;
+      protocol_is = protocol_is;
+      slash_is = mark_is p.back 47 v.front p.back_is v.front_is refl;
+      version_is = version_is;
+      next_slash_is = mark_is v.back 47 hop.gap v.back_is hop.gap_is refl;
+      transport_is = hop.transport_is;
+      space_is = hop.space_is;
+    } in
+    record {
+      protocol = trimmed protocol;
+      slash = between protocol 47 v.front;
+      version = trimmed version;
+      next_slash = between version 47 hop.gap;
+      space = hop.space;
+      port = hop.port;
+      parameters = hop.parameters;
+      parts = before.parts;
+      protocol_is = protocol_is;
+      slash_is = before.slash_is;
+      version_is = version_is;
+      next_slash_is = before.next_slash_is;
+      transport_is = hop.transport_is;
+      space_is = hop.space_is;
+      host_is = hop.host_is;
+      port_is = hop.port_is;
+      parameters_is = hop.parameters_is;
+      quotes_end = ap not (open_after via text (trimmed protocol) (between protocol 47 v.front)
+          (trimmed version) (between version 47 hop.gap) hop.space rest before)
+          ∙ hop.quotes_end;
+    }
+
+pub as_parts : (via : ViaDraft) (text : List ℕ) → ViaCut via text → IsVia via text
+as_parts via text (inr p) = absurd p.1
+as_parts via text (inl p) = by_version p.2.1
+  where
+    first : trimmed text ≡ p.0.0 ++ (47 ∷ p.0.1)
+    first = cut_parts (Byte 47) 47 (λ b e. eqb-true b 47 e) p.0 (trimmed text) p.1
+
+    by_version : BehindProtocol via p.0.1 → IsVia via text
+    by_version (inr q) = absurd q.1
+    by_version (inl q) =
+        let second = cut_parts (Byte 47) 47 (λ b e. eqb-true b 47 e) q.0 p.0.1 q.1 in
+        let parts = first ∙ ap (λ (xs : List ℕ). p.0.0 ++ (47 ∷ xs)) second in
+        via_parts via text p.0.0 q.0.0 q.0.1 parts p.2.0 q.2.0
+        (hop_text via q.0.1 (hop_stays text p.0.0 q.0.0 q.0.1 parts)
+        (hop_parts via (trimmed q.0.1) q.2.1))
+
+text_of : (via : ViaDraft) (text gap : List ℕ) (is : IsVia via text) → list_all is_blank gap ≡ true
+    → HopText via (gap ++ (via.transport ++ (is.space ++ (via.host ++ (is.port ++ is.parameters)))))
+text_of via text gap is blank =
+    let rest = via.host ++ (is.port ++ is.parameters) in
+    let before : Before via text is.protocol is.slash is.version is.next_slash is.space rest =
+    record {
+      parts = is.parts;
+      protocol_is = is.protocol_is;
+      slash_is = is.slash_is;
+      version_is = is.version_is;
+      next_slash_is = is.next_slash_is;
+      transport_is = is.transport_is;
+      space_is = is.space_is;
+    } in
+    let same =
+    open_after via text is.protocol is.slash is.version is.next_slash is.space rest before in
+    record {
+      gap = gap;
+      space = is.space;
+      port = is.port;
+      parameters = is.parameters;
+      parts = refl;
+      gap_is = blank;
+      transport_is = is.transport_is;
+      space_is = is.space_is;
+      host_is = is.host_is;
+      port_is = is.port_is;
+      parameters_is = is.parameters_is;
+      quotes_end = ap not (sym same) ∙ is.quotes_end;
+    }
+
+pub as_cuts : (via : ViaDraft) (text : List ℕ) → IsVia via text → ViaCut via text
+as_cuts via text is =
+    let slash = mark_text 47 is.slash is.slash_is in
+    let next_slash = mark_text 47 is.next_slash is.next_slash_is in
+    let rest = via.transport ++ (is.space ++ (via.host ++ (is.port ++ is.parameters))) in
+    let hop = next_slash.back ++ rest in
+    let protocol = is.protocol ++ slash.front in
+    let version = slash.back ++ (is.version ++ next_slash.front) in
+    let version_text : slash.back ++ (is.version ++ (is.next_slash ++ rest))
+    ≡ version ++ (47 ∷ hop) =
+    ap (λ (xs : List ℕ). slash.back ++ (is.version ++ (xs ++ rest))) next_slash.parts
+    ∙ sym (mark_regroup slash.back is.version next_slash.front 47 next_slash.back rest) in
+    let whole : trimmed text ≡ protocol ++ (47 ∷ (version ++ (47 ∷ hop))) =
+    is.parts
+    ∙ ap (λ (xs : List ℕ). is.protocol ++ (xs ++ (is.version ++ (is.next_slash ++ rest))))
+    slash.parts
+    ∙ sym (mark_regroup [] is.protocol slash.front 47 slash.back
+    (is.version ++ (is.next_slash ++ rest)))
+    ∙ ap (λ (xs : List ℕ). protocol ++ (47 ∷ xs)) version_text in
+    let protocol_is : is_like (codes "SIP") protocol ≡ true =
+    like_around [] is.protocol slash.front (codes "SIP") refl slash.front_is refl is.protocol_is in
+    let version_is : is_like (codes "2.0") version ≡ true =
+    like_around slash.back is.version next_slash.front (codes "2.0") slash.back_is
+    next_slash.front_is refl is.version_is in
+    inl (
+      (protocol, version ++ (47 ∷ hop)),
+      cut_at (Byte 47) protocol 47 (version ++ (47 ∷ hop)) (trimmed text) whole
+          (like_passes (codes "SIP") protocol sip_marks protocol_is) refl,
+      (
+        protocol_is,
+        inl (
+          (version, hop),
+          cut_at (Byte 47) version 47 hop (version ++ (47 ∷ hop)) refl
+              (like_passes (codes "2.0") version version_marks version_is) refl,
+          (
+            version_is,
+            hop_cut via hop (hop_stays text protocol version hop whole)
+                (text_of via text next_slash.back is next_slash.back_is),
+          ),
+        ),
+      ),
+    )
