@@ -39,7 +39,7 @@ nothing_yet opening =
 -- ---- one dialog
 
 -- what is held under a name, with its history; no later event made it
-abbrev Stands : DialogName → Option HeldDialog → Option History → List Id → Type 0
+abbrev pub Stands : DialogName → Option HeldDialog → Option History → List Id → Type 0
 Stands name None history ids = Unit {0}
 Stands name (Some held) None ids = ⊥
 Stands name (Some held) (Some history) ids =
@@ -50,7 +50,7 @@ Stands name (Some held) (Some history) ids =
     × NumberedAfter (opened history.opening).local_cseq history.sent
 
 -- it was made by this event
-abbrev born_of : Option Id → Option HeldDialog → Bool
+abbrev pub born_of : Option Id → Option HeldDialog → Bool
 born_of event after = option_map_or
     (λ id. option_map_or (λ (held : HeldDialog). is_id held.born id) after false) event false
 
@@ -59,7 +59,7 @@ abbrev next_history : Bool → Option Opening → List CSeq → List Happening �
 next_history born start cseqs more history =
     if born then option_map (begun_with cseqs) start else option_map (with_more more cseqs) history
 
-not_born : (event : Option Id) (ids : List Id) (held after : HeldDialog)
+pub not_born : (event : Option Id) (ids : List Id) (held after : HeldDialog)
     → after.born ≡ held.born → NoneOf held.born (cons_option event ids)
     → born_of event (Some after) ≡ false
 not_born None ids held after same others = refl
@@ -196,43 +196,42 @@ named_so name (Some there) (Some history) ids stands held at =
     ap (λ (held : HeldDialog). is_named name (name_of_dialog held.dialog)) (sym same)
     ∙ ap (λ dialog. is_named name (name_of_dialog dialog)) stands.0 ∙ stands.1
 
-rest_differ : (event : Option Id) (ids : List Id) → IsDistinct is_id (cons_option event ids)
+pub rest_differ : (event : Option Id) (ids : List Id) → IsDistinct is_id (cons_option event ids)
     → IsDistinct is_id ids
 rest_differ None ids differ = differ
 rest_differ (Some id) ids differ = IsDistinct-tail is_id id ids differ
 
-abbrev ids_of : List (Timed CallItem) → List Id
+abbrev pub ids_of : List (Timed CallItem) → List Id
 ids_of inputs = filter_map (λ timed. event_in timed.input) inputs
 
-abbrev AllStand : Option Call → (DialogName → Option History) → List Id → Type 0
+abbrev pub AllStand : Option Call → (DialogName → Option History) → List Id → Type 0
 AllStand state histories ids = (name : DialogName)
     → Stands name (dialog_at name (side_held state).dialogs) (histories name) ids
 
 -- the names of what is held differ, and each dialog stands
-record Sound (state : Option Call) (histories : DialogName → Option History) (ids : List Id)
-    : Type 0 where
+pub record Sound (state : Option Call) (histories : DialogName → Option History)
+    (ids : List Id) : Type 0 where
   pub apart : AreApart (side_held state).dialogs
   pub stand : AllStand state histories ids
 
-are_named : (state : Option Call) (histories : DialogName → Option History) (ids : List Id)
+pub are_named : (state : Option Call) (histories : DialogName → Option History) (ids : List Id)
     → AllStand state histories ids → AreNamed (side_held state).dialogs
 are_named state histories ids stand name held at =
     named_so name (dialog_at name (side_held state).dialogs) (histories name) ids (stand name) held at
 
-from : (calls : Calls) (inputs : List (Timed CallItem)) (state : Option Call)
-    (histories : DialogName → Option History) → IsDistinct is_id (ids_of inputs)
-    → Sound state histories (ids_of inputs)
-    → Sound (call_from calls state inputs)
-    (λ name. history_from calls name state (histories name) inputs) []
-from calls [] state histories differ sound = sound
-from calls (input ∷ inputs) state histories differ sound =
+-- after one input
+pub next_sound : (calls : Calls) (input : Timed CallItem) (inputs : List (Timed CallItem))
+    (state : Option Call) (histories : DialogName → Option History)
+    → IsDistinct is_id (ids_of (input ∷ inputs)) → Sound state histories (ids_of (input ∷ inputs))
+    → Sound (call_step calls state input.input input.moment).0
+    (λ name. history_after calls name state (histories name) input) (ids_of inputs)
+next_sound calls input inputs state histories differ sound =
     let done = call_step calls state input.input input.moment in
     let event = event_in input.input in
     let named = are_named state histories (ids_of (input ∷ inputs)) sound.stand in
     let step = by_input calls state input.input input.moment sound.apart named in
     let moves = step.1 in
-    from calls inputs done.0 (λ name. history_after calls name state (histories name) input)
-    (rest_differ event (ids_of inputs) differ) record {
+    record {
       apart = moves.apart;
       stand = λ name. next_stands name event (ids_of inputs) (opening_in state input.input)
           (step.0 name) (cseqs_in name done.1)
@@ -244,12 +243,27 @@ from calls (input ∷ inputs) state histories differ sound =
           (sound.stand name) (moves.goes name);
     }
 
+from : (calls : Calls) (inputs : List (Timed CallItem)) (state : Option Call)
+    (histories : DialogName → Option History) → IsDistinct is_id (ids_of inputs)
+    → Sound state histories (ids_of inputs)
+    → Sound (call_from calls state inputs)
+    (λ name. history_from calls name state (histories name) inputs) []
+from calls [] state histories differ sound = sound
+from calls (input ∷ inputs) state histories differ sound =
+    from calls inputs (call_step calls state input.input input.moment).0
+    (λ name. history_after calls name state (histories name) input)
+    (rest_differ (event_in input.input) (ids_of inputs) differ)
+    (next_sound calls input inputs state histories differ sound)
+
+-- before all inputs
+pub none_yet : {ids : List Id} → Sound None (λ name. None) ids
+none_yet = record { apart = none_apart is_named; stand = λ name. tt }
+
 -- after all inputs, of which nothing was held before
 sound_after : (calls : Calls) (inputs : List (Timed CallItem)) → EventsDiffer inputs
     → Sound (call_from calls None inputs) (λ name. history_of calls name inputs) []
 sound_after calls inputs differ =
-    from calls inputs None (λ name. None) differ
-    record { apart = none_apart is_named; stand = λ name. tt }
+    from calls inputs None (λ name. None) differ none_yet
 
 told_so : (name : DialogName) (o : Option HeldDialog) (told : Option History)
     → Stands name o told [] → (held : HeldDialog) → o ≡ Some held

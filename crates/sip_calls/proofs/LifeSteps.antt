@@ -34,7 +34,7 @@ use Rattle.sip_calls.specs.Sides.{CallTaken, side_of, ticked}
 use Rattle.sip_calls.proofs.CallStarts.{tick_silent_of}
 use Rattle.sip_calls.proofs.KeptSides.{kept_side}
 
-abbrev dialogs_of : Call → Dialogs
+abbrev pub dialogs_of : Call → Dialogs
 dialogs_of call = ((call.served).state).dialogs
 
 -- what is brought, and what goes out
@@ -198,7 +198,7 @@ of_none event start lives others outs after none moves = (
     never : (held : HeldDialog) → None ≡ Some held → ⊥
     never held e = absurd cc
 
-first_none : (calls : Calls) (id : Id) (now : ℕ) (command : UserCommand)
+pub first_none : (calls : Calls) (id : Id) (now : ℕ) (command : UserCommand)
     → [] ≡ dialogs_of (first_command_taken (new_call calls.local) (event_of calls id now) command).0
 first_none calls id now (Invite invite) = refl
 first_none calls id now (PlainCommand plain) = refl

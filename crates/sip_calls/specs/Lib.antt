@@ -4,6 +4,7 @@ pub mod CallShard
 pub mod Histories
 pub mod Idle
 pub mod OwnCall
+pub mod Owing
 pub mod Provisionals
 pub mod RefusedCommands
 pub mod Requests

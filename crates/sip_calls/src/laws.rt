@@ -3,6 +3,7 @@
 ghost use Rattle.sip_calls.specs.Awaiting.{AwaitsAsTold};
 ghost use Rattle.sip_calls.specs.Histories.{CountsItsRequests, HasItsName, HasTheGreatestNumber, HasTheLatestRoute, HasTheNextNumber, HoldsItsHistory, NumbersItsRequests};
 ghost use Rattle.sip_calls.specs.OwnCall.{EachNoticeIsOwn};
+ghost use Rattle.sip_calls.specs.Owing.{OwesAsTold};
 ghost use Rattle.sip_calls.specs.Provisionals.{ShownConsecutive, ShownInOrder, ShownOnce};
 ghost use Rattle.sip_calls.specs.RefusedCommands.{RefusedAlone};
 ghost use Rattle.sip_calls.specs.Requests.{EachToldOnce};
@@ -58,4 +59,13 @@ pub fn a_dialog_holds_its_history()
 /// (RFC 3261, section 13.3.1.4).
 pub fn an_invite_awaits_its_ack_as_told()
     ensures { AwaitsAsTold }
+{}
+
+/// Whatever comes to a call, by events that differ: in a held dialog are owed, the oldest first,
+/// the ACK of each 2xx and the PRACK of each reliable provisional response to an INVITE of which
+/// the user was told since the dialog was made, unless it went out at once, or since by a command
+/// Ack or Prack, which serves the oldest of its kind (RFC 3261, section 13.2.2.4; RFC 3262, section
+/// 4).
+pub fn a_dialog_owes_as_told()
+    ensures { OwesAsTold }
 {}

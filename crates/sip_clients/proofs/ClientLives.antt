@@ -126,7 +126,7 @@ sends_one own cseqs outs dialogs after numbers same leads = record {
         subst (NumberedAfter held.dialog.local_cseq) (same name held at)
         (numbered_either (is_named own name) held.dialog.local_cseq (cseqs held) (numbers held))
 
-after_silent : (name : DialogName) (xs ys : List CallOut) → starts xs ≡ []
+pub after_silent : (name : DialogName) (xs ys : List CallOut) → starts xs ≡ []
     → cseqs_in name (xs ++ ys) ≡ cseqs_in name ys
 after_silent name xs ys none =
     cseqs_both name xs ys ∙ ap (λ zs. zs ++ cseqs_in name ys) (none_numbered name xs none)
@@ -271,7 +271,7 @@ module _ (event : Event) (side : Side) (apart : AreApart side.dialogs)
 -- ---- a response
 
 -- what goes out with what becomes of its request
-abbrev change_cseqs : DialogName → ClientChange → List CSeq
+abbrev pub change_cseqs : DialogName → ClientChange → List CSeq
 change_cseqs name Stays = []
 change_cseqs name Over = []
 change_cseqs name (Starts client) = cons_option (cseq_of_request name client.request) []
@@ -279,7 +279,7 @@ change_cseqs name (Starts client) = cons_option (cseq_of_request name client.req
 abbrev change_sent : DialogName → ClientChange → List Happening
 change_sent name change = requests_made (change_cseqs name change)
 
-settled_cseqs : (name : DialogName) (event : Event) (id : Id) (change : ClientChange)
+pub settled_cseqs : (name : DialogName) (event : Event) (id : Id) (change : ClientChange)
     (clients : Clients)
     → cseqs_in name (settled event id change clients).1 ≡ change_cseqs name change
 unfolding start_command
@@ -287,24 +287,24 @@ settled_cseqs name event id Stays clients = refl
 settled_cseqs name event id Over clients = refl
 settled_cseqs name event id (Starts client) clients = refl
 
-said_change : (name : DialogName) (event : Event) (call_id : List ℕ) (own : DialogName)
+pub said_change : (name : DialogName) (event : Event) (call_id : List ℕ) (own : DialogName)
     (service : Service)
     → change_cseqs name (request_said event call_id own service).1 ≡ service_cseqs name service
 said_change name event call_id own (Sent sending) = refl
 said_change name event call_id own Waits = refl
 said_change name event call_id own (Refused refusal) = refl
 
-heard_dialog : (kind : RequestKind) (number : ℕ) (held : HeldDialog)
+pub heard_dialog : (kind : RequestKind) (number : ℕ) (held : HeldDialog)
     → (heard_first kind number held).dialog ≡ held.dialog
 heard_dialog First number held = refl
 heard_dialog (Again life) number held = refl
 heard_dialog (Inside life) number held = refl
 heard_dialog Plain number held = refl
 
-success_final : (status : ℕ) → is_success status ≡ true → is_final status ≡ true
+pub success_final : (status : ℕ) → is_success status ≡ true → is_final status ≡ true
 success_final status e = first_so (nat_le 200 status) (nat_lt status 300) e
 
-not_last : (final success inviting : Bool) → (final && not (inviting && success)) ≡ false
+pub not_last : (final success inviting : Bool) → (final && not (inviting && success)) ≡ false
     → final ≡ true → success ≡ true
 not_last true true inviting last is = refl
 not_last true false true last is = absurd cc

@@ -14,6 +14,7 @@ pub mod Names
 pub mod NoRequests
 pub mod OwnCall
 pub mod OwnDialogs
+pub mod Owing
 pub mod Results
 pub mod SentIn
 pub mod Served

@@ -11,6 +11,7 @@ pub mod Name
 pub mod OwnCall
 pub mod Outputs
 pub mod Outside
+pub mod Owing
 pub mod Provisionals
 pub mod Replied
 pub mod Reply

@@ -4,6 +4,7 @@ pub mod Entries
 pub mod Heard
 pub mod Lives
 pub mod OwnDialogs
+pub mod Owing
 pub mod Sent
 pub mod ToldRequests
 pub mod Starts

@@ -9,6 +9,7 @@ pub mod Names
 pub mod NoStarts
 pub mod Numbers
 pub mod OwnCall
+pub mod Owing
 pub mod FewWait
 pub mod FirstChanged
 pub mod Places

@@ -1,0 +1,77 @@
+-- What is owed in the dialog of a name over all inputs of a call, read off what the call gives (RFC
+-- 3261, section 13.2.2.4; RFC 3262, section 4).
+use Rattle.std.specs.Prelude.{◌≡◌, List, [], ◌∷◌, ◌++◌, Option, None, Some, if◌then◌else◌}
+use Rattle.sip_model.specs.Machine.{Timed}
+use Rattle.sip_message.specs.declared.id.Id.{Id}
+use Rattle.sip_transactions.specs.declared.output.Kind.{Kind}
+use Rattle.sip_transactions.specs.declared.output.Kind.TheVariants as kind
+use Rattle.sip_common.specs.declared.command.UserCommand.{UserCommand}
+use Rattle.sip_common.specs.declared.command.UserCommand.TheVariants.{Ack, Prack}
+use Rattle.sip_common.specs.declared.debt.Debt.{Debt}
+use Rattle.sip_common.specs.declared.held_dialog.DialogName.{DialogName}
+use Rattle.sip_common.specs.declared.held_dialog.HeldDialog.{HeldDialog}
+use Rattle.sip_common.specs.declared.item.CallOut.{CallOut}
+use Rattle.sip_common.specs.declared.item.Item.{Item}
+use Rattle.sip_common.specs.declared.item.Item.TheVariants.{Up, User}
+use Rattle.sip_common.specs.Dialogs.{dialog_at}
+use Rattle.sip_clients.specs.Owing.{owed_after_ack, owed_after_prack, response_owes}
+use Rattle.sip_calls.specs.declared.call.Call.{Call}
+use Rattle.sip_calls.specs.declared.calls.Calls.{Calls}
+use Rattle.sip_calls.specs.Call.{CallItem, call_step}
+use Rattle.sip_calls.specs.Histories.{call_from, is_born_of}
+use Rattle.sip_calls.specs.Provisionals.{EventsDiffer, event_in, side_held}
+use Rattle.sip_calls.specs.Sides.{side_of}
+
+-- ---- one input
+
+-- what is owed after a message that comes up, by what was owed before it and what is given: a
+-- response may leave more owed
+abbrev pub owed_by_kind : Call → Id → Kind → DialogName → List CallOut → List Debt → List Debt
+owed_by_kind call id (kind.Response response) name outs debts =
+    debts ++ response_owes id response call.clients name
+    (dialog_at name (side_of call).dialogs) outs
+owed_by_kind call id _ name outs debts = debts
+
+-- after a command of the user: its ACKs and PRACKs leave less
+abbrev pub owed_by_command : UserCommand → DialogName → List CallOut → List Debt → List Debt
+owed_by_command (Ack command) name outs debts = owed_after_ack command name outs debts
+owed_by_command (Prack command) name outs debts = owed_after_prack command name outs debts
+owed_by_command _ name outs debts = debts
+
+-- after an item
+abbrev pub owed_by : Call → Item → DialogName → List CallOut → List Debt → List Debt
+owed_by call (Up up) name outs debts = owed_by_kind call up.id up.kind name outs debts
+owed_by call (User command) name outs debts = owed_by_command command name outs debts
+
+-- after an input
+abbrev pub owed_in : Option Call → Option CallItem → DialogName → List CallOut → List Debt
+    → List Debt
+owed_in (Some call) (Some (id, item)) name outs debts = owed_by call item name outs debts
+owed_in _ _ name outs debts = debts
+
+-- ---- a list of inputs
+
+module _ (calls : Calls) (name : DialogName) where
+  -- nothing was owed before in a dialog that the input makes
+  abbrev pub owed_next : Option Call → List Debt → Timed CallItem → List Debt
+  owed_next call debts timed =
+      let done = call_step calls call timed.input timed.moment in
+      owed_in call timed.input name done.1
+      (if is_born_of name (event_in timed.input) (side_held done.0).dialogs then [] else debts)
+
+  -- after a list of inputs, by what was held and owed
+  abbrev pub owed_from : Option Call → List Debt → List (Timed CallItem) → List Debt
+  owed_from call debts [] = debts
+  owed_from call debts (input ∷ inputs) =
+      owed_from (call_step calls call input.input input.moment).0 (owed_next call debts input)
+      inputs
+
+-- Whatever comes to a call: in a held dialog are owed, the oldest first, the ACK of each 2xx and
+-- the PRACK of each reliable provisional response to an INVITE of which the user was told since the
+-- dialog was made, unless it went out at once, or since by a command, which serves the oldest of
+-- its kind.
+abbrev pub OwesAsTold : Type 0
+OwesAsTold = (calls : Calls) (inputs : List (Timed CallItem)) → EventsDiffer inputs
+    → (name : DialogName) (held : HeldDialog)
+    → dialog_at name (side_held (call_from calls None inputs)).dialogs ≡ Some held
+    → held.owed ≡ owed_from calls name None [] inputs

@@ -1,0 +1,96 @@
+-- What is owed in the dialog of a name before and after something: it changed in the dialog that was
+-- there, which may be over, or in one that is made anew.
+use Rattle.std.proofs.Common.{◌≡◌, ◌⊎◌, inl, inr, Bool, List, [], refl, ◌∙◌}
+use Rattle.std.specs.Prelude.{Option, None, Some, filter}
+use Rattle.std.specs.Map.{remove_entry}
+use Rattle.sip_message.specs.declared.id.Id.{Id}
+use Rattle.sip_common.specs.declared.debt.Debt.{Debt}
+use Rattle.sip_common.specs.declared.held_dialog.DialogName.{DialogName}
+use Rattle.sip_common.specs.declared.held_dialog.HeldDialog.{HeldDialog}
+use Rattle.sip_common.specs.Dialogs.{Dialogs, dialog_at, dialog_changed, is_named}
+use Rattle.sip_common.proofs.Entries as entries
+use Rattle.sip_common.proofs.Heard.{AreApart, name_laws}
+
+-- ---- one dialog, before and after
+
+abbrev KeptOwed : (List Debt → List Debt) → HeldDialog → Option HeldDialog → Type 0
+KeptOwed change after None = ⊥
+KeptOwed change after (Some before) = (after.born ≡ before.born) × (after.owed ≡ change before.owed)
+
+-- it was there and what is owed in it changed so, or it is over
+abbrev pub OwesStill : (List Debt → List Debt) → Option HeldDialog → Option HeldDialog → Type 0
+OwesStill change before None = Unit {0}
+OwesStill change before (Some after) = KeptOwed change after before
+
+abbrev pub OwesAnew : Option Id → (List Debt → List Debt) → Option HeldDialog → Type 0
+OwesAnew event change None = ⊥
+OwesAnew event change (Some after) = (event ≡ Some after.born) × (after.owed ≡ change [])
+
+-- that, or the event made it and nothing was owed in it before
+abbrev pub Owes : Option Id → (List Debt → List Debt) → Option HeldDialog → Option HeldDialog
+    → Type 0
+Owes event change before after = OwesStill change before after ⊎ OwesAnew event change after
+
+abbrev pub unchanged : List Debt → List Debt
+unchanged debts = debts
+
+pub still_same : (o : Option HeldDialog) → OwesStill unchanged o o
+still_same None = tt
+still_same (Some held) = (refl, refl)
+
+pub still_over : (o : Option HeldDialog) → OwesStill unchanged o None
+still_over o = tt
+
+still_then : (change : List Debt → List Debt) (x y z : Option HeldDialog) → OwesStill change x y
+    → OwesStill unchanged y z → OwesStill change x z
+still_then change x y None first second = tt
+still_then change x None (Some z) first second = absurd second
+still_then change None (Some y) (Some z) first second = absurd first
+still_then change (Some x) (Some y) (Some z) first second =
+    (second.0 ∙ first.0, second.1 ∙ first.1)
+
+pub still_as : (change other : List Debt → List Debt) (x y : Option HeldDialog)
+    → ((debts : List Debt) → change debts ≡ other debts) → OwesStill change x y
+    → OwesStill other x y
+still_as change other x None same still = tt
+still_as change other None (Some y) same still = absurd still
+still_as change other (Some x) (Some y) same still = (still.0, still.1 ∙ same x.owed)
+
+pub owes_as : (event : Option Id) (change other : List Debt → List Debt) (x y : Option HeldDialog)
+    → ((debts : List Debt) → change debts ≡ other debts) → Owes event change x y
+    → Owes event other x y
+owes_as event change other x y same (inl still) = inl (still_as change other x y same still)
+owes_as event change other x None same (inr begins) = absurd begins
+owes_as event change other x (Some y) same (inr begins) = inr (begins.0, begins.1 ∙ same [])
+
+-- ---- all dialogs
+
+-- of each name what is owed is the same
+abbrev pub OweSame : Dialogs → Dialogs → Type 0
+OweSame before after = (name : DialogName)
+    → OwesStill unchanged (dialog_at name before) (dialog_at name after)
+
+pub same_owed : (dialogs : Dialogs) → OweSame dialogs dialogs
+same_owed dialogs name = still_same (dialog_at name dialogs)
+
+pub same_then : (x y z : Dialogs) → OweSame x y → OweSame y z → OweSame x z
+same_then x y z first second name =
+    still_then unchanged (dialog_at name x) (dialog_at name y) (dialog_at name z) (first name)
+    (second name)
+
+pub removed_same : (name : DialogName) (dialogs : Dialogs) → AreApart dialogs
+    → OweSame dialogs (remove_entry (is_named name) dialogs)
+removed_same name dialogs apart other =
+    entries.by_removal name_laws (OwesStill unchanged) still_same still_over name other dialogs apart
+
+pub filtered_same : (p : HeldDialog → Bool) (dialogs : Dialogs) → AreApart dialogs
+    → OweSame dialogs (filter (λ entry. p entry.1) dialogs)
+filtered_same p dialogs apart other =
+    entries.by_filter name_laws (OwesStill unchanged) still_same still_over p other dialogs apart
+
+pub changed_same : (name : DialogName) (change : HeldDialog → HeldDialog)
+    → ((held : HeldDialog) → OwesStill unchanged (Some held) (Some (change held)))
+    → (dialogs : Dialogs) → OweSame dialogs (dialog_changed name change dialogs)
+changed_same name change keeps dialogs other =
+    entries.by_change name_laws (OwesStill unchanged) still_same still_over name other change keeps
+    dialogs
