@@ -9,3 +9,4 @@ pub mod Provisionals
 pub mod RefusedCommands
 pub mod Requests
 pub mod Sides
+pub mod Unacknowledged

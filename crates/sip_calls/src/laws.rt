@@ -7,6 +7,7 @@ ghost use Rattle.sip_calls.specs.Owing.{OwesAsTold};
 ghost use Rattle.sip_calls.specs.Provisionals.{ShownConsecutive, ShownInOrder, ShownOnce};
 ghost use Rattle.sip_calls.specs.RefusedCommands.{RefusedAlone};
 ghost use Rattle.sip_calls.specs.Requests.{EachToldOnce};
+ghost use Rattle.sip_calls.specs.Unacknowledged.{AwaitedAsTold, KeptAsTold, RepeatedAsTold};
 
 /// Whatever comes to a call, by events that differ: of the reliable provisional responses that come
 /// to an INVITE in one life of a dialog, from the event that makes it to the one that ends it, the
@@ -68,4 +69,15 @@ pub fn an_invite_awaits_its_ack_as_told()
 /// 4).
 pub fn a_dialog_owes_as_told()
     ensures { OwesAsTold }
+{}
+
+/// Whatever comes to a call, where no id of a request comes up twice: of the reliable provisional
+/// responses to a held INVITE, those await their PRACK that went out with an RSeq and of whose PRACK
+/// the user wasn't told since. These are kept, and a PRACK of these alone gets a 200. They are sent
+/// again until a final response goes out or the user is told that no PRACK came (RFC 3262, section
+/// 3).
+pub fn a_response_awaits_its_prack_as_told()
+    ensures kept { KeptAsTold }
+    ensures awaited { AwaitedAsTold }
+    ensures repeated { RepeatedAsTold }
 {}

@@ -12,9 +12,15 @@ pub mod OwnCall
 pub mod Owing
 pub mod FewWait
 pub mod FirstChanged
+pub mod Found
+pub mod ItemsFollow
 pub mod Places
+pub mod Reading
 pub mod RequestIds
+pub mod Rseqs
 pub mod Shows
 pub mod Stories
 pub mod Terminations
+pub mod TickFollows
 pub mod Ticks
+pub mod Unacknowledged

@@ -24,7 +24,7 @@ use Rattle.sip_served.specs.Respond.{by_refusal, by_request, finished, refusal_f
 use Rattle.sip_served.specs.State.{State, changed_at, has_id}
 use Rattle.sip_served.specs.Step.{arrival_taken}
 use Rattle.sip_served.specs.Tick.{is_kept_at, request_ticked}
-use Rattle.sip_served.proofs.Awaiting.{bye_requests, change, keeps, noted_requests, passed_id}
+use Rattle.sip_served.proofs.Found.{bye_requests, change, keeps, noted_requests, passed_id}
 
 abbrev pub ids_of : List HeldRequest → List Id
 ids_of requests = map (λ held. held.id) requests
@@ -54,17 +54,17 @@ case_adds NoDialog state call_id name arrival = inl refl
 case_adds OutOfOrder state call_id name arrival = inl refl
 case_adds (Acknowledges of rseq) state call_id name arrival =
     inl (changed_ids of (pracked rseq) (λ held. refl) (noted state name arrival.request).requests
-    ∙ ap ids_of (noted_requests arrival.id state name arrival.request))
+    ∙ ap ids_of (noted_requests state name arrival.request))
 case_adds AcknowledgesNothing state call_id name arrival =
-    inl (ap ids_of (noted_requests arrival.id state name arrival.request))
+    inl (ap ids_of (noted_requests state name arrival.request))
 case_adds ForUser state call_id name arrival =
     let before = noted state name arrival.request in
     let held = (request_held before call_id name arrival).0 in
-    inr (ap ids_of (bye_requests arrival.id (is_inside arrival.request && is_bye arrival.request) held
+    inr (ap ids_of (bye_requests (is_inside arrival.request && is_bye arrival.request) held
     (ended_at name held.dialogs).0 (ended_at name held.dialogs).1)
     ∙ map-append (λ (held : HeldRequest). held.id) before.requests _
     ∙ ap (λ requests. ids_of requests ++ arrival.id ∷ [])
-    (noted_requests arrival.id state name arrival.request))
+    (noted_requests state name arrival.request))
 
 cancel_adds : (state : State) (call_id : List ℕ) (arrival : HeldRequest) (now : ℕ)
     (o : Option HeldRequest)
@@ -97,21 +97,19 @@ ack_ids state call_id ack = by_invite (acknowledged_invite ack state.requests)
         changed_ids of (success_ended Acknowledged) (λ held. refl) state.requests
 
 module _ (state : State) (event : Id) (r : Answer) (now : ℕ) where
-  by_reason : (held : HeldRequest) → find (has_id r.id) state.requests ≡ Some held
-      → (o : Option Refusal)
+  by_reason : (held : HeldRequest) (o : Option Refusal)
       → ids_of ((by_refusal state event r now held o).0).requests ≡ ids_of state.requests
-  by_reason held at (Some refusal) = refl
-  by_reason held at None =
-      changed_ids r.id (change event state event r now held at)
-      (keeps event state event r now held at) state.requests
+  by_reason held (Some refusal) = refl
+  by_reason held None =
+      changed_ids r.id (change state event r now held) (keeps state event r now held) state.requests
 
-  by_held : (o : Option HeldRequest) → find (has_id r.id) state.requests ≡ o
+  by_held : (o : Option HeldRequest)
       → ids_of ((by_request state event r now o).0).requests ≡ ids_of state.requests
-  by_held None at = refl
-  by_held (Some held) at = by_reason held at (refusal_for state.dialogs r held)
+  by_held None = refl
+  by_held (Some held) = by_reason held (refusal_for state.dialogs r held)
 
   pub respond_ids : ids_of ((respond_taken state event r now).0).requests ≡ ids_of state.requests
-  respond_ids = by_held (find (has_id r.id) state.requests) refl
+  respond_ids = by_held (find (has_id r.id) state.requests)
 
 -- ---- a tick leaves some of them
 
@@ -126,7 +124,7 @@ module _ (now : ℕ) where
       let passed = (request_ticked now held).0 in
       elim (is_kept_at now passed) as (λ b. AllByRecursion P (ids_of (cond b
       (passed ∷ kept requests) (kept requests)))) [
-        | true ↦ (subst P (sym (passed_id held.id now held)) all.0, all_left P requests all.1)
+        | true ↦ (subst P (sym (passed_id now held)) all.0, all_left P requests all.1)
         | false ↦ all_left P requests all.1
       ]
 
@@ -139,7 +137,7 @@ module _ (now : ℕ) where
       elim (is_kept_at now passed) as (λ b. IsDistinct is_id (ids_of (cond b
       (passed ∷ kept requests) (kept requests)))) [
         | true ↦ subst (λ id. IsDistinct is_id (id ∷ ids_of (kept requests)))
-            (sym (passed_id held.id now held))
+            (sym (passed_id now held))
             (IsDistinct-cons is_id held.id (ids_of (kept requests))
             (all_left (λ id. is_id held.id id ≡ false) requests
             (IsDistinct-head is_id held.id (ids_of requests) apart)) rest)

@@ -15,3 +15,4 @@ pub mod Step
 pub mod Story
 pub mod Telling
 pub mod Tick
+pub mod Unacknowledged

@@ -1,0 +1,166 @@
+-- The held requests: which is found after a step, and that its id stays.
+use Rattle.std.proofs.Common.{◌≡◌, ℕ, Bool, true, false, ◌&&◌, cond, List, [], ◌∷◌, ◌++◌, refl, sym, ap, ◌∙◌}
+use Rattle.std.specs.Prelude.{Option, None, Some, Result, Ok, Err, find, if◌then◌else◌}
+use Rattle.std.specs.Option.{option_map, option_map_or}
+use Rattle.sip_message.specs.declared.id.Id.{Id}
+use Rattle.sip_message.specs.declared.message.Message.{Message}
+use Rattle.sip_reliable.specs.declared.send_fault.SendFault.{SendFault}
+use Rattle.sip_reliable.specs.Ledger.{send_answer}
+use Rattle.sip_common.specs.declared.command.Respond.{Respond as Answer}
+use Rattle.sip_common.specs.declared.held_dialog.DialogName.{DialogName}
+use Rattle.sip_common.specs.declared.item.CallOut.{CallOut}
+use Rattle.sip_common.specs.Dialogs.{Dialogs, dialog_changed, visited}
+use Rattle.sip_common.specs.Ids.{is_id}
+use Rattle.sip_common.specs.Requests.{dialog_name, is_final, is_inside}
+use Rattle.sip_common.proofs.Heard.{id_laws}
+use Rattle.sip_served.specs.declared.held_request.HeldRequest.{HeldRequest}
+use Rattle.sip_served.specs.declared.held_request.Success.{Success}
+use Rattle.sip_served.specs.Arrival.{noted}
+use Rattle.sip_served.specs.Respond.{answer_to, answered, finished, is_sent_reliably, makes_dialog, sent_as, sent_reliably, with_dialog}
+use Rattle.sip_served.specs.State.{State, Taken, changed_at, has_id}
+use Rattle.sip_served.specs.Tick.{request_ticked, success_of}
+
+-- ---- what is found
+
+pub same_found : (k q : Id) → is_id k q ≡ true → (requests : List HeldRequest)
+    → find (has_id q) requests ≡ find (has_id k) requests
+same_found k q same [] = refl
+same_found k q same (held ∷ requests) =
+    let e : is_id held.id q ≡ is_id held.id k =
+    id_laws.symm held.id q ∙ sym (id_laws.congr k q held.id same) ∙ id_laws.symm k held.id in
+    λ i. cond (e i) (Some held) (same_found k q same requests i)
+
+-- one more is found where none was before
+pub found_more : (q : Id) (requests : List HeldRequest) (new : HeldRequest)
+    → find (has_id q) (requests ++ new ∷ [])
+    ≡ option_map_or (λ held. Some held) (find (has_id q) requests)
+    (cond (is_id new.id q) (Some new) None)
+found_more q [] new = refl
+found_more q (held ∷ requests) new =
+    elim (is_id held.id q) as (λ b. cond b (Some held) (find (has_id q) (requests ++ new ∷ []))
+    ≡ option_map_or (λ held. Some held) (cond b (Some held) (find (has_id q) requests))
+    (cond (is_id new.id q) (Some new) None)) [
+      | true ↦ refl
+      | false ↦ found_more q requests new
+    ]
+
+-- one is changed in its place
+module _ (k q : Id) (change : HeldRequest → HeldRequest)
+    (keeps : (held : HeldRequest) → (change held).id ≡ held.id) where
+  abbrev Changed : Option HeldRequest → Option HeldRequest → Type 0
+  Changed before after = after ≡ cond (is_id k q) (option_map change before) before
+
+  at_one : (held : HeldRequest) (rest : Option HeldRequest) → is_id held.id k ≡ true
+      → (b : Bool) → is_id held.id q ≡ b
+      → cond (is_id (change held).id q) (Some (change held)) rest
+      ≡ cond (is_id k q) (option_map change (cond b (Some held) rest)) (cond b (Some held) rest)
+  at_one held rest here b is =
+      let there : is_id k q ≡ b = sym (id_laws.congr held.id k q here) ∙ is in
+      let kept : is_id (change held).id q ≡ b = ap (λ id. is_id id q) (keeps held) ∙ is in
+      ap (λ c. cond c (Some (change held)) rest) kept
+      ∙ by_b b
+      ∙ ap (λ c. cond c (option_map change (cond b (Some held) rest)) (cond b (Some held) rest))
+      (sym there)
+    where
+      by_b : (b : Bool) → cond b (Some (change held)) rest
+          ≡ cond b (option_map change (cond b (Some held) rest)) (cond b (Some held) rest)
+      by_b true = refl
+      by_b false = refl
+
+  past_one : (held : HeldRequest) (before after : Option HeldRequest) → is_id held.id k ≡ false
+      → Changed before after → (b : Bool) → is_id held.id q ≡ b
+      → Changed (cond b (Some held) before) (cond b (Some held) after)
+  past_one held before after other later false is = later
+  past_one held before after other later true is =
+      let apart : is_id k q ≡ false =
+      id_laws.symm k q ∙ sym (id_laws.congr held.id q k is) ∙ other in
+      ap (λ c. cond c (option_map change (Some held)) (Some held)) (sym apart)
+
+  pub found_changed : (requests : List HeldRequest)
+      → Changed (find (has_id q) requests) (find (has_id q) (changed_at k change requests))
+  found_changed [] = by_b (is_id k q)
+    where
+      by_b : (b : Bool) → None ≡ cond b (option_map change None) None
+      by_b true = refl
+      by_b false = refl
+  found_changed (held ∷ requests) =
+      by_here (is_id held.id k) refl (found_changed requests)
+    where
+      by_here : (b : Bool) → is_id held.id k ≡ b
+          → Changed (find (has_id q) requests) (find (has_id q) (changed_at k change requests))
+          → Changed (find (has_id q) (held ∷ requests))
+          (find (has_id q) (cond b (change held ∷ requests)
+          (held ∷ changed_at k change requests)))
+      by_here true here later =
+          at_one held (find (has_id q) requests) here (is_id held.id q) refl
+      by_here false other later =
+          past_one held (find (has_id q) requests)
+          (find (has_id q) (changed_at k change requests)) other later (is_id held.id q) refl
+
+-- the one that is found has the id
+pub found_id : (q : Id) (requests : List HeldRequest) (held : HeldRequest)
+    → find (has_id q) requests ≡ Some held → is_id held.id q ≡ true
+found_id q [] held is = absurd cc
+found_id q (first ∷ requests) held is =
+    by_first (is_id first.id q) refl is (λ later. found_id q requests held later)
+  where
+    by_first : (b : Bool) → is_id first.id q ≡ b
+        → cond b (Some first) (find (has_id q) requests) ≡ Some held
+        → (find (has_id q) requests ≡ Some held → is_id held.id q ≡ true)
+        → is_id held.id q ≡ true
+    by_first true passes is rest =
+        let same : first ≡ held = cc in
+        ap (λ (held : HeldRequest). is_id held.id q) (sym same) ∙ passes
+    by_first false fails is rest = rest is
+
+-- ---- what no step changes
+
+pub noted_requests : (state : State) (name : DialogName) (request : Message)
+    → (noted state name request).requests ≡ state.requests
+noted_requests state name request =
+    elim (is_inside request) as (λ b. (if b
+    then record state { dialogs = dialog_changed name (visited request) state.dialogs }
+    else state).requests ≡ state.requests) [ true ↦ refl | false ↦ refl ]
+
+pub bye_requests : (b : Bool) (state : State) (dialogs : Dialogs) (outs : List CallOut)
+    → ((cond {A = Taken} b (record state { dialogs = dialogs }, outs) (state, [])).0).requests
+    ≡ state.requests
+bye_requests true state dialogs outs = refl
+bye_requests false state dialogs outs = refl
+
+answered_id : (r : Answer) (response : Message) (now : ℕ) (held : HeldRequest)
+    → (answered r response now held).id ≡ held.id
+answered_id r response now held =
+    elim (is_sent_reliably held r) as (λ b. (if b then sent_reliably response now held
+    else (if is_final r.status then finished response r.status now held
+    else held)).id ≡ held.id) [
+      | true ↦ by_answer (send_answer held.ledger)
+      | false ↦ elim (is_final r.status) as (λ b. (if b
+          then finished response r.status now held else held).id ≡ held.id)
+          [ true ↦ refl | false ↦ refl ]
+    ]
+  where
+    by_answer : (o : Result ℕ SendFault) → (sent_as o response now held).id ≡ held.id
+    by_answer (Ok number) = refl
+    by_answer (Err fault) = refl
+
+module _ (state : State) (event : Id) (r : Answer) (now : ℕ) (held : HeldRequest) where
+  -- a request after the answer to this one
+  abbrev pub change : HeldRequest → HeldRequest
+  change other = answered r (answer_to state.local held r) now (with_dialog event r other)
+
+  pub keeps : (other : HeldRequest) → (change other).id ≡ other.id
+  keeps other =
+      answered_id r (answer_to state.local held r) now (with_dialog event r other)
+      ∙ elim (makes_dialog other r.status) as (λ b. (if b
+      then record other {
+        dialog = Some record { name = dialog_name other.request other.tag; born = event };
+      }
+      else other).id ≡ other.id) [ true ↦ refl | false ↦ refl ]
+
+pub passed_id : (now : ℕ) (held : HeldRequest) → ((request_ticked now held).0).id ≡ held.id
+passed_id now held = by_success held.success
+  where
+    by_success : (o : Option Success) → ((success_of now held o).0).id ≡ held.id
+    by_success None = refl
+    by_success (Some success) = refl
