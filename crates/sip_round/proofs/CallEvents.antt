@@ -194,7 +194,7 @@ round_placed config number past round =
 
 -- ---- those of one call
 
-one_left : (round place : ℕ) (o : Option Id) (whole : List Id)
+pub one_left : (round place : ℕ) (o : Option Id) (whole : List Id)
     → Places round place (cons_option o whole) → Places round place whole
 one_left round place None whole places = places
 one_left round place (Some id) whole places =

@@ -3,6 +3,7 @@ pub mod Alone
 pub mod ArrivedHere
 pub mod Beginning
 pub mod CallEvents
+pub mod CallsHeld
 pub mod Climbing
 pub mod Cutting
 pub mod EventRuns
@@ -27,10 +28,14 @@ pub mod OwnSends
 pub mod Pieces
 pub mod Piled
 pub mod Placed
+pub mod RequestsDiffer
 pub mod RequestsOnce
+pub mod RequestsRise
 pub mod Runs
 pub mod SoFar
+pub mod SaidInDialogs
 pub mod StartedOnce
+pub mod StartedRequests
 pub mod Together
 pub mod Transferred
 pub mod ByEvent

@@ -22,10 +22,11 @@ module _ {K S I O : Type 0} (machine : Machine K S I O) (key : K) where
       ≡ outputs_from machine key None life.before
       ++ (said_at_first life ++ (said_in_rest life ++ said_after life))
   in_lives life =
+      let before = outputs_from machine key None life.before in
       let from : Option S → List O =
       λ held. outputs_from machine key held (life.first ∷ (life.rest ++ life.after)) in
       ap (outputs_from machine key None) life.are
       ∙ outputs_append None life.before (life.first ∷ (life.rest ++ life.after))
-      ∙ ap (λ held. outputs_from machine key None life.before ++ from held) life.none_before
-      ∙ ap (λ more. outputs_from machine key None life.before ++ (said_at_first life ++ more))
+      ∙ ap (λ held. before ++ from held) life.none_before
+      ∙ ap (λ more. before ++ (said_at_first life ++ more))
       (outputs_append (next machine key None life.first) life.rest life.after)

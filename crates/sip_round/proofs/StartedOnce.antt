@@ -47,7 +47,7 @@ pub counted : (x y : Id) (ys : List Id)
     → how_many x (y ∷ ys) ≡ cond (is_id x y) 1 0 + how_many x ys
 counted x y ys = sum_by-cons (λ z. cond (is_id x z) 1 0) y ys
 
-counted_one : (x y : Id) (ys : List Id) → is_id x y ≡ true → how_many x (y ∷ ys) ≡ 1 + how_many x ys
+pub counted_one : (x y : Id) (ys : List Id) → is_id x y ≡ true → how_many x (y ∷ ys) ≡ 1 + how_many x ys
 counted_one x y ys is = counted x y ys ∙ ap (λ b. cond b 1 0 + how_many x ys) is
 
 counted_none : (x y : Id) (ys : List Id) → is_id x y ≡ false → how_many x (y ∷ ys) ≡ how_many x ys

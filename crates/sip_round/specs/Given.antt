@@ -1,14 +1,20 @@
 -- What a run gives, transaction by transaction and call by call.
-use Rattle.std.specs.Prelude.{◌≡◌, ◌≢◌, ℕ, ◌≤◌, ◌&&◌, Bool, false, List, [], ◌∷◌, ◌++◌, AllPairs, Option, Some, None, drop, filter, length}
+use Rattle.std.specs.Prelude.{◌≡◌, ◌≢◌, ℕ, ◌≤◌, ◌&&◌, Bool, false, List, [], ◌∷◌, ◌++◌, AllPairs, Option, Some, None, drop, filter, filter_map, length}
 use Rattle.std.specs.BTreeMap.{is_at}
 use Rattle.std.specs.List.{AllByRecursion, flat_map}
+use Rattle.sip_message.specs.declared.addr.Addr.{Addr}
 use Rattle.sip_message.specs.declared.id.Id.{Id}
 use Rattle.sip_message.specs.declared.key.Key.{Key}
+use Rattle.sip_message.specs.declared.key.Key.TheVariants as key
+use Rattle.sip_message.specs.declared.message.Message.{Message}
 use Rattle.sip_message.specs.Key.{key_cmp}
-use Rattle.sip_model.specs.Machine.{LifeIn, Timed, outputs_from, state_after, state_left}
+use Rattle.sip_message.specs.Written.{written}
+use Rattle.sip_model.specs.Machine.{LifeIn, Timed, given_at, outputs_from, said_after, said_in_rest, state_after, state_left}
 use Rattle.sip_transactions.specs.declared.input.Input.{Input}
+use Rattle.sip_transactions.specs.declared.input.Input.TheVariants.{Start}
 use Rattle.sip_transactions.specs.declared.output.Out.{Out}
 use Rattle.sip_transactions.specs.declared.output.Out.TheVariants as out
+use Rattle.sip_transactions.specs.Ids.{IdsRise}
 use Rattle.sip_transactions.specs.Laws.{id_of}
 use Rattle.sip_transactions.specs.Machine.{transaction_machine}
 use Rattle.sip_common.specs.declared.held_dialog.DialogLife.{DialogLife}
@@ -108,6 +114,16 @@ pub record GivesRequestsOnce (config : Config) (rounds : List Round) (given : Li
   pub handed_up : OneRequestInLives config rounds
   pub told : (id : Id) → length (requests_of id (all_given given)) ≤ 1
 
+-- the id of a notice `request`
+abbrev pub told_request : Output → Option Id
+told_request (output.Notice (notice.Request call_id id method local_tag remote_tag body)) = Some id
+told_request _ = None
+
+-- of all that rounds give, the notices `request` come by rising ids: in the order of the events by
+-- which the requests came, and under one id one at most
+abbrev pub GivesRequestsById : List (List Output) → Type 0
+GivesRequestsById given = IdsRise (filter_map told_request (all_given given))
+
 -- ---- reliable provisional responses
 
 -- What rounds give of a call is what its inputs add, in order; and of the reliable provisional
@@ -130,6 +146,32 @@ abbrev pub GivesProvisionalsInOrder : Config → List Round → List (List Outpu
 GivesProvisionalsInOrder config rounds given =
     (call_id : List ℕ) (invite : AnInvite) (life : DialogLife)
     → TellsProvisionals config rounds given call_id invite life
+
+-- ---- requests that go out
+
+-- A life of a client's transaction begins by a request that is started. Of all that rounds give,
+-- the Sends with its key are those of before the life, then one of that request, as it is written,
+-- to the address that it is started with, and then those of the rest.
+pub record SendsItsRequest (config : Config) (rounds : List Round) (given : List (List Output))
+    (key : Key) (life : LifeIn transaction_machine key (inputs_of config rounds key))
+    : Type 0 where
+  pub now : ℕ
+  pub id : Id
+  pub call_id : List ℕ
+  pub request : Message
+  pub to : Addr
+  pub begins : life.first ≡ given_at now (Start id call_id request to)
+  pub sends : sends_with key (all_given given)
+      ≡ flat_map send_in (outputs_from transaction_machine key None life.before)
+      ++ (output.Send (Some key) to (written request)
+      ∷ flat_map send_in (said_in_rest life ++ said_after life))
+
+-- so each life of each of them
+abbrev pub GivesStartedRequests : Config → List Round → List (List Output) → Type 0
+GivesStartedRequests config rounds given = (branch method : List ℕ)
+    → (life : LifeIn transaction_machine (key.Client branch method)
+    (inputs_of config rounds (key.Client branch method)))
+    → SendsItsRequest config rounds given (key.Client branch method) life
 
 -- ---- after the end of a transaction
 

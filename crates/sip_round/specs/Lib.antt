@@ -1,6 +1,7 @@
 pub mod AgentState
 pub mod Answers
 pub mod Arrivals
+pub mod CallsHeld
 pub mod Given
 pub mod Laws
 pub mod Live

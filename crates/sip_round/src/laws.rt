@@ -2,7 +2,8 @@
 
 ghost use Rattle.std.specs.Prelude.{List};
 ghost use Rattle.sip_round.specs.Answers.{answers};
-ghost use Rattle.sip_round.specs.Given.{AnswersGiveOwnNotices, AnswersGiveOwnSends, GivesNothingAfterEnds, GivesProvisionalsInOrder, GivesRequestsOnce};
+ghost use Rattle.sip_round.specs.CallsHeld.{DialogsHaveTheirHistory, EachInviteAwaitsAsTold, InputsNumberOn};
+ghost use Rattle.sip_round.specs.Given.{AnswersGiveOwnNotices, AnswersGiveOwnSends, GivesNothingAfterEnds, GivesProvisionalsInOrder, GivesRequestsById, GivesRequestsOnce, GivesStartedRequests};
 ghost use Rattle.sip_round.specs.Laws.{NothingAfterEachEnd, OneRequestInEachLife, ProvisionalsInLives};
 ghost use Rattle.sip_round.specs.declared.config.Config.{Config};
 ghost use Rattle.sip_round.specs.declared.round.Round.{Round};
@@ -45,6 +46,30 @@ pub fn provisionals_in_each_life(config: &Config)
     provisionals_shown_in_order();
 }
 
+/// After any rounds each dialog that is held, at either side, is what its opening and all that
+/// happened in it since make, under the name of its tags: its local CSeq is that of its opening and
+/// one more for each request that went out in it, and each of these had the number after the one
+/// before it; its remote CSeq is the greatest that was accepted, and its routes and its target are
+/// those that came last (RFC 3261, section 12). What the rounds' phases say of the call ends, in
+/// that dialog, with those requests; what each input of a call sends in a dialog has the numbers
+/// after its local CSeq.
+pub fn each_dialog_holds_its_history(config: &Config)
+    ensures history { (rounds : List Round) → DialogsHaveTheirHistory config.now rounds }
+    ensures next { (rounds : List Round) → InputsNumberOn config.now rounds }
+{
+    let calls = Calls {
+        local: config.local,
+        seed: config.seed,
+    };
+    laws_of_phases(&calls);
+}
+
+/// After any rounds an INVITE that is held awaits its ACK where a 2xx to it went out, and the user
+/// was told neither of its ACK nor that none came since (RFC 3261, section 13.3.1.4).
+pub fn each_invite_awaits_its_ack()
+    ensures { EachInviteAwaitsAsTold }
+{}
+
 /// In any rounds, the Sends with a transaction's key, among all that they give, are in order just
 /// what that transaction's own history says to send.
 pub fn own_sends_given()
@@ -64,6 +89,23 @@ pub fn requests_given_once()
         → GivesRequestsOnce config rounds (answers config rounds) }
 {
     one_request_in_each_life();
+}
+
+/// In any rounds, of all that they give the notices `request` come by rising ids: in the order of
+/// the events by which the requests came, and under one id one at most.
+pub fn requests_given_by_id()
+    ensures { (config : Config) (rounds : List Round) → GivesRequestsById (answers config rounds) }
+{}
+
+/// In any rounds, each life of a client's transaction begins by a request that is started; and of
+/// all that they give the Sends with its key are those of before, then one of that request, as it is
+/// written, to the address that it is started with, and then those of the rest.
+pub fn started_requests_given()
+    ensures { (config : Config) (rounds : List Round)
+        → GivesStartedRequests config rounds (answers config rounds) }
+{
+    laws_of_phases(&Transactions);
+    own_sends_given();
 }
 
 /// In any rounds, what they give of a call is what its inputs add, and of the reliable provisional

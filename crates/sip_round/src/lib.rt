@@ -26,7 +26,10 @@ mod whole_run;
 
 pub use agent::{Agent, MAX_EVENTS_OF_ROUND, MAX_MOMENT};
 pub use config::Config;
-pub use laws::{nothing_after_each_end, one_request_in_each_life, provisionals_in_each_life};
+pub use laws::{
+    each_dialog_holds_its_history, each_invite_awaits_its_ack, nothing_after_each_end,
+    one_request_in_each_life, provisionals_in_each_life,
+};
 pub use output::Output;
 pub use round::{Event, Round};
 pub use round_fault::RoundFault;

@@ -2,14 +2,14 @@
 
 ghost use Rattle.std.specs.Prelude.{◌≡◌, ◌⊎◌, ◌<◌, ◌≤◌, Bool, IfOk, IfErr, None, Some, map};
 ghost use Rattle.sip_round.specs.Answers as answers;
-ghost use Rattle.sip_round.specs.Given.{GivesNothingAfterEnds, GivesOwnNotices, GivesOwnSends, GivesProvisionalsInOrder, GivesRequestsOnce};
+ghost use Rattle.sip_round.specs.Given.{GivesNothingAfterEnds, GivesOwnNotices, GivesOwnSends, GivesProvisionalsInOrder, GivesRequestsById, GivesRequestsOnce, GivesStartedRequests};
 ghost use Rattle.sip_round.specs.declared.round_fault.RoundFault.TheVariants as round_fault;
 
 use crate::agent::Agent;
 use crate::config::Config;
 use crate::laws::{
     nothing_given_after_ends, own_notices_given, own_sends_given, provisionals_given_in_order,
-    requests_given_once,
+    requests_given_by_id, requests_given_once, started_requests_given,
 };
 use crate::output::Output;
 use crate::round::Round;
@@ -26,10 +26,12 @@ use std::thread::Threads;
 /// transaction's own history says to send (`sends_of_each_transaction`), and the notices with a
 /// Call-ID just those that the call's own history says (`notices_of_each_call`). At most one notice
 /// `request` has an id, since each life of a server transaction hands its request up once
-/// (`each_request_once`). Of the reliable provisional responses that come to an INVITE in one life
-/// of a dialog the user is told in order, of each once (`provisionals_in_order`). In the rounds
-/// after those in which a transaction has ended nothing that is told of a call comes from it
-/// (`nothing_after_the_end`).
+/// (`each_request_once`); and these notices come by rising ids, in the order of the events by which
+/// the requests came (`requests_by_id`). Each life of a client's transaction begins by a request
+/// that is started, and that request goes out (`started_requests`). Of the reliable provisional
+/// responses that come to an INVITE in one life of a dialog the user is told in order, of each once
+/// (`provisionals_in_order`). In the rounds after those in which a transaction has ended nothing
+/// that is told of a call comes from it (`nothing_after_the_end`).
 ///
 /// # Errors
 ///
@@ -59,6 +61,10 @@ pub fn run<R: Threads + Sync, C: Cut + Drop, G: Gate>(
         ⊎ (answers.refused config rounds.now ≡ Some fault)) }
     ensures each_request_once { IfOk result (λ made.
         GivesRequestsOnce config rounds.now (map (λ outputs. outputs.items) made.items)) }
+    ensures requests_by_id { IfOk result (λ made.
+        GivesRequestsById (map (λ outputs. outputs.items) made.items)) }
+    ensures started_requests { IfOk result (λ made.
+        GivesStartedRequests config rounds.now (map (λ outputs. outputs.items) made.items)) }
     ensures provisionals_in_order { IfOk result (λ made.
         GivesProvisionalsInOrder config rounds.now (map (λ outputs. outputs.items) made.items)) }
     ensures nothing_after_the_end { IfOk result (λ made.
@@ -69,6 +75,8 @@ pub fn run<R: Threads + Sync, C: Cut + Drop, G: Gate>(
         GivesOwnNotices config rounds.now (map (λ outputs. outputs.items) made.items)) }
 {
     requests_given_once();
+    requests_given_by_id();
+    started_requests_given();
     provisionals_given_in_order(&config);
     nothing_given_after_ends(&config);
     own_sends_given();

@@ -1,7 +1,7 @@
 use Rattle.std.proofs.Common.{◌≤◌, ◌∙◌, true, refl, sym, ap, subst, inl, inr, length, arith}
 use Rattle.std.proofs.lemmas.List.{take_all}
 use Rattle.sip_round.specs.Answers.{answers, refused}
-use Rattle.sip_round.specs.Given.{GivesNothingAfterEnds, GivesOwnNotices, GivesOwnSends, GivesProvisionalsInOrder, GivesRequestsOnce}
+use Rattle.sip_round.specs.Given.{GivesNothingAfterEnds, GivesOwnNotices, GivesOwnSends, GivesProvisionalsInOrder, GivesRequestsById, GivesRequestsOnce, GivesStartedRequests}
 use Rattle.sip_round.proofs.SoFar.{at_start, one_more, one_unrefused, ends, fine_where_ok}
 use Rattle.sip_round.proofs.whole_run.run.Goals as goal
 
@@ -63,6 +63,17 @@ pub returns-clause-each_request_once : goal.returns-clause-each_request_once
 returns-clause-each_request_once g c =
     subst (GivesRequestsOnce c.args.config c.args.rounds.now) (sym (returns-clause-answers g c))
     (c.requests_given_once.ensures c.args.config c.args.rounds.now)
+
+pub returns-clause-requests_by_id : goal.returns-clause-requests_by_id
+returns-clause-requests_by_id g c =
+    subst GivesRequestsById (sym (returns-clause-answers g c))
+    (c.requests_given_by_id.ensures c.args.config c.args.rounds.now)
+
+pub returns-clause-started_requests : goal.returns-clause-started_requests
+returns-clause-started_requests g c =
+    subst (GivesStartedRequests c.args.config c.args.rounds.now)
+    (sym (returns-clause-answers g c))
+    (c.started_requests_given.ensures c.args.config c.args.rounds.now)
 
 pub returns-clause-provisionals_in_order : goal.returns-clause-provisionals_in_order
 returns-clause-provisionals_in_order g c =

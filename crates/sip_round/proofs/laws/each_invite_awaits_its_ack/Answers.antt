@@ -1,0 +1,5 @@
+use Rattle.sip_round.proofs.CallsHeld.{invites_await_as_told}
+use Rattle.sip_round.proofs.laws.each_invite_awaits_its_ack.Goals as goal
+
+pub returns : goal.returns
+returns c = invites_await_as_told

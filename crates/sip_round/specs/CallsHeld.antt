@@ -1,0 +1,87 @@
+-- What is held of each call after whole rounds: its dialogs, each by its history, and the INVITEs
+-- that await their ACK (RFC 3261, sections 12 and 13.3.1.4).
+use Rattle.std.specs.Prelude.{◌≡◌, ℕ, ◌+◌, Bool, true, false, List, ◌∷◌, ◌++◌, Option, None, Some, filter_map, find, fold, length}
+use Rattle.sip_message.specs.declared.cseq.CSeq.{CSeq}
+use Rattle.sip_message.specs.declared.id.Id.{Id}
+use Rattle.sip_model.specs.Machine.{Timed, tick_at}
+use Rattle.sip_model.specs.Phase.{states_after}
+use Rattle.sip_dialog.specs.declared.dialog.Dialog.{Dialog}
+use Rattle.sip_dialog.specs.Life.{accepted_number, dialog_after, greater, routes_by, target_by}
+use Rattle.sip_dialog.specs.Opening.{opened}
+use Rattle.sip_common.specs.declared.held_dialog.DialogName.{DialogName}
+use Rattle.sip_common.specs.declared.held_dialog.HeldDialog.{HeldDialog}
+use Rattle.sip_common.specs.Dialogs.{dialog_at, is_named}
+use Rattle.sip_common.specs.Sent.{NumberedAfter, NumberedFrom, cseqs_in, name_of_dialog, number_before}
+use Rattle.sip_served.specs.declared.held_request.HeldRequest.{HeldRequest}
+use Rattle.sip_served.specs.Acknowledgment.{awaits_ack}
+use Rattle.sip_served.specs.State.{has_id}
+use Rattle.sip_calls.specs.declared.call.Call.{Call}
+use Rattle.sip_calls.specs.Awaiting.{awaits_from, requests_held}
+use Rattle.sip_calls.specs.Call.{CallItem, call_machine, call_step}
+use Rattle.sip_calls.specs.CallShard.{call_cmp}
+use Rattle.sip_calls.specs.Histories.{History, call_from, history_of, opening_in}
+use Rattle.sip_calls.specs.Provisionals.{side_held}
+use Rattle.sip_round.specs.declared.config.Config.{Config}
+use Rattle.sip_round.specs.declared.round.Round.{Round}
+use Rattle.sip_round.specs.Answers.{calls_of, past_of}
+use Rattle.sip_round.specs.Laws.{call_inputs_of, said_of_call}
+
+-- what an agent holds of a call after rounds
+abbrev pub call_after : Config → List Round → List ℕ → Option Call
+call_after config rounds call_id =
+    states_after call_cmp (call_machine (calls_of config)) tick_at (past_of config rounds).calls
+    call_id
+
+-- A dialog of a call, after rounds: what its opening and all that happened in it since make, held
+-- under the name of its tags. Its local CSeq is that of its opening and one more for each request
+-- that went out in it, and each of these had the number after that of the one before it; its remote
+-- CSeq is the greatest that was accepted, its route set and its target are those that came last.
+-- What the phases say to send in it, up to the end, ends with those requests.
+pub record HasItsHistory (config : Config) (rounds : List Round) (call_id : List ℕ)
+    (name : DialogName) (dialog : Dialog) : Type 0 where
+  pub history : History
+  pub of_its_inputs : history_of (calls_of config) name (call_inputs_of config rounds call_id)
+      ≡ Some history
+  pub value : dialog ≡ dialog_after history.opening history.life
+  pub named : is_named name (name_of_dialog dialog) ≡ true
+  pub local : dialog.local_cseq ≡ (opened history.opening).local_cseq + length history.sent
+  pub numbers : NumberedAfter (opened history.opening).local_cseq history.sent
+  pub said : (earlier : List CSeq)
+      × (cseqs_in name (said_of_call config rounds call_id) ≡ earlier ++ history.sent)
+  pub remote : dialog.remote_cseq
+      ≡ fold greater (opened history.opening).remote_cseq
+      (filter_map accepted_number history.life)
+  pub route : dialog.route_set
+      ≡ fold (routes_by (opened history.opening).side) (opened history.opening).route_set
+      history.life
+  pub target : dialog.target
+      ≡ fold (target_by (opened history.opening).side) (opened history.opening).target history.life
+
+-- every dialog that is held after rounds
+abbrev pub DialogsHaveTheirHistory : Config → List Round → Type 0
+DialogsHaveTheirHistory config rounds = (call_id : List ℕ) (name : DialogName) (held : HeldDialog)
+    → dialog_at name (side_held (call_after config rounds call_id)).dialogs ≡ Some held
+    → HasItsHistory config rounds call_id name held.dialog
+
+-- what each input of a call sends in a dialog that is held, or that it opens, has the numbers after
+-- its local CSeq; so has the BYE that ends it
+abbrev pub InputsNumberOn : Config → List Round → Type 0
+InputsNumberOn config rounds =
+    (call_id : List ℕ) (before after : List (Timed CallItem)) (input : Timed CallItem)
+    → call_inputs_of config rounds call_id ≡ before ++ (input ∷ after) → (name : DialogName)
+    → let call = call_from (calls_of config) None before in
+    NumberedFrom
+    (number_before (opening_in call input.input) (dialog_at name (side_held call).dialogs))
+    (cseqs_in name (call_step (calls_of config) call input.input input.moment).1)
+
+-- an INVITE that is held after rounds awaits its ACK where a 2xx to it went out, and neither its
+-- ACK nor that none came was told since
+abbrev pub InvitesAwaitAsTold : Config → List Round → Type 0
+InvitesAwaitAsTold config rounds = (call_id : List ℕ) (invite : Id) (held : HeldRequest)
+    → find (has_id invite) (requests_held (call_after config rounds call_id)) ≡ Some held
+    → awaits_ack held
+    ≡ awaits_from (calls_of config) invite None false (call_inputs_of config rounds call_id)
+
+-- so in any rounds
+abbrev pub EachInviteAwaitsAsTold : Type 0
+EachInviteAwaitsAsTold = (config : Config) (rounds : List Round) → InvitesAwaitAsTold config rounds
