@@ -25,7 +25,7 @@ use Rattle.sip_calls.specs.declared.call.Call.{Call}
 use Rattle.sip_calls.specs.declared.calls.Calls.{Calls}
 use Rattle.sip_calls.specs.Call.{CallItem}
 use Rattle.sip_calls.specs.Call.{call_step, command_taken, event_of, first_command_taken, kept, lost_taken, new_call, up_taken}
-use Rattle.sip_calls.specs.Provisionals.{EventsDiffer, came, done, event_in, event_of_kind, number_in, number_of, number_up, shown, side_held}
+use Rattle.sip_calls.specs.Provisionals.{EventsDiffer, came, done, event_in, event_of_kind, number_in, number_in_life, number_up, shown, side_held}
 use Rattle.sip_calls.specs.Sides.{CallTaken, side_of, ticked}
 use Rattle.sip_calls.proofs.KeptSides.{kept_side}
 
@@ -181,8 +181,8 @@ module _ (life : DialogLife) (invite : Id) where
       ≡ in_order (came calls (InTheDialog invite) life inputs)
   again_in_order calls inputs differ =
       heard_in_order (λ state input. (done calls (InTheDialog invite) life state input).0)
-      (λ timed. event_in timed.input) (number_of calls (InTheDialog invite) life)
-      (λ state input. told_of (number_of calls (InTheDialog invite) life state input)
+      (λ timed. event_in timed.input) (number_in_life calls (InTheDialog invite) life)
+      (λ state input. told_of (number_in_life calls (InTheDialog invite) life state input)
       (done calls (InTheDialog invite) life state input).1)
       (λ state. ear_of life invite (side_held state).clients)
       (λ state. AreApart (side_held state).clients) invite

@@ -28,7 +28,7 @@ use Rattle.sip_served.proofs.Awaiting.{Follows, Quiet, quiet_both, ack_follows, 
 use Rattle.sip_served.proofs.RequestIds.{Adds, ack_ids, all_left, apart_left, arrival_adds, ids_of, respond_ids}
 use Rattle.sip_clients.specs.declared.client.Client.{Client}
 use Rattle.sip_clients.specs.Client.{Clients}
-use Rattle.sip_clients.specs.Tick.{is_over, notices_of, over_notices}
+use Rattle.sip_clients.specs.Tick.{is_over, early_ends_told, over_notices}
 use Rattle.sip_clients.proofs.Hearing.{NoneOf}
 use Rattle.sip_calls.specs.declared.call.Call.{Call}
 use Rattle.sip_calls.specs.declared.calls.Calls.{Calls}
@@ -187,7 +187,7 @@ ended_quiet invite [] awaits = refl
 ended_quiet invite (dialog ∷ dialogs) awaits = ended_quiet invite dialogs awaits
 
 one_quiet : (invite : Id) (now : ℕ) (dialogs : Dialogs) (client : Client)
-    → Quiet invite (notices_of now dialogs client)
+    → Quiet invite (early_ends_told now dialogs client)
 one_quiet invite now dialogs client = by_end (is_over now client)
   where
     by_end : (b : Bool) → Quiet invite (if b then (early_ended client.id dialogs).1 else [])
@@ -196,10 +196,10 @@ one_quiet invite now dialogs client = by_end (is_over now client)
     by_end false awaits = refl
 
 all_quiet : (invite : Id) (now : ℕ) (dialogs : Dialogs) (clients : List Client)
-    → Quiet invite (flat_map (notices_of now dialogs) clients)
+    → Quiet invite (flat_map (early_ends_told now dialogs) clients)
 all_quiet invite now dialogs [] awaits = refl
 all_quiet invite now dialogs (client ∷ clients) awaits =
-    quiet_both invite (notices_of now dialogs client) (flat_map (notices_of now dialogs) clients)
+    quiet_both invite (early_ends_told now dialogs client) (flat_map (early_ends_told now dialogs) clients)
     (one_quiet invite now dialogs client) (all_quiet invite now dialogs clients) awaits
 
 over_quiet : (invite : Id) (now : ℕ) (dialogs : Dialogs) (clients : Clients)

@@ -17,7 +17,7 @@ use Rattle.sip_served.specs.Tick as served
 use Rattle.sip_common.proofs.Starts.{none_of_both, starts}
 use Rattle.sip_served.proofs.NoStarts.{kind_starts, respond_starts, tick_starts}
 use Rattle.sip_clients.specs.Client.{Side, client_at}
-use Rattle.sip_clients.specs.Clients.{lost}
+use Rattle.sip_clients.specs.Clients.{request_lost}
 use Rattle.sip_clients.specs.Tick.{clients_left, over_notices}
 pub use Rattle.sip_clients.proofs.FewStarts.{AllClients, Fits, IsClient, how_many, ids_of, waiting}
 pub use Rattle.sip_clients.proofs.FirstInvite.{id_exact}
@@ -43,7 +43,7 @@ Starts event call taken = Fits event call.clients taken.1 (taken.0).clients
 lost_starts : (call : Call) (id : Id) (notice : ANotice) (timed_out : Bool)
     → Starts None call (lost_taken call id notice timed_out)
 lost_starts call id notice timed_out =
-    let after = lost id timed_out (side_of call) in
+    let after = request_lost id timed_out (side_of call) in
     quiet_then None call.clients (Notice notice ∷ []) after.1 (after.0).clients refl
     (lost_fits id timed_out (client_at id call.clients) (side_of call))
 

@@ -33,7 +33,7 @@ use Rattle.sip_clients.specs.Clients.{status_of}
 use Rattle.sip_clients.specs.Happenings.{reply_brings, success_brings}
 use Rattle.sip_calls.specs.declared.call.Call.{Call}
 use Rattle.sip_calls.specs.Call.{CallItem}
-use Rattle.sip_calls.specs.Histories.{brought_by, brought_by_command, brought_by_kind, life_in}
+use Rattle.sip_calls.specs.Histories.{brought_by, brought_by_command, brought_by_kind, happens_in}
 
 abbrev pub how_many : List Happening → ℕ
 how_many life = count_by takes_number life
@@ -156,7 +156,7 @@ item_none call (User command) outs name held = command_none call command outs na
 
 pub life_counts : (state : Option Call) (input : Option CallItem) (outs : List CallOut)
     (name : DialogName) (held : HeldDialog)
-    → how_many (life_in state input outs name held) ≡ length (cseqs_in name outs)
+    → how_many (happens_in state input outs name held) ≡ length (cseqs_in name outs)
 life_counts None None outs name held = made_count (cseqs_in name outs)
 life_counts None (Some (id, item)) outs name held = made_count (cseqs_in name outs)
 life_counts (Some call) None outs name held = made_count (cseqs_in name outs)

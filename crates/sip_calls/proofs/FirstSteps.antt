@@ -22,14 +22,14 @@ use Rattle.sip_common.proofs.Entries.{none_apart}
 use Rattle.sip_common.proofs.Heard.{AreApart, Leads, Lives, leads_filtered, leads_same, quiet}
 use Rattle.sip_clients.specs.Client.{Side, client_at}
 use Rattle.sip_clients.specs.Provisionals.{OfTheCall, told_of}
-use Rattle.sip_clients.specs.Tick.{ends_at}
+use Rattle.sip_clients.specs.Tick.{ends_early_at}
 use Rattle.sip_clients.proofs.FirstSides.{ResultOf, ack_leads, ear, lost_leads, prack_leads, request_leads, requested_in, response_step, silent, silent_moves}
 use Rattle.sip_clients.proofs.Hearing.{heard_in_order}
 use Rattle.sip_calls.specs.declared.call.Call.{Call}
 use Rattle.sip_calls.specs.declared.calls.Calls.{Calls}
 use Rattle.sip_calls.specs.Call.{CallItem}
 use Rattle.sip_calls.specs.Call.{call_step, command_taken, event_of, first_command_taken, kept, lost_taken, new_call, tag_of_answers, up_taken}
-use Rattle.sip_calls.specs.Provisionals.{EventsDiffer, came, done, event_in, event_of_kind, number_in, number_of, number_up, shown, side_held}
+use Rattle.sip_calls.specs.Provisionals.{EventsDiffer, came, done, event_in, event_of_kind, number_in, number_in_life, number_up, shown, side_held}
 use Rattle.sip_calls.specs.Sides.{CallTaken, side_of, ticked}
 use Rattle.sip_calls.proofs.KeptSides.{kept_side}
 
@@ -119,7 +119,7 @@ module _ (life : DialogLife) where
   tick_step call now apart =
       let taken = ticked call now in
       silent life None quiet (dialogs_of call) (dialogs_of taken.0) taken.1
-      (leads_filtered (λ held. not (ends_at now call.clients held)) (dialogs_of call) apart)
+      (leads_filtered (λ held. not (ends_early_at now call.clients held)) (dialogs_of call) apart)
 
   -- ---- all of it
 
@@ -164,8 +164,8 @@ module _ (life : DialogLife) where
       → shown calls OfTheCall life inputs ≡ in_order (came calls OfTheCall life inputs)
   first_in_order calls inputs differ =
       heard_in_order (λ state input. (done calls OfTheCall life state input).0)
-      (λ timed. event_in timed.input) (number_of calls OfTheCall life)
-      (λ state input. told_of (number_of calls OfTheCall life state input)
+      (λ timed. event_in timed.input) (number_in_life calls OfTheCall life)
+      (λ state input. told_of (number_in_life calls OfTheCall life state input)
       (done calls OfTheCall life state input).1) (λ state. ear life (side_held state).dialogs)
       (λ state. AreApart (side_held state).dialogs) life.born
       (λ state timed apart _. by_input calls state timed.input timed.moment apart) inputs None

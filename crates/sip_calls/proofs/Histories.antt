@@ -25,7 +25,7 @@ use Rattle.sip_clients.proofs.Hearing.{NoneOf, apart_now}
 use Rattle.sip_calls.specs.declared.call.Call.{Call}
 use Rattle.sip_calls.specs.declared.calls.Calls.{Calls}
 use Rattle.sip_calls.specs.Call.{CallItem, call_step}
-use Rattle.sip_calls.specs.Histories.{CountsItsRequests, HasItsName, HasTheGreatestNumber, HasTheLatestRoute, HasTheNextNumber, History, HoldsItsHistory, NumbersItsRequests, begun_with, call_from, history_after, history_from, history_of, with_more, life_in, opening_in}
+use Rattle.sip_calls.specs.Histories.{CountsItsRequests, HasItsName, HasTheGreatestNumber, HasTheLatestRoute, HasTheNextNumber, History, HoldsItsHistory, NumbersItsRequests, begun_with, call_from, history_after, history_from, history_of, with_more, happens_in, opening_in}
 use Rattle.sip_calls.specs.Provisionals.{EventsDiffer, event_in, side_held}
 use Rattle.sip_calls.proofs.Counts.{count_both, counted, how_many, life_counts, made_count}
 use Rattle.sip_calls.proofs.LifeSteps.{by_input}
@@ -236,7 +236,7 @@ next_sound calls input inputs state histories differ sound =
       stand = λ name. next_stands name event (ids_of inputs) (opening_in state input.input)
           (step.0 name) (cseqs_in name done.1)
           (λ born is. (apart_now born event (ids_of inputs) differ).1 is)
-          (life_in state input.input done.1 name)
+          (happens_in state input.input done.1 name)
           (dialog_at name (side_held state).dialogs)
           (dialog_at name (side_held done.0).dialogs)
           (histories name) (life_counts state input.input done.1 name) (step.2 name)

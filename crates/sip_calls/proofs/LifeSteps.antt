@@ -23,12 +23,12 @@ use Rattle.sip_served.specs.Happenings.{accepts, answer_confirms, answer_opens}
 use Rattle.sip_served.proofs.DialogSteps.{ack_leads as server_ack, request_leads as server_request, respond_moves}
 use Rattle.sip_served.proofs.NoStarts.{kind_starts, respond_starts}
 use Rattle.sip_clients.specs.Client.{Side, client_at}
-use Rattle.sip_clients.specs.Tick.{ends_at}
+use Rattle.sip_clients.specs.Tick.{ends_early_at}
 use Rattle.sip_clients.proofs.ClientLives.{AreNamed, AreNumbered, Sends, ack_lives, by_outs, cancel_lives, lost_lives, prack_lives, request_lives, response_lives, sends_none, silent_outs}
 use Rattle.sip_calls.specs.declared.call.Call.{Call}
 use Rattle.sip_calls.specs.declared.calls.Calls.{Calls}
 use Rattle.sip_calls.specs.Call.{CallItem, call_step, command_taken, event_of, first_command_taken, kept, lost_taken, new_call, tag_of_answers, up_taken}
-use Rattle.sip_calls.specs.Histories.{brought_by_command, brought_by_kind, life_in, opening_by_command, opening_by_kind, opening_in}
+use Rattle.sip_calls.specs.Histories.{brought_by_command, brought_by_kind, happens_in, opening_by_command, opening_by_kind, opening_in}
 use Rattle.sip_calls.specs.Provisionals.{event_in, event_of_kind, side_held}
 use Rattle.sip_calls.specs.Sides.{CallTaken, side_of, ticked}
 use Rattle.sip_calls.proofs.CallStarts.{tick_silent_of}
@@ -163,7 +163,7 @@ tick_step : (call : Call) (now : ℕ) → AreApart (dialogs_of call)
 tick_step call now apart =
     let taken = ticked call now in
     let sends = silent_outs taken.1 (tick_silent_of call now) (dialogs_of call) (dialogs_of taken.0)
-    (leads_filtered (λ held. not (ends_at now call.clients held)) (dialogs_of call) apart) in
+    (leads_filtered (λ held. not (ends_early_at now call.clients held)) (dialogs_of call) apart) in
     led None (by_outs taken.1) taken.1 (dialogs_of call) (dialogs_of taken.0) sends.leads
     sends.numbered
 
@@ -222,7 +222,7 @@ first_command calls id now command =
 
 abbrev pub InputMoves : Option Call → Option CallItem → Option Call × List CallOut → Type 0
 InputMoves state input taken = MovesTo (event_in input) (opening_in state input)
-    (life_in state input taken.1) taken.1 (side_held state).dialogs (side_held taken.0).dialogs
+    (happens_in state input taken.1) taken.1 (side_held state).dialogs (side_held taken.0).dialogs
 
 kept_step : (event : Option Id) (start : Option Opening) (lives : Lives) (before : Dialogs)
     (taken : CallTaken) → MovesTo event start lives taken.1 before (dialogs_of taken.0)

@@ -20,7 +20,7 @@ use Rattle.sip_common.proofs.Heard.{AreApart, id_laws}
 use Rattle.sip_common.proofs.Owing.{OweSame, Owes, filtered_same, owes_as, same_owed, unchanged}
 use Rattle.sip_served.proofs.Owing.{ack_same, request_same, respond_owes}
 use Rattle.sip_clients.specs.Client.{Side, client_at}
-use Rattle.sip_clients.specs.Tick.{ends_at}
+use Rattle.sip_clients.specs.Tick.{ends_early_at}
 use Rattle.sip_clients.proofs.ClientLives.{AreNamed}
 use Rattle.sip_clients.proofs.Owing.{ack_pays, lost_owes, prack_pays_off, request_owes, response_leaves}
 use Rattle.sip_calls.specs.declared.call.Call.{Call}
@@ -121,7 +121,7 @@ input_owes calls (Some call) None now apart named =
     let taken = ticked call now in
     kept_to None (λ name. unchanged) (dialogs_of call) taken
     (same_to None (dialogs_of call) (dialogs_of taken.0)
-    (filtered_same (λ held. not (ends_at now call.clients held)) (dialogs_of call) apart))
+    (filtered_same (λ held. not (ends_early_at now call.clients held)) (dialogs_of call) apart))
 input_owes calls None (Some (id, Up up)) now apart named =
     let call = new_call calls.local in
     let taken = up_taken call (event_of calls id now) up up.kind in

@@ -17,14 +17,14 @@ use Rattle.sip_common.specs.declared.notice.Notice.{Notice as ANotice}
 use Rattle.sip_common.specs.declared.notice.Notice.TheVariants as notice
 use Rattle.sip_common.specs.Command.{call_of_command}
 use Rattle.sip_common.specs.OwnCall.{IsKindOf}
-use Rattle.sip_served.specs.State.{Taken as ServedTaken}
+use Rattle.sip_served.specs.State.{ServedTaken}
 use Rattle.sip_served.specs.Step.{kind_taken}
 use Rattle.sip_served.specs.Tick as served
 use Rattle.sip_common.proofs.Each.{both}
 use Rattle.sip_served.proofs.OwnCall as server
-use Rattle.sip_clients.specs.Cancel.{cancel_taken}
-use Rattle.sip_clients.specs.Client.{Side, Taken as ClientTaken}
-use Rattle.sip_clients.specs.Clients.{ack_taken, invite_taken, lost, plain_taken, prack_taken, request_taken, response_taken}
+use Rattle.sip_clients.specs.Cancel.{cancel_by_user}
+use Rattle.sip_clients.specs.Client.{Side, ClientTaken}
+use Rattle.sip_clients.specs.Clients.{ack_by_user, invite_taken, request_lost, plain_taken, prack_by_user, request_by_user, response_taken}
 use Rattle.sip_clients.specs.OwnCall.{AreNoticesOf, IsSideOf, KeepsTo, on_side}
 use Rattle.sip_clients.specs.Tick as clients
 use Rattle.sip_clients.specs.declared.event.Event.{Event}
@@ -34,7 +34,7 @@ use Rattle.sip_calls.specs.declared.calls.Calls.{Calls}
 use Rattle.sip_calls.specs.Call.{CallItem}
 use Rattle.sip_calls.specs.Call.{Taken, call_machine, call_step, command_taken, event_of, first_command_taken, kept, lost_taken, new_call, tag_of_answers, up_taken}
 use Rattle.sip_calls.specs.OwnCall.{AreSidesOf, EachNoticeIsOwn, IsCallOf, IsInputOf, IsNoticeOf}
-use Rattle.sip_calls.specs.Sides.{CallTaken, by_clients, by_server, followed, holds_any, side_of, ticked}
+use Rattle.sip_calls.specs.Sides.{CallTaken, by_clients, by_server, one_after_other, holds_any, side_of, ticked}
 
 -- a step that keeps to a Call-ID keeps to an equal one
 keeps_same : (step : Side → ClientTaken) (own call_id : List ℕ) → own ≡ call_id
@@ -74,7 +74,7 @@ module _ (call_id : List ℕ) where
   -- one thing after another
   after : (done : CallTaken) (more : Call → CallTaken) → IsDoneOf done
       → ((call : Call) → AreSidesOf call_id call → IsDoneOf (more call))
-      → IsDoneOf (followed done more)
+      → IsDoneOf (one_after_other done more)
   after done more first second =
       let later = second done.0 first.0 in
       (later.0, both (IsNoticeOf call_id) done.1 (more done.0).1 first.1 later.1)
@@ -86,8 +86,8 @@ module _ (call_id : List ℕ) where
       → IsDoneOf (lost_taken call id notice timed_out)
   lose_own call id notice timed_out its own =
       after (call, Notice notice ∷ [])
-      (λ call. by_clients call (lost id timed_out (side_of call))) (own, (its, tt))
-      (λ call own. clients_own call (lost id timed_out) own (lost_own call_id id timed_out))
+      (λ call. by_clients call (request_lost id timed_out (side_of call))) (own, (its, tt))
+      (λ call own. clients_own call (request_lost id timed_out) own (lost_own call_id id timed_out))
 
   up_own : (call : Call) (event : Event) (up : AnUp) (k : Kind) → up.call_id ≡ call_id
       → IsKindOf call_id k → AreSidesOf call_id call → IsDoneOf (up_taken call event up k)
@@ -134,21 +134,21 @@ module _ (call_id : List ℕ) where
   command_own call event (Invite invite) its own = (own, (its, tt))
   command_own call event (Plain plain) its own = (own, (its, tt))
   command_own call event (Request request) its own =
-      let step = request_taken event request in
+      let step = request_by_user event request in
       clients_own call step own
       (keeps_same step request.call_id call_id its (dialog_request_own event request))
   command_own call event (Respond respond) its own =
       server_own call _ own
       (server.respond_is call_id (call.served).state event.id respond event.moment its own.state)
   command_own call event (Ack ack) its own =
-      let step = ack_taken event ack in
+      let step = ack_by_user event ack in
       clients_own call step own (keeps_same step ack.call_id call_id its (ack_own event ack))
   command_own call event (Prack prack) its own =
-      let step = prack_taken event prack in
+      let step = prack_by_user event prack in
       clients_own call step own
       (keeps_same step prack.call_id call_id its (prack_own event prack))
   command_own call event (Cancel cancel) its own =
-      let step = cancel_taken event cancel in
+      let step = cancel_by_user event cancel in
       clients_own call step own
       (keeps_same step cancel.call_id call_id its (cancel_own event cancel))
 
@@ -156,9 +156,9 @@ module _ (call_id : List ℕ) where
   ticked_own call now own =
       let first = served.tick_taken (call.served).state now in
       after (by_server call first)
-      (λ call. by_clients call (clients.tick_taken (side_of call) now))
+      (λ call. by_clients call (clients.clients_ticked (side_of call) now))
       (server_own call first own (server.tick_is call_id (call.served).state now own.state))
-      (λ call own. clients_own call (λ side. clients.tick_taken side now) own
+      (λ call own. clients_own call (λ side. clients.clients_ticked side now) own
       (tick_own call_id now))
 
   -- ---- all of it

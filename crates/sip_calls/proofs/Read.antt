@@ -24,7 +24,7 @@ use Rattle.sip_served.specs.Tick as served
 use Rattle.sip_served.proofs.RequestIds.{ack_ids, all_left, apart_left, arrival_adds, ids_of, respond_ids}
 use Rattle.sip_clients.specs.declared.client.Client.{Client}
 use Rattle.sip_clients.specs.Client.{Clients}
-use Rattle.sip_clients.specs.Tick.{is_over, notices_of, over_notices}
+use Rattle.sip_clients.specs.Tick.{is_over, early_ends_told, over_notices}
 use Rattle.sip_clients.proofs.Hearing.{NoneOf}
 use Rattle.sip_calls.specs.declared.call.Call.{Call}
 use Rattle.sip_calls.specs.declared.calls.Calls.{Calls}
@@ -126,7 +126,7 @@ module _ {X : Type 0} (none : X) (read : HeldRequest → X) (by : Id → X → C
       ∙ ended_quiet invite dialogs x
 
   one_quiet : (invite : Id) (now : ℕ) (dialogs : Dialogs) (client : Client)
-      → Quiet (reading invite) (notices_of now dialogs client)
+      → Quiet (reading invite) (early_ends_told now dialogs client)
   one_quiet invite now dialogs client = by_end (is_over now client)
     where
       by_end : (b : Bool)
@@ -135,11 +135,11 @@ module _ {X : Type 0} (none : X) (read : HeldRequest → X) (by : Id → X → C
       by_end false x = refl
 
   all_quiet : (invite : Id) (now : ℕ) (dialogs : Dialogs) (clients : List Client)
-      → Quiet (reading invite) (flat_map (notices_of now dialogs) clients)
+      → Quiet (reading invite) (flat_map (early_ends_told now dialogs) clients)
   all_quiet invite now dialogs [] x = refl
   all_quiet invite now dialogs (client ∷ clients) x =
-      quiet_both (reading invite) (notices_of now dialogs client)
-      (flat_map (notices_of now dialogs) clients) (one_quiet invite now dialogs client)
+      quiet_both (reading invite) (early_ends_told now dialogs client)
+      (flat_map (early_ends_told now dialogs) clients) (one_quiet invite now dialogs client)
       (all_quiet invite now dialogs clients) x
 
   over_quiet : (invite : Id) (now : ℕ) (dialogs : Dialogs) (clients : Clients)

@@ -18,9 +18,9 @@ use Rattle.sip_common.specs.declared.command.UserCommand.TheVariants.{Invite, Pl
 use Rattle.sip_served.specs.declared.held_request.HeldRequest.{HeldRequest}
 use Rattle.sip_common.specs.declared.refusal.Refusal.{Refusal}
 use Rattle.sip_common.specs.declared.refusal.Refusal.TheVariants.{BadMethod, CallInUse, NoSuchCall, NoSuchRequest}
-use Rattle.sip_clients.specs.Client.{Taken as ClientTaken}
-use Rattle.sip_clients.specs.Cancel.{cancel_taken}
-use Rattle.sip_clients.specs.Clients.{ack_taken, prack_taken, request_taken}
+use Rattle.sip_clients.specs.Client.{ClientTaken}
+use Rattle.sip_clients.specs.Cancel.{cancel_by_user}
+use Rattle.sip_clients.specs.Clients.{ack_by_user, prack_by_user, request_by_user}
 use Rattle.sip_clients.specs.Commands.{is_bad_outside}
 use Rattle.sip_clients.specs.Outputs.{start_command}
 use Rattle.sip_clients.specs.declared.event.Event.{Event}
@@ -96,19 +96,19 @@ later_alone call event (Invite invite) =
 later_alone call event (Plain plain) = told_alone call plain.call_id event.id CallInUse
 later_alone call event (Request request) =
     by_clients_alone call request.call_id event.id
-    (request_taken event request (side_of call)) (request_alone event (side_of call) request)
+    (request_by_user event request (side_of call)) (request_alone event (side_of call) request)
 later_alone call event (Respond respond) = λ some.
     let m = respond_alone (call.served).state event.id respond event.moment some in
     (m.0, ap (by_server call) m.1)
 later_alone call event (Ack ack) =
-    by_clients_alone call ack.call_id event.id (ack_taken event ack (side_of call))
+    by_clients_alone call ack.call_id event.id (ack_by_user event ack (side_of call))
     (ack_alone event (side_of call) ack)
 later_alone call event (Prack prack) =
     by_clients_alone call prack.call_id event.id
-    (prack_taken event prack (side_of call)) (prack_alone event (side_of call) prack)
+    (prack_by_user event prack (side_of call)) (prack_alone event (side_of call) prack)
 later_alone call event (Cancel cancel) =
     by_clients_alone call cancel.call_id event.id
-    (cancel_taken event cancel (side_of call)) (cancel_alone event (side_of call) cancel)
+    (cancel_by_user event cancel (side_of call)) (cancel_alone event (side_of call) cancel)
 
 pub refused_alone : RefusedAlone
 refused_alone calls None id command now some =

@@ -12,7 +12,7 @@ use Rattle.sip_common.specs.declared.item.CallOut.{CallOut}
 use Rattle.sip_common.specs.declared.item.Item.{Item}
 use Rattle.sip_common.specs.declared.item.Item.TheVariants.{Up, User}
 use Rattle.sip_served.specs.Run.{Takes, Ticks}
-use Rattle.sip_common.specs.Notices.{request_in}
+use Rattle.sip_common.specs.Notices.{request_told_by}
 use Rattle.sip_served.specs.ForUser.{is_request}
 use Rattle.sip_common.specs.Ids.{is_id}
 use Rattle.sip_served.specs.Tick as served
@@ -25,7 +25,7 @@ use Rattle.sip_calls.specs.declared.call.Call.{Call}
 use Rattle.sip_calls.specs.declared.calls.Calls.{Calls}
 use Rattle.sip_calls.specs.Call.{CallItem}
 use Rattle.sip_calls.specs.Call.{call_step, command_taken, event_of, first_command_taken, new_call, tag_of_answers, up_taken}
-use Rattle.sip_calls.specs.Requests.{EachToldOnce, brings, tells_of}
+use Rattle.sip_calls.specs.Requests.{EachToldOnce, comes_up_by, tells_of}
 use Rattle.sip_calls.specs.Sides.{by_server, side_of, ticked}
 
 module _ (id : Id) where
@@ -43,7 +43,7 @@ module _ (id : Id) where
       → asked_in more ≡ [] → Few (outs ++ more) brought
   few_then_none outs more brought few none =
       subst (λ ids. count_by (is_id id) ids ≤ cond brought 1 0)
-      (sym (filter_map-append request_in outs more
+      (sym (filter_map-append request_told_by outs more
       ∙ ap (λ ids. asked_in outs ++ ids) none ∙ append-nil (asked_in outs))) few
 
   -- ---- what comes up
@@ -116,13 +116,13 @@ module _ (id : Id) where
   ticked_few : (call : Call) (now : ℕ) → Few (ticked call now).1 false
   ticked_few call now =
       let first = by_server call (served.tick_taken (call.served).state now) in
-      few_then_none first.1 (clients.tick_taken (side_of first.0) now).1 false
+      few_then_none first.1 (clients.clients_ticked (side_of first.0) now).1 false
       (told_often (call.served).state (Ticks now) id) (tick_asks (side_of first.0) now)
 
   -- ---- all of it
 
   step_few : (calls : Calls) (state : Option Call) (input : Option CallItem) (now : ℕ)
-      → Few (call_step calls state input now).1 (brings id input)
+      → Few (call_step calls state input now).1 (comes_up_by id input)
   step_few calls None None now = few_of_none [] false refl
   step_few calls (Some call) None now = ticked_few call now
   step_few calls None (Some (event, Up up)) now =

@@ -24,14 +24,14 @@ use Rattle.sip_common.specs.declared.notice.Notice.{Notice as ANotice}
 use Rattle.sip_common.specs.declared.notice.Notice.TheVariants.{Timeout, Failed}
 use Rattle.sip_common.specs.Notices.{refused}
 use Rattle.sip_common.specs.declared.refusal.Refusal.TheVariants.{CallInUse, NoSuchCall}
-use Rattle.sip_clients.specs.Cancel.{cancel_taken}
+use Rattle.sip_clients.specs.Cancel.{cancel_by_user}
 use Rattle.sip_clients.specs.Client.{Clients}
-use Rattle.sip_clients.specs.Clients.{ack_taken, invite_taken, lost, plain_taken, prack_taken, request_taken, response_taken}
+use Rattle.sip_clients.specs.Clients.{ack_by_user, invite_taken, request_lost, plain_taken, prack_by_user, request_by_user, response_taken}
 use Rattle.sip_clients.specs.Name.{name_of}
 use Rattle.sip_clients.specs.declared.event.Event.{Event}
 use Rattle.sip_calls.specs.declared.call.Call.{Call}
 use Rattle.sip_calls.specs.declared.calls.Calls.{Calls}
-pub use Rattle.sip_calls.specs.Sides.{CallTaken, by_clients, by_server, followed, holds_any, next_due, side_of, ticked}
+pub use Rattle.sip_calls.specs.Sides.{CallTaken, by_clients, by_server, one_after_other, holds_any, next_due, side_of, ticked}
 
 -- a call after what happens to it, `None` if it isn't held, and what it gives
 abbrev pub Taken : Type 0
@@ -65,7 +65,7 @@ tag_of_answers event request = local_tag_of request (name_of event.seed event.id
 -- that a transaction is lost is told, and then what ends with its request ends
 abbrev pub lost_taken : Call → Id → ANotice → Bool → CallTaken
 lost_taken call id notice timed_out =
-    followed (call, Notice notice ∷ []) (λ call. by_clients call (lost id timed_out (side_of call)))
+    one_after_other (call, Notice notice ∷ []) (λ call. by_clients call (request_lost id timed_out (side_of call)))
 
 -- what comes up from a transaction: a request and an ACK go to the server side, the others to the
 -- client side
@@ -103,13 +103,13 @@ abbrev pub command_taken : Call → Event → UserCommand → CallTaken
 command_taken call event (Invite invite) = (call, refused event.id invite.call_id CallInUse)
 command_taken call event (Plain plain) = (call, refused event.id plain.call_id CallInUse)
 command_taken call event (Request request) =
-    by_clients call (request_taken event request (side_of call))
+    by_clients call (request_by_user event request (side_of call))
 command_taken call event (Respond respond) =
     by_server call (respond_taken (call.served).state event.id respond event.moment)
-command_taken call event (Ack ack) = by_clients call (ack_taken event ack (side_of call))
-command_taken call event (Prack prack) = by_clients call (prack_taken event prack (side_of call))
+command_taken call event (Ack ack) = by_clients call (ack_by_user event ack (side_of call))
+command_taken call event (Prack prack) = by_clients call (prack_by_user event prack (side_of call))
 command_taken call event (Cancel cancel) =
-    by_clients call (cancel_taken event cancel (side_of call))
+    by_clients call (cancel_by_user event cancel (side_of call))
 
 -- ---- the machine
 

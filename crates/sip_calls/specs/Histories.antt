@@ -50,11 +50,11 @@ brought_by call (Up up) outs name held = brought_by_kind call up.id up.kind name
 brought_by call (User command) outs name held = brought_by_command call command outs name held
 
 -- all that an input makes happen in it: that, and the requests that go out in it
-abbrev pub life_in : Option Call → Option CallItem → List CallOut → DialogName → HeldDialog
+abbrev pub happens_in : Option Call → Option CallItem → List CallOut → DialogName → HeldDialog
     → List Happening
-life_in (Some call) (Some (id, item)) outs name held =
+happens_in (Some call) (Some (id, item)) outs name held =
     brought_by call item outs name held ++ sent_in name outs
-life_in _ _ outs name held = sent_in name outs
+happens_in _ _ outs name held = sent_in name outs
 
 -- the opening of a dialog that a message makes: a response, with its request
 abbrev pub opening_by_kind : Call → Id → Kind → Option Opening
@@ -113,7 +113,7 @@ module _ (calls : Calls) (name : DialogName) where
       let cseqs = cseqs_in name done.1 in
       if is_born_of name (event_in timed.input) (side_held done.0).dialogs
       then option_map (begun_with cseqs) (opening_in call timed.input)
-      else option_map (with_more (option_map_or (life_in call timed.input done.1 name)
+      else option_map (with_more (option_map_or (happens_in call timed.input done.1 name)
       (dialog_at name (side_held call).dialogs) []) cseqs) history
 
   -- after a list of inputs, from what was held and its history

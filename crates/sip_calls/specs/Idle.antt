@@ -27,16 +27,16 @@ neither false y e = (refl, e)
 calm_tick : (now : ℕ) (call : Call) → is_due now (next_due call) ≡ false
     → ticked call now ≡ (call, [])
 calm_tick now call calm =
-    let parts = neither _ _ (sym (earlier_due now (served.next_due (call.served).state)
-    (clients.next_due call.clients)) ∙ calm) in
+    let parts = neither _ _ (sym (earlier_due now (served.next_server_due (call.served).state)
+    (clients.next_removal call.clients)) ∙ calm) in
     let first : by_server call (served.tick_taken (call.served).state now) ≡ (call, []) =
     ap (by_server call) (quiet_before (call.served).state now parts.0) in
-    let second : by_clients call (clients.tick_taken (side_of call) now) ≡ (call, []) =
+    let second : by_clients call (clients.clients_ticked (side_of call) now) ≡ (call, []) =
     ap (by_clients call) (clients_quiet_before (side_of call) now parts.1) in
     (λ i. let done : CallTaken = first i in (
-      (by_clients done.0 (clients.tick_taken (side_of done.0) now)).0,
+      (by_clients done.0 (clients.clients_ticked (side_of done.0) now)).0,
       done.1
-          ++ (by_clients done.0 (clients.tick_taken (side_of done.0) now)).1,
+          ++ (by_clients done.0 (clients.clients_ticked (side_of done.0) now)).1,
     ))
     ∙ second
 
@@ -50,10 +50,10 @@ held_is_calm calls now key call some calm =
     ap (λ (taken : CallTaken). (kept_call taken.0, taken.1)) (calm_tick now call later)
     ∙ (λ i. (if some i then Some call else None, []))
 
-pub ticks_are_idle : (calls : Calls) (now : ℕ)
+pub call_ticks_are_idle : (calls : Calls) (now : ℕ)
     → IsIdle (call_machine calls) call_due now (tick_at now)
-ticks_are_idle calls now key None calm = refl
-ticks_are_idle calls now key (Some call) calm =
+call_ticks_are_idle calls now key None calm = refl
+call_ticks_are_idle calls now key (Some call) calm =
     by_bool (holds_any call) (λ some. held_is_calm calls now key call some calm)
     (λ none. absurd (true≢false (sym
     (ap (λ b. is_due now (if b then next_due call else Some 0)) none ∙ due_at_once now)

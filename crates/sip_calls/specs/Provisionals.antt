@@ -45,21 +45,21 @@ module _ (calls : Calls) (invite : AnInvite) (life : DialogLife) where
   done call timed = call_step calls call timed.input timed.moment
 
   -- the same, where the dialog's life still stands after the input
-  abbrev pub number_of : Option Call → Timed CallItem → Option ℕ
-  number_of call timed = in_life (lives (side_held (done call timed).0).dialogs life)
+  abbrev pub number_in_life : Option Call → Timed CallItem → Option ℕ
+  number_in_life call timed = in_life (lives (side_held (done call timed).0).dialogs life)
       (number_in invite life timed.input (side_held call))
 
   -- the RSeqs that came, in order
   abbrev pub came_from : Option Call → List (Timed CallItem) → List ℕ
   came_from call [] = []
   came_from call (input ∷ inputs) =
-      option_to_list (number_of call input) ++ came_from (done call input).0 inputs
+      option_to_list (number_in_life call input) ++ came_from (done call input).0 inputs
 
   -- those of the responses that the user is told of, in order
   abbrev pub shown_from : Option Call → List (Timed CallItem) → List ℕ
   shown_from call [] = []
   shown_from call (input ∷ inputs) =
-      told_of (number_of call input) (done call input).1 ++ shown_from (done call input).0 inputs
+      told_of (number_in_life call input) (done call input).1 ++ shown_from (done call input).0 inputs
 
   -- over all inputs of a call, of which nothing was held before
   abbrev pub came : List (Timed CallItem) → List ℕ

@@ -3,7 +3,7 @@ use Rattle.std.specs.Prelude.{ℕ, ◌≤◌, Bool, false, List, Option, Some, c
 use Rattle.sip_message.specs.declared.id.Id.{Id}
 use Rattle.sip_common.specs.declared.item.CallOut.{CallOut}
 use Rattle.sip_common.specs.declared.item.Item.TheVariants.{Up}
-use Rattle.sip_common.specs.Notices.{request_in}
+use Rattle.sip_common.specs.Notices.{request_told_by}
 use Rattle.sip_served.specs.ForUser.{is_request}
 use Rattle.sip_common.specs.Ids.{is_id}
 use Rattle.sip_calls.specs.declared.call.Call.{Call}
@@ -11,15 +11,15 @@ use Rattle.sip_calls.specs.declared.calls.Calls.{Calls}
 use Rattle.sip_calls.specs.Call.{CallItem, call_step}
 
 -- the request of an id comes up by an input
-abbrev pub brings : Id → Option CallItem → Bool
-brings id (Some (event, Up up)) = is_request up.kind (is_id id up.id)
-brings id _ = false
+abbrev pub comes_up_by : Id → Option CallItem → Bool
+comes_up_by id (Some (event, Up up)) = is_request up.kind (is_id id up.id)
+comes_up_by id _ = false
 
 -- how often outputs tell of the request of an id
 abbrev pub tells_of : Id → List CallOut → ℕ
-tells_of id outs = count_by (is_id id) (filter_map request_in outs)
+tells_of id outs = count_by (is_id id) (filter_map request_told_by outs)
 
 -- whatever is held, the user is told of a request by the input that brings it, and once
 abbrev pub EachToldOnce : Type 0
 EachToldOnce = (calls : Calls) (state : Option Call) (input : Option CallItem) (now : ℕ) (id : Id)
-    → tells_of id (call_step calls state input now).1 ≤ cond (brings id input) 1 0
+    → tells_of id (call_step calls state input now).1 ≤ cond (comes_up_by id input) 1 0

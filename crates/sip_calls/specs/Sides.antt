@@ -1,11 +1,11 @@
 -- The two sides of a call, over the same dialogs.
 use Rattle.std.specs.Prelude.{ℕ, Bool, ◌||◌, not, ◌==◌, List, ◌++◌, Option, length}
 use Rattle.sip_timers.specs.Earlier.{earlier}
-use Rattle.sip_served.specs.State.{Taken as ServedTaken}
+use Rattle.sip_served.specs.State.{ServedTaken}
 use Rattle.sip_served.specs.Step.{holds}
 use Rattle.sip_served.specs.Tick as served
 use Rattle.sip_common.specs.declared.item.CallOut.{CallOut}
-use Rattle.sip_clients.specs.Client.{Side, Taken as ClientTaken}
+use Rattle.sip_clients.specs.Client.{Side, ClientTaken}
 use Rattle.sip_clients.specs.Tick as clients
 use Rattle.sip_calls.specs.declared.call.Call.{Call}
 
@@ -35,8 +35,8 @@ by_clients call taken = (
 )
 
 -- one thing after another
-abbrev pub followed : CallTaken → (Call → CallTaken) → CallTaken
-followed done more = ((more done.0).0, done.1 ++ (more done.0).1)
+abbrev pub one_after_other : CallTaken → (Call → CallTaken) → CallTaken
+one_after_other done more = ((more done.0).0, done.1 ++ (more done.0).1)
 
 -- something is held
 abbrev pub holds_any : Call → Bool
@@ -45,9 +45,9 @@ holds_any call = holds (call.served).state || not (length call.clients == 0)
 -- first the server side, and then the client side
 abbrev pub ticked : Call → ℕ → CallTaken
 ticked call now =
-    followed (by_server call (served.tick_taken (call.served).state now))
-    (λ call. by_clients call (clients.tick_taken (side_of call) now))
+    one_after_other (by_server call (served.tick_taken (call.served).state now))
+    (λ call. by_clients call (clients.clients_ticked (side_of call) now))
 
 -- the first moment at which something is due
 abbrev pub next_due : Call → Option ℕ
-next_due call = earlier (served.next_due (call.served).state) (clients.next_due call.clients)
+next_due call = earlier (served.next_server_due (call.served).state) (clients.next_removal call.clients)

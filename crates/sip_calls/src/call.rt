@@ -1,9 +1,9 @@
 //! One call.
 
 ghost use Rattle.std.specs.Prelude.{◌≡◌, ◌≤◌, ◌^◌, IfOk};
-ghost use Rattle.sip_clients.specs.Cancel.{cancel_taken};
+ghost use Rattle.sip_clients.specs.Cancel.{cancel_by_user};
 ghost use Rattle.sip_clients.specs.Clients as clients;
-ghost use Rattle.sip_clients.specs.Tick.{tick_taken};
+ghost use Rattle.sip_clients.specs.Tick.{clients_ticked};
 ghost use Rattle.sip_served.specs.Acknowledgment.{ack_taken};
 ghost use Rattle.sip_served.specs.Respond.{respond_taken};
 ghost use Rattle.sip_served.specs.Step.{arrival_taken};
@@ -115,7 +115,7 @@ impl Call {
 
     fn tick_clients(&mut self, now: u64) -> Result<Vec<CallOut>, AllocError>
         ensures { IfOk result (λ outs. (self.new, outs.items)
-            ≡ spec.by_clients self.old (tick_taken (spec.side_of self.old) now)) }
+            ≡ spec.by_clients self.old (clients_ticked (spec.side_of self.old) now)) }
     {
         self.clients.tick(self.served.dialogs(), now)
     }
@@ -144,7 +144,7 @@ impl Call {
         timed_out: bool,
     ) -> Result<Vec<CallOut>, AllocError>
         ensures { IfOk result (λ outs. (self.new, outs.items)
-            ≡ spec.by_clients self.old (clients.lost id timed_out (spec.side_of self.old))) }
+            ≡ spec.by_clients self.old (clients.request_lost id timed_out (spec.side_of self.old))) }
     {
         self.clients
             .fail_request(self.served.dialogs(), id, timed_out)
@@ -157,7 +157,7 @@ impl Call {
         command: &DialogRequest,
     ) -> Result<Vec<CallOut>, AllocError>
         ensures { IfOk result (λ outs. (self.new, outs.items)
-            ≡ spec.by_clients self.old (clients.request_taken event command.now
+            ≡ spec.by_clients self.old (clients.request_by_user event command.now
             (spec.side_of self.old))) }
     {
         self.clients.request(self.served.dialogs(), event, command)
@@ -170,7 +170,7 @@ impl Call {
         command: &DialogBody,
     ) -> Result<Vec<CallOut>, AllocError>
         ensures { IfOk result (λ outs. (self.new, outs.items)
-            ≡ spec.by_clients self.old (clients.ack_taken event command.now
+            ≡ spec.by_clients self.old (clients.ack_by_user event command.now
             (spec.side_of self.old))) }
     {
         self.clients.ack(self.served.dialogs(), event, command)
@@ -183,7 +183,7 @@ impl Call {
         command: &DialogBody,
     ) -> Result<Vec<CallOut>, AllocError>
         ensures { IfOk result (λ outs. (self.new, outs.items)
-            ≡ spec.by_clients self.old (clients.prack_taken event command.now
+            ≡ spec.by_clients self.old (clients.prack_by_user event command.now
             (spec.side_of self.old))) }
     {
         self.clients.prack(self.served.dialogs(), event, command)
@@ -196,7 +196,7 @@ impl Call {
         command: &Cancel,
     ) -> Result<Vec<CallOut>, AllocError>
         ensures { IfOk result (λ outs. (self.new, outs.items)
-            ≡ spec.by_clients self.old (cancel_taken event command.now
+            ≡ spec.by_clients self.old (cancel_by_user event command.now
             (spec.side_of self.old))) }
     {
         self.clients.cancel(event, command)

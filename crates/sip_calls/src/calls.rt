@@ -4,7 +4,7 @@ ghost use Rattle.std.specs.Prelude.{◌≡◌, ◌≤◌, ◌^◌, IfOk, None, S
 ghost use Rattle.sip_common.specs.Notices.{refused};
 ghost use Rattle.sip_calls.specs.Call as spec;
 ghost use Rattle.sip_calls.specs.Call.{call_due, call_machine, call_step};
-ghost use Rattle.sip_calls.specs.Idle.{ticks_are_idle};
+ghost use Rattle.sip_calls.specs.Idle.{call_ticks_are_idle};
 ghost use Rattle.std.proofs.lemmas.Map.Lookups.{exact_bytes};
 
 use crate::call::Call;
@@ -47,7 +47,7 @@ impl StateMachine for Calls {
 
     ghost copies = { λ _ _ same. same };
 
-    ghost idle = { ticks_are_idle };
+    ghost idle = { call_ticks_are_idle };
 
     fn due_of(&self, state: &Call) -> Option<u64> {
         if state.holds() {

@@ -34,10 +34,10 @@ use Rattle.sip_clients.specs.declared.outputs.ClientChange.{ClientChange}
 use Rattle.sip_clients.specs.declared.outputs.ClientChange.TheVariants.{Stays, Over, Starts}
 use Rattle.sip_clients.specs.declared.service.Service.{Service}
 use Rattle.sip_clients.specs.declared.service.Service.TheVariants.{Sent, Waits, Refused}
-use Rattle.sip_clients.specs.Cancel.{asked, cancel_case, cancel_client, cancel_taken, cancellation, cancelled_as, cancelled_of, sent_beside}
-use Rattle.sip_clients.specs.Client.{Clients, Side, client_at, client_changed, client_for, with_client, without}
-use Rattle.sip_clients.specs.Clients.{ack_noted, ack_paid, ack_taken, acked_with, invite_taken, lost_of, paid_or_refused, plain_taken, prack_paid, prack_taken, request_taken, settled}
-use Rattle.sip_clients.specs.Commands.{ack_told, debt_for, is_bad_outside, name_in, requested_at}
+use Rattle.sip_clients.specs.Cancel.{asked, cancel_case, cancel_client, cancel_by_user, cancellation, cancelled_as, cancelled_of, sent_beside}
+use Rattle.sip_clients.specs.Client.{Clients, Side, client_at, client_changed, client_for, with_client, without_client}
+use Rattle.sip_clients.specs.Clients.{ack_kept, ack_paid, ack_by_user, acked_with, invite_taken, lost_of, paid_or_refused, plain_taken, prack_paid, prack_by_user, request_by_user, settled}
+use Rattle.sip_clients.specs.Commands.{ack_asked, debt_for, is_bad_outside, name_in, requested_at}
 use Rattle.sip_clients.specs.Dialogs.{paid_at}
 use Rattle.sip_common.specs.Notices.{refused}
 use Rattle.sip_clients.specs.Outputs.{request_said, start_command}
@@ -213,7 +213,7 @@ module _ (life : DialogLife) (invite : Id) (event : Option Id) where
   }
 
   pub keeps_removed : (id : Id) (clients : Clients) → AreApart clients
-      → Keeps clients (without id clients)
+      → Keeps clients (without_client id clients)
   keeps_removed id clients apart = record {
     apart = entries.apart_removed id_laws (is_id id) clients apart;
     silent = entries.by_removal id_laws Found found_same found_none id invite clients apart;
@@ -273,7 +273,7 @@ module _ (life : DialogLife) (invite : Id) (event : Option Id) where
       (keeps_same clients apart) (keeps_started of.id client made refl clients apart)
 
   pub keeps_request : (of : Event) (command : DialogRequest) → event ≡ Some of.id → (side : Side)
-      → AreApart side.clients → Keeps side.clients ((request_taken of command side).0).clients
+      → AreApart side.clients → Keeps side.clients ((request_by_user of command side).0).clients
   keeps_request of command made side apart =
       let name = name_in command.local_tag command.remote_tag in
       let service = (requested_at name of command side.dialogs).1 in
@@ -281,7 +281,7 @@ module _ (life : DialogLife) (invite : Id) (event : Option Id) where
       (said_unheard of command.call_id name service) side.clients apart
 
   keeps_noted : (debt : Debt) (name : DialogName) (ack : Option SentAck) (clients : Clients)
-      → AreApart clients → Keeps clients (ack_noted debt name ack clients)
+      → AreApart clients → Keeps clients (ack_kept debt name ack clients)
   keeps_noted (Ack of number) name None clients apart = keeps_same clients apart
   keeps_noted (Ack of number) name (Some ack) clients apart =
       keeps_changed of (acked_with name ack) (λ client. refl) clients apart
@@ -294,10 +294,10 @@ module _ (life : DialogLife) (invite : Id) (event : Option Id) where
   by_ack of command side (Err refusal) apart = keeps_same side.clients apart
   by_ack of command side (Ok debt) apart =
       let name = name_in command.local_tag command.remote_tag in
-      keeps_noted debt name (ack_told of name debt command side.dialogs).2 side.clients apart
+      keeps_noted debt name (ack_asked of name debt command side.dialogs).2 side.clients apart
 
   pub keeps_ack : (of : Event) (command : DialogBody) (side : Side) → AreApart side.clients
-      → Keeps side.clients ((ack_taken of command side).0).clients
+      → Keeps side.clients ((ack_by_user of command side).0).clients
   keeps_ack of command side apart =
       by_ack of command side (debt_for kind.Ack
       (name_in command.local_tag command.remote_tag) side.dialogs) apart
@@ -314,7 +314,7 @@ module _ (life : DialogLife) (invite : Id) (event : Option Id) where
       (said_unheard of command.call_id name service) side.clients apart
 
   pub keeps_prack : (of : Event) (command : DialogBody) → event ≡ Some of.id → (side : Side)
-      → AreApart side.clients → Keeps side.clients ((prack_taken of command side).0).clients
+      → AreApart side.clients → Keeps side.clients ((prack_by_user of command side).0).clients
   keeps_prack of command made side apart =
       by_prack of command made side (debt_for kind.Prack
       (name_in command.local_tag command.remote_tag) side.dialogs) apart
@@ -359,7 +359,7 @@ module _ (life : DialogLife) (invite : Id) (event : Option Id) where
       cancel_by (cancel_case cancelled) of command cancelled clients apart
 
   pub keeps_cancel : (of : Event) (command : Cancel) (side : Side) → AreApart side.clients
-      → Keeps side.clients ((cancel_taken of command side).0).clients
+      → Keeps side.clients ((cancel_by_user of command side).0).clients
   keeps_cancel of command side apart =
       cancel_found (client_at command.id side.clients) of command side.clients apart
 

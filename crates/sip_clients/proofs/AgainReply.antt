@@ -29,13 +29,13 @@ use Rattle.sip_clients.specs.declared.reply.Reply.{Reply as Answer}
 use Rattle.sip_clients.specs.declared.reply.ReplyCase.{ReplyCase}
 use Rattle.sip_clients.specs.declared.reply.ReplyCase.TheVariants as reply
 use Rattle.sip_clients.specs.Answers.{has_answer}
-use Rattle.sip_clients.specs.Cancel.{noted}
+use Rattle.sip_clients.specs.Cancel.{after_response}
 use Rattle.sip_clients.specs.Client.{Clients, Side, client_at, client_changed}
 use Rattle.sip_clients.specs.Clients.{settled}
 use Rattle.sip_clients.specs.Debts.{owed}
-use Rattle.sip_clients.specs.Dialogs.{opened}
+use Rattle.sip_clients.specs.Dialogs.{dialog_for_provisional}
 use Rattle.sip_clients.specs.Provisionals.{in_life, is_response, provisional_number, told_of}
-use Rattle.sip_clients.specs.Replied.{Replied, after_dialog, by_case, finished, heard_again, notice, offer_to, prack_owed, replied_in, reply_taken}
+use Rattle.sip_clients.specs.Replied.{Replied, after_dialog, by_reply_case, request_over, heard_again, notice, offer_to, prack_owed, replied_in, reply_taken}
 use Rattle.sip_clients.specs.Reply.{is_last, is_there, offer_case, reliable_case, reply_case, rseq_of, success_case}
 use Rattle.sip_clients.proofs.AgainInvite.{AgainResult, AreApart, Keeps, StartsUnheard, asks_ear, client_ear, ear_of, keeps_settled, said_unheard, silent_then}
 use Rattle.sip_clients.proofs.ClientDialogs.{owed_keeps}
@@ -49,7 +49,7 @@ again own client = record client { kind = Again own }
 -- ---- the request after a response
 
 asks_kept : (case : ReplyCase) (client : Client) (found : Option HeldDialog) (answer : Answer)
-    → ((by_case case client found answer).0).kind ≡ client.kind
+    → ((by_reply_case case client found answer).0).kind ≡ client.kind
 asks_kept reply.Repeated client found answer = refl
 asks_kept reply.Accepted client found answer = refl
 asks_kept reply.Late client found answer = refl
@@ -65,7 +65,7 @@ asks_kept reply.Early client found answer = refl
 asks_kept reply.Told client found answer = refl
 
 heard_kept : (case : ReplyCase) (client : Client) (found : Option HeldDialog) (answer : Answer)
-    → Unheard case → ((by_case case client found answer).0).heard ≡ client.heard
+    → Unheard case → ((by_reply_case case client found answer).0).heard ≡ client.heard
 heard_kept reply.Repeated client found answer none = refl
 heard_kept reply.Accepted client found answer none = refl
 heard_kept reply.Late client found answer none = refl
@@ -75,14 +75,14 @@ heard_kept reply.Early client found answer none = refl
 heard_kept reply.Told client found answer none = refl
 
 change_unheard : (case : ReplyCase) (client : Client) (found : Option HeldDialog) (answer : Answer)
-    → StartsUnheard (by_case case client found answer).3
+    → StartsUnheard (by_reply_case case client found answer).3
 unfolding prack_owed
 change_unheard reply.Repeated client found answer = tt
 change_unheard reply.Accepted client found answer = tt
 change_unheard reply.Late client found answer = tt
 change_unheard (reply.Reliable number) client found answer =
     said_unheard answer.event answer.call_id answer.name
-    (prack_owed number client (opened client answer found) answer).1
+    (prack_owed number client (dialog_for_provisional client answer found) answer).1
 change_unheard reply.Passed client found answer = tt
 change_unheard reply.Early client found answer = tt
 change_unheard reply.Told client found answer = tt
@@ -93,7 +93,7 @@ module _ (client : Client) (dialogs : Dialogs) (answer : Answer) where
   found_at = dialog_at answer.name dialogs
 
   abbrev taken_by : Bool → Replied
-  taken_by last = cond {A = Replied} last (finished client dialogs answer)
+  taken_by last = cond {A = Replied} last (request_over client dialogs answer)
       (after_dialog answer.name dialogs (replied_in client found_at answer))
 
   asks_taken : ((reply_taken client dialogs answer).0).kind ≡ client.kind
@@ -171,7 +171,7 @@ lives_owed : (life own : DialogLife) (number : ℕ) (client : Client) (dialogs :
     (answer : Answer) (found : Option HeldDialog) → dialog_at answer.name dialogs ≡ found
     → is_there (Again own) found ≡ true
     → lives (insert_entry is_named dialogs answer.name
-    (prack_owed number (again own client) (opened (again own client) answer found) answer).0) life
+    (prack_owed number (again own client) (dialog_for_provisional (again own client) answer found) answer).0) life
     ≡ lives dialogs life
 unfolding prack_owed
 lives_owed life own number client dialogs answer None is there = absurd cc
@@ -258,7 +258,7 @@ module _ (life : DialogLife) (invite : Id) (event : Option Id) (answer : Answer)
   module _ (client : Client) (is : client_at answer.id side.clients ≡ Some client) where
     -- that the response has come is noted in it first
     abbrev pub noting : Client → Client
-    noting client = noted (is_final answer.status) client
+    noting client = after_response (is_final answer.status) client
 
     abbrev pub change : Client → Client
     change client = (reply_taken (noting client) side.dialogs answer).0
@@ -341,7 +341,7 @@ module _ (life : DialogLife) (invite : Id) (event : Option Id) (answer : Answer)
     held = dialog_at answer.name side.dialogs
 
     abbrev taken_as : ReplyCase → Replied
-    taken_as case = after_dialog answer.name side.dialogs (by_case case now held answer)
+    taken_as case = after_dialog answer.name side.dialogs (by_reply_case case now held answer)
 
     abbrev pub DoneSo : Option ℕ → Replied → Type 0
     DoneSo number done = Done found is number done
@@ -361,10 +361,10 @@ module _ (life : DialogLife) (invite : Id) (event : Option Id) (answer : Answer)
         (heard_kept case now held answer none i))
         ∙ (λ i. if ours i then Some client.heard else None) ∙ sym was))
 
-    over : Heard (finished now side.dialogs answer)
-        → DoneSo None (finished now side.dialogs answer)
+    over : Heard (request_over now side.dialogs answer)
+        → DoneSo None (request_over now side.dialogs answer)
     over heard =
-        let done = finished now side.dialogs answer in
+        let done = request_over now side.dialogs answer in
         finish_silent after (left found is) done.1 done.3 tt
         (done.2 ++ (settled answer.event answer.id done.3 after).1)
         (inr (inl (heard ∙ (λ i. if ours i then Some client.heard else None) ∙ sym was)))
@@ -401,7 +401,7 @@ module _ (life : DialogLife) (invite : Id) (event : Option Id) (answer : Answer)
         (heard ∙ (λ i. if ours i then Some
         (latest_after (offered client.heard number) client.heard number) else None))
         (told_once number answer answer.id
-        (prack_owed number now (opened now answer held) answer).1 after
+        (prack_owed number now (dialog_for_provisional now answer held) answer).1 after
         ∙ ap (λ o. taken o number) (sym is_offered))
     by_offer number Repeat is_offered there alive heard =
         passed number Repeat is_offered refl (λ last. refl) alive heard
@@ -456,10 +456,10 @@ module _ (life : DialogLife) (invite : Id) (event : Option Id) (answer : Answer)
         (gone final inside winning client.heard rseq none)))
 
     by_last : (final success : Bool)
-        → Heard (cond {A = Replied} (final && not success) (finished now side.dialogs answer)
+        → Heard (cond {A = Replied} (final && not success) (request_over now side.dialogs answer)
         (taken_as (decides final (is_there (Again own) held))))
         → DoneSo (number_by final inside rseq)
-        (cond {A = Replied} (final && not success) (finished now side.dialogs answer)
+        (cond {A = Replied} (final && not success) (request_over now side.dialogs answer)
         (taken_as (decides final (is_there (Again own) held))))
     by_last true false heard = over heard
     by_last true true heard = in_dialog true heard

@@ -15,8 +15,8 @@ use Rattle.sip_clients.specs.declared.client.RequestKind.TheVariants.{First, Aga
 use Rattle.sip_clients.specs.declared.client.Client.{Client}
 use Rattle.sip_clients.specs.declared.event.Event.{Event}
 use Rattle.sip_clients.specs.declared.reply.Reply.{Reply as Answer}
-use Rattle.sip_clients.specs.Cancel.{cancel_command, cancellation, freed_by, noted, sent_beside}
-use Rattle.sip_clients.specs.Client.{Clients, Side, Taken as ClientTaken, client_at}
+use Rattle.sip_clients.specs.Cancel.{cancel_command, cancellation, freed_by, after_response, sent_beside}
+use Rattle.sip_clients.specs.Client.{Clients, Side, ClientTaken, client_at}
 use Rattle.sip_clients.specs.Clients.{found_taken, settled, side_after, reply_name, reply_of, reply_settled, response_taken, status_of}
 use Rattle.sip_clients.specs.Replied.{Replied, reply_taken}
 use Rattle.sip_clients.specs.Provisionals.{InTheDialog, in_life, is_for, number_for, provisional_number, told_of}
@@ -77,7 +77,7 @@ module _ (life : DialogLife) (invite : Id) (event : Option Id) (of : Event)
       )
 
   abbrev noting : ℕ → Client → Client
-  noting status client = noted (is_final status) client
+  noting status client = after_response (is_final status) client
 
   abbrev done_of : ℕ → Client → Replied
   done_of status client =

@@ -32,13 +32,13 @@ use Rattle.sip_common.specs.declared.refusal.Refusal.{Refusal as ARefusal}
 use Rattle.sip_common.specs.Refusal.{first_refusal}
 use Rattle.sip_clients.specs.Answers.{has_answer}
 use Rattle.sip_clients.specs.Clients.{reply_name}
-use Rattle.sip_clients.specs.Commands.{bye_ended, request_in, request_refusals, sent_unless}
+use Rattle.sip_clients.specs.Commands.{bye_ended, request_in_held, request_refusals, sent_unless}
 use Rattle.sip_clients.specs.Debts.{dropped_if_sent, kept_unless_sent, owed, paid}
-use Rattle.sip_clients.specs.Dialogs.{accepted, accepted_in, ended_with, hearing, made_dialog, opened, own_ended, served_at}
+use Rattle.sip_clients.specs.Dialogs.{accepted, accepted_in, ended_with, hearing, dialog_by_response, dialog_for_provisional, own_ended, served_at}
 use Rattle.sip_clients.specs.Happenings.{success_brings}
-use Rattle.sip_clients.specs.Replied.{ack_owed, by_case, heard_first, offer_to, prack_owed, with_dialog}
-use Rattle.sip_clients.specs.Reply.{heard_of, is_of_dialog, is_there, reliable_case, reply_case, rseq_of}
-use Rattle.sip_clients.specs.Service.{Outcome, discharged, sending_in, sends}
+use Rattle.sip_clients.specs.Replied.{ack_owed, by_reply_case, heard_first, offer_to, prack_owed, dialogs_with}
+use Rattle.sip_clients.specs.Reply.{heard_of, is_dialog_response, is_there, reliable_case, reply_case, rseq_of}
+use Rattle.sip_clients.specs.Service.{Outcome, discharged, sending_in, happens_by_sending}
 use Rattle.sip_common.proofs.Entries as entries
 use Rattle.sip_common.proofs.Heard.{AreApart, Goes, Grows, Keeps, Leads, Life, Moves, OpensBy, Stays, in_one, keeps_same, keeps_then, leads_changed, leads_filtered, leads_removed, leads_same, leads_then, name_laws, none_either, nothing, quiet, same_name, stays_same, tag_kept}
 use Rattle.sip_common.proofs.Lives.{cases_fit}
@@ -50,7 +50,7 @@ use Rattle.sip_clients.proofs.Served.{served_dialogs}
 -- the requests that a dialog doesn't refuse are made in it
 sends_made : (method : List ℕ) (fault : Option DialogFault) (dialog : Dialog)
     → Grows dialog (requests_made (asks method fault dialog))
-    (fold happened dialog (sends method fault))
+    (fold happened dialog (happens_by_sending method fault))
 sends_made method None dialog = ((tt, tt), refl)
 sends_made method (Some fault) dialog = (tt, refl)
 
@@ -95,8 +95,8 @@ paid_keeps event debt body held =
     (discharged_keeps event debt (Some body) held) (if_sent_keeps debt done.1 done.0)
 
 pub request_keeps : (event : Event) (method body : List ℕ) (held : HeldDialog)
-    → Keeps None (request_life method held.dialog) held (request_in event method body held).0
-unfolding request_in
+    → Keeps None (request_life method held.dialog) held (request_in_held event method body held).0
+unfolding request_in_held
 request_keeps event method body held =
     unless (first_refusal (request_refusals held.dialog method) None)
   where
@@ -226,7 +226,7 @@ pub reply_names : (client : Client) (answer : Answer) (found : Option HeldDialog
 reply_names client answer found own makes none =
     let first : client.kind ≡ First =
     makes_first client.kind (is_final answer.status) (has_answer answer.name client.answers)
-    (is_of_dialog answer) (heard_of client.kind client None) (rseq_of answer.response)
+    (is_dialog_response answer) (heard_of client.kind client None) (rseq_of answer.response)
     (ap (λ (found : Option HeldDialog). may_make (reply_case client found answer)) (sym none)
     ∙ makes) in
     first_name client answer found
@@ -257,7 +257,7 @@ module _ (event : Option Id) (client : Client) (answer : Answer)
   case_begun reply.Accepted found = []
   case_begun reply.Late found = []
   case_begun (reply.Reliable number) found =
-      prack_life number (opened client answer found).dialog
+      prack_life number (dialog_for_provisional client answer found).dialog
   case_begun reply.Passed found = []
   case_begun reply.Early found = []
   case_begun reply.Told found = []
@@ -279,7 +279,7 @@ module _ (event : Option Id) (client : Client) (answer : Answer)
       (refl, same_name answer.name other (name_of_dialog (dialog_opened start)) (named refl) same)
 
   opened_goes : (found : Option HeldDialog) → IsNamedSo client answer found
-      → GoesHere reply.Early found (opened client answer found)
+      → GoesHere reply.Early found (dialog_for_provisional client answer found)
   opened_goes None named other same =
       inr (made, refl, (start, opens_so named other same, (tt, refl)), inl refl)
   opened_goes (Some held) named other same = inl (keeps_same held)
@@ -297,7 +297,7 @@ module _ (event : Option Id) (client : Client) (answer : Answer)
           → GoesTo reply.Accepted found (ack_owed client (accepted client answer found) answer).0
           other
       by_found None named =
-          let kept = keeps (made_dialog client answer) in
+          let kept = keeps (dialog_by_response client answer) in
           inr (
             made ∙ ap (λ id. Some id) (sym kept.0),
             kept.1,
@@ -316,10 +316,10 @@ module _ (event : Option Id) (client : Client) (answer : Answer)
       → Goes event (OpensBy (Some start) other) None (case_life (reply.Reliable number))
       (case_begun (reply.Reliable number) found) found
       (Some (owed answer.event (Prack number ((client.request).cseq).number)
-      (offer_to client answer.response) (opened client answer found)).0)
+      (offer_to client answer.response) (dialog_for_provisional client answer found)).0)
   owed_goes number None named other same =
       let kept = owed_keeps answer.event (Prack number ((client.request).cseq).number)
-      (offer_to client answer.response) (made_dialog client answer) in
+      (offer_to client answer.response) (dialog_by_response client answer) in
       inr (
         made ∙ ap (λ id. Some id) (sym kept.0),
         kept.1,
@@ -335,10 +335,10 @@ module _ (event : Option Id) (client : Client) (answer : Answer)
       → Goes event (OpensBy (Some start) other) (Some number) (case_life (reply.Reliable number))
       (case_begun (reply.Reliable number) found) found
       (Some (owed answer.event (Prack number ((client.request).cseq).number)
-      (offer_to client answer.response) (hearing number (opened client answer found))).0)
+      (offer_to client answer.response) (hearing number (dialog_for_provisional client answer found))).0)
   heard_goes number None named other same =
       let kept = owed_keeps answer.event (Prack number ((client.request).cseq).number)
-      (offer_to client answer.response) (hearing number (made_dialog client answer)) in
+      (offer_to client answer.response) (hearing number (dialog_by_response client answer)) in
       inr (
         made ∙ ap (λ id. Some id) (sym kept.0),
         kept.1,
@@ -355,7 +355,7 @@ module _ (event : Option Id) (client : Client) (answer : Answer)
       (case_life (reply.Reliable number)) (case_begun (reply.Reliable number) found) found
       (Some (owed answer.event (Prack number ((client.request).cseq).number)
       (offer_to client answer.response)
-      (heard_first kind number (opened client answer found))).0)
+      (heard_first kind number (dialog_for_provisional client answer found))).0)
   prack_goes First number found named other same = heard_goes number found named other same
   prack_goes (Again life) number found named other same = owed_goes number found named other same
   prack_goes (Inside life) number found named other same = owed_goes number found named other same
@@ -408,8 +408,8 @@ module _ (event : Option Id) (client : Client) (answer : Answer)
 
   pub case_moves : (case : ReplyCase) (dialogs : Dialogs) → AreApart dialogs
       → (may_make case ≡ true → IsNamedSo client answer (dialog_at answer.name dialogs))
-      → Answered case dialogs (with_dialog answer.name
-      (by_case case client (dialog_at answer.name dialogs) answer).1 dialogs)
+      → Answered case dialogs (dialogs_with answer.name
+      (by_reply_case case client (dialog_at answer.name dialogs) answer).1 dialogs)
   unfolding prack_owed
   case_moves reply.Repeated dialogs apart named = record {
     apart = apart;
@@ -426,7 +426,7 @@ module _ (event : Option Id) (client : Client) (answer : Answer)
   case_moves (reply.Reliable number) dialogs apart named =
       let found = dialog_at answer.name dialogs in
       put_moves (reply.Reliable number)
-      (prack_owed number client (opened client answer found) answer).0 dialogs apart
+      (prack_owed number client (dialog_for_provisional client answer found) answer).0 dialogs apart
       (prack_goes client.kind number found (named refl))
   case_moves reply.Passed dialogs apart named = record {
     apart = apart;
@@ -434,7 +434,7 @@ module _ (event : Option Id) (client : Client) (answer : Answer)
   }
   case_moves reply.Early dialogs apart named =
       let found = dialog_at answer.name dialogs in
-      put_moves reply.Early (opened client answer found) dialogs apart
+      put_moves reply.Early (dialog_for_provisional client answer found) dialogs apart
       (opened_goes found (named refl))
   case_moves reply.Told dialogs apart named = record {
     apart = apart;

@@ -47,16 +47,16 @@ use Rattle.sip_clients.specs.declared.reply.ReplyCase.TheVariants as reply
 use Rattle.sip_clients.specs.declared.service.Service.{Service}
 use Rattle.sip_clients.specs.declared.service.Service.TheVariants.{Sent, Waits, Refused}
 use Rattle.sip_clients.specs.Answers.{has_answer}
-use Rattle.sip_clients.specs.Cancel.{cancel_case, cancel_taken, cancelled_as, cancelled_of, freed_by, noted}
-use Rattle.sip_clients.specs.Client.{Clients, Side, Taken as ClientTaken, client_at}
-use Rattle.sip_clients.specs.Clients.{ack_paid, ack_taken, found_taken, lost_of, paid_or_refused, prack_paid, prack_taken, reply_name, reply_of, reply_settled, request_taken, response_taken, settled, status_of}
-use Rattle.sip_clients.specs.Commands.{bye_ended, debt_for, debt_or_refusal, name_in, oldest_debt, request_in, requested_at}
+use Rattle.sip_clients.specs.Cancel.{cancel_case, cancel_by_user, cancelled_as, cancelled_of, freed_by, after_response}
+use Rattle.sip_clients.specs.Client.{Clients, Side, ClientTaken, client_at}
+use Rattle.sip_clients.specs.Clients.{ack_paid, ack_by_user, found_taken, lost_of, paid_or_refused, prack_paid, prack_by_user, reply_name, reply_of, reply_settled, request_by_user, response_taken, settled, status_of}
+use Rattle.sip_clients.specs.Commands.{bye_ended, debt_for, debt_or_refusal, name_in, oldest_debt, request_in_held, requested_at}
 use Rattle.sip_clients.specs.Debts.{is_of, paid}
-use Rattle.sip_clients.specs.Dialogs.{opened, paid_at, served_at}
+use Rattle.sip_clients.specs.Dialogs.{dialog_for_provisional, paid_at, served_at}
 use Rattle.sip_clients.specs.Happenings.{reply_brings, success_brings}
 use Rattle.sip_clients.specs.Outputs.{request_said, start_command}
-use Rattle.sip_clients.specs.Replied.{Replied, after_dialog, by_case, ends_dialog, finished, heard_first, offer_to, prack_owed, reply_taken}
-use Rattle.sip_clients.specs.Reply.{offer_case, heard_of, is_inviting, is_last, is_of_dialog, is_there, reliable_case, reply_case, rseq_of}
+use Rattle.sip_clients.specs.Replied.{Replied, after_dialog, by_reply_case, ends_dialog, request_over, heard_first, offer_to, prack_owed, reply_taken}
+use Rattle.sip_clients.specs.Reply.{offer_case, heard_of, is_inviting, is_last, is_dialog_response, is_there, reliable_case, reply_case, rseq_of}
 use Rattle.sip_clients.proofs.ClientDialogs.{IsNamedSo, case_begun, case_life, case_moves, ended_leads, heard_number, may_make, prack_life, reply_names}
 use Rattle.sip_clients.proofs.FewStarts.{ack_said_none, bye_none, lost_none, replies, request_said_none}
 use Rattle.sip_clients.proofs.FirstSides.{ack_leads, lost_leads, paid_in, pay_leads, request_leads}
@@ -153,18 +153,18 @@ module _ (event : Event) (side : Side) (apart : AreApart side.dialogs)
   abbrev ByOuts : ClientTaken → Type 0
   ByOuts taken = Sends taken.1 side.dialogs (taken.0).dialogs
 
-  pub request_lives : (command : DialogRequest) → ByOuts (request_taken event command side)
+  pub request_lives : (command : DialogRequest) → ByOuts (request_by_user event command side)
   unfolding requested_at
   request_lives command =
       let name = name_in command.local_tag command.remote_tag in
-      let serve = request_in event command.method command.body in
+      let serve = request_in_held event command.method command.body in
       let done = served_at name serve (Refused NoSuchDialog) side.dialogs in
       let said = request_said event command.call_id name done.1 in
       let after = settled event event.id said.1 side.clients in
       let bye = bye_ended name command.method done.1 done.0 in
       sends_one name (λ held. request_cseqs command.method held.dialog)
-      (request_taken event command side).1 side.dialogs
-      ((request_taken event command side).0).dialogs
+      (request_by_user event command side).1 side.dialogs
+      ((request_by_user event command side).0).dialogs
       (λ held. request_numbered command.method held.dialog)
       (λ other held at. served_sent name serve (Refused NoSuchDialog)
       (λ held. request_cseqs command.method held.dialog) side.dialogs other
@@ -212,11 +212,11 @@ module _ (event : Event) (side : Side) (apart : AreApart side.dialogs)
       let name = name_in command.local_tag command.remote_tag in
       ack_said_none event command.call_id (paid_at name event debt command.body side.dialogs).1
 
-  pub ack_lives : (command : DialogBody) → ByOuts (ack_taken event command side)
+  pub ack_lives : (command : DialogBody) → ByOuts (ack_by_user event command side)
   ack_lives command =
       let name = name_in command.local_tag command.remote_tag in
       let debt = debt_for kind.Ack name side.dialogs in
-      let taken = ack_taken event command side in
+      let taken = ack_by_user event command side in
       silent_outs taken.1 (ack_starts command debt) side.dialogs (taken.0).dialogs
       (leads_as (paid_in command debt) quiet side.dialogs (taken.0).dialogs
       (λ other held at. ack_takes_none command (dialog_at name side.dialogs) other held)
@@ -245,7 +245,7 @@ module _ (event : Event) (side : Side) (apart : AreApart side.dialogs)
       (request_said_none event command.call_id name done.1)))
       (pay_leads event command debt side.dialogs apart)
 
-  pub prack_lives : (command : DialogBody) → ByOuts (prack_taken event command side)
+  pub prack_lives : (command : DialogBody) → ByOuts (prack_by_user event command side)
   prack_lives command =
       by_prack command (debt_for kind.Prack
       (name_in command.local_tag command.remote_tag) side.dialogs)
@@ -262,9 +262,9 @@ module _ (event : Event) (side : Side) (apart : AreApart side.dialogs)
   cancel_found None command name = refl
   cancel_found (Some invite) command name = cancel_by (cancel_case invite) command invite name
 
-  pub cancel_lives : (command : Cancel) → ByOuts (cancel_taken event command side)
+  pub cancel_lives : (command : Cancel) → ByOuts (cancel_by_user event command side)
   cancel_lives command =
-      sends_none (cancel_taken event command side).1
+      sends_none (cancel_by_user event command side).1
       (λ name. cancel_found (client_at command.id side.clients) command name) side.dialogs
       side.dialogs (leads_same side.dialogs apart)
 
@@ -356,7 +356,7 @@ module _ (event : Event) (id : Id) (call_id : List ℕ) (response : Message) (st
 
     -- the request when the response has come
     abbrev client : Client
-    client = noted (is_final status) asker
+    client = after_response (is_final status) asker
 
     abbrev answer : Answer
     answer = reply_of event id call_id own status response
@@ -379,7 +379,7 @@ module _ (event : Event) (id : Id) (call_id : List ℕ) (response : Message) (st
 
     -- the dialog of the name, as it is opened, has its tags
     opened_named : (o : Option HeldDialog) → found ≡ o → IsNamedSo client answer found
-        → is_named own (name_of_dialog (opened client answer o).dialog) ≡ true
+        → is_named own (name_of_dialog (dialog_for_provisional client answer o).dialog) ≡ true
     opened_named None is so = so is
     opened_named (Some held) is so = named own held is
 
@@ -390,7 +390,7 @@ module _ (event : Event) (id : Id) (call_id : List ℕ) (response : Message) (st
     case_cseqs reply.Late o = []
     case_cseqs (reply.Reliable number) o =
         discharge_cseqs (Prack number ((client.request).cseq).number) (offer_to client response)
-        (opened client answer o).dialog
+        (dialog_for_provisional client answer o).dialog
     case_cseqs reply.Passed o = []
     case_cseqs reply.Early o = []
     case_cseqs reply.Told o = []
@@ -406,14 +406,14 @@ module _ (event : Event) (id : Id) (call_id : List ℕ) (response : Message) (st
     begun_made reply.Told = refl
 
     goes_out : (case : ReplyCase) → Named case → (name : DialogName)
-        → change_cseqs name (by_case case client found answer).3
+        → change_cseqs name (by_reply_case case client found answer).3
         ≡ cond (is_named own name) (case_cseqs case found) []
     unfolding prack_owed
     goes_out reply.Repeated so name = sym (none_either (is_named own name))
     goes_out reply.Accepted so name = sym (none_either (is_named own name))
     goes_out reply.Late so name = sym (none_either (is_named own name))
     goes_out (reply.Reliable number) so name =
-        let held = opened client answer found in
+        let held = dialog_for_provisional client answer found in
         let heard = heard_first client.kind number held in
         let same = heard_dialog client.kind number held in
         let debt = Prack number ((client.request).cseq).number in
@@ -429,7 +429,7 @@ module _ (event : Event) (id : Id) (call_id : List ℕ) (response : Message) (st
     goes_out reply.Told so name = sym (none_either (is_named own name))
 
     changes : (case : ReplyCase) → Named case → (name : DialogName)
-        → change_sent name (by_case case client found answer).3
+        → change_sent name (by_reply_case case client found answer).3
         ≡ cond (is_named own name) (case_begun (Some event.id) client answer refl case found) []
     changes case so name =
         ap requests_made (goes_out case so name)
@@ -447,7 +447,7 @@ module _ (event : Event) (id : Id) (call_id : List ℕ) (response : Message) (st
     case_numbered reply.Late o = numbered_none (number_before (Some start) o)
     case_numbered (reply.Reliable number) None =
         discharge_numbered (Prack number ((client.request).cseq).number) (offer_to client response)
-        (opened client answer None).dialog
+        (dialog_for_provisional client answer None).dialog
     case_numbered (reply.Reliable number) (Some held) =
         discharge_numbered (Prack number ((client.request).cseq).number) (offer_to client response)
         held.dialog
@@ -457,7 +457,7 @@ module _ (event : Event) (id : Id) (call_id : List ℕ) (response : Message) (st
 
     numbered_so : (case : ReplyCase) → Named case → (name : DialogName)
         → NumberedFrom (number_before (Some start) (dialog_at name dialogs))
-        (change_cseqs name (by_case case client found answer).3)
+        (change_cseqs name (by_reply_case case client found answer).3)
     numbered_so case so name =
         subst (NumberedFrom (number_before (Some start) (dialog_at name dialogs)))
         (sym (goes_out case so name)) (by_name (is_named own name) refl)
@@ -480,23 +480,23 @@ module _ (event : Event) (id : Id) (call_id : List ℕ) (response : Message) (st
         → dialog_at name dialogs ≡ Some held → (b : Bool) → is_named own name ≡ b
         → cond b (prack_life (Some event.id) client answer refl number held.dialog) []
         ≡ cond b (prack_life (Some event.id) client answer refl number
-        (opened client answer found).dialog) []
+        (dialog_for_provisional client answer found).dialog) []
     prack_same number name held at false is = refl
     prack_same number name held at true is =
-        ap (λ o. prack_life (Some event.id) client answer refl number (opened client answer o).dialog)
+        ap (λ o. prack_life (Some event.id) client answer refl number (dialog_for_provisional client answer o).dialog)
         (sym (sym (entries.same_key name_laws own name dialogs is) ∙ at))
 
     lives : (case : ReplyCase) → Named case → (name : DialogName) (held : HeldDialog)
         → dialog_at name dialogs ≡ Some held
         → in_one own (case_life (Some event.id) client answer refl case) name held
-        ≡ brings case name held ++ change_sent name (by_case case client found answer).3
+        ≡ brings case name held ++ change_sent name (by_reply_case case client found answer).3
     lives reply.Repeated so name held at = sym (append-nil (brings reply.Repeated name held))
     lives reply.Accepted so name held at = sym (append-nil (brings reply.Accepted name held))
     lives reply.Late so name held at = sym (append-nil (brings reply.Late name held))
     lives (reply.Reliable number) so name held at =
         prack_same number name held at (is_named own name) refl
         ∙ sym (changes (reply.Reliable number) so name)
-        ∙ ap (λ xs. xs ++ change_sent name (by_case (reply.Reliable number) client found answer).3)
+        ∙ ap (λ xs. xs ++ change_sent name (by_reply_case (reply.Reliable number) client found answer).3)
         (sym (none_either (is_named own name)))
     lives reply.Passed so name held at = sym (append-nil (brings reply.Passed name held))
     lives reply.Early so name held at = sym (append-nil (brings reply.Early name held))
@@ -521,7 +521,7 @@ module _ (event : Event) (id : Id) (call_id : List ℕ) (response : Message) (st
             (success_brings client.kind response held))
             (sym (entries.same_key name_laws own name dialogs is) ∙ at)
             ∙ by_parts (is_final status) (is_success status) (has_answer own client.answers)
-            (is_there client.kind (Some held)) (is_of_dialog answer)
+            (is_there client.kind (Some held)) (is_dialog_response answer)
             (heard_of client.kind client (Some held)) (rseq_of response)
             (success_brings client.kind response held) (success_final status)
             (not_last (is_final status) (is_success status) (is_inviting client.kind) last)
@@ -561,10 +561,10 @@ module _ (event : Event) (id : Id) (call_id : List ℕ) (response : Message) (st
         (change_cseqs name done.3))
 
     by_last : (last : Bool) → is_last client.kind status ≡ last
-        → RepliedSo (cond {A = Replied} last (finished client dialogs answer)
-        (after_dialog own dialogs (by_case case_now client found answer)))
+        → RepliedSo (cond {A = Replied} last (request_over client dialogs answer)
+        (after_dialog own dialogs (by_reply_case case_now client found answer)))
     by_last true last =
-        let after = (finished client dialogs answer).1 in
+        let after = (request_over client dialogs answer).1 in
         let life : Lives = λ name held. reply_brings status asker response name held ++ [] in (
           none_came,
           moves_led (Some event.id) (Some (ByResponse client.request response)) (λ name. []) life
@@ -575,7 +575,7 @@ module _ (event : Event) (id : Id) (call_id : List ℕ) (response : Message) (st
           λ name. numbered_none (number_before (Some start) (dialog_at name dialogs)),
         )
     by_last false last =
-        let done = by_case case_now client found answer in
+        let done = by_reply_case case_now client found answer in
         let after = (after_dialog own dialogs done).1 in
         let so : Named case_now = reply_names client answer found (name_kept asker.kind) in
         let moves = case_moves (Some event.id) client answer refl case_now dialogs apart so in
@@ -629,7 +629,7 @@ module _ (event : Event) (id : Id) (call_id : List ℕ) (response : Message) (si
       response) client side)
   settles status client =
       let final = is_final status in
-      let with_note = noted final client in
+      let with_note = after_response final client in
       let name = reply_name client.kind client response in
       let answer = reply_of event id call_id name status response in
       let done = reply_taken with_note side.dialogs answer in

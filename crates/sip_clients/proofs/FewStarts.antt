@@ -48,18 +48,18 @@ use Rattle.sip_clients.specs.declared.reply.ReplyCase.TheVariants as reply
 use Rattle.sip_clients.specs.declared.service.Service.{Service}
 use Rattle.sip_clients.specs.declared.service.Service.TheVariants.{Sent, Waits, Refused}
 use Rattle.sip_clients.specs.Answers.{ack_of}
-use Rattle.sip_clients.specs.Cancel.{asked as with_cancel, cancel_case, cancel_client, cancel_command, cancel_freed, cancel_taken, cancellation, cancelled_as, cancelled_of, cancelling_after, freed_by, noted, sent_beside}
-use Rattle.sip_clients.specs.Client.{Clients, Side, Taken as ClientTaken, client_at, client_changed, client_for, with_client, without}
-use Rattle.sip_clients.specs.Clients.{ack_noted, ack_paid, ack_taken, acked_with, found_taken, invite_taken, lost_of, paid_or_refused, plain_taken, prack_paid, prack_taken, reply_name, reply_of, reply_settled, request_taken, response_taken, settled, started, status_of}
-use Rattle.sip_clients.specs.Commands.{ack_told, bye_ended, debt_for, is_bad_outside, name_in, requested_at}
-use Rattle.sip_clients.specs.Dialogs.{accepted, ended_with, opened, own_ended, paid_at}
+use Rattle.sip_clients.specs.Cancel.{asked as with_cancel, cancel_case, cancel_client, cancel_command, cancel_freed, cancel_by_user, cancellation, cancelled_as, cancelled_of, cancelling_after, freed_by, after_response, sent_beside}
+use Rattle.sip_clients.specs.Client.{Clients, Side, ClientTaken, client_at, client_changed, client_for, with_client, without_client}
+use Rattle.sip_clients.specs.Clients.{ack_kept, ack_paid, ack_by_user, acked_with, found_taken, invite_taken, lost_of, paid_or_refused, plain_taken, prack_paid, prack_by_user, reply_name, reply_of, reply_settled, request_by_user, response_taken, settled, started, status_of}
+use Rattle.sip_clients.specs.Commands.{ack_asked, bye_ended, debt_for, is_bad_outside, name_in, requested_at}
+use Rattle.sip_clients.specs.Dialogs.{accepted, ended_with, dialog_for_provisional, own_ended, paid_at}
 use Rattle.sip_clients.specs.Event.{branch_of}
 use Rattle.sip_common.specs.Notices.{refused}
 use Rattle.sip_clients.specs.Outputs.{ack_said, direct, request_said, start_command}
 use Rattle.sip_clients.specs.Outside.{invite_of, plain_of}
-use Rattle.sip_clients.specs.Replied.{Replied, ack_owed, after_dialog, by_case, ends_dialog, finished, heard_again, prack_owed, replied_in, reply_taken}
+use Rattle.sip_clients.specs.Replied.{Replied, ack_owed, after_dialog, by_reply_case, ends_dialog, request_over, heard_again, prack_owed, replied_in, reply_taken}
 use Rattle.sip_clients.specs.Reply.{is_last, reply_case}
-use Rattle.sip_clients.specs.Tick.{clients_left, is_over, notices_of, over_notices}
+use Rattle.sip_clients.specs.Tick.{clients_left, is_over, early_ends_told, over_notices}
 use Rattle.sip_clients.proofs.Tally.{tally_changed, tally_filtered, tally_inserted, tally_removed, tally_set, weight}
 
 -- ---- what fits
@@ -240,7 +240,7 @@ settled_within : (event : Event) (id : Id) (change : ClientChange) (clients : Cl
 settled_within event id Stays clients fresh =
     own_nothing (Some event.id) clients clients (at_most_same clients)
 settled_within event id Over clients fresh =
-    own_nothing (Some event.id) clients (without id clients)
+    own_nothing (Some event.id) clients (without_client id clients)
     (λ of. tally_removed waits_for (is_id of) (is_id id) clients)
 settled_within event id (Starts client) clients fresh = started_within event client clients fresh
 
@@ -311,7 +311,7 @@ again_none None = refl
 again_none (Some ack) = refl
 
 case_none : (case : ReplyCase) (client : Client) (found : Option HeldDialog) (answer : Answer)
-    → starts (by_case case client found answer).2 ≡ []
+    → starts (by_reply_case case client found answer).2 ≡ []
 unfolding ack_owed prack_owed
 case_none reply.Repeated client found answer = again_none (ack_of answer.name client.answers)
 case_none reply.Accepted client found answer =
@@ -320,7 +320,7 @@ case_none reply.Accepted client found answer =
 case_none reply.Late client found answer = refl
 case_none (reply.Reliable number) client found answer =
     request_said_none answer.event answer.call_id answer.name
-    (prack_owed number client (opened client answer found) answer).1
+    (prack_owed number client (dialog_for_provisional client answer found) answer).1
 case_none reply.Passed client found answer = refl
 case_none reply.Early client found answer = refl
 case_none reply.Told client found answer = refl
@@ -328,7 +328,7 @@ case_none reply.Told client found answer = refl
 -- ---- a response
 
 cancel_kept : (case : ReplyCase) (client : Client) (found : Option HeldDialog) (answer : Answer)
-    → ((by_case case client found answer).0).cancel ≡ client.cancel
+    → ((by_reply_case case client found answer).0).cancel ≡ client.cancel
 cancel_kept reply.Repeated client found answer = refl
 cancel_kept reply.Accepted client found answer = refl
 cancel_kept reply.Late client found answer = refl
@@ -344,14 +344,14 @@ cancel_kept reply.Early client found answer = refl
 cancel_kept reply.Told client found answer = refl
 
 case_fresh : (case : ReplyCase) (client : Client) (found : Option HeldDialog) (answer : Answer)
-    → StartsFresh (by_case case client found answer).3
+    → StartsFresh (by_reply_case case client found answer).3
 unfolding prack_owed
 case_fresh reply.Repeated client found answer = tt
 case_fresh reply.Accepted client found answer = tt
 case_fresh reply.Late client found answer = tt
 case_fresh (reply.Reliable number) client found answer =
     said_fresh answer.event answer.call_id answer.name
-    (prack_owed number client (opened client answer found) answer).1
+    (prack_owed number client (dialog_for_provisional client answer found) answer).1
 case_fresh reply.Passed client found answer = tt
 case_fresh reply.Early client found answer = tt
 case_fresh reply.Told client found answer = tt
@@ -370,7 +370,7 @@ replies client dialogs answer = by_last (is_last client.kind answer.status)
     found = dialog_at answer.name dialogs
 
     by_last : (last : Bool)
-        → Replies client (cond {A = Replied} last (finished client dialogs answer)
+        → Replies client (cond {A = Replied} last (request_over client dialogs answer)
         (after_dialog answer.name dialogs (replied_in client found answer)))
     by_last true = record {
       silent = ended_none client (ends_dialog answer.status) dialogs;
@@ -404,8 +404,8 @@ module _ (event : Event) (id : Id) (call_id : List ℕ) (response : Message) (si
       let name = reply_name client.kind client response in
       let answer = reply_of event id call_id name status response in
       let final = is_final status in
-      let done = reply_taken (noted final client) side.dialogs answer in
-      let so = replies (noted final client) side.dialogs answer in
+      let done = reply_taken (after_response final client) side.dialogs answer in
+      let so = replies (after_response final client) side.dialogs answer in
       let put = set_value (is_id id) side.clients done.0 in
       let after = settled event id done.3 put in
       let freed = freed_by final client.cancel in
@@ -479,11 +479,11 @@ pub lost_fits : (id : Id) (timed_out : Bool) (o : Option Client) (side : Side)
     → Fits None side.clients (lost_of id timed_out o side).1
     ((lost_of id timed_out o side).0).clients
 lost_fits id timed_out None side =
-    silent_fits None side.clients [] (without id side.clients) refl
+    silent_fits None side.clients [] (without_client id side.clients) refl
     (λ of. tally_removed waits_for (is_id of) (is_id id) side.clients)
 lost_fits id timed_out (Some client) side =
     silent_fits None side.clients (lost_of id timed_out (Some client) side).1
-    (without id side.clients) (lost_none id timed_out (Some client) side)
+    (without_client id side.clients) (lost_none id timed_out (Some client) side)
     (λ of. tally_removed waits_for (is_id of) (is_id id) side.clients)
 
 over_by : (b : Bool) (outs : List CallOut) → starts outs ≡ [] → starts (if b then outs else []) ≡ []
@@ -493,7 +493,7 @@ over_by false outs none = refl
 pub tick_none : (now : ℕ) (dialogs : Dialogs) (clients : Clients)
     → starts (over_notices now dialogs clients) ≡ []
 tick_none now dialogs clients =
-    none_of_all (notices_of now dialogs)
+    none_of_all (early_ends_told now dialogs)
     (λ client. over_by (is_over now client) (early_ended client.id dialogs).1
     (early_starts client.id dialogs)) (values_of clients)
 
@@ -580,7 +580,7 @@ module _ (event : Event) where
   OnSide side taken = Fits (Some event.id) side.clients taken.1 (taken.0).clients
 
   pub request_fits : (command : DialogRequest) (side : Side)
-      → OnSide side (request_taken event command side)
+      → OnSide side (request_by_user event command side)
   request_fits command side =
       let name = name_in command.local_tag command.remote_tag in
       let done = requested_at name event command side.dialogs in
@@ -592,7 +592,7 @@ module _ (event : Event) where
       (said_fits command.call_id name done.1 side.clients)
 
   noted_fewer : (debt : Debt) (name : DialogName) (ack : Option SentAck) (clients : Clients)
-      (id : Id) → how_many id (waiting (ack_noted debt name ack clients))
+      (id : Id) → how_many id (waiting (ack_kept debt name ack clients))
       ≤ how_many id (waiting clients)
   noted_fewer (Ack invite number) name None clients id = at_most_same clients id
   noted_fewer (Ack invite number) name (Some ack) clients id =
@@ -609,14 +609,14 @@ module _ (event : Event) where
       quiet_fits side.clients (refused event.id command.call_id refusal) refl
   ack_by command side (Ok debt) =
       let name = name_in command.local_tag command.remote_tag in
-      let told = ack_told event name debt command side.dialogs in
-      silent_fits (Some event.id) side.clients told.1 (ack_noted debt name told.2 side.clients)
+      let told = ack_asked event name debt command side.dialogs in
+      silent_fits (Some event.id) side.clients told.1 (ack_kept debt name told.2 side.clients)
       (ack_said_none event command.call_id
       (paid_at name event debt command.body side.dialogs).1)
       (noted_fewer debt name told.2 side.clients)
 
   pub ack_fits : (command : DialogBody) (side : Side)
-      → OnSide side (ack_taken event command side)
+      → OnSide side (ack_by_user event command side)
   ack_fits command side =
       ack_by command side (debt_for kind.Ack
       (name_in command.local_tag command.remote_tag) side.dialogs)
@@ -632,7 +632,7 @@ module _ (event : Event) where
       (paid_at name event debt command.body side.dialogs).1 side.clients
 
   pub prack_fits : (command : DialogBody) (side : Side)
-      → OnSide side (prack_taken event command side)
+      → OnSide side (prack_by_user event command side)
   prack_fits command side =
       prack_by command side (debt_for kind.Prack
       (name_in command.local_tag command.remote_tag) side.dialogs)
@@ -678,5 +678,5 @@ module _ (event : Event) where
   cancel_found (Some invite) command clients = cancel_by (cancel_case invite) command invite clients
 
   pub cancel_fits : (command : Cancel) (side : Side)
-      → OnSide side (cancel_taken event command side)
+      → OnSide side (cancel_by_user event command side)
   cancel_fits command side = cancel_found (client_at command.id side.clients) command side.clients

@@ -24,9 +24,9 @@ use Rattle.sip_clients.specs.Answers.{has_answer}
 use Rattle.sip_clients.specs.Client.{Clients}
 use Rattle.sip_clients.specs.Clients.{reply_name, settled}
 use Rattle.sip_clients.specs.Outputs.{start_command}
-use Rattle.sip_clients.specs.Replied.{Replied, after_dialog, by_case, ends_dialog, finished, prack_owed, reply_taken, told_of_prack}
+use Rattle.sip_clients.specs.Replied.{Replied, after_dialog, by_reply_case, ends_dialog, request_over, prack_owed, reply_taken, told_of_prack}
 use Rattle.sip_clients.specs.Reply.{is_last, offer_case, reliable_case, reply_case, rseq_of, success_case}
-use Rattle.sip_clients.specs.Dialogs.{opened}
+use Rattle.sip_clients.specs.Dialogs.{dialog_for_provisional}
 use Rattle.sip_clients.specs.Provisionals.{in_life, is_response, provisional_number, told_of}
 use Rattle.sip_clients.proofs.ClientDialogs.{Answered, IsNamedSo, case_begun, case_life, case_moves, ended_leads, first_name, heard_number, may_make, reply_names, start, unnamed_unheard}
 use Rattle.sip_common.proofs.Entries as entries
@@ -101,7 +101,7 @@ module _ (event : Option Id) (life : DialogLife) (client : Client) (answer : Ans
 
   -- a response that isn't the last
   abbrev pub taken_as : ReplyCase → Client → Replied
-  taken_as case client = after_dialog answer.name dialogs (by_case case client found answer)
+  taken_as case client = after_dialog answer.name dialogs (by_reply_case case client found answer)
 
   abbrev Named : ReplyCase → Client → Type 0
   Named case client = may_make case ≡ true → IsNamedSo client answer found
@@ -125,10 +125,10 @@ module _ (event : Option Id) (life : DialogLife) (client : Client) (answer : Ans
   )
 
   over : (client : Client) (clients : Clients)
-      → Result client None (finished client dialogs answer) clients
+      → Result client None (request_over client dialogs answer) clients
   over client clients =
       let leads = ended_leads client (ends_dialog answer.status) dialogs apart in
-      goes_unheard client (finished client dialogs answer) clients leads.apart nothing []
+      goes_unheard client (request_over client dialogs answer) clients leads.apart nothing []
       (inl (leads.stays life.name))
 
   -- what happens by a case in the dialog of the life, where it is held and where it is made
@@ -172,7 +172,7 @@ module _ (event : Option Id) (life : DialogLife) (client : Client) (answer : Ans
         taken_so event life number Opens lived begun before (dialog_at life.name done.1)
             (lives done.1 life) (given answer done clients) refl here is
             (told_once number answer answer.id
-            (prack_owed number (first client) (opened (first client) answer found) answer).1
+            (prack_owed number (first client) (dialog_for_provisional (first client) answer found) answer).1
             clients),
       )
   by_offer number Repeat clients own named is = (
@@ -229,7 +229,7 @@ module _ (event : Option Id) (life : DialogLife) (client : Client) (answer : Ans
   by_last : (final success named : Bool) (clients : Clients) → IsNamedSo (first client) answer found
       → is_named life.name answer.name ≡ named
       → Result (first client) (if named then number_by final inside rseq else None)
-      (cond {A = Replied} (final && not success) (finished (first client) dialogs answer)
+      (cond {A = Replied} (final && not success) (request_over (first client) dialogs answer)
       (taken_as (case_of final) (first client))) clients
   by_last true false true clients own named = over (first client) clients
   by_last true false false clients own named = over (first client) clients
@@ -253,7 +253,7 @@ module _ (event : Option Id) (life : DialogLife) (client : Client) (answer : Ans
   other_replied client clients own none =
       let case = reply_case client found answer in
       elim (is_last client.kind answer.status) as (λ last.
-      Result client None (cond {A = Replied} last (finished client dialogs answer)
+      Result client None (cond {A = Replied} last (request_over client dialogs answer)
       (taken_as case client)) clients) [
         | true ↦ over client clients
         | false ↦ unheard case client clients (reply_names client answer found own)

@@ -26,11 +26,11 @@ use Rattle.sip_clients.specs.declared.event.Event.{Event}
 use Rattle.sip_clients.specs.declared.reply.Reply.{Reply as Answer}
 use Rattle.sip_clients.specs.declared.reply.ReplyCase.{ReplyCase}
 use Rattle.sip_clients.specs.declared.reply.ReplyCase.TheVariants as reply
-use Rattle.sip_clients.specs.Cancel.{cancel_command, cancellation, freed_by, noted}
-use Rattle.sip_clients.specs.Client.{Clients, Side, Taken as ClientTaken, client_at}
-use Rattle.sip_clients.specs.Clients.{ack_paid, ack_taken, found_taken, lost_of, paid_or_refused, prack_paid, prack_taken, reply_name, reply_of, reply_settled, request_taken, settled, side_after, response_taken, status_of}
+use Rattle.sip_clients.specs.Cancel.{cancel_command, cancellation, freed_by, after_response}
+use Rattle.sip_clients.specs.Client.{Clients, Side, ClientTaken, client_at}
+use Rattle.sip_clients.specs.Clients.{ack_paid, ack_by_user, found_taken, lost_of, paid_or_refused, prack_paid, prack_by_user, reply_name, reply_of, reply_settled, request_by_user, settled, side_after, response_taken, status_of}
 use Rattle.sip_clients.specs.declared.debts.DebtKind.TheVariants as kind
-use Rattle.sip_clients.specs.Commands.{bye_ended, debt_for, name_in, request_in, requested_at}
+use Rattle.sip_clients.specs.Commands.{bye_ended, debt_for, name_in, request_in_held, requested_at}
 use Rattle.sip_clients.specs.Debts.{paid}
 use Rattle.sip_clients.specs.Dialogs.{paid_at}
 use Rattle.sip_clients.specs.Replied.{Replied, reply_taken}
@@ -105,7 +105,7 @@ module _ (life : DialogLife) where
         then provisional_number status response else None
 
     abbrev noting : ℕ → Client → Client
-    noting status client = noted (is_final status) client
+    noting status client = after_response (is_final status) client
 
     -- the requests when the response to this one has come
     abbrev replied : ℕ → Client → Clients
@@ -192,14 +192,14 @@ requested_in command = in_one (name_in command.local_tag command.remote_tag)
 
 pub request_leads : (event : Event) (command : DialogRequest) (side : Side)
     → AreApart side.dialogs
-    → Leads (requested_in command) side.dialogs ((request_taken event command side).0).dialogs
+    → Leads (requested_in command) side.dialogs ((request_by_user event command side).0).dialogs
 unfolding requested_at
 request_leads event command side apart =
     let name = name_in command.local_tag command.remote_tag in
     let done = requested_at name event command side.dialogs in
     leads_then (requested_in command) side.dialogs done.0
     (bye_ended name command.method done.1 done.0).0
-    (served_leads name (request_in event command.method command.body) (Refused NoSuchDialog)
+    (served_leads name (request_in_held event command.method command.body) (Refused NoSuchDialog)
     (λ held. request_life command.method held.dialog)
     (request_keeps event command.method command.body) side.dialogs apart)
     (bye_leads name command.method done.1 done.0)
@@ -229,7 +229,7 @@ by_ack event command side (Ok debt) apart = pay_leads event command debt side.di
 pub ack_leads : (event : Event) (command : DialogBody) (side : Side) → AreApart side.dialogs
     → Leads (paid_in command (debt_for kind.Ack
     (name_in command.local_tag command.remote_tag) side.dialogs)) side.dialogs
-    ((ack_taken event command side).0).dialogs
+    ((ack_by_user event command side).0).dialogs
 ack_leads event command side apart =
     by_ack event command side (debt_for kind.Ack
     (name_in command.local_tag command.remote_tag) side.dialogs) apart
@@ -245,7 +245,7 @@ by_prack event command side (Ok debt) apart = pay_leads event command debt side.
 pub prack_leads : (event : Event) (command : DialogBody) (side : Side) → AreApart side.dialogs
     → Leads (paid_in command (debt_for kind.Prack
     (name_in command.local_tag command.remote_tag) side.dialogs)) side.dialogs
-    ((prack_taken event command side).0).dialogs
+    ((prack_by_user event command side).0).dialogs
 prack_leads event command side apart =
     by_prack event command side (debt_for kind.Prack
     (name_in command.local_tag command.remote_tag) side.dialogs) apart

@@ -39,17 +39,17 @@ use Rattle.sip_clients.specs.declared.reply.ReplyCase.TheVariants as reply
 use Rattle.sip_clients.specs.declared.service.Service.{Service}
 use Rattle.sip_clients.specs.declared.service.Service.TheVariants.{Sent, Waits, Refused}
 use Rattle.sip_clients.specs.Answers.{ack_of}
-use Rattle.sip_clients.specs.Cancel.{asked, cancel_case, cancel_command, cancel_taken, cancellation, cancelled_as, cancelled_of, freed_by, noted, sent_beside}
-use Rattle.sip_clients.specs.Client.{Clients, Side, Taken, client_at, client_changed, client_for}
-use Rattle.sip_clients.specs.Clients.{ack_paid, ack_taken, found_taken, invite_taken, lost, lost_of, paid_or_refused, plain_taken, prack_paid, prack_taken, reply_name, reply_of, reply_settled, request_taken, response_taken, settled, started, status_of}
+use Rattle.sip_clients.specs.Cancel.{asked, cancel_case, cancel_command, cancel_by_user, cancellation, cancelled_as, cancelled_of, freed_by, after_response, sent_beside}
+use Rattle.sip_clients.specs.Client.{Clients, Side, ClientTaken, client_at, client_changed, client_for}
+use Rattle.sip_clients.specs.Clients.{ack_paid, ack_by_user, found_taken, invite_taken, request_lost, lost_of, paid_or_refused, plain_taken, prack_paid, prack_by_user, reply_name, reply_of, reply_settled, request_by_user, response_taken, settled, started, status_of}
 use Rattle.sip_clients.specs.Commands.{bye_ended, debt_for, is_bad_outside, name_in, requested_at}
-use Rattle.sip_clients.specs.Dialogs.{accepted, ended_with, opened, own_ended, paid_at}
+use Rattle.sip_clients.specs.Dialogs.{accepted, ended_with, dialog_for_provisional, own_ended, paid_at}
 use Rattle.sip_common.specs.Notices.{refused}
 use Rattle.sip_clients.specs.Outputs.{ack_said, direct, request_said, start_command}
 use Rattle.sip_clients.specs.Outside.{plain_of}
-use Rattle.sip_clients.specs.Replied.{Replied, ack_owed, after_dialog, by_case, ends_dialog, finished, prack_owed, replied_in, reply_taken}
+use Rattle.sip_clients.specs.Replied.{Replied, ack_owed, after_dialog, by_reply_case, ends_dialog, request_over, prack_owed, replied_in, reply_taken}
 use Rattle.sip_clients.specs.Reply.{is_last, reply_case}
-use Rattle.sip_clients.specs.Tick.{is_over, notices_of, tick_taken}
+use Rattle.sip_clients.specs.Tick.{is_over, early_ends_told, clients_ticked}
 
 -- ---- what ends
 
@@ -116,7 +116,7 @@ again_asks None = refl
 again_asks (Some ack) = refl
 
 case_asks : (case : ReplyCase) (client : Client) (found : Option HeldDialog) (answer : Answer)
-    → shown (by_case case client found answer).2 ≡ []
+    → shown (by_reply_case case client found answer).2 ≡ []
 case_asks reply.Repeated client found answer = again_asks (ack_of answer.name client.answers)
 case_asks reply.Accepted client found answer =
     ack_asks answer.event answer.call_id
@@ -124,13 +124,13 @@ case_asks reply.Accepted client found answer =
 case_asks reply.Late client found answer = refl
 case_asks (reply.Reliable rseq) client found answer =
     said_asks answer.event answer.call_id answer.name
-    (prack_owed rseq client (opened client answer found) answer).1
+    (prack_owed rseq client (dialog_for_provisional client answer found) answer).1
 case_asks reply.Passed client found answer = refl
 case_asks reply.Early client found answer = refl
 case_asks reply.Told client found answer = refl
 
 reply_asks : (client : Client) (dialogs : Dialogs) (answer : Answer) (last : Bool)
-    → shown (cond {A = Replied} last (finished client dialogs answer)
+    → shown (cond {A = Replied} last (request_over client dialogs answer)
     (after_dialog answer.name dialogs
     (replied_in client (dialog_at answer.name dialogs) answer))).2 ≡ []
 reply_asks client dialogs answer true = ended_asks client (ends_dialog answer.status) dialogs
@@ -142,12 +142,12 @@ replied_asks : (answer : Answer) (client : Client) (side : Side)
     → shown (reply_settled answer client side).1 ≡ []
 replied_asks answer client side =
     let final = is_final answer.status in
-    let done = reply_taken (noted final client) side.dialogs answer in
+    let done = reply_taken (after_response final client) side.dialogs answer in
     let after = settled answer.event answer.id done.3
     (set_value (is_id answer.id) side.clients done.0) in
     beside_asks (freed_by final client.cancel) client (after.0, done.2 ++ after.1)
     (none_of_both done.2 after.1
-    (reply_asks (noted final client) side.dialogs answer
+    (reply_asks (after_response final client) side.dialogs answer
     (is_last client.kind answer.status))
     (settled_asks answer.event answer.id done.3
     (set_value (is_id answer.id) side.clients done.0)))
@@ -175,7 +175,7 @@ lost_one_asks id timed_out None side = refl
 lost_one_asks id timed_out (Some client) side = ended_asks client timed_out side.dialogs
 
 pub lost_asks : (id : Id) (timed_out : Bool) (side : Side)
-    → shown (lost id timed_out side).1 ≡ []
+    → shown (request_lost id timed_out side).1 ≡ []
 lost_asks id timed_out side = lost_one_asks id timed_out (client_at id side.clients) side
 
 over_asks : (now : ℕ) (dialogs : Dialogs) (client : Client) (b : Bool)
@@ -184,13 +184,13 @@ over_asks now dialogs client true = early_shown client.id dialogs
 over_asks now dialogs client false = refl
 
 all_over_ask : (now : ℕ) (dialogs : Dialogs) (clients : List Client)
-    → shown (flat_map (notices_of now dialogs) clients) ≡ []
+    → shown (flat_map (early_ends_told now dialogs) clients) ≡ []
 all_over_ask now dialogs [] = refl
 all_over_ask now dialogs (client ∷ clients) =
-    none_of_both (notices_of now dialogs client) (flat_map (notices_of now dialogs) clients)
+    none_of_both (early_ends_told now dialogs client) (flat_map (early_ends_told now dialogs) clients)
     (over_asks now dialogs client (is_over now client)) (all_over_ask now dialogs clients)
 
-pub tick_asks : (side : Side) (now : ℕ) → shown (tick_taken side now).1 ≡ []
+pub tick_asks : (side : Side) (now : ℕ) → shown (clients_ticked side now).1 ≡ []
 tick_asks side now = all_over_ask now side.dialogs (values_of side.clients)
 
 -- ---- commands
@@ -214,7 +214,7 @@ pub plain_asks : (event : Event) (plain : PlainCommand) (clients : Clients)
 plain_asks event plain clients = plain_by (is_bad_outside plain.method) event plain clients
 
 pub request_asks : (event : Event) (command : DialogRequest) (side : Side)
-    → shown (request_taken event command side).1 ≡ []
+    → shown (request_by_user event command side).1 ≡ []
 request_asks event command side =
     let name = name_in command.local_tag command.remote_tag in
     let done = requested_at name event command side.dialogs in
@@ -240,21 +240,21 @@ prack_paid_asks event command name debt side =
     (said_asks event command.call_id name paid.1)
     (settled_asks event event.id said.1 side.clients)
 
-paid_asks : (event : Event) (command : DialogBody) (pay : Debt → Side → Taken)
+paid_asks : (event : Event) (command : DialogBody) (pay : Debt → Side → ClientTaken)
     → ((debt : Debt) (side : Side) → shown (pay debt side).1 ≡ []) → (o : Result Debt Refusal)
     → (side : Side) → shown (paid_or_refused event command pay o side).1 ≡ []
 paid_asks event command pay pays (Err refusal) side = refl
 paid_asks event command pay pays (Ok debt) side = pays debt side
 
 pub ack_command_asks : (event : Event) (command : DialogBody) (side : Side)
-    → shown (ack_taken event command side).1 ≡ []
+    → shown (ack_by_user event command side).1 ≡ []
 ack_command_asks event command side =
     let name = name_in command.local_tag command.remote_tag in
     paid_asks event command (ack_paid event command name) (ack_paid_asks event command name)
     (debt_for kind.Ack name side.dialogs) side
 
 pub prack_command_asks : (event : Event) (command : DialogBody) (side : Side)
-    → shown (prack_taken event command side).1 ≡ []
+    → shown (prack_by_user event command side).1 ≡ []
 prack_command_asks event command side =
     let name = name_in command.local_tag command.remote_tag in
     paid_asks event command (prack_paid event command name) (prack_paid_asks event command name)
@@ -276,6 +276,6 @@ cancel_found (Some invite) event command clients =
     cancel_by (cancel_case invite) event command invite clients
 
 pub cancel_asks : (event : Event) (command : Cancel) (side : Side)
-    → shown (cancel_taken event command side).1 ≡ []
+    → shown (cancel_by_user event command side).1 ≡ []
 cancel_asks event command side =
     cancel_found (client_at command.id side.clients) event command side.clients

@@ -50,17 +50,17 @@ use Rattle.sip_clients.specs.declared.service.Sending.{Sending}
 use Rattle.sip_clients.specs.declared.service.Service.{Service}
 use Rattle.sip_clients.specs.declared.service.Service.TheVariants.{Sent, Waits, Refused}
 use Rattle.sip_clients.specs.Answers.{ack_of, has_answer}
-use Rattle.sip_clients.specs.Cancel.{cancel_command, cancellation, freed_by, noted, sent_beside}
-use Rattle.sip_clients.specs.Client.{Clients, Side, Taken as ClientTaken, client_at}
-use Rattle.sip_clients.specs.Clients.{ack_paid, ack_taken, found_taken, lost_of, paid_or_refused, prack_paid, prack_taken, reply_name, reply_of, reply_settled, request_taken, response_taken, settled, status_of}
-use Rattle.sip_clients.specs.Commands.{bye_ended, debt_or_refusal, name_in, oldest_debt, request_in, request_refusals, requested_at, sent_unless}
-use Rattle.sip_clients.specs.Debts.{dropped_if_sent, is_of, is_same, kept_unless_sent, owed, paid}
-use Rattle.sip_clients.specs.Dialogs.{accepted, accepted_in, ended_with, made_dialog, opened, own_ended, paid_at}
+use Rattle.sip_clients.specs.Cancel.{cancel_command, cancellation, freed_by, after_response, sent_beside}
+use Rattle.sip_clients.specs.Client.{Clients, Side, ClientTaken, client_at}
+use Rattle.sip_clients.specs.Clients.{ack_paid, ack_by_user, found_taken, lost_of, paid_or_refused, prack_paid, prack_by_user, reply_name, reply_of, reply_settled, request_by_user, response_taken, settled, status_of}
+use Rattle.sip_clients.specs.Commands.{bye_ended, debt_or_refusal, name_in, oldest_debt, request_in_held, request_refusals, requested_at, sent_unless}
+use Rattle.sip_clients.specs.Debts.{dropped_if_sent, is_of, is_debt, kept_unless_sent, owed, paid}
+use Rattle.sip_clients.specs.Dialogs.{accepted, accepted_in, ended_with, dialog_by_response, dialog_for_provisional, own_ended, paid_at}
 use Rattle.sip_clients.specs.Outputs.{ack_said, direct, request_said, start_command}
 use Rattle.sip_clients.specs.Owing.{asked_for, command_pays, debt_kind, goes_out, is_direct, is_of_prack, oldest_paid, owed_if_told, reply_owes, response_owes}
 use Rattle.sip_clients.specs.Provisionals.{is_response}
-use Rattle.sip_clients.specs.Replied.{Replied, ack_owed, after_dialog, by_case, ends_dialog, finished, heard_first, offer_to, prack_owed, reply_taken, with_dialog}
-use Rattle.sip_clients.specs.Reply.{heard_of, is_inviting, is_last, is_of_dialog, is_there, offer_case, reliable_case, reply_case, rseq_of}
+use Rattle.sip_clients.specs.Replied.{Replied, ack_owed, after_dialog, by_reply_case, ends_dialog, request_over, heard_first, offer_to, prack_owed, reply_taken, dialogs_with}
+use Rattle.sip_clients.specs.Reply.{heard_of, is_inviting, is_last, is_dialog_response, is_there, offer_case, reliable_case, reply_case, rseq_of}
 use Rattle.sip_clients.specs.Service.{discharged, sending_in, service_by}
 use Rattle.sip_clients.proofs.ClientDialogs.{IsNamedSo, may_make, reply_names, request_keeps, served_leads}
 use Rattle.sip_clients.proofs.ClientLives.{AreNamed, after_silent, change_cseqs, heard_dialog, not_last, said_change, settled_cseqs, success_final}
@@ -107,8 +107,8 @@ lost_owes id timed_out (Some client) side apart = ended_same client timed_out si
 -- ---- a request in a dialog
 
 request_kept : (event : Event) (method body : List ℕ) (held : HeldDialog)
-    → OwesStill unchanged (Some held) (Some (request_in event method body held).0)
-unfolding request_in
+    → OwesStill unchanged (Some held) (Some (request_in_held event method body held).0)
+unfolding request_in_held
 request_kept event method body held =
     unless (first_refusal (request_refusals held.dialog method) None)
   where
@@ -118,11 +118,11 @@ request_kept event method body held =
     unless (Some refusal) = (refl, refl)
 
 pub request_owes : (event : Event) (command : DialogRequest) (side : Side) → AreApart side.dialogs
-    → OweSame side.dialogs ((request_taken event command side).0).dialogs
+    → OweSame side.dialogs ((request_by_user event command side).0).dialogs
 unfolding requested_at
 request_owes event command side apart =
     let name = name_in command.local_tag command.remote_tag in
-    let serve = request_in event command.method command.body in
+    let serve = request_in_held event command.method command.body in
     let done = requested_at name event command side.dialogs in
     let leads = served_leads name serve (Refused NoSuchDialog)
     (λ held. request_life command.method held.dialog)
@@ -161,7 +161,7 @@ kept_adds debt Waits held = (refl, refl)
 kept_adds debt (Refused refusal) held = (refl, refl)
 
 abbrev all_but : Debt → List Debt → List Debt
-all_but debt debts = filter (λ other. not (is_same debt other)) debts
+all_but debt debts = filter (λ other. not (is_debt debt other)) debts
 
 drops : (debt : Debt) (service : Service) (held : HeldDialog)
     → OwesStill (λ debts. if goes service then all_but debt debts else debts) (Some held)
@@ -341,8 +341,8 @@ module _ (event : Event) (command : DialogBody) (side : Side) where
           (λ name same. ack_goes event command.call_id service
           ∙ ap goes (served_as debt held at))
 
-  pub ack_pays : Pays kind.Ack (ack_taken event command side).1
-      ((ack_taken event command side).0).dialogs
+  pub ack_pays : Pays kind.Ack (ack_by_user event command side).1
+      ((ack_by_user event command side).0).dialogs
   ack_pays = by_ack (dialog_at asked_name side.dialogs) refl
 
   module _ (named : AreNamed side.dialogs) where
@@ -385,8 +385,8 @@ module _ (event : Event) (command : DialogBody) (side : Side) where
             (said.0 ++ (settled event event.id said.1 side.clients).1) at is
             (prack_out debt held at (found_kind (is_of kind.Prack) held.owed debt is))
 
-    pub prack_pays_off : Pays kind.Prack (prack_taken event command side).1
-        ((prack_taken event command side).0).dialogs
+    pub prack_pays_off : Pays kind.Prack (prack_by_user event command side).1
+        ((prack_by_user event command side).0).dialogs
     prack_pays_off = by_prack (dialog_at asked_name side.dialogs) refl
 
 -- ---- a response: what is given
@@ -443,7 +443,7 @@ again_untold None = refl
 again_untold (Some ack) = refl
 
 case_told : (case : ReplyCase) (client : Client) (found : Option HeldDialog) (answer : Answer)
-    → list_any is_response (by_case case client found answer).2 ≡ told_as case
+    → list_any is_response (by_reply_case case client found answer).2 ≡ told_as case
 case_told reply.Repeated client found answer = again_untold (ack_of answer.name client.answers)
 case_told reply.Accepted client found answer = refl
 case_told reply.Late client found answer = refl
@@ -550,7 +550,7 @@ module _ (event : Event) (id : Id) (call_id : List ℕ) (response : Message) (st
 
     -- the request when the response has come
     abbrev client : Client
-    client = noted (is_final status) asker
+    client = after_response (is_final status) asker
 
     abbrev answer : Answer
     answer = reply_of event id call_id own status response
@@ -574,7 +574,7 @@ module _ (event : Event) (id : Id) (call_id : List ℕ) (response : Message) (st
     acked_so o = ack_owed client (accepted client answer o) answer
 
     abbrev pracked_so : ℕ → Option HeldDialog → HeldDialog × Service
-    pracked_so rseq o = prack_owed rseq client (opened client answer o) answer
+    pracked_so rseq o = prack_owed rseq client (dialog_for_provisional client answer o) answer
 
     -- what is left owed in each case
     abbrev case_left : ReplyCase → List Debt
@@ -591,7 +591,7 @@ module _ (event : Event) (id : Id) (call_id : List ℕ) (response : Message) (st
         (Some (acked_so o).0)
     unfolding ack_owed
     ack_here None =
-        let made = made_dialog client answer in
+        let made = dialog_by_response client answer in
         let adds = owed_adds event ack_debt (offer_to client response) made in
         inr (ap (λ id. Some id) (sym adds.0), adds.1)
     ack_here (Some held) =
@@ -607,7 +607,7 @@ module _ (event : Event) (id : Id) (call_id : List ℕ) (response : Message) (st
         (Some (pracked_so rseq o).0)
     unfolding prack_owed
     prack_here rseq None =
-        let made = made_dialog client answer in
+        let made = dialog_by_response client answer in
         let heard = heard_first client.kind rseq made in
         let adds = owed_adds event (prack_debt rseq) (offer_to client response) heard in
         let kept = heard_kept client.kind rseq made in
@@ -624,7 +624,7 @@ module _ (event : Event) (id : Id) (call_id : List ℕ) (response : Message) (st
         inl (adds.0 ∙ kept.0, adds.1 ∙ ap (λ debts. debts ++ left) kept.1)
 
     abbrev early_here : (o : Option HeldDialog)
-        → Owes (Some event.id) (λ debts. debts ++ []) o (Some (opened client answer o))
+        → Owes (Some event.id) (λ debts. debts ++ []) o (Some (dialog_for_provisional client answer o))
     early_here None = inr (refl, refl)
     early_here (Some held) = inl (refl, sym (append-nil held.owed))
 
@@ -663,7 +663,7 @@ module _ (event : Event) (id : Id) (call_id : List ℕ) (response : Message) (st
 
     case_leaves : (case : ReplyCase) (name : DialogName)
         → LeavesIn (case_left case)
-        (with_dialog own (by_case case client found answer).1 dialogs) name
+        (dialogs_with own (by_reply_case case client found answer).1 dialogs) name
     case_leaves reply.Repeated name = nothing_left name
     case_leaves reply.Accepted name =
         put_leaves (case_left reply.Accepted) (acked_so found).0 (ack_here found) name
@@ -673,7 +673,7 @@ module _ (event : Event) (id : Id) (call_id : List ℕ) (response : Message) (st
         (prack_here rseq found) name
     case_leaves reply.Passed name = nothing_left name
     case_leaves reply.Early name =
-        put_leaves [] (opened client answer found) (early_here found) name
+        put_leaves [] (dialog_for_provisional client answer found) (early_here found) name
     case_leaves reply.Told name = nothing_left name
 
     -- ---- by what is given
@@ -687,10 +687,10 @@ module _ (event : Event) (id : Id) (call_id : List ℕ) (response : Message) (st
 
     opened_named : (rseq : ℕ) (o : Option HeldDialog) → found ≡ o → IsNamedSo client answer found
         → is_named own
-        (name_of_dialog (heard_first client.kind rseq (opened client answer o)).dialog) ≡ true
+        (name_of_dialog (heard_first client.kind rseq (dialog_for_provisional client answer o)).dialog) ≡ true
     opened_named rseq None is so =
         ap (λ dialog. is_named own (name_of_dialog dialog))
-        (heard_dialog client.kind rseq (made_dialog client answer)) ∙ so is
+        (heard_dialog client.kind rseq (dialog_by_response client answer)) ∙ so is
     opened_named rseq (Some held) is so =
         ap (λ dialog. is_named own (name_of_dialog dialog))
         (heard_dialog client.kind rseq held) ∙ named own held is
@@ -702,13 +702,13 @@ module _ (event : Event) (id : Id) (call_id : List ℕ) (response : Message) (st
         ≡ goes (pracked_so rseq found).1
     unfolding prack_owed
     prack_given rseq name so same =
-        let heard = heard_first client.kind rseq (opened client answer found) in
+        let heard = heard_first client.kind rseq (dialog_for_provisional client answer found) in
         ap (list_any is_of_prack) (said_change name event call_id own (pracked_so rseq found).1)
         ∙ prack_owes name own event heard (opened_named rseq found refl so) same rseq
         invite_number (offer_to client response)
 
     case_given : (case : ReplyCase) → Named case → (name : DialogName) → is_named own name ≡ true
-        → let done = by_case case client found answer in
+        → let done = by_reply_case case client found answer in
         case_owes (given name done.2 done.3) ack_debt prack_debt case ≡ case_left case
     case_given reply.Repeated so name same = refl
     case_given reply.Accepted so name same =
@@ -735,10 +735,10 @@ module _ (event : Event) (id : Id) (call_id : List ℕ) (response : Message) (st
     name_kept Plain = refl
 
     abbrev done_now : Replied
-    done_now = after_dialog own dialogs (by_case case_now client found answer)
+    done_now = after_dialog own dialogs (by_reply_case case_now client found answer)
 
     case_now_leaves : is_last asker.kind status ≡ false → (name : DialogName)
-        → leaves name (after_dialog own dialogs (by_case case_now client found answer))
+        → leaves name (after_dialog own dialogs (by_reply_case case_now client found answer))
         ≡ cond (is_named own name) (case_left case_now) []
     case_now_leaves last name = by_name (is_named own name) refl
       where
@@ -754,7 +754,7 @@ module _ (event : Event) (id : Id) (call_id : List ℕ) (response : Message) (st
             (given name done_now.2 done_now.3) (asked_for status asker response) else [])
             ∙ asks_so (given name done_now.2 done_now.3) ack_debt prack_debt (is_final status)
             (is_success status) (has_answer own client.answers) (is_there client.kind found)
-            (is_of_dialog answer) (heard_of client.kind client found) (rseq_of response)
+            (is_dialog_response answer) (heard_of client.kind client found) (rseq_of response)
             (success_final status)
             (not_last (is_final status) (is_success status) (is_inviting client.kind) last)
             ∙ case_given case_now (reply_names client answer found (name_kept asker.kind)) name is
@@ -765,20 +765,20 @@ module _ (event : Event) (id : Id) (call_id : List ℕ) (response : Message) (st
         (dialog_at name done.1)
 
     by_last : (last : Bool) → is_last client.kind status ≡ last
-        → RepliedOwes (cond {A = Replied} last (finished client dialogs answer)
-        (after_dialog own dialogs (by_case case_now client found answer)))
+        → RepliedOwes (cond {A = Replied} last (request_over client dialogs answer)
+        (after_dialog own dialogs (by_reply_case case_now client found answer)))
     by_last true last name =
-        let done = finished client dialogs answer in
+        let done = request_over client dialogs answer in
         let before = dialog_at name dialogs in
         owes_as (Some event.id) unchanged (λ debts. debts ++ leaves name done) before
         (dialog_at name done.1)
         (λ debts. sym (ap (λ xs. debts ++ xs)
         (last_asks (given name done.2 done.3) ack_debt prack_debt asker.kind before
-        (is_named own name) (is_final status) (is_success status) (is_of_dialog answer)
+        (is_named own name) (is_final status) (is_success status) (is_dialog_response answer)
         (list_any is_response done.2) (rseq_of response) last) ∙ append-nil debts))
         (inl (ended_same client (ends_dialog status) dialogs apart name))
     by_last false last name =
-        let done = after_dialog own dialogs (by_case case_now client found answer) in
+        let done = after_dialog own dialogs (by_reply_case case_now client found answer) in
         owes_as (Some event.id) (λ debts. debts ++ cond (is_named own name) (case_left case_now) [])
         (λ debts. debts ++ leaves name done) (dialog_at name dialogs) (dialog_at name done.1)
         (λ debts. ap (λ xs. debts ++ xs) (sym (case_now_leaves last name)))
@@ -809,7 +809,7 @@ module _ (event : Event) (id : Id) (call_id : List ℕ) (response : Message) (si
 
   module _ (status : ℕ) (client : Client) where
     abbrev with_note : Client
-    with_note = noted (is_final status) client
+    with_note = after_response (is_final status) client
 
     abbrev answer_to : Answer
     answer_to = reply_of event id call_id (reply_name client.kind client response) status response

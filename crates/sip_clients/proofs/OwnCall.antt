@@ -40,18 +40,18 @@ use Rattle.sip_clients.specs.declared.reply.ReplyCase.TheVariants as reply
 use Rattle.sip_clients.specs.declared.service.Service.{Service}
 use Rattle.sip_clients.specs.declared.service.Service.TheVariants.{Sent, Waits, Refused}
 use Rattle.sip_clients.specs.Answers.{ack_of}
-use Rattle.sip_clients.specs.Cancel.{asked, cancel_case, cancel_client, cancel_command, cancel_taken, cancellation, cancelled_as, cancelled_of, freed_by, noted, sent_beside}
-use Rattle.sip_clients.specs.Client.{Clients, Side, Taken as ClientTaken, client_at, client_changed, client_for}
-use Rattle.sip_clients.specs.Clients.{ack_noted, ack_paid, ack_taken, acked_with, found_taken, invite_taken, lost, lost_of, paid_or_refused, plain_taken, prack_paid, prack_taken, reply_name, reply_of, reply_settled, request_taken, response_taken, settled, started, status_of}
-use Rattle.sip_clients.specs.Commands.{ack_told, bye_ended, debt_for, is_bad_outside, name_in, requested_at}
-use Rattle.sip_clients.specs.Dialogs.{accepted, opened, paid_at}
+use Rattle.sip_clients.specs.Cancel.{asked, cancel_case, cancel_client, cancel_command, cancel_by_user, cancellation, cancelled_as, cancelled_of, freed_by, after_response, sent_beside}
+use Rattle.sip_clients.specs.Client.{Clients, Side, ClientTaken, client_at, client_changed, client_for}
+use Rattle.sip_clients.specs.Clients.{ack_kept, ack_paid, ack_by_user, acked_with, found_taken, invite_taken, request_lost, lost_of, paid_or_refused, plain_taken, prack_paid, prack_by_user, reply_name, reply_of, reply_settled, request_by_user, response_taken, settled, started, status_of}
+use Rattle.sip_clients.specs.Commands.{ack_asked, bye_ended, debt_for, is_bad_outside, name_in, requested_at}
+use Rattle.sip_clients.specs.Dialogs.{accepted, dialog_for_provisional, paid_at}
 use Rattle.sip_common.specs.Notices.{refused}
 use Rattle.sip_clients.specs.Outputs.{ack_said, direct, request_said, start_command}
 use Rattle.sip_clients.specs.Outside.{bare_invite, bare_plain, bare_request, invite_of, plain_of, supporting}
 use Rattle.sip_clients.specs.OwnCall.{AreClientsOf, AreDialogsOf, AreNoticesOf, IsDialogOf, IsNoticeOf, IsRequestOf, IsSideOf, KeepsTo, on_side}
-use Rattle.sip_clients.specs.Replied.{InDialog, Replied, ack_owed, after_dialog, by_case, ends_dialog, finished, heard_again, heard_first, offer_to, prack_owed, replied_in, reply_taken, with_dialog}
+use Rattle.sip_clients.specs.Replied.{InDialog, Replied, ack_owed, after_dialog, by_reply_case, ends_dialog, request_over, heard_again, heard_first, offer_to, prack_owed, replied_in, reply_taken, dialogs_with}
 use Rattle.sip_clients.specs.Reply.{is_last, reply_case}
-use Rattle.sip_clients.specs.Tick.{ends_at, is_over, notices_of, tick_taken}
+use Rattle.sip_clients.specs.Tick.{ends_early_at, is_over, early_ends_told, clients_ticked}
 use Rattle.sip_common.proofs.Each.{all_of_each, both, each_but_one, each_changed, each_inserted, each_left, each_set, found_one}
 use Rattle.sip_common.proofs.OwnDialogs.{dialog_own, early_own}
 use Rattle.sip_clients.proofs.OwnDialogs.{IsOutcomeOf, IsServiceOf, accepted_own, body_kept, bye_own, ended_with_own, heard_own, opened_own, owed_own, paid_own, requested_at_own}
@@ -165,7 +165,7 @@ module _ (call_id : List ℕ) where
 
   case_own : (case : ReplyCase) (client : Client) (found : Option HeldDialog) (answer : Answer)
       → answer.call_id ≡ call_id → IsRequestOf call_id client
-      → IfSome found (IsDialogOf call_id) → IsInDialogOf (by_case case client found answer)
+      → IfSome found (IsDialogOf call_id) → IsInDialogOf (by_reply_case case client found answer)
   case_own reply.Repeated client found answer is its own = record {
     client = its;
     dialog = tt;
@@ -185,7 +185,7 @@ module _ (call_id : List ℕ) where
   case_own reply.Late client found answer is its own =
       record { client = its; dialog = tt; told = (is, tt); change = tt }
   case_own (reply.Reliable rseq) client found answer is its own =
-      let held = opened client answer found in
+      let held = dialog_for_provisional client answer found in
       let holds = opened_own call_id client answer found its own in
       let owed = prack_owed_own rseq client held answer holds in
       let said = request_said_own answer.event answer.call_id is answer.name
@@ -209,7 +209,7 @@ module _ (call_id : List ℕ) where
 
   with_dialog_own : (name : DialogName) (o : Option HeldDialog) (dialogs : Dialogs)
       → IfSome o (IsDialogOf call_id) → AreDialogsOf call_id dialogs
-      → AreDialogsOf call_id (with_dialog name o dialogs)
+      → AreDialogsOf call_id (dialogs_with name o dialogs)
   with_dialog_own name None dialogs its own = own
   with_dialog_own name (Some held) dialogs its own =
       each_inserted (IsDialogOf call_id) is_named name held its dialogs own
@@ -223,7 +223,7 @@ module _ (call_id : List ℕ) where
       found = dialog_at answer.name dialogs
 
       by_last : (last : Bool)
-          → IsRepliedOf (cond {A = Replied} last (finished client dialogs answer)
+          → IsRepliedOf (cond {A = Replied} last (request_over client dialogs answer)
           (after_dialog answer.name dialogs (replied_in client found answer)))
       by_last true =
           let ended = ended_with_own call_id client (ends_dialog answer.status) dialogs own in
@@ -244,8 +244,8 @@ module _ (call_id : List ℕ) where
       → IsTakenOf (reply_settled answer client side)
   replied_own answer client side is its own =
       let final = is_final answer.status in
-      let done = reply_taken (noted final client) side.dialogs answer in
-      let so = reply_own (noted final client) side.dialogs answer is its own.dialogs in
+      let done = reply_taken (after_response final client) side.dialogs answer in
+      let so = reply_own (after_response final client) side.dialogs answer is its own.dialogs in
       let put = set_value (is_id answer.id) side.clients done.0 in
       let after = settled answer.event answer.id done.3 put in
       let settles = settled_own answer.event answer.id done.3 put so.change
@@ -283,7 +283,7 @@ module _ (call_id : List ℕ) where
       (record { dialogs = ended.0; clients = left }, ended.1)
 
   over_own : (now : ℕ) (dialogs : Dialogs) → AreDialogsOf call_id dialogs → (client : Client)
-      → AreNoticesOf call_id (notices_of now dialogs client)
+      → AreNoticesOf call_id (early_ends_told now dialogs client)
   over_own now dialogs own client =
       elim (is_over now client) as (λ b. AreNoticesOf call_id
       (cond b (early_ended client.id dialogs).1 [])) [
@@ -299,18 +299,18 @@ response_own event id call_id response side own =
     found_own call_id event id response (status_of response.start) (client_at id side.clients)
     side (client_own call_id id side.clients own.clients) own
 
-pub lost_own : (call_id : List ℕ) (id : Id) (timed_out : Bool) → KeepsTo call_id (lost id timed_out)
+pub lost_own : (call_id : List ℕ) (id : Id) (timed_out : Bool) → KeepsTo call_id (request_lost id timed_out)
 lost_own call_id id timed_out side own =
     lost_one_own call_id id timed_out (client_at id side.clients) side own
 
-pub tick_own : (call_id : List ℕ) (now : ℕ) → KeepsTo call_id (λ side. tick_taken side now)
+pub tick_own : (call_id : List ℕ) (now : ℕ) → KeepsTo call_id (λ side. clients_ticked side now)
 tick_own call_id now side own =
     let left = each_left (IsDialogOf call_id)
-    (λ entry. not (ends_at now side.clients entry.1)) side.dialogs own.dialogs in
+    (λ entry. not (ends_early_at now side.clients entry.1)) side.dialogs own.dialogs in
     let kept = each_left (IsRequestOf call_id) (λ entry. not (is_over now entry.1))
     side.clients own.clients in (
       record { dialogs = left; clients = kept },
-      all_of_each (IsNoticeOf call_id) (notices_of now side.dialogs)
+      all_of_each (IsNoticeOf call_id) (early_ends_told now side.dialogs)
           (over_own call_id now side.dialogs own.dialogs) (values_of side.clients),
     )
 
@@ -362,7 +362,7 @@ plain_own event plain side own =
 -- ---- commands in a dialog
 
 pub dialog_request_own : (event : Event) (command : DialogRequest)
-    → KeepsTo command.call_id (request_taken event command)
+    → KeepsTo command.call_id (request_by_user event command)
 dialog_request_own event command side own =
     let call_id = command.call_id in
     let name = name_in command.local_tag command.remote_tag in
@@ -381,7 +381,7 @@ dialog_request_own event command side own =
 
 noted_own : (call_id : List ℕ) (debt : Debt) (name : DialogName) (ack : Option SentAck)
     (clients : Clients) → AreClientsOf call_id clients
-    → AreClientsOf call_id (ack_noted debt name ack clients)
+    → AreClientsOf call_id (ack_kept debt name ack clients)
 noted_own call_id (Ack invite number) name None clients own = own
 noted_own call_id (Ack invite number) name (Some ack) clients own =
     each_changed (IsRequestOf call_id) (is_id invite) (acked_with name ack)
@@ -392,11 +392,11 @@ ack_paid_own : (event : Event) (command : DialogBody) (name : DialogName) (debt 
     → KeepsTo command.call_id (ack_paid event command name debt)
 ack_paid_own event command name debt side own =
     let call_id = command.call_id in
-    let told = ack_told event name debt command side.dialogs in
+    let told = ack_asked event name debt command side.dialogs in
     let paid = paid_at name event debt command.body side.dialogs in
     let so = paid_own call_id name event debt command.body side.dialogs own.dialogs in
-    let noted = noted_own call_id debt name told.2 side.clients own.clients in (
-      record { dialogs = so.0; clients = noted },
+    let after_response = noted_own call_id debt name told.2 side.clients own.clients in (
+      record { dialogs = so.0; clients = after_response },
       ack_said_own call_id event call_id refl paid.1,
     )
 
@@ -421,14 +421,14 @@ paid_or_refused_own event command pay pays (Err refusal) side own = (own, (refl,
 paid_or_refused_own event command pay pays (Ok debt) side own = pays debt side own
 
 pub ack_own : (event : Event) (command : DialogBody)
-    → KeepsTo command.call_id (ack_taken event command)
+    → KeepsTo command.call_id (ack_by_user event command)
 ack_own event command side own =
     let name = name_in command.local_tag command.remote_tag in
     paid_or_refused_own event command (ack_paid event command name)
     (ack_paid_own event command name) (debt_for kind.Ack name side.dialogs) side own
 
 pub prack_own : (event : Event) (command : DialogBody)
-    → KeepsTo command.call_id (prack_taken event command)
+    → KeepsTo command.call_id (prack_by_user event command)
 prack_own event command side own =
     let name = name_in command.local_tag command.remote_tag in
     paid_or_refused_own event command (prack_paid event command name)
@@ -463,7 +463,7 @@ cancel_found (Some invite) event command clients its own =
     cancel_by (cancel_case invite) event command invite clients its own
 
 pub cancel_own : (event : Event) (command : Cancel)
-    → KeepsTo command.call_id (cancel_taken event command)
+    → KeepsTo command.call_id (cancel_by_user event command)
 cancel_own event command side own =
     let so = cancel_found (client_at command.id side.clients) event command side.clients
     (client_own command.call_id command.id side.clients own.clients) own.clients in

@@ -28,16 +28,16 @@ use Rattle.sip_clients.specs.declared.reply.Reply.{Reply as Answer}
 use Rattle.sip_clients.specs.declared.service.Sending.{Sending}
 use Rattle.sip_clients.specs.declared.service.Service.{Service}
 use Rattle.sip_clients.specs.declared.service.Service.TheVariants.{Sent, Waits, Refused}
-use Rattle.sip_clients.specs.Commands.{bye_ended, request_in, requested_at}
+use Rattle.sip_clients.specs.Commands.{bye_ended, request_in_held, requested_at}
 use Rattle.sip_clients.specs.Debts.{dropped_if_sent, kept_unless_sent, owed, paid}
-use Rattle.sip_clients.specs.Dialogs.{accepted, ended_with, opened, own_ended, paid_at, served_at}
+use Rattle.sip_clients.specs.Dialogs.{accepted, ended_with, dialog_for_provisional, own_ended, paid_at, served_at}
 use Rattle.sip_clients.specs.Happenings.{success_brings}
 use Rattle.sip_clients.proofs.ClientDialogs.{success_keeps}
 use Rattle.sip_clients.proofs.Served.{bad_request, good_request, is_bad, served_in}
 use Rattle.sip_clients.specs.Event.{branch_of}
 use Rattle.sip_clients.specs.OwnCall.{AreDialogsOf, IsDialogOf, IsNoticeOf, IsRequestOf}
 use Rattle.sip_clients.specs.Replied.{heard_first}
-use Rattle.sip_clients.specs.Service.{Outcome, acked, sends, requested, discharged, service_by}
+use Rattle.sip_clients.specs.Service.{Outcome, acked, happens_by_sending, requested, discharged, service_by}
 
 pub body_kept : (message : Message) (body : List ℕ)
     → (with_body_of message body).call_id ≡ message.call_id
@@ -69,7 +69,7 @@ module _ (call_id : List ℕ) where
       (held : HeldDialog) → IsDialogOf call_id held
       → IsOutcomeOf (requested event method rack body held)
   requested_own event method rack body held own = (
-    lived_keeps held.dialog (sends method (request_fault held.dialog method)) ∙ own,
+    lived_keeps held.dialog (happens_by_sending method (request_fault held.dialog method)) ∙ own,
     service_own (request_fault held.dialog method) _
         (body_kept (bare_request_in held.dialog method (held.dialog.local_cseq + 1)
         (branch_of event) event.local) body ∙ own),
@@ -121,7 +121,7 @@ module _ (call_id : List ℕ) where
       (dropped_own debt done.1 done.0 so.0, so.1)
 
   request_own : (event : Event) (method body : List ℕ) (held : HeldDialog)
-      → IsDialogOf call_id held → IsOutcomeOf (request_in event method body held)
+      → IsDialogOf call_id held → IsOutcomeOf (request_in_held event method body held)
   request_own event method body held own =
       by_bool (is_bad event method body held)
       (λ bad. subst IsOutcomeOf (sym (bad_request event method body held bad)) (own, tt))
@@ -160,7 +160,7 @@ module _ (call_id : List ℕ) where
       × IsServiceOf (requested_at name event command dialogs).1
   unfolding requested_at
   requested_at_own name event command dialogs own =
-      served_at_own name (request_in event command.method command.body) (Refused NoSuchDialog)
+      served_at_own name (request_in_held event command.method command.body) (Refused NoSuchDialog)
       (request_own event command.method command.body) tt dialogs own
 
   -- ---- what ends
@@ -214,7 +214,7 @@ module _ (call_id : List ℕ) where
 
   pub opened_own : (client : Client) (answer : Answer) (found : Option HeldDialog)
       → IsRequestOf call_id client → IfSome found (IsDialogOf call_id)
-      → IsDialogOf call_id (opened client answer found)
+      → IsDialogOf call_id (dialog_for_provisional client answer found)
   opened_own client answer None its own = its
   opened_own client answer (Some held) its own = own
 

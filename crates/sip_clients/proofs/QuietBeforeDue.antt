@@ -10,8 +10,8 @@ use Rattle.sip_common.specs.declared.held_dialog.HeldDialog.{HeldDialog}
 use Rattle.sip_common.specs.Dialogs.{early_ended, is_early_of, Dialogs}
 use Rattle.sip_common.specs.declared.item.CallOut.{CallOut}
 use Rattle.sip_clients.specs.declared.client.Client.{Client}
-use Rattle.sip_clients.specs.Client.{Clients, Side, quiet}
-use Rattle.sip_clients.specs.Tick.{clients_left, dialogs_left, ends_at, is_over, next_due, notices_of, tick_taken}
+use Rattle.sip_clients.specs.Client.{Clients, Side, nothing_done}
+use Rattle.sip_clients.specs.Tick.{clients_left, dialogs_left, ends_early_at, is_over, next_removal, early_ends_told, clients_ticked}
 
 neither : (x y : Bool) → (x || y) ≡ false → (x ≡ false) × (y ≡ false)
 neither true y e = absurd cc
@@ -35,7 +35,7 @@ all_due now due (client ∷ clients) =
     ∙ ap (λ b. is_due now due || b) (over_is_due now client.removal client refl))
     ∙ or_assoc (is_due now due) (is_over now client) (list_any (is_over now) clients)
 
-none_over : (now : ℕ) (clients : Clients) → is_due now (next_due clients) ≡ false
+none_over : (now : ℕ) (clients : Clients) → is_due now (next_removal clients) ≡ false
     → list_any (is_over now) (values_of clients) ≡ false
 none_over now clients calm = sym (all_due now None (values_of clients)) ∙ calm
 
@@ -47,12 +47,12 @@ silent_step true outs change e silent = absurd cc
 silent_step false outs change e silent = silent
 
 silent : (now : ℕ) (dialogs : Dialogs) (clients : List Client)
-    → list_any (is_over now) clients ≡ false → flat_map (notices_of now dialogs) clients ≡ []
+    → list_any (is_over now) clients ≡ false → flat_map (early_ends_told now dialogs) clients ≡ []
 silent now dialogs [] calm = refl
 silent now dialogs (client ∷ clients) calm =
     let parts = neither (is_over now client) (list_any (is_over now) clients) calm in
     silent_step (is_over now client) (early_ended client.id dialogs).1
-    (flat_map (notices_of now dialogs) clients) parts.0 (silent now dialogs clients parts.1)
+    (flat_map (early_ends_told now dialogs) clients) parts.0 (silent now dialogs clients parts.1)
 
 kept_step : {X : Type 0} (dropped : Bool) (x : X) (xs change : List X) → dropped ≡ false → change ≡ xs
     → cond (not dropped) (x ∷ change) change ≡ x ∷ xs
@@ -90,11 +90,11 @@ kept_dialogs : (now : ℕ) (clients : Clients) → list_any (is_over now) (value
     → (dialogs : Dialogs) → dialogs_left now dialogs clients ≡ dialogs
 kept_dialogs now clients calm [] = refl
 kept_dialogs now clients calm (entry ∷ dialogs) =
-    kept_step (ends_at now clients entry.1) entry dialogs (dialogs_left now dialogs clients)
+    kept_step (ends_early_at now clients entry.1) entry dialogs (dialogs_left now dialogs clients)
     (none_ends now entry.1 (values_of clients) calm) (kept_dialogs now clients calm dialogs)
 
-pub clients_quiet_before : (side : Side) (now : ℕ) → is_due now (next_due side.clients) ≡ false
-    → tick_taken side now ≡ quiet side
+pub clients_quiet_before : (side : Side) (now : ℕ) → is_due now (next_removal side.clients) ≡ false
+    → clients_ticked side now ≡ nothing_done side
 clients_quiet_before side now calm =
     let none = none_over now side.clients calm in
     let dialogs = kept_dialogs now side.clients none side.dialogs in

@@ -21,14 +21,14 @@ use Rattle.sip_common.specs.declared.held_dialog.HeldDialog.{HeldDialog}
 use Rattle.sip_common.specs.declared.item.CallOut.{CallOut}
 use Rattle.sip_common.specs.declared.refusal.Refusal.{Refusal}
 use Rattle.sip_common.specs.declared.refusal.Refusal.TheVariants.{NoSuchDialog, NoSuchRequest}
-use Rattle.sip_clients.specs.Cancel.{cancel_case, cancel_command, cancel_taken, cancelled_as, cancelled_of}
-use Rattle.sip_clients.specs.Client.{Clients, Side, client_at, Taken as ClientTaken}
-use Rattle.sip_clients.specs.Clients.{ack_noted, ack_paid, ack_taken, paid_or_refused, prack_paid, prack_taken, request_settled, request_taken, settled}
-use Rattle.sip_clients.specs.Commands.{bye_ended, name_in, request_in, request_refusals, requested_at, sent_unless}
+use Rattle.sip_clients.specs.Cancel.{cancel_case, cancel_command, cancel_by_user, cancelled_as, cancelled_of}
+use Rattle.sip_clients.specs.Client.{Clients, Side, client_at, ClientTaken}
+use Rattle.sip_clients.specs.Clients.{ack_kept, ack_paid, ack_by_user, paid_or_refused, prack_paid, prack_by_user, request_settled, request_by_user, settled}
+use Rattle.sip_clients.specs.Commands.{bye_ended, name_in, request_in_held, request_refusals, requested_at, sent_unless}
 use Rattle.sip_clients.specs.Dialogs.{paid_at}
 use Rattle.sip_clients.specs.Debts.{dropped_if_sent, paid}
 use Rattle.sip_clients.specs.Outputs.{ack_said, request_said, start_command}
-use Rattle.sip_clients.specs.Service.{sends, requested, discharged, sending_in, service_by}
+use Rattle.sip_clients.specs.Service.{happens_by_sending, requested, discharged, sending_in, service_by}
 use Rattle.sip_clients.specs.declared.cancel.CancelCase.{CancelCase}
 use Rattle.sip_clients.specs.declared.cancel.CancelCase.TheVariants as cancel
 use Rattle.sip_clients.specs.declared.client.Client.{Client}
@@ -71,14 +71,14 @@ requested_same : (event : Event) (method : List ℕ) (rack : Option RAck) (body 
 requested_same event method rack body held refusal e = by_fault _ _ e
   where
     by_fault : (fault : Option DialogFault) (sending : Sending)
-        → service_by fault sending ≡ Refused refusal → lived (sends method fault) held ≡ held
+        → service_by fault sending ≡ Refused refusal → lived (happens_by_sending method fault) held ≡ held
     by_fault None sending is = absurd cc
     by_fault (Some fault) sending is = refl
 
 request_same : (event : Event) (method body : List ℕ) (held : HeldDialog) (refusal : Refusal)
-    → (request_in event method body held).1 ≡ Refused refusal
-    → (request_in event method body held).0 ≡ held
-unfolding request_in
+    → (request_in_held event method body held).1 ≡ Refused refusal
+    → (request_in_held event method body held).0 ≡ held
+unfolding request_in_held
 request_same event method body held refusal e =
     unless (first_refusal (request_refusals held.dialog method) None) e
   where
@@ -149,11 +149,11 @@ module _ (event : Event) (side : Side) where
   )
 
   pub request_alone : (command : DialogRequest)
-      → Lonely command.call_id (request_taken event command side)
+      → Lonely command.call_id (request_by_user event command side)
   unfolding requested_at
   request_alone command =
       let name = name_in command.local_tag command.remote_tag in
-      let serve = request_in event command.method command.body in
+      let serve = request_in_held event command.method command.body in
       let done = requested_at name event command side.dialogs in
       request_by name command done.0 done.1
       (λ refusal. refused_same name serve (Refused NoSuchDialog) side.dialogs refusal
@@ -169,10 +169,10 @@ module _ (event : Event) (side : Side) where
   abbrev ack_done : DialogName → DialogBody → Debt → Dialogs → Service → ClientTaken
   ack_done name command owed dialogs service =
       let said = ack_said event command.call_id service in
-      (record { dialogs = dialogs; clients = ack_noted owed name said.1 side.clients }, said.0)
+      (record { dialogs = dialogs; clients = ack_kept owed name said.1 side.clients }, said.0)
 
   none_noted : (owed : Debt) (name : DialogName) (clients : Clients)
-      → ack_noted owed name None clients ≡ clients
+      → ack_kept owed name None clients ≡ clients
   none_noted (debt.Ack invite number) name clients = refl
   none_noted (debt.Prack rseq number) name clients = refl
 
@@ -187,7 +187,7 @@ module _ (event : Event) (side : Side) where
   ack_by name command owed dialogs (Refused refusal) same = λ some. (
     refusal,
     ap (λ (kept : Dialogs). (
-      record { dialogs = kept; clients = ack_noted owed name None side.clients },
+      record { dialogs = kept; clients = ack_kept owed name None side.clients },
       refused event.id command.call_id refusal,
     )) (same refusal refl)
         ∙ ap (λ (kept : Clients). (
@@ -226,7 +226,7 @@ module _ (event : Event) (side : Side) where
       told_alone side command.call_id event.id refusal
   paid_alone command pay alone (Ok owed) = alone owed
 
-  pub ack_alone : (command : DialogBody) → Lonely command.call_id (ack_taken event command side)
+  pub ack_alone : (command : DialogBody) → Lonely command.call_id (ack_by_user event command side)
   ack_alone command =
       let name = name_in command.local_tag command.remote_tag in
       paid_alone command (ack_paid event command name)
@@ -234,7 +234,7 @@ module _ (event : Event) (side : Side) where
       (paid_at name event owed command.body side.dialogs).1 (paid_same name owed command.body))
       _
 
-  pub prack_alone : (command : DialogBody) → Lonely command.call_id (prack_taken event command side)
+  pub prack_alone : (command : DialogBody) → Lonely command.call_id (prack_by_user event command side)
   prack_alone command =
       let name = name_in command.local_tag command.remote_tag in
       paid_alone command (prack_paid event command name)
@@ -267,7 +267,7 @@ module _ (event : Event) (side : Side) where
       told_alone side.clients command.call_id event.id NoSuchRequest
   cancel_found command (Some invite) = cancel_by (cancel_case invite) command invite
 
-  pub cancel_alone : (command : Cancel) → Lonely command.call_id (cancel_taken event command side)
+  pub cancel_alone : (command : Cancel) → Lonely command.call_id (cancel_by_user event command side)
   cancel_alone command some =
       let alone = cancel_found command (client_at command.id side.clients) some in
       (alone.0, ap (λ (after : Clients × List CallOut). (record side { clients = after.0 }, after.1)) alone.1)

@@ -35,7 +35,7 @@ use Rattle.sip_clients.specs.declared.service.Service.TheVariants.{Sent, Waits, 
 use Rattle.sip_clients.specs.Cancel.{cancel_command, cancellation, sent_beside}
 use Rattle.sip_clients.specs.Client.{Clients}
 use Rattle.sip_clients.specs.Clients.{settled}
-use Rattle.sip_clients.specs.Commands.{is_own_kind, request_in, request_refusals, sent_unless}
+use Rattle.sip_clients.specs.Commands.{is_own_kind, request_in_held, request_refusals, sent_unless}
 use Rattle.sip_clients.specs.Debts.{owed, paid}
 use Rattle.sip_clients.specs.Dialogs.{served_at}
 use Rattle.sip_clients.specs.Event.{branch_of}
@@ -191,9 +191,9 @@ module _ (name own : DialogName) (event : Event) (held : HeldDialog)
   by_refusal method body (Some refusal) numbers = sym (none_either (is_named own name))
 
   pub request_sent_in : (method body : List ℕ)
-      → service_cseqs name (request_in event method body held).1
+      → service_cseqs name (request_in_held event method body held).1
       ≡ cond (is_named own name) (request_cseqs method held.dialog) []
-  unfolding request_in
+  unfolding request_in_held
   request_sent_in method body =
       by_refusal method body (first_refusal (request_refusals held.dialog method) None)
       (λ none. number_of_user (bytes_eq method (codes "ACK")) (bytes_eq method (codes "CANCEL"))

@@ -16,9 +16,9 @@ use Rattle.sip_common.specs.declared.held_dialog.DialogName.{DialogName}
 use Rattle.sip_common.specs.declared.held_dialog.HeldDialog.{HeldDialog}
 use Rattle.sip_common.specs.declared.refusal.Refusal.{Refusal}
 use Rattle.sip_common.specs.declared.refusal.Refusal.TheVariants.{BadMethod, DialogEnded, StrictRoute, SequenceUsedUp}
-use Rattle.sip_clients.specs.Commands.{is_bad_early, is_callee, is_own_kind, request_in, sent_unless}
+use Rattle.sip_clients.specs.Commands.{is_bad_early, is_callee, is_own_kind, request_in_held, sent_unless}
 use Rattle.sip_clients.specs.Dialogs.{served_at}
-use Rattle.sip_clients.specs.Service.{Outcome, refusal_of, requested, sending_in, sends, service_by}
+use Rattle.sip_clients.specs.Service.{Outcome, refusal_for_fault, requested, sending_in, happens_by_sending, service_by}
 use Rattle.sip_clients.specs.declared.event.Event.{Event}
 use Rattle.sip_clients.specs.declared.service.Sending.{Sending}
 use Rattle.sip_clients.specs.declared.service.Service.{Service}
@@ -70,7 +70,7 @@ by_dialog : (own early invite bye ended strict used : Bool)
     → (own || (early && (invite || bye))) ≡ false
     → first_refusal ((own, BadMethod) ∷ (early && (invite || bye), BadMethod)
     ∷ (ended, DialogEnded) ∷ (strict, StrictRoute) ∷ (used, SequenceUsedUp) ∷ []) None
-    ≡ option_map refusal_of (if ended then Some fault.Ended
+    ≡ option_map refusal_for_fault (if ended then Some fault.Ended
     else (if early && invite then Some fault.NotConfirmed
     else (if strict then Some fault.StrictRoute
     else (if used then Some fault.SequenceUsedUp
@@ -88,8 +88,8 @@ by_dialog false false invite bye false false true is = refl
 by_dialog false false invite bye false false false is = refl
 
 sent_by : (method : List ℕ) (fault : Option DialogFault) (sending : Sending) (held : HeldDialog)
-    → sent_unless (option_map refusal_of fault) sending held
-    ≡ (lived (sends method fault) held, service_by fault sending)
+    → sent_unless (option_map refusal_for_fault fault) sending held
+    ≡ (lived (happens_by_sending method fault) held, service_by fault sending)
 sent_by method None sending held = refl
 sent_by method (Some fault) sending held = refl
 
@@ -99,8 +99,8 @@ module _ (event : Event) (method body : List ℕ) (held : HeldDialog) where
   is_bad = is_own_kind method
       || (is_early (held.dialog).state && is_bad_early (held.dialog).side method)
 
-  pub bad_request : is_bad ≡ true → request_in event method body held ≡ (held, Refused BadMethod)
-  unfolding request_in
+  pub bad_request : is_bad ≡ true → request_in_held event method body held ≡ (held, Refused BadMethod)
+  unfolding request_in_held
   bad_request is =
       ap (λ refusal. sent_unless refusal (sending_in event method None body held) held)
       (bad_method (is_own_kind method) (is_early (held.dialog).state)
@@ -111,8 +111,8 @@ module _ (event : Event) (method body : List ℕ) (held : HeldDialog) where
 
   -- otherwise the dialog says whether it is sent
   pub good_request : is_bad ≡ false
-      → request_in event method body held ≡ requested event method None body held
-  unfolding request_in
+      → request_in_held event method body held ≡ requested event method None body held
+  unfolding request_in_held
   good_request is =
       ap (λ refusal. sent_unless refusal (sending_in event method None body held) held)
       (by_dialog (is_own_kind method) (is_early (held.dialog).state)

@@ -17,7 +17,7 @@ use Rattle.sip_clients.specs.declared.client.Cancelling.{Cancelling}
 use Rattle.sip_clients.specs.declared.client.Cancelling.TheVariants.{NotAsked, Waits, Sent}
 use Rattle.sip_clients.specs.declared.client.Client.{Client}
 use Rattle.sip_clients.specs.declared.event.Event.{Event}
-use Rattle.sip_clients.specs.Client.{Clients, Side, Taken, client_at, client_changed, client_for, with_client}
+use Rattle.sip_clients.specs.Client.{Clients, Side, ClientTaken, client_at, client_changed, client_for, with_client}
 use Rattle.sip_clients.specs.Outputs.{start_under}
 use Rattle.sip_clients.specs.Reply.{is_inviting}
 
@@ -89,8 +89,8 @@ cancelled event command clients =
     cancelled_of (client_at command.id clients) event command clients
 
 -- it does nothing to the dialogs
-abbrev pub cancel_taken : Event → Cancel → Side → Taken
-cancel_taken event command side =
+abbrev pub cancel_by_user : Event → Cancel → Side → ClientTaken
+cancel_by_user event command side =
     let after = cancelled event command side.clients in
     (record side { clients = after.0 }, after.1)
 
@@ -103,8 +103,8 @@ cancelling_after final (Waits id) = if final then NotAsked else Sent
 cancelling_after final Sent = Sent
 
 -- the INVITE when the response has come
-abbrev pub noted : Bool → Client → Client
-noted final client = record client {
+abbrev pub after_response : Bool → Client → Client
+after_response final client = record client {
   provisional = client.provisional || not final;
   cancel = cancelling_after final client.cancel;
 }

@@ -28,8 +28,8 @@ client_changed id change clients =
     (client_at id clients) clients
 
 -- all but the request of this id
-abbrev pub without : Id → Clients → Clients
-without id clients = remove_entry (is_id id) clients
+abbrev pub without_client : Id → Clients → Clients
+without_client id clients = remove_entry (is_id id) clients
 
 -- with the request of this id
 abbrev pub with_client : Id → Client → Clients → Clients
@@ -56,9 +56,9 @@ pub record Side : Type 0 where
   pub clients : Clients
 
 -- what is held after something happened, and what is told of it
-abbrev pub Taken : Type 0
-Taken = Side × List CallOut
+abbrev pub ClientTaken : Type 0
+ClientTaken = Side × List CallOut
 
 -- nothing happens
-abbrev pub quiet : Side → Taken
-quiet side = (side, [])
+abbrev pub nothing_done : Side → ClientTaken
+nothing_done side = (side, [])

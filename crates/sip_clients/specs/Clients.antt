@@ -32,9 +32,9 @@ use Rattle.sip_clients.specs.declared.event.Event.{Event}
 use Rattle.sip_clients.specs.declared.outputs.ClientChange.{ClientChange}
 use Rattle.sip_clients.specs.declared.outputs.ClientChange.TheVariants.{Stays, Over, Starts}
 use Rattle.sip_clients.specs.declared.reply.Reply.{Reply as Answer}
-use Rattle.sip_clients.specs.Cancel.{cancel_freed, noted, sent_beside}
-use Rattle.sip_clients.specs.Client.{Clients, Side, Taken, client_at, client_changed, client_for, quiet, with_client, without}
-use Rattle.sip_clients.specs.Commands.{ack_told, debt_for, is_bad_outside, name_in, prack_told, request_told}
+use Rattle.sip_clients.specs.Cancel.{cancel_freed, after_response, sent_beside}
+use Rattle.sip_clients.specs.Client.{Clients, Side, ClientTaken, client_at, client_changed, client_for, nothing_done, with_client, without_client}
+use Rattle.sip_clients.specs.Commands.{ack_asked, debt_for, is_bad_outside, name_in, prack_asked, request_asked}
 use Rattle.sip_clients.specs.Dialogs.{ended_with}
 use Rattle.sip_clients.specs.Outputs.{start_command}
 use Rattle.sip_clients.specs.Outside.{invite_of, plain_of}
@@ -48,7 +48,7 @@ started event client clients =
 -- what becomes of the requests after a response to that of an id, or after a command
 abbrev pub settled : Event → Id → ClientChange → Clients → Clients × List CallOut
 settled event id Stays clients = (clients, [])
-settled event id Over clients = (without id clients, [])
+settled event id Over clients = (without_client id clients, [])
 settled event id (Starts client) clients = started event client clients
 
 -- ---- a response
@@ -72,18 +72,18 @@ reply_ended event id change cancel clients told =
     let after = settled event id change clients in sent_beside cancel (after.0, told ++ after.1)
 
 -- what is held and told after it has done this to the request of this id and to the dialogs
-abbrev pub side_after : Event → Id → Side → Option Cancellation → Replied → Taken
+abbrev pub side_after : Event → Id → Side → Option Cancellation → Replied → ClientTaken
 side_after event id side cancel done =
     let clients = set_value (is_id id) side.clients done.0 in
     let after = reply_ended event id done.3 cancel clients done.2 in
     (record { dialogs = done.1; clients = after.0 }, after.1)
 
 -- one to this request
-abbrev pub reply_settled : Answer → Client → Side → Taken
+abbrev pub reply_settled : Answer → Client → Side → ClientTaken
 reply_settled reply client side =
     let final = is_final reply.status in
     side_after reply.event reply.id side (cancel_freed final client)
-    (reply_taken (noted final client) side.dialogs reply)
+    (reply_taken (after_response final client) side.dialogs reply)
 
 -- a response with all that comes up with it
 abbrev pub reply_of : Event → Id → List ℕ → DialogName → ℕ → Message → Answer
@@ -97,15 +97,15 @@ reply_of event id call_id name status response = record {
 }
 
 -- a response to the request that is held, or to none
-abbrev pub found_taken : Event → Id → List ℕ → Message → Option ℕ → Option Client → Side → Taken
-found_taken event id call_id response None client side = quiet side
-found_taken event id call_id response (Some status) None side = quiet side
+abbrev pub found_taken : Event → Id → List ℕ → Message → Option ℕ → Option Client → Side → ClientTaken
+found_taken event id call_id response None client side = nothing_done side
+found_taken event id call_id response (Some status) None side = nothing_done side
 found_taken event id call_id response (Some status) (Some client) side =
     let name = reply_name client.kind client response in
     reply_settled (reply_of event id call_id name status response) client side
 
 -- where its request isn't held, nothing happens
-abbrev pub response_taken : Event → Id → List ℕ → Message → Side → Taken
+abbrev pub response_taken : Event → Id → List ℕ → Message → Side → ClientTaken
 response_taken event id call_id response side =
     found_taken event id call_id response (status_of response.start) (client_at id side.clients)
     side
@@ -113,16 +113,16 @@ response_taken event id call_id response side =
 -- ---- a request is lost: its transaction timed out, or its message could not be sent
 
 -- a request that timed out, or could not be sent, is over, and so is what ends with it
-abbrev pub lost_of : Id → Bool → Option Client → Side → Taken
+abbrev pub lost_of : Id → Bool → Option Client → Side → ClientTaken
 lost_of id timed_out None side =
-    (record { dialogs = side.dialogs; clients = without id side.clients }, [])
+    (record { dialogs = side.dialogs; clients = without_client id side.clients }, [])
 lost_of id timed_out (Some client) side =
     let ended = ended_with client timed_out side.dialogs in
-    (record { dialogs = ended.0; clients = without id side.clients }, ended.1)
+    (record { dialogs = ended.0; clients = without_client id side.clients }, ended.1)
 
 -- the request of this id
-abbrev pub lost : Id → Bool → Side → Taken
-lost id timed_out side = lost_of id timed_out (client_at id side.clients) side
+abbrev pub request_lost : Id → Bool → Side → ClientTaken
+request_lost id timed_out side = lost_of id timed_out (client_at id side.clients) side
 
 -- ---- commands outside of dialogs
 
@@ -146,9 +146,9 @@ request_settled event outs change ends clients =
     let after = settled event event.id change clients in (after.0, outs ++ after.1 ++ ends)
 
 -- the command Request: a request in a dialog
-abbrev pub request_taken : Event → DialogRequest → Side → Taken
-request_taken event command side =
-    let told = request_told event (name_in command.local_tag command.remote_tag) command
+abbrev pub request_by_user : Event → DialogRequest → Side → ClientTaken
+request_by_user event command side =
+    let told = request_asked event (name_in command.local_tag command.remote_tag) command
     side.dialogs in
     let after = request_settled event told.1 told.2 told.3 side.clients in
     (record { dialogs = told.0; clients = after.0 }, after.1)
@@ -159,42 +159,42 @@ acked_with name ack client =
     record client { answers = insert_entry is_named client.answers name (Some ack) }
 
 -- the ACK is kept, to be sent again where the 2xx comes again
-abbrev pub ack_noted : Debt → DialogName → Option SentAck → Clients → Clients
-ack_noted (Ack invite number) name None clients = clients
-ack_noted (Ack invite number) name (Some ack) clients =
+abbrev pub ack_kept : Debt → DialogName → Option SentAck → Clients → Clients
+ack_kept (Ack invite number) name None clients = clients
+ack_kept (Ack invite number) name (Some ack) clients =
     client_changed invite (acked_with name ack) clients
-ack_noted (Prack rseq number) name ack clients = clients
+ack_kept (Prack rseq number) name ack clients = clients
 
 -- the user's ACK for a 2xx that is owed one
-abbrev pub ack_paid : Event → DialogBody → DialogName → Debt → Side → Taken
+abbrev pub ack_paid : Event → DialogBody → DialogName → Debt → Side → ClientTaken
 ack_paid event command name debt side =
-    let told = ack_told event name debt command side.dialogs in
-    (record { dialogs = told.0; clients = ack_noted debt name told.2 side.clients }, told.1)
+    let told = ack_asked event name debt command side.dialogs in
+    (record { dialogs = told.0; clients = ack_kept debt name told.2 side.clients }, told.1)
 
 -- the user's PRACK for a response that is owed one
-abbrev pub prack_paid : Event → DialogBody → DialogName → Debt → Side → Taken
+abbrev pub prack_paid : Event → DialogBody → DialogName → Debt → Side → ClientTaken
 prack_paid event command name debt side =
-    let told = prack_told event name debt command side.dialogs in
+    let told = prack_asked event name debt command side.dialogs in
     let after = settled event event.id told.2 side.clients in
     (record { dialogs = told.0; clients = after.0 }, told.1 ++ after.1)
 
 -- where nothing is owed the command is refused
-abbrev pub paid_or_refused : Event → DialogBody → (Debt → Side → Taken) → Result Debt Refusal → Side
-    → Taken
+abbrev pub paid_or_refused : Event → DialogBody → (Debt → Side → ClientTaken) → Result Debt Refusal → Side
+    → ClientTaken
 paid_or_refused event command pay (Err refusal) side =
     (side, refused event.id command.call_id refusal)
 paid_or_refused event command pay (Ok debt) side = pay debt side
 
 -- each serves the oldest response of the dialog that is owed one
-abbrev pub ack_taken : Event → DialogBody → Side → Taken
-ack_taken event command side =
+abbrev pub ack_by_user : Event → DialogBody → Side → ClientTaken
+ack_by_user event command side =
     let name = name_in command.local_tag command.remote_tag in
     paid_or_refused event command (ack_paid event command name)
     (debt_for kind.Ack name side.dialogs) side
 
 -- the command Prack, for the oldest response of its dialog that is owed one
-abbrev pub prack_taken : Event → DialogBody → Side → Taken
-prack_taken event command side =
+abbrev pub prack_by_user : Event → DialogBody → Side → ClientTaken
+prack_by_user event command side =
     let name = name_in command.local_tag command.remote_tag in
     paid_or_refused event command (prack_paid event command name)
     (debt_for kind.Prack name side.dialogs) side

@@ -74,15 +74,15 @@ sent_unless None sending held =
     (lived (Requests ((sending.message).cseq).method ∷ []) held, Sent sending)
 
 -- in this dialog
-unfoldable pub request_in : Event → List ℕ → List ℕ → HeldDialog → Outcome
-request_in event method body held =
+unfoldable pub request_in_held : Event → List ℕ → List ℕ → HeldDialog → Outcome
+request_in_held event method body held =
     sent_unless (first_refusal (request_refusals held.dialog method) None)
     (sending_in event method None body held) held
 
 -- in the dialog of this name
 unfoldable pub requested_at : DialogName → Event → DialogRequest → Dialogs → Dialogs × Service
 requested_at name event command dialogs =
-    served_at name (request_in event command.method command.body) (Refused NoSuchDialog) dialogs
+    served_at name (request_in_held event command.method command.body) (Refused NoSuchDialog) dialogs
 
 -- a BYE that is sent ends its dialog at once
 abbrev pub bye_ended : DialogName → List ℕ → Service → Dialogs → Dialogs × List CallOut
@@ -92,9 +92,9 @@ bye_ended name method Waits dialogs = (dialogs, [])
 bye_ended name method (Refused refusal) dialogs = (dialogs, [])
 
 -- the dialogs after it, what is told, the request that is sent, and the end that is told last
-abbrev pub request_told : Event → DialogName → DialogRequest → Dialogs
+abbrev pub request_asked : Event → DialogName → DialogRequest → Dialogs
     → Dialogs × List CallOut × ClientChange × List CallOut
-request_told event name command dialogs =
+request_asked event name command dialogs =
     let done = requested_at name event command dialogs in
     let bye = bye_ended name command.method done.1 done.0 in
     let said = request_said event command.call_id name done.1 in
@@ -122,17 +122,17 @@ debt_for kind name dialogs =
     option_map_or (oldest_debt kind) (dialog_at name dialogs) (Err NoSuchDialog)
 
 -- the dialogs after the ACK, what is told or sent, and the ACK where it is sent
-abbrev pub ack_told : Event → DialogName → Debt → DialogBody → Dialogs
+abbrev pub ack_asked : Event → DialogName → Debt → DialogBody → Dialogs
     → Dialogs × List CallOut × Option SentAck
-ack_told event name debt command dialogs =
+ack_asked event name debt command dialogs =
     let done = paid_at name event debt command.body dialogs in
     let said = ack_said event command.call_id done.1 in
     (done.0, said.0, said.1)
 
 -- the dialogs after the PRACK, what is told, and the request that is sent
-abbrev pub prack_told : Event → DialogName → Debt → DialogBody → Dialogs
+abbrev pub prack_asked : Event → DialogName → Debt → DialogBody → Dialogs
     → Dialogs × List CallOut × ClientChange
-prack_told event name debt command dialogs =
+prack_asked event name debt command dialogs =
     let done = paid_at name event debt command.body dialogs in
     let said = request_said event command.call_id name done.1 in
     (done.0, said.0, said.1)

@@ -20,12 +20,12 @@ is_of kind.Prack (Ack invite number) = false
 is_of kind.Prack (Prack rseq number) = true
 
 -- the same debt
-abbrev pub is_same : Debt → Debt → Bool
-is_same (Ack invite number) (Ack other_invite other_number) =
+abbrev pub is_debt : Debt → Debt → Bool
+is_debt (Ack invite number) (Ack other_invite other_number) =
     is_id invite other_invite && (number == other_number)
-is_same (Ack invite number) (Prack other_rseq other_number) = false
-is_same (Prack rseq number) (Ack other_invite other_number) = false
-is_same (Prack rseq number) (Prack other_rseq other_number) =
+is_debt (Ack invite number) (Prack other_rseq other_number) = false
+is_debt (Prack rseq number) (Ack other_invite other_number) = false
+is_debt (Prack rseq number) (Prack other_rseq other_number) =
     (rseq == other_rseq) && (number == other_number)
 
 -- ---- a response asks for it: it stays owed where it isn't sent
@@ -44,12 +44,12 @@ owed event debt offer held =
 -- ---- the user serves it: it is owed no more where it is sent
 
 -- all debts but this one
-abbrev pub without : Debt → HeldDialog → HeldDialog
-without debt held = record held { owed = filter (λ other. not (is_same debt other)) held.owed }
+abbrev pub without_debt : Debt → HeldDialog → HeldDialog
+without_debt debt held = record held { owed = filter (λ other. not (is_debt debt other)) held.owed }
 
 -- owed no longer, where it was sent
 abbrev pub dropped_if_sent : Debt → Service → HeldDialog → HeldDialog
-dropped_if_sent debt (Sent sending) held = without debt held
+dropped_if_sent debt (Sent sending) held = without_debt debt held
 dropped_if_sent debt Waits held = held
 dropped_if_sent debt (Refused refusal) held = held
 

@@ -25,8 +25,8 @@ use Rattle.sip_clients.specs.Service.{Outcome}
 -- ---- how a dialog is made (RFC 3261, section 12.1.2)
 
 -- the dialog that a response makes (RFC 3261, section 12.1.2)
-abbrev pub made_dialog : Client → Answer → HeldDialog
-made_dialog client reply = record {
+abbrev pub dialog_by_response : Client → Answer → HeldDialog
+dialog_by_response client reply = record {
   dialog = opened_by_response client.request reply.response;
   address = client.to;
   made_by = client.id;
@@ -37,9 +37,9 @@ made_dialog client reply = record {
 
 -- the dialog that a provisional response comes in, by the held one of its name: that, or one that
 -- it makes
-abbrev pub opened : Client → Answer → Option HeldDialog → HeldDialog
-opened client reply None = made_dialog client reply
-opened client reply (Some held) = held
+abbrev pub dialog_for_provisional : Client → Answer → Option HeldDialog → HeldDialog
+dialog_for_provisional client reply None = dialog_by_response client reply
+dialog_for_provisional client reply (Some held) = held
 
 -- ---- a 2xx
 
@@ -56,7 +56,7 @@ accepted_in Plain response held = held
 
 -- the dialog after the first 2xx of its name
 abbrev pub accepted : Client → Answer → Option HeldDialog → HeldDialog
-accepted client reply None = made_dialog client reply
+accepted client reply None = dialog_by_response client reply
 accepted client reply (Some held) = accepted_in client.kind reply.response held
 
 -- ---- what is heard and paid in a dialog

@@ -1,7 +1,7 @@
 -- The requests that are sent outside of dialogs (RFC 3261, sections 8.1.1 and 13.2.1; RFC 3262,
 -- section 4).
 use Rattle.std.specs.Prelude.{ℕ, List, [], ◌∷◌, Some, None, codes}
-use Rattle.sip_dialog.specs.Request.{contact_of, via_of}
+use Rattle.sip_dialog.specs.Request.{contact_of, agent_via}
 use Rattle.sip_message.specs.declared.addr.Addr.{Addr}
 use Rattle.sip_message.specs.declared.cseq.CSeq.{CSeq}
 use Rattle.sip_message.specs.declared.message.Message.{Message}
@@ -20,7 +20,7 @@ use Rattle.sip_clients.specs.Event.{branch_of, from_tag_of}
 -- the request of this method, without a body
 unfoldable pub bare_request : Event → List ℕ → List ℕ → List ℕ → List ℕ → List ℕ → Message
 bare_request event call_id method uri from to =
-    let via = via_of event.local (branch_of event) in
+    let via = agent_via event.local (branch_of event) in
     let from = party_of from (Some (from_tag_of event)) in
     let cseq : CSeq = record { number = FIRST_CSEQ; method = method } in
     record (bare (Request uri) (via ∷ []) from (party_of to None) call_id cseq) {

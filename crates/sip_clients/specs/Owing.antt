@@ -23,7 +23,7 @@ use Rattle.sip_clients.specs.declared.debts.DebtKind.TheVariants as kind
 use Rattle.sip_clients.specs.Client.{Clients, client_at}
 use Rattle.sip_clients.specs.Clients.{reply_name, status_of}
 use Rattle.sip_clients.specs.Commands.{name_in}
-use Rattle.sip_clients.specs.Debts.{is_of, is_same}
+use Rattle.sip_clients.specs.Debts.{is_of, is_debt}
 use Rattle.sip_clients.specs.Provisionals.{is_response, provisional_number}
 use Rattle.sip_clients.specs.Reply.{is_there}
 
@@ -84,7 +84,7 @@ response_owes id response clients name found outs =
 -- the oldest of the kind is owed no more
 abbrev pub oldest_paid : DebtKind → List Debt → List Debt
 oldest_paid kind debts =
-    option_map_or (λ debt. filter (λ other. not (is_same debt other)) debts)
+    option_map_or (λ debt. filter (λ other. not (is_debt debt other)) debts)
     (find (is_of kind) debts) debts
 
 -- so it is after a command for the dialog of the name, where one of the kind goes out

@@ -7,7 +7,7 @@ use Rattle.sip_message.specs.declared.id.Id.{Id}
 use Rattle.sip_common.specs.declared.item.CallOut.{CallOut}
 pub use Rattle.sip_common.specs.OwnCall.{AreDialogsOf, AreNoticesOf, IsDialogOf, IsNoticeOf, call_of_notice}
 use Rattle.sip_clients.specs.declared.client.Client.{Client}
-use Rattle.sip_clients.specs.Client.{Clients, Side, Taken}
+use Rattle.sip_clients.specs.Client.{Clients, Side, ClientTaken}
 
 -- ---- what is held
 
@@ -26,12 +26,12 @@ pub record IsSideOf (call_id : List ℕ) (side : Side) : Type 0 where
 -- ---- what a step does
 
 -- where all that is held is of this Call-ID, so is all that is held and told after the step
-abbrev pub KeepsTo : List ℕ → (Side → Taken) → Type 0
+abbrev pub KeepsTo : List ℕ → (Side → ClientTaken) → Type 0
 KeepsTo call_id step =
     (side : Side) → IsSideOf call_id side
     → IsSideOf call_id (step side).0 × AreNoticesOf call_id (step side).1
 
 -- a step of the client requests alone does nothing to the dialogs
-abbrev pub on_side : (Clients → Clients × List CallOut) → Side → Taken
+abbrev pub on_side : (Clients → Clients × List CallOut) → Side → ClientTaken
 on_side step side =
     (record side { clients = (step side.clients).0 }, (step side.clients).1)

@@ -23,7 +23,7 @@ use Rattle.sip_clients.specs.declared.reply.ReplyCase.TheVariants as reply
 use Rattle.sip_clients.specs.declared.service.Service.{Service}
 use Rattle.sip_clients.specs.Answers.{ack_of}
 use Rattle.sip_clients.specs.Debts.{owed}
-use Rattle.sip_clients.specs.Dialogs.{accepted, ended_with, hearing, opened}
+use Rattle.sip_clients.specs.Dialogs.{accepted, ended_with, hearing, dialog_for_provisional}
 use Rattle.sip_clients.specs.Outputs.{ack_said, direct, request_said, response_notice}
 use Rattle.sip_clients.specs.Reply.{is_last, reply_case}
 
@@ -47,8 +47,8 @@ abbrev pub ends_dialog : ℕ → Bool
 ends_dialog status = (status == 481) || (status == 408)
 
 -- the request is over, and what ends with it ends
-abbrev pub finished : Client → Dialogs → Answer → Replied
-finished client dialogs answer =
+abbrev pub request_over : Client → Dialogs → Answer → Replied
+request_over client dialogs answer =
     let ended = ended_with client (ends_dialog answer.status) dialogs in
     (client, ended.0, notice answer ++ ended.1, Over)
 
@@ -108,8 +108,8 @@ ack_again client answer =
     option_map_or (λ ack. direct ack ∷ []) (ack_of answer.name client.answers) []
 
 -- the INVITE is held for 64*T1 after its first 2xx
-abbrev pub answered : Answer → Option SentAck → Client → Client
-answered answer ack client = record client {
+abbrev pub held_after_success : Answer → Option SentAck → Client → Client
+held_after_success answer ack client = record client {
   answers = insert_entry is_named client.answers answer.name ack;
   removal = Some (unwrap_or client.removal ((answer.event).moment + LIFETIME));
 }
@@ -130,40 +130,40 @@ abbrev pub accepted_by_ack : Client → HeldDialog → Answer → InDialog
 accepted_by_ack client held answer =
     let owed = ack_owed client held answer in
     let told = told_of_ack answer owed.1 in
-    (answered answer told.1 client, Some owed.0, told.0, Stays)
+    (held_after_success answer told.1 client, Some owed.0, told.0, Stays)
 
 -- ---- all of it
 
 -- by the held dialog of its name, if there is one
-abbrev pub by_case : ReplyCase → Client → Option HeldDialog → Answer → InDialog
-by_case reply.Repeated client found answer = (client, None, ack_again client answer, Stays)
-by_case reply.Accepted client found answer =
+abbrev pub by_reply_case : ReplyCase → Client → Option HeldDialog → Answer → InDialog
+by_reply_case reply.Repeated client found answer = (client, None, ack_again client answer, Stays)
+by_reply_case reply.Accepted client found answer =
     accepted_by_ack client (accepted client answer found) answer
-by_case reply.Late client found answer = (answered answer None client, None, notice answer, Stays)
-by_case (reply.Reliable rseq) client found answer =
-    reliable rseq client (opened client answer found) answer
-by_case reply.Passed client found answer = (client, None, [], Stays)
-by_case reply.Early client found answer =
-    (client, Some (opened client answer found), notice answer, Stays)
-by_case reply.Told client found answer = (client, None, notice answer, Stays)
+by_reply_case reply.Late client found answer = (held_after_success answer None client, None, notice answer, Stays)
+by_reply_case (reply.Reliable rseq) client found answer =
+    reliable rseq client (dialog_for_provisional client answer found) answer
+by_reply_case reply.Passed client found answer = (client, None, [], Stays)
+by_reply_case reply.Early client found answer =
+    (client, Some (dialog_for_provisional client answer found), notice answer, Stays)
+by_reply_case reply.Told client found answer = (client, None, notice answer, Stays)
 
 -- case by case, in the dialog of its name where it is held
 abbrev pub replied_in : Client → Option HeldDialog → Answer → InDialog
-replied_in client found answer = by_case (reply_case client found answer) client found answer
+replied_in client found answer = by_reply_case (reply_case client found answer) client found answer
 
 -- the dialogs with that one
-abbrev pub with_dialog : DialogName → Option HeldDialog → Dialogs → Dialogs
-with_dialog name None dialogs = dialogs
-with_dialog name (Some held) dialogs = insert_entry is_named dialogs name held
+abbrev pub dialogs_with : DialogName → Option HeldDialog → Dialogs → Dialogs
+dialogs_with name None dialogs = dialogs
+dialogs_with name (Some held) dialogs = insert_entry is_named dialogs name held
 
 -- the dialogs with that one after it
 abbrev pub after_dialog : DialogName → Dialogs → InDialog → Replied
-after_dialog name dialogs done = (done.0, with_dialog name done.1 dialogs, done.2, done.3)
+after_dialog name dialogs done = (done.0, dialogs_with name done.1 dialogs, done.2, done.3)
 
 -- the last response ends its request; any other is taken case by case
 abbrev pub reply_taken : Client → Dialogs → Answer → Replied
 reply_taken client dialogs answer =
-    if is_last client.kind answer.status then finished client dialogs answer
+    if is_last client.kind answer.status then request_over client dialogs answer
     else after_dialog answer.name dialogs
     (replied_in client (dialog_at answer.name dialogs) answer)
 

@@ -51,8 +51,8 @@ abbrev pub rseq_of : Message → Option ℕ
 rseq_of response = if requires_100rel response then response.rseq else None
 
 -- the response is of a dialog: no 100, and with a To tag
-abbrev pub is_of_dialog : Answer → Bool
-is_of_dialog reply = not (reply.status == 100) && is_inside reply.response
+abbrev pub is_dialog_response : Answer → Bool
+is_dialog_response reply = not (reply.status == 100) && is_inside reply.response
 
 -- ---- which case it is
 
@@ -78,6 +78,6 @@ reliable_case heard (Some rseq) = offer_case (offered heard rseq) rseq
 abbrev pub reply_case : Client → Option HeldDialog → Answer → ReplyCase
 reply_case client found reply =
     if is_final reply.status then success_case client found reply.name
-    else (if is_of_dialog reply && is_there client.kind found
+    else (if is_dialog_response reply && is_there client.kind found
     then reliable_case (heard_of client.kind client found) (rseq_of reply.response)
     else Told)

@@ -26,27 +26,27 @@ abbrev pub Outcome : Type 0
 Outcome = HeldDialog × Service
 
 -- why a request isn't sent; a held dialog hasn't ended
-abbrev pub refusal_of : DialogFault → Refusal
-refusal_of fault.NotConfirmed = refusal.BadMethod
-refusal_of fault.StrictRoute = refusal.StrictRoute
-refusal_of fault.Ended = refusal.DialogEnded
-refusal_of fault.SequenceUsedUp = refusal.SequenceUsedUp
-refusal_of fault.OutOfOrder = refusal.SequenceUsedUp
-refusal_of fault.NoMemory = refusal.SequenceUsedUp
+abbrev pub refusal_for_fault : DialogFault → Refusal
+refusal_for_fault fault.NotConfirmed = refusal.BadMethod
+refusal_for_fault fault.StrictRoute = refusal.StrictRoute
+refusal_for_fault fault.Ended = refusal.DialogEnded
+refusal_for_fault fault.SequenceUsedUp = refusal.SequenceUsedUp
+refusal_for_fault fault.OutOfOrder = refusal.SequenceUsedUp
+refusal_for_fault fault.NoMemory = refusal.SequenceUsedUp
 
 -- sent, or refused as the dialog does
 abbrev pub service_by : Option DialogFault → Sending → Service
 service_by None sending = Sent sending
-service_by (Some fault) sending = Refused (refusal_of fault)
+service_by (Some fault) sending = Refused (refusal_for_fault fault)
 
 -- with this RAck
 abbrev pub with_rack : Option RAck → Message → Message
 with_rack rack message = record message { rack = rack }
 
 -- a request of this method takes the next number, where it is sent
-abbrev pub sends : List ℕ → Option DialogFault → List Happening
-sends method None = Requests method ∷ []
-sends method (Some fault) = []
+abbrev pub happens_by_sending : List ℕ → Option DialogFault → List Happening
+happens_by_sending method None = Requests method ∷ []
+happens_by_sending method (Some fault) = []
 
 -- a request of this method as it goes out, with a RAck where it is a PRACK
 abbrev pub sending_in : Event → List ℕ → Option RAck → List ℕ → HeldDialog → Sending
@@ -60,13 +60,13 @@ sending_in event method rack body held = record {
 -- it is sent, or refused as the dialog does
 abbrev pub requested : Event → List ℕ → Option RAck → List ℕ → HeldDialog → Outcome
 requested event method rack body held = (
-  lived (sends method (request_fault held.dialog method)) held,
+  lived (happens_by_sending method (request_fault held.dialog method)) held,
   service_by (request_fault held.dialog method) (sending_in event method rack body held),
 )
 
 -- the PRACK of a response of this RSeq to the INVITE of this number
-abbrev pub pracked : Event → ℕ → ℕ → List ℕ → HeldDialog → Outcome
-pracked event rseq number body held =
+abbrev pub prack_requested : Event → ℕ → ℕ → List ℕ → HeldDialog → Outcome
+prack_requested event rseq number body held =
     requested event (codes "PRACK")
     (Some record { rseq = rseq; cseq = number; method = codes "INVITE" }) body held
 
@@ -81,7 +81,7 @@ acked event held number body = service_by (ack_fault held.dialog) record {
 -- the ACK or the PRACK goes out with this body
 abbrev pub discharged_with : Event → Debt → List ℕ → HeldDialog → Outcome
 discharged_with event (Ack invite number) body held = (held, acked event held number body)
-discharged_with event (Prack rseq number) body held = pracked event rseq number body held
+discharged_with event (Prack rseq number) body held = prack_requested event rseq number body held
 
 -- what is owed is discharged with the body that its request carries; without one it waits for the user
 unfoldable pub discharged : Event → Debt → Option (List ℕ) → HeldDialog → Outcome

@@ -9,36 +9,36 @@ use Rattle.sip_common.specs.declared.held_dialog.HeldDialog.{HeldDialog}
 use Rattle.sip_common.specs.declared.item.CallOut.{CallOut}
 use Rattle.sip_common.specs.Dialogs.{early_ended, is_early_of, Dialogs}
 use Rattle.sip_clients.specs.declared.client.Client.{Client}
-use Rattle.sip_clients.specs.Client.{Clients, Side, Taken}
+use Rattle.sip_clients.specs.Client.{Clients, Side, ClientTaken}
 
 -- an INVITE is removed 64*T1 after its first 2xx
 abbrev pub is_over : ℕ → Client → Bool
 is_over now client = option_map_or (λ moment. nat_le moment now) client.removal false
 
 -- a dialog is early still when an INVITE that made it is removed
-abbrev pub ends_at : ℕ → Clients → HeldDialog → Bool
-ends_at now clients held =
+abbrev pub ends_early_at : ℕ → Clients → HeldDialog → Bool
+ends_early_at now clients held =
     list_any (λ client. is_over now client && is_early_of client.id held) (values_of clients)
 
 -- the dialogs that stay
 abbrev pub dialogs_left : ℕ → Dialogs → Clients → Dialogs
-dialogs_left now dialogs clients = filter (λ entry. not (ends_at now clients entry.1)) dialogs
+dialogs_left now dialogs clients = filter (λ entry. not (ends_early_at now clients entry.1)) dialogs
 
 -- the requests that stay
 abbrev pub clients_left : ℕ → Clients → Clients
 clients_left now clients = filter (λ entry. not (is_over now entry.1)) clients
 
 -- the end of each is told, of one INVITE after the other
-abbrev pub notices_of : ℕ → Dialogs → Client → List CallOut
-notices_of now dialogs client = if is_over now client then (early_ended client.id dialogs).1 else []
+abbrev pub early_ends_told : ℕ → Dialogs → Client → List CallOut
+early_ends_told now dialogs client = if is_over now client then (early_ended client.id dialogs).1 else []
 
 -- the ends that the user is told of
 abbrev pub over_notices : ℕ → Dialogs → Clients → List CallOut
-over_notices now dialogs clients = flat_map (notices_of now dialogs) (values_of clients)
+over_notices now dialogs clients = flat_map (early_ends_told now dialogs) (values_of clients)
 
 -- INVITEs that had their first 2xx 64 times T1 ago are removed with their early dialogs
-abbrev pub tick_taken : Side → ℕ → Taken
-tick_taken side now = (
+abbrev pub clients_ticked : Side → ℕ → ClientTaken
+clients_ticked side now = (
   record {
     dialogs = dialogs_left now side.dialogs side.clients;
     clients = clients_left now side.clients;
@@ -47,5 +47,5 @@ tick_taken side now = (
 )
 
 -- the first moment at which an INVITE is removed
-abbrev pub next_due : Clients → Option ℕ
-next_due clients = fold (λ due client. earlier due client.removal) None (values_of clients)
+abbrev pub next_removal : Clients → Option ℕ
+next_removal clients = fold (λ due client. earlier due client.removal) None (values_of clients)

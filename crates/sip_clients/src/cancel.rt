@@ -133,7 +133,7 @@ pub(crate) fn note_reply(
     client: &mut Client,
     is_final: bool,
 ) -> Result<Option<Cancellation>, AllocError>
-    ensures client { OnOk result (client.new ≡ spec.noted is_final client.old) }
+    ensures client { OnOk result (client.new ≡ spec.after_response is_final client.old) }
     ensures cancel { IfOk result (λ cancel. cancel ≡ spec.cancel_freed is_final client.old) }
 {
     let cancel = cancel_freed(alloc, client, is_final)?;

@@ -63,7 +63,7 @@ impl Clients {
 
     /// The first moment, in ms, at which a tick does something, if there is one. Takes no memory.
     pub fn next_due(&self) -> Option<u64>
-        ensures { result ≡ ticks.next_due self.now }
+        ensures { result ≡ ticks.next_removal self.now }
     {
         next_due(&self.requests)
     }
@@ -81,7 +81,7 @@ impl Clients {
     pub fn tick(&mut self, dialogs: &mut Dialogs, now: u64) -> Result<Vec<CallOut>, AllocError>
         ensures taken { IfOk result (λ outs.
             (record { dialogs = dialogs.new.entries; clients = self.new }, outs.items)
-            ≡ ticks.tick_taken record { dialogs = dialogs.old.entries; clients = self.old } now) }
+            ≡ ticks.clients_ticked record { dialogs = dialogs.old.entries; clients = self.old } now) }
         ensures err { OnErr result (self.new ≡ []) }
     {
         let mut requests = self.take();
@@ -129,7 +129,7 @@ impl Clients {
     ) -> Result<Vec<CallOut>, AllocError>
         ensures taken { IfOk result (λ outs.
             (record { dialogs = dialogs.new.entries; clients = self.new }, outs.items)
-            ≡ spec.lost id timed_out record { dialogs = dialogs.old.entries; clients = self.old }) }
+            ≡ spec.request_lost id timed_out record { dialogs = dialogs.old.entries; clients = self.old }) }
         ensures err { OnErr result (self.new ≡ []) }
     {
         let mut requests = self.take();
@@ -176,7 +176,7 @@ impl Clients {
     ) -> Result<Vec<CallOut>, AllocError>
         ensures taken { IfOk result (λ outs.
             (record { dialogs = dialogs.new.entries; clients = self.new }, outs.items)
-            ≡ spec.request_taken event command.now
+            ≡ spec.request_by_user event command.now
             record { dialogs = dialogs.old.entries; clients = self.old }) }
         ensures err { OnErr result (self.new ≡ []) }
     {
@@ -212,7 +212,7 @@ impl Clients {
     ) -> Result<Vec<CallOut>, AllocError>
         ensures taken { IfOk result (λ outs.
             (record { dialogs = dialogs.new.entries; clients = self.new }, outs.items)
-            ≡ spec.ack_taken event command.now
+            ≡ spec.ack_by_user event command.now
             record { dialogs = dialogs.old.entries; clients = self.old }) }
         ensures err { OnErr result (self.new ≡ []) }
     {
@@ -232,7 +232,7 @@ impl Clients {
     ) -> Result<Vec<CallOut>, AllocError>
         ensures taken { IfOk result (λ outs.
             (record { dialogs = dialogs.new.entries; clients = self.new }, outs.items)
-            ≡ spec.prack_taken event command.now
+            ≡ spec.prack_by_user event command.now
             record { dialogs = dialogs.old.entries; clients = self.old }) }
         ensures err { OnErr result (self.new ≡ []) }
     {
@@ -296,7 +296,7 @@ fn take_ack(
 ) -> Result<Vec<CallOut>, AllocError>
     ensures { IfOk result (λ outs.
         (record { dialogs = dialogs.new.entries; clients = requests.new.entries }, outs.items)
-        ≡ spec.ack_taken event command.now
+        ≡ spec.ack_by_user event command.now
         record { dialogs = dialogs.old.entries; clients = requests.old.entries }) }
 {
     let name = name_in(alloc, &command.local_tag, &command.remote_tag)?;
@@ -335,7 +335,7 @@ fn take_prack(
 ) -> Result<Vec<CallOut>, AllocError>
     ensures { IfOk result (λ outs.
         (record { dialogs = dialogs.new.entries; clients = requests.new.entries }, outs.items)
-        ≡ spec.prack_taken event command.now
+        ≡ spec.prack_by_user event command.now
         record { dialogs = dialogs.old.entries; clients = requests.old.entries }) }
 {
     let name = name_in(alloc, &command.local_tag, &command.remote_tag)?;

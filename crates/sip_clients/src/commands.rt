@@ -56,13 +56,13 @@ pub(crate) fn request_told(
     command: &DialogRequest,
 ) -> Result<(Vec<CallOut>, ClientChange, Vec<CallOut>), AllocError>
     ensures dialogs { OnOk result (dialogs.new.entries
-        ≡ (spec.request_told event name.now command.now dialogs.old.entries).0) }
+        ≡ (spec.request_asked event name.now command.now dialogs.old.entries).0) }
     ensures outs { IfOk result (λ told. told.0.items
-        ≡ (spec.request_told event name.now command.now dialogs.old.entries).1) }
+        ≡ (spec.request_asked event name.now command.now dialogs.old.entries).1) }
     ensures change { IfOk result (λ told. told.1
-        ≡ (spec.request_told event name.now command.now dialogs.old.entries).2) }
+        ≡ (spec.request_asked event name.now command.now dialogs.old.entries).2) }
     ensures ends { IfOk result (λ told. told.2.items
-        ≡ (spec.request_told event name.now command.now dialogs.old.entries).3) }
+        ≡ (spec.request_asked event name.now command.now dialogs.old.entries).3) }
 {
     let service = request_by(alloc, dialogs, name, event, command)?;
     let ends = bye_end(alloc, dialogs, name, &command.method, &service)?;
@@ -97,10 +97,10 @@ fn request_at(
     body: Text,
 ) -> Result<Service, AllocError>
     ensures service { IfOk result (λ service. service
-        ≡ (served_at name.now (spec.request_in event method body) (Refused NoSuchDialog)
+        ≡ (served_at name.now (spec.request_in_held event method body) (Refused NoSuchDialog)
         dialogs.old.entries).1) }
     ensures dialogs { OnOk result (dialogs.new.entries
-        ≡ (served_at name.now (spec.request_in event method body) (Refused NoSuchDialog)
+        ≡ (served_at name.now (spec.request_in_held event method body) (Refused NoSuchDialog)
         dialogs.old.entries).0) }
 {
     let Some(held) = dialogs.get_mut(name) else {
@@ -117,8 +117,8 @@ fn request_in(
     body: Text,
 ) -> Result<Service, AllocError>
     ensures service { IfOk result (λ service. service
-        ≡ (spec.request_in event method body held.old).1) }
-    ensures held { OnOk result (held.new ≡ (spec.request_in event method body held.old).0) }
+        ≡ (spec.request_in_held event method body held.old).1) }
+    ensures held { OnOk result (held.new ≡ (spec.request_in_held event method body held.old).0) }
 {
     if is_bad_in(held, &method) {
         return Ok(Service::Refused(Refusal::BadMethod));
@@ -220,11 +220,11 @@ pub(crate) fn ack_told(
     debt: Debt,
 ) -> Result<(Vec<CallOut>, Option<SentAck>), AllocError>
     ensures dialogs { OnOk result (dialogs.new.entries
-        ≡ (spec.ack_told event name.now debt command.now dialogs.old.entries).0) }
+        ≡ (spec.ack_asked event name.now debt command.now dialogs.old.entries).0) }
     ensures outs { IfOk result (λ told. told.0.items
-        ≡ (spec.ack_told event name.now debt command.now dialogs.old.entries).1) }
+        ≡ (spec.ack_asked event name.now debt command.now dialogs.old.entries).1) }
     ensures ack { IfOk result (λ told. told.1
-        ≡ (spec.ack_told event name.now debt command.now dialogs.old.entries).2) }
+        ≡ (spec.ack_asked event name.now debt command.now dialogs.old.entries).2) }
 {
     let body = command.body.clone()?;
     let service = pay_at(alloc, dialogs, name, event, debt, body)?;
@@ -241,11 +241,11 @@ pub(crate) fn prack_told(
     debt: Debt,
 ) -> Result<(Vec<CallOut>, ClientChange), AllocError>
     ensures dialogs { OnOk result (dialogs.new.entries
-        ≡ (spec.prack_told event name.now debt command.now dialogs.old.entries).0) }
+        ≡ (spec.prack_asked event name.now debt command.now dialogs.old.entries).0) }
     ensures outs { IfOk result (λ told. told.0.items
-        ≡ (spec.prack_told event name.now debt command.now dialogs.old.entries).1) }
+        ≡ (spec.prack_asked event name.now debt command.now dialogs.old.entries).1) }
     ensures change { IfOk result (λ told. told.1
-        ≡ (spec.prack_told event name.now debt command.now dialogs.old.entries).2) }
+        ≡ (spec.prack_asked event name.now debt command.now dialogs.old.entries).2) }
 {
     let body = command.body.clone()?;
     let service = pay_at(alloc, dialogs, name, event, debt, body)?;

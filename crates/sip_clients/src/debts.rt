@@ -71,7 +71,7 @@ fn drop_if_sent(alloc: Global, held: &mut HeldDialog, debt: Debt, service: &Serv
 }
 
 fn drop_debt(alloc: Global, held: &mut HeldDialog, debt: Debt)
-    ensures { held.new ≡ spec.without debt held.old }
+    ensures { held.new ≡ spec.without_debt debt held.old }
 {
     let mut owed = mem::replace(&mut held.owed, Series::new(alloc)).into_vec();
     remove(&mut owed, debt);
@@ -79,13 +79,13 @@ fn drop_debt(alloc: Global, held: &mut HeldDialog, debt: Debt)
 }
 
 fn remove(owed: &mut Vec<Debt>, debt: Debt)
-    ensures { owed.new.items ≡ filter (λ other. not (spec.is_same debt other)) owed.old.items }
+    ensures { owed.new.items ≡ filter (λ other. not (spec.is_debt debt other)) owed.old.items }
 {
     owed.retain(|other| !is_same(debt, *other));
 }
 
 fn is_same(debt: Debt, other: Debt) -> bool
-    ensures { result ≡ spec.is_same debt other }
+    ensures { result ≡ spec.is_debt debt other }
 {
     match (debt, other) {
         (

@@ -24,7 +24,7 @@ pub(crate) fn made_dialog(
     client: &Client,
     reply: &Reply,
 ) -> Result<HeldDialog, AllocError>
-    ensures { IfOk result (λ made. made ≡ spec.made_dialog client.now reply.now) }
+    ensures { IfOk result (λ made. made ≡ spec.dialog_by_response client.now reply.now) }
 {
     Ok(HeldDialog {
         dialog: Dialog::from_response(alloc, &client.request, &reply.response)?,

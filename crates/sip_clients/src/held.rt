@@ -2,9 +2,9 @@
 
 ghost use Rattle.std.specs.Prelude.{◌≡◌, ◌≤◌, ◌^◌, IfOk, OnOk};
 ghost use Rattle.sip_common.specs.Requests.{is_final};
-ghost use Rattle.sip_clients.specs.Cancel.{cancel_freed, noted};
+ghost use Rattle.sip_clients.specs.Cancel.{cancel_freed, after_response};
 ghost use Rattle.sip_clients.specs.Replied.{reply_taken};
-ghost use Rattle.sip_clients.specs.Client.{client_at, client_changed, with_client, without};
+ghost use Rattle.sip_clients.specs.Client.{client_at, client_changed, with_client, without_client};
 ghost use Rattle.sip_clients.specs.Clients as spec;
 
 use crate::answers::SentAck;
@@ -73,7 +73,7 @@ fn reply_to(
 ) -> Result<Told, AllocError>
     requires { reply.now.event.moment ≤ 2 ^ 62 }
     ensures told { IfOk result (λ told. (client.new, dialogs.new.entries, told.0.items, told.1)
-        ≡ reply_taken (noted (is_final reply.now.status) client.old) dialogs.old.entries
+        ≡ reply_taken (after_response (is_final reply.now.status) client.old) dialogs.old.entries
         reply.now) }
     ensures cancel { IfOk result (λ told. told.2
         ≡ cancel_freed (is_final reply.now.status) client.old) }
@@ -145,7 +145,7 @@ pub(crate) fn hold(clients: &mut ClientMap, id: Id, client: Client) -> Result<()
 // The request that the event of this id sent is held no more.
 fn take(clients: &mut ClientMap, id: Id) -> Option<Client>
     ensures client { result ≡ client_at id clients.old.entries }
-    ensures left { clients.new.entries ≡ without id clients.old.entries }
+    ensures left { clients.new.entries ≡ without_client id clients.old.entries }
 {
     clients.shift_remove(&id)
 }
@@ -160,7 +160,7 @@ pub(crate) fn fail_request(
 ) -> Result<Vec<CallOut>, AllocError>
     ensures { IfOk result (λ outs.
         (record { dialogs = dialogs.new.entries; clients = clients.new.entries }, outs.items)
-        ≡ spec.lost id timed_out record {
+        ≡ spec.request_lost id timed_out record {
           dialogs = dialogs.old.entries;
           clients = clients.old.entries;
         }) }
@@ -178,7 +178,7 @@ pub(crate) fn note_ack(
     name: DialogName,
     ack: Option<SentAck>,
 ) -> Result<(), AllocError>
-    ensures { OnOk result (clients.new.entries ≡ spec.ack_noted debt name ack clients.old.entries) }
+    ensures { OnOk result (clients.new.entries ≡ spec.ack_kept debt name ack clients.old.entries) }
 {
     match (debt, ack) {
         (Debt::Ack { invite, .. }, Some(ack)) => note_ack_at(clients, invite, name, ack),

@@ -10,12 +10,12 @@ ghost use Rattle.sip_common.specs.declared.command.DialogRequest.{DialogRequest}
 ghost use Rattle.sip_common.specs.declared.command.Invite.{Invite};
 ghost use Rattle.sip_common.specs.declared.command.Plain.{Plain};
 ghost use Rattle.sip_clients.specs.declared.event.Event.{Event};
-ghost use Rattle.sip_clients.specs.Cancel.{cancel_taken};
-ghost use Rattle.sip_clients.specs.Client.{Side, quiet};
-ghost use Rattle.sip_clients.specs.Clients.{ack_taken, invite_taken, lost, plain_taken, prack_taken, request_taken, response_taken};
+ghost use Rattle.sip_clients.specs.Cancel.{cancel_by_user};
+ghost use Rattle.sip_clients.specs.Client.{Side, nothing_done};
+ghost use Rattle.sip_clients.specs.Clients.{ack_by_user, invite_taken, request_lost, plain_taken, prack_by_user, request_by_user, response_taken};
 ghost use Rattle.sip_clients.specs.Name.{NamesDiffer};
 ghost use Rattle.sip_clients.specs.OwnCall.{KeepsTo, on_side};
-ghost use Rattle.sip_clients.specs.Tick.{next_due, tick_taken};
+ghost use Rattle.sip_clients.specs.Tick.{next_removal, clients_ticked};
 
 /// Names of different rounds, places or indexes differ, whatever the seeds.
 pub fn names_differ()
@@ -24,8 +24,8 @@ pub fn names_differ()
 
 /// Before the moment at which an INVITE is due to be removed a tick does nothing and says nothing.
 pub fn quiet_until_due()
-    ensures { (side : Side) (now : ℕ) → is_due now (next_due side.clients) ≡ false
-        → tick_taken side now ≡ quiet side }
+    ensures { (side : Side) (now : ℕ) → is_due now (next_removal side.clients) ≡ false
+        → clients_ticked side now ≡ nothing_done side }
 {}
 
 /// Where each held dialog, and the request of each held client request, has the Call-ID of its
@@ -36,18 +36,18 @@ pub fn each_notice_is_of_its_call()
     ensures response { (event : Event) (id : Id) (call_id : List ℕ) (response : Message)
         → KeepsTo call_id (response_taken event id call_id response) }
     ensures lost { (call_id : List ℕ) (id : Id) (timed_out : Bool)
-        → KeepsTo call_id (lost id timed_out) }
+        → KeepsTo call_id (request_lost id timed_out) }
     ensures invite { (event : Event) (invite : Invite)
         → KeepsTo invite.call_id (on_side (invite_taken event invite)) }
     ensures plain { (event : Event) (plain : Plain)
         → KeepsTo plain.call_id (on_side (plain_taken event plain)) }
     ensures request { (event : Event) (command : DialogRequest)
-        → KeepsTo command.call_id (request_taken event command) }
+        → KeepsTo command.call_id (request_by_user event command) }
     ensures ack { (event : Event) (command : DialogBody)
-        → KeepsTo command.call_id (ack_taken event command) }
+        → KeepsTo command.call_id (ack_by_user event command) }
     ensures prack { (event : Event) (command : DialogBody)
-        → KeepsTo command.call_id (prack_taken event command) }
+        → KeepsTo command.call_id (prack_by_user event command) }
     ensures cancel { (event : Event) (command : Cancel)
-        → KeepsTo command.call_id (cancel_taken event command) }
-    ensures tick { (call_id : List ℕ) (now : ℕ) → KeepsTo call_id (λ side. tick_taken side now) }
+        → KeepsTo command.call_id (cancel_by_user event command) }
+    ensures tick { (call_id : List ℕ) (now : ℕ) → KeepsTo call_id (λ side. clients_ticked side now) }
 {}

@@ -123,7 +123,7 @@ fn finish(
     reply: &Reply,
 ) -> Result<(Vec<CallOut>, ClientChange), AllocError>
     ensures { IfOk result (λ told. (client.now, dialogs.new.entries, told.0.items, told.1)
-        ≡ spec.finished client.now dialogs.old.entries reply.now) }
+        ≡ spec.request_over client.now dialogs.old.entries reply.now) }
 {
     let mut outs = one(alloc, response_notice(alloc, reply)?)?;
     let ends = ends_dialog(reply.status.code());
@@ -300,7 +300,7 @@ fn late(
     reply: &Reply,
 ) -> Result<(Vec<CallOut>, ClientChange), AllocError>
     requires { reply.now.event.moment ≤ 2 ^ 62 }
-    ensures client { OnOk result (client.new ≡ spec.answered reply.now None client.old) }
+    ensures client { OnOk result (client.new ≡ spec.held_after_success reply.now None client.old) }
     ensures outs { IfOk result (λ told. told.0.items ≡ spec.notice reply.now) }
     ensures change { IfOk result (λ told. told.1 ≡ ClientChange.Stays) }
 {
@@ -311,7 +311,7 @@ fn late(
 // The INVITE is held for 64*T1 after its first 2xx (RFC 6026, section 7.2).
 fn note_answer(client: &mut Client, reply: &Reply, ack: Option<SentAck>) -> Result<(), AllocError>
     requires { reply.now.event.moment ≤ 2 ^ 62 }
-    ensures { OnOk result (client.new ≡ spec.answered reply.now ack client.old) }
+    ensures { OnOk result (client.new ≡ spec.held_after_success reply.now ack client.old) }
 {
     client.answers.note(reply.name.clone()?, ack)?;
     client.removal = Some(

@@ -177,7 +177,7 @@ fn rseq_of(response: &Message) -> Option<u32>
 }
 
 fn is_of_dialog(reply: &Reply) -> bool
-    ensures { result ≡ spec.is_of_dialog reply.now }
+    ensures { result ≡ spec.is_dialog_response reply.now }
 {
     reply.status.code() != TRYING && is_inside(&reply.response)
 }

@@ -41,7 +41,7 @@ fn notices_of(
     now: u64,
 ) -> Result<Vec<CallOut>, AllocError>
     ensures { IfOk result (λ outs. outs.items
-        ≡ spec.notices_of now dialogs.now.entries client.now) }
+        ≡ spec.early_ends_told now dialogs.now.entries client.now) }
 {
     if is_over(client, now) {
         early_notices(alloc, dialogs, client.id)
@@ -56,14 +56,14 @@ pub(crate) fn drop_dialogs(dialogs: &mut Dialogs, clients: &ClientMap, now: u64)
 {
     dialogs.retain(
         |_name, held| -> bool
-            ensures kept { result ≡ not (spec.ends_at now clients.entry.now.entries held.old) }
+            ensures kept { result ≡ not (spec.ends_early_at now clients.entry.now.entries held.old) }
             ensures same { held.new ≡ held.old }
         { !ends_at(clients, now, held) },
     );
 }
 
 fn ends_at(clients: &ClientMap, now: u64, held: &HeldDialog) -> bool
-    ensures { result ≡ spec.ends_at now clients.now.entries held.now }
+    ensures { result ≡ spec.ends_early_at now clients.now.entries held.now }
 {
     clients.values().as_slice().iter().any(|client| is_over(client, now)
         && is_early_of(held, client.id))
@@ -83,7 +83,7 @@ pub(crate) fn drop_clients(clients: &mut ClientMap, now: u64)
 
 /// The first moment, in ms, at which an INVITE is removed, if there is one.
 pub(crate) fn next_due(clients: &ClientMap) -> Option<u64>
-    ensures { result ≡ spec.next_due clients.now.entries }
+    ensures { result ≡ spec.next_removal clients.now.entries }
 {
     clients
         .values()

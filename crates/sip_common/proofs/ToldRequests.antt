@@ -9,13 +9,13 @@ use Rattle.sip_common.specs.declared.held_dialog.DialogName.{DialogName}
 use Rattle.sip_common.specs.declared.held_dialog.HeldDialog.{HeldDialog}
 use Rattle.sip_common.specs.declared.item.CallOut.{CallOut}
 use Rattle.sip_common.specs.Dialogs.{Dialogs, dialog_at, early_ended, ended_at, ended_notice, is_early_of}
-use Rattle.sip_common.specs.Notices.{request_in}
+use Rattle.sip_common.specs.Notices.{request_told_by}
 
 abbrev pub shown : List CallOut → List Id
-shown outs = filter_map request_in outs
+shown outs = filter_map request_told_by outs
 
 pub none_of_both : (xs ys : List CallOut) → shown xs ≡ [] → shown ys ≡ [] → shown (xs ++ ys) ≡ []
-none_of_both xs ys first second = filter_map-append request_in xs ys ∙ (λ i. first i ++ second i)
+none_of_both xs ys first second = filter_map-append request_told_by xs ys ∙ (λ i. first i ++ second i)
 
 pub ends_shown : (dialogs : List HeldDialog) → shown (map ended_notice dialogs) ≡ []
 ends_shown [] = refl

@@ -46,13 +46,13 @@ lives dialogs life =
     option_map_or (λ held. is_id held.born life.born) (dialog_at life.name dialogs) false
 
 -- the dialog of this name, as it is now
-abbrev pub life_at : DialogName → Dialogs → Option DialogLife
-life_at name dialogs =
+abbrev pub dialog_life_at : DialogName → Dialogs → Option DialogLife
+dialog_life_at name dialogs =
     option_map (λ held. record { name = name; born = held.born }) (dialog_at name dialogs)
 
 -- the life of the held dialog that a request with a To tag is in
 abbrev pub own_dialog : Message → DialogName → Dialogs → Option DialogLife
-own_dialog request name dialogs = if is_inside request then life_at name dialogs else None
+own_dialog request name dialogs = if is_inside request then dialog_life_at name dialogs else None
 
 -- ---- what happens in a dialog
 

@@ -55,7 +55,7 @@ pub fn own_dialog(
 }
 
 fn life_at(dialogs: &Dialogs, name: &DialogName) -> Result<Option<DialogLife>, AllocError>
-    ensures { IfOk result (λ dialog. dialog ≡ spec.life_at name.now dialogs.now.entries) }
+    ensures { IfOk result (λ dialog. dialog ≡ spec.dialog_life_at name.now dialogs.now.entries) }
 {
     let Some(held) = dialogs.get(name) else {
         return Ok(None);

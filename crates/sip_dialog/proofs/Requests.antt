@@ -13,7 +13,7 @@ use Rattle.sip_message.specs.Ip.{ip_text}
 use Rattle.sip_parts.specs.Parameters.{value_named}
 use Rattle.sip_message.specs.Via.{are_vias}
 use Rattle.sip_dialog.specs.Branch.{is_branch}
-use Rattle.sip_dialog.specs.Request.{via_of}
+use Rattle.sip_dialog.specs.Request.{agent_via}
 use Rattle.sip_message.proofs.Stamps.{all_digits-decimal}
 
 -- a test that digits pass
@@ -86,6 +86,6 @@ own_uri ip port p q r s t =
     (number is_uri_byte uri_digit port (omega arith))
 
 pub own_are_vias : (local : Addr) (branch : List ℕ) → IsTrue (is_branch branch)
-    → IsTrue (are_vias (via_of local branch ∷ []))
+    → IsTrue (are_vias (agent_via local branch ∷ []))
 unfolding are_vias value_named
 own_are_vias local branch rule = and_right _ _ rule

@@ -6,14 +6,14 @@ use Rattle.sip_dialog.specs.declared.dialog.Dialog.{Dialog}
 use Rattle.sip_dialog.specs.declared.fault.DialogFault.{DialogFault}
 use Rattle.sip_dialog.specs.declared.fault.DialogFault.TheVariants.{SequenceUsedUp, NotConfirmed, Ended, StrictRoute, OutOfOrder, NoMemory}
 use Rattle.sip_dialog.specs.Dialog.{is_ended, is_early}
-use Rattle.sip_dialog.specs.Request.{is_invite}
+use Rattle.sip_dialog.specs.Request.{is_invite_method}
 use Rattle.sip_dialog.specs.Route.{is_strict}
 
 -- of a request of this method: an INVITE wants a confirmed dialog, and the last CSeq is 2^31 - 1
 abbrev pub request_fault : Dialog → List ℕ → Option DialogFault
 request_fault dialog method =
     if is_ended dialog.state then Some Ended
-    else (if is_early dialog.state && is_invite method then Some NotConfirmed
+    else (if is_early dialog.state && is_invite_method method then Some NotConfirmed
     else (if is_strict dialog.route_set then Some StrictRoute
     else (if nat_le 2147483647 dialog.local_cseq then Some SequenceUsedUp
     else None)))

@@ -25,9 +25,9 @@ abbrev pub state_by : ℕ → DialogState
 state_by status = if nat_lt status 200 then Early else Confirmed
 
 -- the state in which a dialog begins by a response
-abbrev pub state_of : StartLine → DialogState
-state_of (Request uri) = Confirmed
-state_of (Response status reason) = state_by status
+abbrev pub first_state : StartLine → DialogState
+first_state (Request uri) = Confirmed
+first_state (Response status reason) = state_by status
 
 -- the URI of the first Contact, if there is one
 abbrev pub contact_uri : Message → Option (List ℕ)
@@ -63,7 +63,7 @@ abbrev pub opened_by_response : Message → Message → Dialog
 opened_by_response request response = record {
   alloc = the_allocator;
   side = Caller;
-  state = state_of response.start;
+  state = first_state response.start;
   call_id = request.call_id;
   local = endpoint_of request.from.uri request.from;
   remote = endpoint_of request.to.uri response.to;

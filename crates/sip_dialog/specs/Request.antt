@@ -22,8 +22,8 @@ via_parameters branch =
     ∷ (record { name = codes "branch"; value = Some branch }) ∷ []
 
 -- `SIP/2.0/UDP local;rport;branch=..`
-abbrev pub via_of : Addr → List ℕ → Via
-via_of local branch = record {
+abbrev pub agent_via : Addr → List ℕ → Via
+agent_via local branch = record {
   transport = codes "UDP";
   host = ip_text local.ip;
   port = Some local.port;
@@ -35,12 +35,12 @@ abbrev pub contact_of : Addr → NameAddr
 contact_of local = record { display = []; uri = codes "sip:" ++ addr_text local; parameters = [] }
 
 -- a request that wants a confirmed dialog, and that has a Contact
-abbrev pub is_invite : List ℕ → Bool
-is_invite method = bytes_eq method (codes "INVITE")
+abbrev pub is_invite_method : List ℕ → Bool
+is_invite_method method = bytes_eq method (codes "INVITE")
 
 -- an INVITE has a Contact: this agent's address
 unfoldable pub contacts_of : List ℕ → Addr → List NameAddr
-contacts_of method local = if is_invite method then contact_of local ∷ [] else []
+contacts_of method local = if is_invite_method method then contact_of local ∷ [] else []
 
 -- the request of this method and number, without a body
 abbrev pub bare_request_in : Dialog → List ℕ → ℕ → List ℕ → Addr → Message
@@ -48,7 +48,7 @@ bare_request_in dialog method number branch local =
     let from = party_of dialog.local.uri dialog.local.tag in
     let to = party_of dialog.remote.uri dialog.remote.tag in
     let cseq : CSeq = record { number = number; method = method } in
-    record (bare (Request dialog.target) (via_of local branch ∷ []) from to dialog.call_id cseq) {
+    record (bare (Request dialog.target) (agent_via local branch ∷ []) from to dialog.call_id cseq) {
       max_forwards = Some MAX_FORWARDS;
       contacts = contacts_of method local;
       routes = dialog.route_set;

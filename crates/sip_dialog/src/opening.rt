@@ -123,7 +123,7 @@ fn state_by(status: StatusCode) -> DialogState
 
 /// The state of a dialog that this response makes.
 fn state_of(response: &Message) -> DialogState
-    ensures { result ≡ opening.state_of response.now.start }
+    ensures { result ≡ opening.first_state response.now.start }
 {
     match &response.start {
         StartLine::Request { .. } => DialogState::Confirmed,

@@ -15,14 +15,14 @@ use std::alloc::{AllocError, Global};
 
 /// Whether the method is INVITE. Methods are compared byte by byte.
 pub(crate) fn is_invite(method: &Token) -> bool
-    ensures { result ≡ request.is_invite method.now }
+    ensures { result ≡ request.is_invite_method method.now }
 {
     method.as_slice() == b"INVITE".as_slice()
 }
 
 /// The Via of a made request, which asks for `rport` (RFC 3581, section 3).
 pub fn own_via(alloc: Global, local: Addr, branch: Branch) -> Result<Vias, AllocError>
-    ensures { IfOk result (λ vias. vias ≡ request.via_of local branch ∷ []) }
+    ensures { IfOk result (λ vias. vias ≡ request.agent_via local branch ∷ []) }
 {
     let transport = udp(alloc)?;
     let host = own_host(alloc, local)?;

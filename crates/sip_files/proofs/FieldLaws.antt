@@ -25,9 +25,9 @@ use Rattle.sip_files.specs.declared.fields.Dialog.{Dialog}
 use Rattle.sip_files.specs.declared.fields.Uris.{Uris}
 use Rattle.sip_files.specs.Word.{are_bytes, spelled_word, spelled_rest}
 use Rattle.sip_files.specs.Field.{id_text}
-use Rattle.sip_files.specs.Events.{IsId, IsCallId, IsReason, IsUri, IsMethod, IsTag, reliability_text, support_text}
+use Rattle.sip_files.specs.Events.{IsId, IsCallIdWord, IsReason, IsUri, IsMethod, IsTag, reliability_text, support_text}
 use Rattle.sip_files.specs.Reading.{word_at, rest_at, id_at, address_at}
-use Rattle.sip_files.specs.ReadLine.{call_id_at, reason_at, reliability_at, uri_at, method_at, tag_of, tag_at, support_at, uris_of, uris_at, dialog_of, dialog_at}
+use Rattle.sip_files.specs.ReadLine.{call_id_at, reason_at, reliability_at, uri_at, method_at, tag_of, tag_at, support_at, uris_of, uris_at, dialog_read, dialog_at}
 use Rattle.sip_files.proofs.WordLaws.{word_took, word_again, rest_took, rest_again}
 use Rattle.sip_files.proofs.Cuts.{ReadsFront, field_front, both_front, made_front}
 use Rattle.sip_files.proofs.Shown.{word_no}
@@ -61,7 +61,7 @@ tested_reads {Base = Base} spell read fits reads = record { took = took; again =
     again text is =
         ap (λ o. o >>= tested fits) (reads.again text is.0) ∙ ap (λ r. cond r (Some text) None) is.1
 
-call_id_reads : Reads IsCallId spelled_word call_id_at
+call_id_reads : Reads IsCallIdWord spelled_word call_id_at
 unfolding call_id_at
 call_id_reads = tested_reads spelled_word word_at is_word word_reads
 
@@ -207,8 +207,8 @@ support_no support.Required = refl
 
 -- ---- parts at the front
 
-pub call_id_front : ReadsFront IsCallId spelled_word (field_at 32 call_id_at)
-call_id_front = field_front IsCallId spelled_word call_id_at call_id_reads
+pub call_id_front : ReadsFront IsCallIdWord spelled_word (field_at 32 call_id_at)
+call_id_front = field_front IsCallIdWord spelled_word call_id_at call_id_reads
     (λ text fits. word_no 32 text (omega arith) refl)
 
 pub word_front : ReadsFront (λ text. are_bytes text ≡ true) spelled_word (field_at 32 word_at)
@@ -269,7 +269,7 @@ uris_front =
     (both_front (both_front uri_front uri_front) uri_front)
 
 abbrev FitDialog : Dialog → Type 0
-FitDialog dialog = (IsCallId dialog.call_id × IsTag dialog.local_tag) × IsTag dialog.remote_tag
+FitDialog dialog = (IsCallIdWord dialog.call_id × IsTag dialog.local_tag) × IsTag dialog.remote_tag
 
 abbrev pub dialog_text : Dialog → List ℕ
 dialog_text dialog = (spelled_word dialog.call_id ++ 32 ∷ spelled_word (tag_text dialog.local_tag))
@@ -278,6 +278,6 @@ dialog_text dialog = (spelled_word dialog.call_id ++ 32 ∷ spelled_word (tag_te
 pub dialog_front : ReadsFront FitDialog dialog_text dialog_at
 unfolding dialog_at
 dialog_front =
-    made_front dialog_of (λ dialog. ((dialog.call_id, dialog.local_tag), dialog.remote_tag))
+    made_front dialog_read (λ dialog. ((dialog.call_id, dialog.local_tag), dialog.remote_tag))
     (λ dialog. refl) (λ read. refl)
     (both_front (both_front call_id_front tag_front) tag_front)

@@ -22,7 +22,7 @@ use Rattle.sip_files.specs.declared.events_fault.EventsFault.{EventsFault}
 use Rattle.sip_files.specs.declared.events_fault.EventsFault.TheVariants.{TooLong, BadVersion, BadLine, NoMemory}
 use Rattle.sip_files.specs.Events.{SpellsLine}
 use Rattle.sip_files.specs.Field.{address_field}
-use Rattle.sip_files.specs.EventFile.{Head, config_of, file_lines, with_ends, version_line, file_text, SpellsIn, SpellsEvents, IsEventFile, IsBegun, IsOneLine, IsBadLine, HasVersion, TellsFault}
+use Rattle.sip_files.specs.EventFile.{Head, config_of, file_lines, with_ends, version_line, file_text, SpellsIn, SpellsEvents, IsEventFile, IsBegun, IsOneLine, IsBadLine, HasVersion, TellsFileFault}
 use Rattle.sip_files.specs.ReadLine.{line_at}
 use Rattle.sip_files.specs.Drafting.{is_begun, nothing_read, taken, drafted}
 use Rattle.sip_files.specs.Lines.{version_at, FollowsVersion, TellsVersion, TellsLine, Drafts, Stuck}
@@ -610,7 +610,7 @@ version_only (BadLine number) text config rounds tells s =
 version_only NoMemory text config rounds tells s = elim tells [ ]
 
 pub version_tells : (fault : EventsFault) (text : List ℕ) → length text ≤ 2 ^ 26
-    → TellsVersion fault text → TellsFault fault text
+    → TellsVersion fault text → TellsFileFault fault text
 version_tells TooLong text small tells = elim tells [ ]
 version_tells BadVersion text small tells = (small, tells)
 version_tells (BadLine number) text small tells = (
@@ -631,7 +631,7 @@ line_only version NoMemory text after config rounds follows tells s = refl
 
 pub line_tells : (version : Version) (fault : EventsFault) (text after : List ℕ)
     → length text ≤ 2 ^ 26 → FollowsVersion version text after → TellsLine version fault after
-    → TellsFault fault text
+    → TellsFileFault fault text
 line_tells version TooLong text after small follows tells = elim tells [ ]
 line_tells version BadVersion text after small follows tells = elim tells [ ]
 line_tells version (BadLine number) text after small follows tells =
@@ -639,7 +639,7 @@ line_tells version (BadLine number) text after small follows tells =
 line_tells version NoMemory text after small follows tells = tt
 
 -- no fault fits an event file but want of memory
-pub never_bad : (fault : EventsFault) (text : List ℕ) → TellsFault fault text → IsEventFile text
+pub never_bad : (fault : EventsFault) (text : List ℕ) → TellsFileFault fault text → IsEventFile text
     → fault ≡ NoMemory
 never_bad TooLong text tells file = absurd (omega (arith, file.3, tells))
 never_bad BadVersion text tells file = absurd (tells.1 (has_version file.0 file.1 text file.2))

@@ -35,9 +35,9 @@ use Rattle.sip_files.specs.declared.fields.Dialog.{Dialog}
 use Rattle.sip_files.specs.declared.fields.Uris.{Uris}
 use Rattle.sip_files.specs.Word.{hex_pair, are_bytes, spelled_word, spelled_rest}
 use Rattle.sip_files.specs.Field.{id_text, plain_field, number_field, id_field, address_field, word_field, rest_field}
-use Rattle.sip_files.specs.Events.{IsMethod, IsInvite, IsPlain, IsRequest, IsBody, IsRespond, IsCancel, IsCommandLine, reliability_text, support_text, command_text, SpellsClient, SpellsServer, SpellsEvent, SpellsLine}
+use Rattle.sip_files.specs.Events.{IsMethod, IsInvite, IsPlain, IsRequest, IsDialogBody, IsRespond, IsCancel, IsCommandLine, reliability_text, support_text, command_text, SpellsClient, SpellsServer, SpellsEvent, SpellsLine}
 use Rattle.sip_files.specs.Reading.{word_at, rest_at, both_at, ended_by, address_at, seed_at}
-use Rattle.sip_files.specs.ReadLine.{method_at, invite_of, invite_at, plain_of, plain_at, request_of, request_at, body_of, body_at, respond_of, respond_at, cancel_of, cancel_at, cancel_in, command_at, datagram_at, client_of, client_at, server_of, server_at, key_at, failed_at, event_at, keyword_line, line_at}
+use Rattle.sip_files.specs.ReadLine.{method_at, invite_read, invite_at, plain_read, plain_at, request_read, request_at, body_of, body_at, respond_of, respond_at, cancel_of, cancel_at, cancel_in, command_at, datagram_at, client_key_of, client_at, server_of, server_at, key_at, failed_at, event_at, keyword_line, line_at}
 use Rattle.sip_files.proofs.WordLaws.{rest_took, rest_again}
 use Rattle.sip_files.proofs.Cuts.{both_front, ended_reads, made_reads}
 use Rattle.sip_files.proofs.Shown.{word_no, rest_no, pairs_no}
@@ -86,7 +86,7 @@ invite_fields c =
 invite_reads : Reads IsInvite invite_fields invite_at
 unfolding invite_at
 invite_reads =
-    made_reads invite_of (λ c. (
+    made_reads invite_read (λ c. (
       (
         (
           (c.call_id, c.address),
@@ -119,7 +119,7 @@ plain_fields c =
 plain_reads : Reads IsPlain plain_fields plain_at
 unfolding plain_at
 plain_reads =
-    made_reads plain_of (λ c. (
+    made_reads plain_read (λ c. (
       (
         ((c.call_id, c.address), c.method),
         record { request_uri = c.request_uri; from = c.from; to = c.to },
@@ -148,7 +148,7 @@ request_fields c = (dialog_text
 request_reads : Reads IsRequest request_fields request_at
 unfolding request_at
 request_reads =
-    made_reads request_of (λ c. (
+    made_reads request_read (λ c. (
       (
         record
             { call_id = c.call_id; local_tag = c.local_tag; remote_tag = c.remote_tag },
@@ -171,7 +171,7 @@ body_fields c = dialog_text (record
     { call_id = c.call_id; local_tag = c.local_tag; remote_tag = c.remote_tag })
     ++ 32 ∷ spelled_word c.body
 
-body_reads : Reads IsBody body_fields body_at
+body_reads : Reads IsDialogBody body_fields body_at
 unfolding body_at
 body_reads =
     made_reads body_of (λ c. (
@@ -354,9 +354,9 @@ module _ (version : Version) (keyword fields : List ℕ) (c : UserCommand) where
       request_reads (λ x f. f) request_text e (λ e.
       by_keyword (codes "respond") command.Respond IsRespond respond_fields respond_at _
       respond_reads (λ x f. f) respond_text e (λ e.
-      by_keyword (codes "ack") command.Ack IsBody body_fields body_at _ body_reads
+      by_keyword (codes "ack") command.Ack IsDialogBody body_fields body_at _ body_reads
       (λ x f. f) ack_text e (λ e.
-      by_keyword (codes "prack") command.Prack IsBody body_fields body_at _ body_reads
+      by_keyword (codes "prack") command.Prack IsDialogBody body_fields body_at _ body_reads
       (λ x f. f) prack_text e (λ e.
       by_keyword (codes "cancel") command.Cancel (IsCancelIn version) cancel_fields
       (cancel_in version) _ (cancel_reads_in version) (λ x f. f) cancel_text e (λ e.
@@ -406,7 +406,7 @@ module _ (fields : List ℕ) (key : Key) where
       → SpellsClient (codes "failed client" ++ 32 ∷ fields) key
   unfolding client_at
   client_took e =
-      let x = mapped client_of (ended_by (field_at 32 word_at) method_at fields) key e in
+      let x = mapped client_key_of (ended_by (field_at 32 word_at) method_at fields) key e in
       let t = client_words.took fields x.0 x.1 in
       record {
         branch = (x.0).0;
@@ -595,7 +595,7 @@ client_again version text key s =
     read_from version text (codes "failed client" ++ 32 ∷ client_fields (s.branch, s.method))
     (line.Event (Failed key))
     (s.spelled ∙ client_text s.branch s.method)
-    (ap (λ o. option_map line.Event (option_map Failed (option_map client_of o)))
+    (ap (λ o. option_map line.Event (option_map Failed (option_map client_key_of o)))
     (client_words.again (s.branch, s.method) (s.bytes, s.token))
     ∙ ap (λ (k : Key). Some (line.Event (Failed k))) (sym s.named))
 

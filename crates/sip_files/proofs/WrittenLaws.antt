@@ -18,7 +18,7 @@ use Rattle.sip_files.specs.declared.event_line.EventLine.TheVariants as line
 use Rattle.sip_files.specs.Events.{SpellsClient, SpellsServer, SpellsEvent, SpellsLine}
 use Rattle.sip_files.specs.EventFile.{Head, SpellsEvents, file_lines, head_lines, round_lines, with_ends, version_line, file_text}
 use Rattle.sip_files.specs.ReadLine.{line_at}
-use Rattle.sip_files.specs.Written.{IsConfig, IsEvent, IsKey, IsRound, SpellsCommand, SpellsEventLine, command_of, ended_text, event_in, events_text, failed_text, head_text, line_text, round_text}
+use Rattle.sip_files.specs.Written.{IsConfig, IsEvent, IsKey, IsRound, SpellsCommand, SpellsEventLine, user_command_of, ended_text, event_of_line, events_text, failed_text, head_text, line_text, round_text}
 use Rattle.sip_files.proofs.LineLaws.{line_took, line_again}
 
 -- ---- the lines are spelled
@@ -162,7 +162,7 @@ one_event text event other s t =
     sym (line_again Two text (line.Event event) s) ∙ line_again Two text (line.Event other) t
 
 in_line : (text : List ℕ) (item : EventLine) → SpellsLine Two text item
-    → IfSome (event_in item) (SpellsEventLine text)
+    → IfSome (event_of_line item) (SpellsEventLine text)
 in_line text (line.Local address) s = tt
 in_line text (line.Seed seed) s = tt
 in_line text (line.First number) s = tt
@@ -170,11 +170,11 @@ in_line text (line.Round moment) s = tt
 in_line text (line.Event event) s = s
 
 pub says_event : (text : List ℕ) (item : EventLine) → Some item ≡ line_at Two text
-    → IfSome (event_in item) (SpellsEventLine text)
+    → IfSome (event_of_line item) (SpellsEventLine text)
 says_event text item e = in_line text item (line_took Two text item (sym e))
 
 none_said : (text : List ℕ) (item : EventLine) (found : Option Event)
-    → Some item ≡ line_at Two text → event_in item ≡ found
+    → Some item ≡ line_at Two text → event_of_line item ≡ found
     → IfNone found ((given : Event) → ¬ SpellsEventLine text given)
 none_said text item (Some event) e f = tt
 none_said text item None e f =
@@ -182,12 +182,12 @@ none_said text item None e f =
     let other : Some item ≡ Some (line.Event given) =
     e ∙ line_again Two text (line.Event given) s in
     let same : item ≡ line.Event given = cc in
-    let no : Some given ≡ None = sym (ap event_in same) ∙ f in
+    let no : Some given ≡ None = sym (ap event_of_line same) ∙ f in
     absurd cc
 
 pub says_no_event : (text : List ℕ) (item : EventLine) → Some item ≡ line_at Two text
-    → IfNone (event_in item) ((given : Event) → ¬ SpellsEventLine text given)
-says_no_event text item e = none_said text item (event_in item) e refl
+    → IfNone (event_of_line item) ((given : Event) → ¬ SpellsEventLine text given)
+says_no_event text item e = none_said text item (event_of_line item) e refl
 
 pub says_nothing : (text : List ℕ) → None ≡ line_at Two text
     → (given : Event) → ¬ SpellsEventLine text given
@@ -196,13 +196,13 @@ says_nothing text e given s =
     absurd cc
 
 pub is_command : (text : List ℕ) (event : Event) → SpellsEventLine text event
-    → IfSome (command_of event) (SpellsCommand text)
+    → IfSome (user_command_of event) (SpellsCommand text)
 is_command text (Datagram from bytes) s = tt
 is_command text (Failed key) s = tt
 is_command text (Command command) s = s
 
 pub is_no_command : (text : List ℕ) (event : Event) → SpellsEventLine text event
-    → IfNone (command_of event) ((given : UserCommand) → ¬ SpellsCommand text given)
+    → IfNone (user_command_of event) ((given : UserCommand) → ¬ SpellsCommand text given)
 is_no_command text (Datagram from bytes) s = λ given t.
     let no = one_event text (Datagram from bytes) (Command given) s t in absurd cc
 is_no_command text (Failed key) s = λ given t.

@@ -70,8 +70,8 @@ with_event (round ∷ []) event = Some ((record round { events = round.events ++
 with_event (round ∷ next ∷ rounds) event =
     option_map (λ rounds. round ∷ rounds) (with_event (next ∷ rounds) event)
 
-abbrev pub event_taken : Draft → Event → Option Draft
-event_taken draft event =
+abbrev pub event_drafted : Draft → Event → Option Draft
+event_drafted draft event =
     option_map (λ rounds. record draft { rounds = rounds }) (with_event draft.rounds event)
 
 abbrev pub taken : Draft → EventLine → Option Draft
@@ -79,7 +79,7 @@ taken draft (line.Local local) = local_taken draft.stage draft local
 taken draft (line.Seed seed) = seed_taken draft.stage draft seed
 taken draft (line.First number) = first_taken draft.stage draft number
 taken draft (line.Round moment) = round_taken draft.stage draft moment
-taken draft (line.Event event) = event_taken draft event
+taken draft (line.Event event) = event_drafted draft event
 
 unfoldable pub drafted : Draft → List EventLine → Option Draft
 drafted draft [] = Some draft

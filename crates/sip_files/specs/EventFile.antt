@@ -108,13 +108,13 @@ HasVersion text = (version : Version) × ((text ≡ version_line version)
     ⊎ ((after : List ℕ) × (text ≡ version_line version ++ 10 ∷ after)))
 
 -- which fault it is: the first that fits; for want of memory nothing is said
-abbrev pub TellsFault : EventsFault → List ℕ → Type 0
-TellsFault TooLong text = 2 ^ 26 < length text
-TellsFault BadVersion text = (length text ≤ 2 ^ 26) × ¬ (HasVersion text)
-TellsFault (BadLine number) text = (length text ≤ 2 ^ 26) × HasVersion text × IsBadLine number text
-TellsFault NoMemory text = Unit {0}
+abbrev pub TellsFileFault : EventsFault → List ℕ → Type 0
+TellsFileFault TooLong text = 2 ^ 26 < length text
+TellsFileFault BadVersion text = (length text ≤ 2 ^ 26) × ¬ (HasVersion text)
+TellsFileFault (BadLine number) text = (length text ≤ 2 ^ 26) × HasVersion text × IsBadLine number text
+TellsFileFault NoMemory text = Unit {0}
 
 -- the answer is this one, unless memory ran out
-abbrev pub Answers : Config → List Round → Result (Config × List Round) EventsFault → Type 0
-Answers config rounds result =
+abbrev pub IsReadAs : Config → List Round → Result (Config × List Round) EventsFault → Type 0
+IsReadAs config rounds result =
     MatchResult result (λ read. (read.0 ≡ config) × (read.1 ≡ rounds)) (λ fault. fault ≡ NoMemory)

@@ -39,8 +39,8 @@ IsId id = (id.round ≤ 2 ^ 64 - 1) × (id.place ≤ 2 ^ 32 - 1)
 abbrev pub IsSeed : List ℕ → Type 0
 IsSeed seed = (length seed ≡ 32) × IsTrue (are_bytes seed)
 
-abbrev pub IsCallId : List ℕ → Type 0
-IsCallId text = IsTrue (are_bytes text) × IsTrue (is_word text)
+abbrev pub IsCallIdWord : List ℕ → Type 0
+IsCallIdWord text = IsTrue (are_bytes text) × IsTrue (is_word text)
 
 abbrev pub IsReason : List ℕ → Type 0
 IsReason text = IsTrue (are_bytes text) × IsTrue (is_reason text)
@@ -57,7 +57,7 @@ IsTag None = Unit
 IsTag (Some text) = IsTrue (are_bytes text) × IsTrue (is_token text)
 
 pub record IsInvite (invite : Invite) : Type 0 where
-  pub call_id : IsCallId invite.call_id
+  pub call_id : IsCallIdWord invite.call_id
   pub address : IsAddr invite.address
   pub request_uri : IsUri invite.request_uri
   pub from : IsUri invite.from
@@ -65,7 +65,7 @@ pub record IsInvite (invite : Invite) : Type 0 where
   pub body : IsTrue (are_bytes invite.body)
 
 pub record IsPlain (plain : Plain) : Type 0 where
-  pub call_id : IsCallId plain.call_id
+  pub call_id : IsCallIdWord plain.call_id
   pub address : IsAddr plain.address
   pub method : IsMethod plain.method
   pub request_uri : IsUri plain.request_uri
@@ -74,27 +74,27 @@ pub record IsPlain (plain : Plain) : Type 0 where
   pub body : IsTrue (are_bytes plain.body)
 
 pub record IsRequest (request : DialogRequest) : Type 0 where
-  pub call_id : IsCallId request.call_id
+  pub call_id : IsCallIdWord request.call_id
   pub local_tag : IsTag request.local_tag
   pub remote_tag : IsTag request.remote_tag
   pub method : IsMethod request.method
   pub body : IsTrue (are_bytes request.body)
 
-pub record IsBody (given : DialogBody) : Type 0 where
-  pub call_id : IsCallId given.call_id
+pub record IsDialogBody (given : DialogBody) : Type 0 where
+  pub call_id : IsCallIdWord given.call_id
   pub local_tag : IsTag given.local_tag
   pub remote_tag : IsTag given.remote_tag
   pub body : IsTrue (are_bytes given.body)
 
 pub record IsRespond (respond : Respond) : Type 0 where
-  pub call_id : IsCallId respond.call_id
+  pub call_id : IsCallIdWord respond.call_id
   pub id : IsId respond.id
   pub status : respond.status ≤ 999
   pub body : IsTrue (are_bytes respond.body)
   pub reason : IsReason respond.reason
 
 pub record IsCancel (cancel : Cancel) : Type 0 where
-  pub call_id : IsCallId cancel.call_id
+  pub call_id : IsCallIdWord cancel.call_id
   pub id : IsId cancel.id
 
 -- the commands that a file of the version may have
@@ -103,8 +103,8 @@ IsCommandLine version (command.Invite invite) = IsInvite invite
 IsCommandLine version (command.Plain plain) = IsPlain plain
 IsCommandLine version (command.Request request) = IsRequest request
 IsCommandLine version (command.Respond respond) = IsRespond respond
-IsCommandLine version (command.Ack body) = IsBody body
-IsCommandLine version (command.Prack body) = IsBody body
+IsCommandLine version (command.Ack body) = IsDialogBody body
+IsCommandLine version (command.Prack body) = IsDialogBody body
 IsCommandLine version (command.Cancel cancel) = (version ≡ Two) × IsCancel cancel
 
 -- ---- the lines

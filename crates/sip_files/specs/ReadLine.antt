@@ -88,18 +88,18 @@ uris_at fields =
     both_at (both_at (field_at 32 uri_at) (field_at 32 uri_at))
     (field_at 32 uri_at) fields >>= λ read. Some (uris_of read.0, read.1)
 
-abbrev pub dialog_of : (List ℕ × Option (List ℕ)) × Option (List ℕ) → Dialog
-dialog_of read = record { call_id = (read.0).0; local_tag = (read.0).1; remote_tag = read.1 }
+abbrev pub dialog_read : (List ℕ × Option (List ℕ)) × Option (List ℕ) → Dialog
+dialog_read read = record { call_id = (read.0).0; local_tag = (read.0).1; remote_tag = read.1 }
 
 unfoldable pub dialog_at : List ℕ → Option (Dialog × List ℕ)
 dialog_at fields =
     both_at (both_at (field_at 32 call_id_at) (field_at 32 tag_at))
-    (field_at 32 tag_at) fields >>= λ read. Some (dialog_of read.0, read.1)
+    (field_at 32 tag_at) fields >>= λ read. Some (dialog_read read.0, read.1)
 
 -- ---- the commands of the user
 
-abbrev pub invite_of : (((List ℕ × Addr) × Uris) × ProvisionalSupport) × List ℕ → Invite
-invite_of read = record {
+abbrev pub invite_read : (((List ℕ × Addr) × Uris) × ProvisionalSupport) × List ℕ → Invite
+invite_read read = record {
   call_id = (((read.0).0).0).0;
   address = (((read.0).0).0).1;
   request_uri = (((read.0).0).1).request_uri;
@@ -111,11 +111,11 @@ invite_of read = record {
 
 unfoldable pub invite_at : List ℕ → Option Invite
 invite_at fields =
-    option_map invite_of (ended_by
+    option_map invite_read (ended_by
     (both_at (both_at address_of_call_at uris_at) (field_at 32 support_at)) word_at fields)
 
-abbrev pub plain_of : (((List ℕ × Addr) × List ℕ) × Uris) × List ℕ → Plain
-plain_of read = record {
+abbrev pub plain_read : (((List ℕ × Addr) × List ℕ) × Uris) × List ℕ → Plain
+plain_read read = record {
   call_id = (((read.0).0).0).0;
   address = (((read.0).0).0).1;
   method = ((read.0).0).1;
@@ -127,11 +127,11 @@ plain_of read = record {
 
 unfoldable pub plain_at : List ℕ → Option Plain
 plain_at fields =
-    option_map plain_of (ended_by (both_at
+    option_map plain_read (ended_by (both_at
     (both_at address_of_call_at (field_at 32 method_at)) uris_at) word_at fields)
 
-abbrev pub request_of : (Dialog × List ℕ) × List ℕ → DialogRequest
-request_of read = record {
+abbrev pub request_read : (Dialog × List ℕ) × List ℕ → DialogRequest
+request_read read = record {
   call_id = ((read.0).0).call_id;
   local_tag = ((read.0).0).local_tag;
   remote_tag = ((read.0).0).remote_tag;
@@ -141,7 +141,7 @@ request_of read = record {
 
 unfoldable pub request_at : List ℕ → Option DialogRequest
 request_at fields =
-    option_map request_of (ended_by (both_at dialog_at (field_at 32 method_at)) word_at fields)
+    option_map request_read (ended_by (both_at dialog_at (field_at 32 method_at)) word_at fields)
 
 abbrev pub body_of : Dialog × List ℕ → DialogBody
 body_of read = record {
@@ -196,11 +196,11 @@ command_at version keyword fields =
 
 -- ---- failed sends
 
-abbrev pub client_of : List ℕ × List ℕ → Key
-client_of read = client_key read.0 read.1
+abbrev pub client_key_of : List ℕ × List ℕ → Key
+client_key_of read = client_key read.0 read.1
 
 unfoldable pub client_at : List ℕ → Option Key
-client_at fields = option_map client_of (ended_by (field_at 32 word_at) method_at fields)
+client_at fields = option_map client_key_of (ended_by (field_at 32 word_at) method_at fields)
 
 abbrev pub server_of : ((List ℕ × List ℕ) × ℕ) × List ℕ → Key
 server_of read = server_key ((read.0).0).0 ((read.0).0).1 (read.0).1 read.1

@@ -2,7 +2,7 @@
 use Rattle.std.specs.Prelude.{◌≡◌, ℕ, ◌≤◌, ◌^◌, Bool, List, ◌++◌, map, length, Option, None, Some, ◌⊎◌}
 use Rattle.std.specs.List.{zip}
 use Rattle.std.specs.Io.KnownBytes.{Appends}
-use Rattle.sip_files.specs.EventFile.{SpellsEvents, TellsFault}
+use Rattle.sip_files.specs.EventFile.{SpellsEvents, TellsFileFault}
 use Rattle.sip_files.specs.Outputs.{outputs_text}
 use Rattle.sip_round.specs.declared.config.Config.{Config}
 use Rattle.sip_round.specs.declared.round.Round as round
@@ -46,7 +46,7 @@ pub record RunsOutOfMemory (index : ℕ) (broken : Bool) (input : List ℕ) : Ty
 -- what a fault tells of the input; of a stream that failed and of want of memory it tells nothing
 abbrev pub TellsReplay : ReplayFault → List ℕ → Type 0
 TellsReplay Input input = Unit {0}
-TellsReplay (Events fault) input = TellsFault fault input
+TellsReplay (Events fault) input = TellsFileFault fault input
 TellsReplay (Round index fault) input =
     ((broken : Bool) × (fault ≡ round_fault.NoMemory broken) × RunsOutOfMemory index broken input)
     ⊎ RefusesRound index fault input

@@ -88,17 +88,17 @@ pub record IsRound (round : Round) : Type 0 where
 -- ---- an event or a command by itself
 
 -- the event that a line says
-abbrev pub event_in : EventLine → Option Event
-event_in (line.Local address) = None
-event_in (line.Seed seed) = None
-event_in (line.First number) = None
-event_in (line.Round moment) = None
-event_in (line.Event event) = Some event
+abbrev pub event_of_line : EventLine → Option Event
+event_of_line (line.Local address) = None
+event_of_line (line.Seed seed) = None
+event_of_line (line.First number) = None
+event_of_line (line.Round moment) = None
+event_of_line (line.Event event) = Some event
 
-abbrev pub command_of : Event → Option UserCommand
-command_of (Datagram from bytes) = None
-command_of (Failed key) = None
-command_of (Command command) = Some command
+abbrev pub user_command_of : Event → Option UserCommand
+user_command_of (Datagram from bytes) = None
+user_command_of (Failed key) = None
+user_command_of (Command command) = Some command
 
 -- the text is the line of this event
 abbrev pub SpellsEventLine : List ℕ → Event → Type 0

@@ -147,7 +147,7 @@ fn begun(draft: Draft, moment: u64) -> Result<Option<Draft>, AllocError>
 }
 
 fn with_event(draft: Draft, event: Event) -> Result<Option<Draft>, AllocError>
-    ensures { IfOk result (λ next. next ≡ drafting.event_taken draft event) }
+    ensures { IfOk result (λ next. next ≡ drafting.event_drafted draft event) }
 {
     let Some(rounds) = in_last(draft.rounds, event)? else {
         return Ok(None);

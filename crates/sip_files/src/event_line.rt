@@ -84,7 +84,7 @@ pub fn read_command_line(alloc: Global, line: &[u8]) -> Result<Option<UserComman
 }
 
 fn event_in(line: EventLine) -> Option<Event>
-    ensures { result ≡ written.event_in line }
+    ensures { result ≡ written.event_of_line line }
 {
     match line {
         EventLine::Event(event) => Some(event),
@@ -95,7 +95,7 @@ fn event_in(line: EventLine) -> Option<Event>
 }
 
 fn command_of(event: Event) -> Option<UserCommand>
-    ensures { result ≡ written.command_of event }
+    ensures { result ≡ written.user_command_of event }
 {
     match event {
         Event::Command(command) => Some(command),

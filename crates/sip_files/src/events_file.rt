@@ -31,8 +31,8 @@ pub fn read_events(alloc: Global, text: &[u8]) -> Result<(Config, Series<Round>)
     ensures size { IfOk result (λ read. length text.now ≤ 2 ^ 26) }
     ensures only { (config : config.Config) (rounds : List round.Round)
         → spelling.SpellsEvents config rounds text.now → length text.now ≤ 2 ^ 26
-        → spelling.Answers config rounds result }
-    ensures fault { IfErr result (λ fault. spelling.TellsFault fault text.now) }
+        → spelling.IsReadAs config rounds result }
+    ensures fault { IfErr result (λ fault. spelling.TellsFileFault fault text.now) }
 {
     if text.len() > MAX_EVENTS {
         return Err(EventsFault::TooLong);

@@ -21,13 +21,13 @@ free_columns width count = repeat count (repeat (width - 1) (codes " ") ++ codes
 unfoldable pub shaft : ℕ → ℕ → List ℕ
 shaft width passed = repeat passed (repeat width (codes "-")) ++ repeat (width - 2) (codes "-")
 
-abbrev pub is_same : Addr → Addr → Bool
-is_same one other = (one.port == other.port) && bytes_eq one.ip other.ip
+abbrev pub is_same_address : Addr → Addr → Bool
+is_same_address one other = (one.port == other.port) && bytes_eq one.ip other.ip
 
 -- how many columns of peers stand before that of this one; a peer without one has the last
 abbrev pub place_of : List Addr → Addr → ℕ
 place_of [] address = 0
-place_of (peer ∷ peers) address = if is_same peer address then 0 else 1 + place_of peers address
+place_of (peer ∷ peers) address = if is_same_address peer address then 0 else 1 + place_of peers address
 
 -- the column of the agent, and those of the peers, the first of which are crossed by the arrow
 unfoldable pub columns_text : Columns → Way → List ℕ

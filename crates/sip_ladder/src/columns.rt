@@ -76,7 +76,7 @@ fn place_in(peers: &[Addr], address: Addr) -> usize
 }
 
 fn is_same(one: Addr, other: Addr) -> bool
-    ensures { result ≡ row.is_same one other }
+    ensures { result ≡ row.is_same_address one other }
 {
     one.port == other.port && one.ip.as_slice() == other.ip.as_slice()
 }

@@ -50,7 +50,7 @@ live_shards shard_of within agent shards config rounds live sound are stands liv
     (λ key. within (branch_in key) (length shards.transactions) agent.cut are.0) mine lives in
     let second = counted nat_list_cmp_total exact_bytes
     (call_machine (calls_of config)) call_due tick_at
-    (calls.ticks_are_idle (calls_of config))
+    (calls.call_ticks_are_idle (calls_of config))
     (owner_of (shard_of agent.cut) (λ call_id. call_id) (length shards.calls))
     (past_of config rounds).calls shards.calls live.1
     (λ key. within key (length shards.calls) agent.cut some_calls) theirs calls_live in

@@ -246,7 +246,7 @@ module _ {C : Type 0} (shard_of : C → List ℕ → ℕ → ℕ)
 
   pub calls_sound : AllByRecursion (λ table. IsSome table) shards.calls
   calls_sound = sound_all nat_list_cmp_total exact_bytes (call_machine (calls_of config)) call_due
-      tick_at (calls.ticks_are_idle (calls_of config)) of_calls (past_of config rounds).calls
+      tick_at (calls.call_ticks_are_idle (calls_of config)) of_calls (past_of config rounds).calls
       zero shards.calls held_calls
 
   -- where nothing is due in the tables, a round without events is quiet
@@ -295,7 +295,7 @@ module _ {C : Type 0} (shard_of : C → List ℕ → ℕ → ℕ)
               (past_of config rounds).transactions shards.transactions lives_within lives_after
               held_lives;
           calls = left_alike nat_list_cmp_total exact_bytes (call_machine (calls_of config))
-              call_due tick_at (calls.ticks_are_idle (calls_of config)) of_calls
+              call_due tick_at (calls.call_ticks_are_idle (calls_of config)) of_calls
               (past_of config (rounds ++ round ∷ [])).calls (past_of config rounds).calls
               shards.calls calls_within calls_after held_calls;
         };
@@ -309,5 +309,5 @@ module _ {C : Type 0} (shard_of : C → List ℕ → ℕ → ℕ)
       shards.transactions at held_lives is)
   due_of_either at (inr is) =
       inr (due_after nat_list_cmp_total exact_bytes (call_machine (calls_of config)) call_due
-      tick_at (calls.ticks_are_idle (calls_of config)) of_calls (past_of config rounds).calls
+      tick_at (calls.call_ticks_are_idle (calls_of config)) of_calls (past_of config rounds).calls
       zero shards.calls at held_calls is)

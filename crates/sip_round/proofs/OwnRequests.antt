@@ -26,7 +26,7 @@ use Rattle.sip_transactions.specs.declared.output.Up.{Up}
 use Rattle.sip_transactions.specs.declared.step.Handed.{Handed}
 use Rattle.sip_transactions.specs.declared.step.Handed.TheVariants as handed
 use Rattle.sip_transactions.specs.declared.step.Step.{Step}
-use Rattle.sip_transactions.specs.Input.{is_method, message_in, role_of}
+use Rattle.sip_transactions.specs.Input.{is_same_method, message_in, role_of}
 use Rattle.sip_transactions.specs.Laws.{arrival_id, is_request_kind, is_request_up, naming_id, requests_in}
 use Rattle.sip_transactions.specs.Life.{acted_if, begun, context_by, keeps_request, step_for, stepped, stepped_by}
 use Rattle.sip_transactions.specs.Machine.{transaction_machine}
@@ -96,7 +96,7 @@ message_own : (id : Id) (line : StartLine) (message : Message) (reply_to : Addr)
     → IsKindOf message.call_id (kind_of line message reply_to)
     × IsKindBy (arrival_id line id) id (kind_of line message reply_to)
 message_own id (start.Request uri) message reply_to =
-    elim (is_method message.cseq.method (codes "ACK")) as (λ b. IsKindOf message.call_id
+    elim (is_same_method message.cseq.method (codes "ACK")) as (λ b. IsKindOf message.call_id
     (if b then kind.Ack message else kind.Request message reply_to)
     × IsKindBy (Some id) id (if b then kind.Ack message else kind.Request message reply_to)) [
       | true ↦ (tt, tt)

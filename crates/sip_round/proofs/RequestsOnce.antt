@@ -18,7 +18,7 @@ use Rattle.sip_common.specs.declared.item.Item.TheVariants.{Up, User}
 use Rattle.sip_common.specs.declared.notice.Notice.{Notice as ANotice}
 use Rattle.sip_common.specs.declared.notice.Notice.TheVariants as notice
 use Rattle.sip_common.specs.Command.{call_of_item}
-use Rattle.sip_common.specs.Notices.{request_in}
+use Rattle.sip_common.specs.Notices.{request_told_by}
 use Rattle.sip_served.specs.ForUser.{is_request}
 use Rattle.sip_common.specs.Ids.{is_id}
 use Rattle.sip_calls.specs.declared.call.Call.{Call}
@@ -26,7 +26,7 @@ use Rattle.sip_calls.specs.declared.calls.Calls.{Calls}
 use Rattle.sip_calls.specs.Call.{call_machine}
 use Rattle.sip_calls.specs.CallShard.{call_cmp, item_input}
 use Rattle.sip_calls.specs.Provisionals.{event_of_kind}
-use Rattle.sip_calls.specs.Requests.{brings, tells_of}
+use Rattle.sip_calls.specs.Requests.{comes_up_by, tells_of}
 use Rattle.sip_calls.proofs.CallStarts.{count_option, how_many, weight}
 use Rattle.sip_calls.proofs.RequestsTold.{each_told_once}
 use Rattle.sip_round.specs.declared.config.Config.{Config}
@@ -50,8 +50,8 @@ module _ (x : Id) where
 
   tells_append : (xs ys : List CallOut) → tells_of x (xs ++ ys) ≡ tells_of x xs + tells_of x ys
   tells_append xs ys =
-      ap (how_many x) (filter_map-append request_in xs ys)
-      ∙ how_many-append x (filter_map request_in xs) (filter_map request_in ys)
+      ap (how_many x) (filter_map-append request_told_by xs ys)
+      ∙ how_many-append x (filter_map request_told_by xs) (filter_map request_told_by ys)
 
   one_or_none : (b : Bool) (o : Output) → length (cond b (o ∷ []) []) ≡ cond b 1 0
   one_or_none true o = refl
@@ -103,7 +103,7 @@ module _ (x : Id) where
 
   abbrev coming : List (Id × Item) → ℕ
   coming [] = 0
-  coming (i ∷ items) = cond (brings x (Some i)) 1 0 + coming items
+  coming (i ∷ items) = cond (comes_up_by x (Some i)) 1 0 + coming items
 
   no_tick_tells : (calls : Calls) (state : Option Call) (key : List ℕ) (now : ℕ)
       → tells_of x (adds (call_machine calls) key state (tick_at now)) ≡ 0
@@ -186,7 +186,7 @@ module _ (x : Id) where
   kind_weighs id own kind.Failed is = omega arith
 
   item_weighs : (id : Id) (i : Item) → IsItemBy id i
-      → cond (brings x (Some (id, i))) 1 0 ≤ weight (is_id x) (item_event (id, i))
+      → cond (comes_up_by x (Some (id, i))) 1 0 ≤ weight (is_id x) (item_event (id, i))
   item_weighs id (Up up) is = kind_weighs id up.id up.kind is
   item_weighs id (User command) is = omega arith
 

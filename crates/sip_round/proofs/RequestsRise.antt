@@ -23,14 +23,14 @@ use Rattle.sip_common.specs.declared.notice.Notice.{Notice as ANotice}
 use Rattle.sip_common.specs.declared.notice.Notice.TheVariants as notice
 use Rattle.sip_common.specs.Command.{call_of_item}
 use Rattle.sip_common.specs.Ids.{is_id}
-use Rattle.sip_common.specs.Notices.{request_in}
+use Rattle.sip_common.specs.Notices.{request_told_by}
 use Rattle.sip_served.specs.ForUser.{is_request}
 use Rattle.sip_calls.specs.declared.call.Call.{Call}
 use Rattle.sip_calls.specs.declared.calls.Calls.{Calls}
 use Rattle.sip_calls.specs.Call.{call_machine}
 use Rattle.sip_calls.specs.CallShard.{call_cmp, item_input}
 use Rattle.sip_calls.specs.Provisionals.{event_of_kind}
-use Rattle.sip_calls.specs.Requests.{brings}
+use Rattle.sip_calls.specs.Requests.{comes_up_by}
 use Rattle.sip_calls.proofs.CallStarts.{how_many, id_exact}
 use Rattle.sip_calls.proofs.RequestsTold.{each_told_once}
 use Rattle.sip_round.specs.declared.config.Config.{Config}
@@ -95,7 +95,7 @@ rise_sorted round place (id ∷ ids) rise = (
 -- ---- what is given, and what calls tell
 
 abbrev asked : List CallOut → List Id
-asked outs = filter_map request_in outs
+asked outs = filter_map request_told_by outs
 
 abbrev is_told : Output → Bool
 is_told output = is_some (told_request output)
@@ -117,7 +117,7 @@ told_alone : (outputs : List Output)
 told_alone [] = refl
 told_alone (o ∷ outputs) = one_alone o outputs (told_request o) refl (told_alone outputs)
 
-notice_told : (n : ANotice) → told_request (output.Notice n) ≡ request_in (call_out.Notice n)
+notice_told : (n : ANotice) → told_request (output.Notice n) ≡ request_told_by (call_out.Notice n)
 notice_told (notice.Request call_id id method local_tag remote_tag body) = refl
 notice_told (notice.Response call_id id status local_tag remote_tag body) = refl
 notice_told (notice.Ack call_id id body) = refl
@@ -206,7 +206,7 @@ kind_asks id own kind.Timeout ids is few = inl (none_at_all ids few)
 kind_asks id own kind.Failed ids is few = inl (none_at_all ids few)
 
 item_asks : (id : Id) (item : Item) (ids : List Id) → IsItemBy id item
-    → ((x : Id) → how_many x ids ≤ cond (brings x (Some (id, item))) 1 0)
+    → ((x : Id) → how_many x ids ≤ cond (comes_up_by x (Some (id, item))) 1 0)
     → AskedBy (item_event (id, item)) ids
 item_asks id (Up up) ids is few = kind_asks id up.id up.kind ids is few
 item_asks id (User command) ids is few = inl (none_at_all ids few)
@@ -239,7 +239,7 @@ items_placed calls now at round place states (i ∷ items) all places =
     let here = adds machine key (states key) input in
     let rest = joined (told_items call_cmp machine later
     (timed_items now (call_items (suc at) items))) in
-    subst (Places round place) (sym (filter_map-append request_in here rest))
+    subst (Places round place) (sym (filter_map-append request_told_by here rest))
     (one_told round place (item_event i) (asked here) (events_of items) (asked rest)
     (item_asks i.0 i.1 (asked here) (all.0).1
     (λ x. each_told_once calls (states key) (Some i) now x))
@@ -254,7 +254,7 @@ ticks_ask : (calls : Calls) (now : ℕ) (states : List ℕ → Option Call) (key
 ticks_ask calls now states [] = refl
 ticks_ask calls now states (key ∷ keys) =
     let here = adds (call_machine calls) key (states key) (tick_at now) in
-    filter_map-append request_in here (joined (map (λ key. (
+    filter_map-append request_told_by here (joined (map (λ key. (
       key,
       adds (call_machine calls) key (states key) (tick_at now),
     )) keys))
@@ -273,7 +273,7 @@ round_told config number past round =
     let items = items_of_round config number past round in
     let keys = filter (λ key. speaks (adds machine key (before key) (tick_at round.moment)))
     (keys_of_phases call_cmp past.calls) in
-    subst (Places number 1) (sym (filter_map-append request_in (joined told.ticks)
+    subst (Places number 1) (sym (filter_map-append request_told_by (joined told.ticks)
     (joined told.items)
     ∙ ap (λ ids. ids ++ asked (joined told.items)) (ticks_ask calls round.moment before keys)))
     (items_placed calls round.moment 0 number 1 between items (items_own config number past round)

@@ -14,7 +14,7 @@ use Rattle.std.specs.Option.{option_map_or}
 use Rattle.sip_calls.specs.declared.call.Call.{Call}
 use Rattle.sip_calls.specs.declared.calls.Calls.{Calls}
 use Rattle.sip_calls.specs.Call.{CallItem, call_machine, call_step}
-use Rattle.sip_calls.specs.Histories.{History, begun_with, history_after, history_from, history_of, is_born_of, life_in, opening_in, with_more}
+use Rattle.sip_calls.specs.Histories.{History, begun_with, history_after, history_from, history_of, is_born_of, happens_in, opening_in, with_more}
 use Rattle.sip_calls.specs.Provisionals.{event_in, side_held}
 
 -- what was said ends with what was sent since the dialog opened
@@ -52,7 +52,7 @@ module _ (calls : Calls) (key : List ℕ) (name : DialogName) where
       (ends_from inputs done.0 next (said ++ here)
       (ends_on said here (is_born_of name (event_in input.input) (side_held done.0).dialogs)
       (opening_in call input.input)
-      (option_map_or (life_in call input.input done.1 name)
+      (option_map_or (happens_in call input.input done.1 name)
       (dialog_at name (side_held call).dialogs) []) history ends))
 
   ends_with : (said : List CSeq) (o : Option History) (history : History) → o ≡ Some history

@@ -35,7 +35,7 @@ use Rattle.sip_transactions.specs.declared.step.Sent.TheVariants as send
 use Rattle.sip_transactions.specs.declared.step.Step.{Step}
 use Rattle.sip_transactions.specs.declared.trigger.Trigger.{Trigger}
 use Rattle.sip_transactions.specs.declared.trigger.Trigger.TheVariants as on
-use Rattle.sip_transactions.specs.Input.{arrival_of, is_method, role_of}
+use Rattle.sip_transactions.specs.Input.{arrival_of, is_same_method, role_of}
 use Rattle.sip_transactions.specs.Life.{begun, context_by, entered, keeps_request, life_after, stepped}
 use Rattle.sip_transactions.specs.Machine.{transaction_machine}
 use Rattle.sip_transactions.specs.Output.{handed_out, made_bytes, made_of, outputs_of}
@@ -85,7 +85,7 @@ starts_alone state trigger step = not (is_none state)
 tables_start : (branch method : List ℕ)
     → table_passes starts_alone (rows_of (role_of (key.Client branch method))) ≡ true
 tables_start branch method =
-    by_bool (is_method method (codes "INVITE"))
+    by_bool (is_same_method method (codes "INVITE"))
     (λ hit. ap (λ b. table_passes starts_alone
     (rows_of (cond b role.InviteClient role.Client))) hit)
     (λ miss. ap (λ b. table_passes starts_alone
@@ -136,7 +136,7 @@ module _ (branch method : List ℕ) where
 
   no_arrival : (line : StartLine) (name : List ℕ) → is_start (arrival_of line name) ≡ false
   no_arrival (start.Request uri) name =
-      by_bool (is_method name (codes "ACK"))
+      by_bool (is_same_method name (codes "ACK"))
       (λ hit. ap (λ b. is_start (cond b on.Ack on.Request)) hit)
       (λ miss. ap (λ b. is_start (cond b on.Ack on.Request)) miss)
   no_arrival (start.Response status reason) name = refl

@@ -35,7 +35,7 @@ use Rattle.sip_served.specs.Provisionals.{of_numbers}
 use Rattle.sip_served.specs.Respond.{answer_to, answered, finished, if_so, is_of_dialog, is_reliable, is_sent_reliably, makes_dialog, may_be_reliable, respond_taken, sent_as, sent_reliably, success_sent, with_dialog, with_routes, with_rseq}
 use Rattle.sip_served.specs.State.{State, has_id}
 use Rattle.sip_served.specs.Step.{arrival_taken}
-use Rattle.sip_served.specs.Tick.{provisionals_told, provisionals_ticked, request_ticked, success_answer, success_by, success_of, success_ticked, success_told}
+use Rattle.sip_served.specs.Tick.{provisionals_told, provisionals_ticked, request_ticked, success_answer, success_by, success_at_tick, success_ticked, success_told}
 use Rattle.sip_served.proofs.ItemsFollow as items
 use Rattle.sip_served.proofs.Reading as reading
 use Rattle.sip_served.proofs.Reading.{IsTold, Reading}
@@ -207,8 +207,8 @@ module _ (invite : Id) where
   -- the 2xx of this request, or of another
   success_waits : (now : ℕ) (held : HeldRequest) → is_id held.id invite ≡ true
       → (o : Option Success) → held.success ≡ o
-      → awaits_ack (success_of now held o).0
-      ≡ ends_after invite (awaits_ack held) (success_of now held o).1
+      → awaits_ack (success_at_tick now held o).0
+      ≡ ends_after invite (awaits_ack held) (success_at_tick now held o).1
   success_waits now held own None is = refl
   success_waits now held own (Some success) is = by_due (success_answer now success)
     where
@@ -226,7 +226,7 @@ module _ (invite : Id) where
           ∙ ap (λ b. cond b false (awaits_ack held)) (sym own)
 
   success_quiet : (now : ℕ) (held : HeldRequest) → is_id held.id invite ≡ false
-      → (o : Option Success) → Quiet (success_of now held o).1
+      → (o : Option Success) → Quiet (success_at_tick now held o).1
   success_quiet now held other None awaits = refl
   success_quiet now held other (Some success) awaits = by_due (success_answer now success)
     where

@@ -34,7 +34,7 @@ use Rattle.sip_common.specs.Dialogs.{confirmed, confirms, dialog_at, dialog_chan
 use Rattle.sip_common.specs.Requests.{dialog_name, is_bye, is_cancel, is_inside, is_prack, is_unknown_option, name_of_tags}
 use Rattle.sip_common.specs.Sent.{name_of_dialog, responses_out}
 use Rattle.sip_served.specs.Respond.{answer_to, by_refusal, by_request, confirms_dialog, is_of_dialog, made_dialog, makes_dialog, refusal_for, rejects, respond_taken}
-use Rattle.sip_served.specs.State.{State, Taken, has_id}
+use Rattle.sip_served.specs.State.{State, ServedTaken, has_id}
 use Rattle.sip_served.specs.Step.{arrival_taken, kind_taken}
 use Rattle.sip_common.proofs.Entries.{same_key}
 use Rattle.sip_common.proofs.Heard.{AreApart, Leads, Lives, Moves, in_one, leads_as, leads_changed, leads_filtered, leads_removed, leads_same, leads_then, moves_led, moves_made, name_laws, none_came, none_either, quiet, tag_kept}
@@ -75,7 +75,7 @@ noted_leads state name request apart =
 
 bye_leads : (b : Bool) (state : State) (name : DialogName) (outs : List CallOut)
     → AreApart state.dialogs
-    → Leads quiet state.dialogs ((cond {A = Taken} b
+    → Leads quiet state.dialogs ((cond {A = ServedTaken} b
     (record state { dialogs = (ended_at name state.dialogs).0 }, outs) (state, [])).0).dialogs
 bye_leads true state name outs apart = leads_removed name state.dialogs apart
 bye_leads false state name outs apart = leads_same state.dialogs apart
@@ -314,7 +314,7 @@ module _ (event : Id) (request : HeldRequest) (r : Answer) (response : Message)
       (λ other held at. neither (is_named name other) _) (leads_same dialogs apart))
 
 module _ (event : Id) (state : State) (r : Answer) (now : ℕ) (apart : AreApart state.dialogs) where
-  abbrev Answered : Option HeldRequest → Taken → Type 0
+  abbrev Answered : Option HeldRequest → ServedTaken → Type 0
   Answered o taken = Moves (Some event)
       (option_map (λ request. ByRequest request.request request.tag r.status) o) none_came
       (λ name held. option_map_or (λ request. success_confirms request r.status

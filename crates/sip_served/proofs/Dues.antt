@@ -14,7 +14,7 @@ use Rattle.sip_served.specs.declared.held_request.HeldRequest.{HeldRequest}
 use Rattle.sip_served.specs.declared.held_request.Success.{Success}
 use Rattle.sip_served.specs.declared.tick.SuccessDue.{SuccessDue}
 use Rattle.sip_served.specs.declared.tick.SuccessDue.TheVariants as repeat
-use Rattle.sip_served.specs.Tick.{next_due_of, request_due, request_ticked, success_answer, success_moment, success_of, success_told}
+use Rattle.sip_served.specs.Tick.{next_due_of, request_due, request_ticked, success_answer, success_moment, success_at_tick, success_told}
 
 -- ---- the 2xx
 
@@ -55,7 +55,7 @@ nothing_from repeat.Again e = absurd cc
 nothing_from repeat.GivenUp e = absurd cc
 
 pub success_says : (now : ℕ) (held : HeldRequest) (o : Option Success)
-    → speaks (success_of now held o).1 ≡ is_due now (option_and_then success_moment o)
+    → speaks (success_at_tick now held o).1 ≡ is_due now (option_and_then success_moment o)
 success_says now held None = refl
 success_says now held (Some success) =
     told_some (success_answer now success) held success.response ∙ sym (success_due now success)
@@ -68,7 +68,7 @@ pub record Kept (held after : HeldRequest) : Type 0 where
   pub removal : after.removal ≡ held.removal
 
 pub success_keeps : (now : ℕ) (held : HeldRequest) (o : Option Success)
-    → Kept held (success_of now held o).0
+    → Kept held (success_at_tick now held o).0
 success_keeps now held None = record { ledger = refl; removal = refl }
 success_keeps now held (Some success) = record { ledger = refl; removal = refl }
 

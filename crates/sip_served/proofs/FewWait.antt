@@ -31,11 +31,11 @@ use Rattle.sip_served.specs.Arrival.{new_request, first_rseq, by_case, case_of, 
 use Rattle.sip_served.specs.Cancel.{by_cancelled, cancelled_request, is_unanswered_invite, request_terminated}
 use Rattle.sip_common.specs.Requests.{dialog_name, is_bye, is_cancel, is_inside, is_final}
 use Rattle.sip_served.specs.Respond.{answered, by_refusal, by_request, finished, makes_dialog, sent_as, refusal_for, with_dialog, is_sent_reliably}
-use Rattle.sip_served.specs.Run.{Event, Takes, Ticks, FewWaitEach, event_taken, state_after}
+use Rattle.sip_served.specs.Run.{Event, Takes, Ticks, FewWaitEach, event_taken, server_state_after}
 use Rattle.sip_served.specs.ServerSide.{empty_at}
 use Rattle.sip_served.specs.State.{State, has_id}
-use Rattle.sip_served.specs.Step.{arrival_taken, command_taken, kind_taken}
-use Rattle.sip_served.specs.Tick.{is_kept_at, provisionals_by, request_ticked, success_of, success_ticked}
+use Rattle.sip_served.specs.Step.{arrival_taken, server_command_taken, kind_taken}
+use Rattle.sip_served.specs.Tick.{is_kept_at, provisionals_by, request_ticked, success_at_tick, success_ticked}
 use Rattle.sip_common.proofs.Each as each
 use Rattle.sip_served.proofs.FirstChanged.{first_changed}
 
@@ -82,7 +82,7 @@ provisionals_keep tick.GivenUp now held kept =
     sound_given_up held.ledger.first held.ledger.next held.ledger.waiting kept
 
 success_keeps : (now : ℕ) (held : HeldRequest) (o : Option Success) → IsKept held
-    → IsKept (success_of now held o).0
+    → IsKept (success_at_tick now held o).0
 success_keeps now held None kept = kept
 success_keeps now held (Some success) kept = kept
 
@@ -175,7 +175,7 @@ kind_keeps state tag up Timeout now all = all
 kind_keeps state tag up Failed now all = all
 
 command_keeps : (state : State) (id : Id) (c : UserCommand) (now : ℕ) → IsKeptEach state
-    → IsKeptEach (command_taken state id c now).0
+    → IsKeptEach (server_command_taken state id c now).0
 command_keeps state id (command.Invite i) now all = all
 command_keeps state id (command.Plain i) now all = all
 command_keeps state id (command.Request i) now all = all
@@ -200,7 +200,7 @@ from_keeps [] state all = all
 from_keeps (event ∷ events) state all =
     from_keeps events (event_taken state event).0 (event_keeps state event all)
 
-pub kept_after : (local : Addr) (events : List Event) → IsKeptEach (state_after local events)
+pub kept_after : (local : Addr) (events : List Event) → IsKeptEach (server_state_after local events)
 kept_after local events = from_keeps events (empty_at local) tt
 
 pub few_of : (requests : List HeldRequest) → AllByRecursion IsKept requests
@@ -208,5 +208,5 @@ pub few_of : (requests : List HeldRequest) → AllByRecursion IsKept requests
 few_of [] all = tt
 few_of (held ∷ requests) all = (few_by held.ledger all.0, few_of requests all.1)
 
-pub few_wait : (local : Addr) (events : List Event) → FewWaitEach (state_after local events)
-few_wait local events = few_of (state_after local events).requests (kept_after local events)
+pub few_wait : (local : Addr) (events : List Event) → FewWaitEach (server_state_after local events)
+few_wait local events = few_of (server_state_after local events).requests (kept_after local events)

@@ -17,8 +17,8 @@ use Rattle.sip_served.specs.declared.held_request.HeldRequest.{HeldRequest}
 use Rattle.sip_served.specs.declared.held_request.Success.{Success}
 use Rattle.sip_served.specs.Arrival.{noted}
 use Rattle.sip_served.specs.Respond.{answer_to, answered, finished, is_sent_reliably, makes_dialog, sent_as, sent_reliably, with_dialog}
-use Rattle.sip_served.specs.State.{State, Taken, changed_at, has_id}
-use Rattle.sip_served.specs.Tick.{request_ticked, success_of}
+use Rattle.sip_served.specs.State.{State, ServedTaken, changed_at, has_id}
+use Rattle.sip_served.specs.Tick.{request_ticked, success_at_tick}
 
 -- ---- what is found
 
@@ -123,7 +123,7 @@ noted_requests state name request =
     else state).requests ≡ state.requests) [ true ↦ refl | false ↦ refl ]
 
 pub bye_requests : (b : Bool) (state : State) (dialogs : Dialogs) (outs : List CallOut)
-    → ((cond {A = Taken} b (record state { dialogs = dialogs }, outs) (state, [])).0).requests
+    → ((cond {A = ServedTaken} b (record state { dialogs = dialogs }, outs) (state, [])).0).requests
     ≡ state.requests
 bye_requests true state dialogs outs = refl
 bye_requests false state dialogs outs = refl
@@ -161,6 +161,6 @@ module _ (state : State) (event : Id) (r : Answer) (now : ℕ) (held : HeldReque
 pub passed_id : (now : ℕ) (held : HeldRequest) → ((request_ticked now held).0).id ≡ held.id
 passed_id now held = by_success held.success
   where
-    by_success : (o : Option Success) → ((success_of now held o).0).id ≡ held.id
+    by_success : (o : Option Success) → ((success_at_tick now held o).0).id ≡ held.id
     by_success None = refl
     by_success (Some success) = refl

@@ -31,7 +31,7 @@ use Rattle.sip_served.specs.Acknowledgment.{ack_noted, ack_taken, acknowledged_i
 use Rattle.sip_served.specs.Arrival.{bye_taken, by_case, case_of, noted, pracked, request_held}
 use Rattle.sip_served.specs.Cancel.{by_cancelled, cancelled_request, cancel_accepted, is_unanswered_invite, request_terminated, termination_told}
 use Rattle.sip_served.specs.Respond.{answer_given, answer_to, by_refusal, by_request, confirms_dialog, dialogs_answered, finished, made_dialog, makes_dialog, refusal_for, rejects, respond_taken}
-use Rattle.sip_served.specs.State.{State, Taken, changed_at, has_id}
+use Rattle.sip_served.specs.State.{State, ServedTaken, changed_at, has_id}
 use Rattle.sip_served.specs.Step.{arrival_taken}
 use Rattle.sip_served.proofs.Found.{bye_requests, change, found_changed, found_id, found_more, keeps, noted_requests}
 use Rattle.sip_served.proofs.Reading.{Follows, IsTold, FollowsAs, Reading, Silent, answer_first, changed_follows, same_follows, silent_both}
@@ -58,7 +58,7 @@ module _ {X : Type 0} (reading : Reading X) (invite : Id) (told : IsTold X readi
       by_found (Some held) x = told.ended held x
 
   bye_silent : (b : Bool) (state after : State) (outs : List CallOut) → Silent reading outs
-      → Silent reading (cond {A = Taken} b (after, outs) (state, [])).1
+      → Silent reading (cond {A = ServedTaken} b (after, outs) (state, [])).1
   bye_silent true state after outs silent x = silent x
   bye_silent false state after outs silent x = refl
 
@@ -246,7 +246,7 @@ module _ {X : Type 0} (reading : Reading X) (invite : Id) (told : IsTold X readi
   -- ---- an answer of the user
 
   module _ (state : State) (event : Id) (r : Answer) (now : ℕ) where
-    abbrev FollowsTo : Taken → Type 0
+    abbrev FollowsTo : ServedTaken → Type 0
     FollowsTo taken = Follows reading invite state.requests (taken.0).requests taken.1
 
     given_follows : (held : HeldRequest) → find (has_id r.id) state.requests ≡ Some held

@@ -33,14 +33,14 @@ use Rattle.sip_served.specs.Cancel.{by_cancelled, cancelled_request, is_unanswer
 use Rattle.sip_common.specs.Dialogs.{confirmed, dialog_changed, early_ended, ended_at, is_named, Dialogs}
 use Rattle.sip_common.specs.Requests.{dialog_name, is_bye, is_cancel, is_inside}
 use Rattle.sip_served.specs.Respond.{answer_to, by_refusal, by_request, confirms_dialog, made_dialog, makes_dialog, refusal_for, rejects, respond_taken}
-use Rattle.sip_served.specs.State.{State, Taken, has_id}
+use Rattle.sip_served.specs.State.{State, ServedTaken, has_id}
 use Rattle.sip_served.specs.Step.{arrival_taken, kind_taken}
-use Rattle.sip_served.specs.Tick.{provisionals_ticked, provisionals_told, request_ticked, success_answer, success_of, success_ticked, success_told, tick_taken}
+use Rattle.sip_served.specs.Tick.{provisionals_ticked, provisionals_told, request_ticked, success_answer, success_at_tick, success_ticked, success_told, tick_taken}
 
 -- ---- what comes up
 
 bye_starts : (b : Bool) (state : State) (outs : List CallOut) (after : State) → starts outs ≡ []
-    → starts (cond {A = Taken} b (after, outs) (state, [])).1 ≡ []
+    → starts (cond {A = ServedTaken} b (after, outs) (state, [])).1 ≡ []
 bye_starts true state outs after none = none
 bye_starts false state outs after none = refl
 
@@ -132,7 +132,7 @@ told_starts repeat.Again held response = refl
 told_starts repeat.GivenUp held response = refl
 
 success_starts : (now : ℕ) (held : HeldRequest) (o : Option Success)
-    → starts (success_of now held o).1 ≡ []
+    → starts (success_at_tick now held o).1 ≡ []
 success_starts now held None = refl
 success_starts now held (Some success) =
     told_starts (success_answer now success) held success.response

@@ -24,7 +24,7 @@ use Rattle.sip_served.specs.Acknowledgment.{ack_noted, ack_taken, acknowledged_i
 use Rattle.sip_served.specs.Arrival.{by_case, bye_taken, case_of, new_request, noted, request_held}
 use Rattle.sip_served.specs.Cancel.{by_cancelled, cancelled_request, is_unanswered_invite}
 use Rattle.sip_served.specs.Respond.{answer_to, by_refusal, by_request, confirms_dialog, made_dialog, makes_dialog, refusal_for, rejects, respond_taken}
-use Rattle.sip_served.specs.State.{State, Taken, has_id}
+use Rattle.sip_served.specs.State.{State, ServedTaken, has_id}
 use Rattle.sip_served.specs.Step.{arrival_taken, kind_taken}
 use Rattle.sip_common.proofs.Owing.{OweSame, Owes, changed_same, filtered_same, removed_same, same_owed, same_then, still_same, unchanged}
 
@@ -53,7 +53,7 @@ noted_same state name request =
 
 bye_same : (b : Bool) (state : State) (name : DialogName) (outs : List CallOut)
     → AreApart state.dialogs
-    → OweSame state.dialogs ((cond {A = Taken} b
+    → OweSame state.dialogs ((cond {A = ServedTaken} b
     (record state { dialogs = (ended_at name state.dialogs).0 }, outs) (state, [])).0).dialogs
 bye_same true state name outs apart = removed_same name state.dialogs apart
 bye_same false state name outs apart = same_owed state.dialogs

@@ -41,10 +41,10 @@ use Rattle.sip_common.specs.Requests.{dialog_name, is_bye, is_cancel, is_final, 
 use Rattle.sip_served.specs.Respond.{answer_to, answered, by_refusal, by_request, confirms_dialog, dialogs_answered, finished, is_sent_reliably, made_dialog, makes_dialog, refusal_for, rejects, respond_taken, sent_as, with_dialog}
 use Rattle.sip_served.specs.Run.{Event, Takes, Ticks, event_taken}
 use Rattle.sip_served.specs.ServerSide.{empty_at}
-use Rattle.sip_served.specs.State.{State, Taken, changed_at, followed, has_id}
-use Rattle.sip_served.specs.Step.{arrival_taken, command_taken, item_taken, kind_taken}
+use Rattle.sip_served.specs.State.{State, ServedTaken, changed_at, followed, has_id}
+use Rattle.sip_served.specs.Step.{arrival_taken, server_command_taken, server_item_taken, kind_taken}
 use Rattle.sip_common.specs.Command.{call_of_command}
-use Rattle.sip_served.specs.Tick.{is_kept_at, provisionals_ticked, provisionals_told, request_ticked, success_answer, success_of, success_ticked, success_told, tick_taken}
+use Rattle.sip_served.specs.Tick.{is_kept_at, provisionals_ticked, provisionals_told, request_ticked, success_answer, success_at_tick, success_ticked, success_told, tick_taken}
 use Rattle.sip_common.proofs.Each as each
 use Rattle.sip_served.proofs.FirstChanged.{first_changed}
 
@@ -68,7 +68,7 @@ with_dialog_keeps event r held =
     by_bool (makes_dialog held r.status) (λ e. rw e refl) (λ e. rw e refl)
 
 success_keeps : (now : ℕ) (held : HeldRequest) (o : Option Success)
-    → ((success_of now held o).0).request ≡ held.request
+    → ((success_at_tick now held o).0).request ≡ held.request
 success_keeps now held None = refl
 success_keeps now held (Some success) = refl
 
@@ -77,7 +77,7 @@ module _ (call_id : List ℕ) where
   IsRequestOf held = held.request.call_id ≡ call_id
 
   -- both what is held then and what is told
-  abbrev pub IsTakenOf : Taken → Type 0
+  abbrev pub IsTakenOf : ServedTaken → Type 0
   IsTakenOf taken = IsStateOf call_id taken.0 × AreNoticesOf call_id taken.1
 
   -- nothing is held
@@ -96,7 +96,7 @@ module _ (call_id : List ℕ) where
 
   -- ---- a request that comes up
 
-  after : (done : Taken) (more : State → Taken) → IsTakenOf done
+  after : (done : ServedTaken) (more : State → ServedTaken) → IsTakenOf done
       → ((state : State) → IsStateOf call_id state → IsTakenOf (more state))
       → IsTakenOf (followed done more)
   after done more first second =
@@ -270,7 +270,7 @@ module _ (call_id : List ℕ) where
   success_told_is repeat.GivenUp held response of_request = (of_request, tt)
 
   success_is : (now : ℕ) (held : HeldRequest) (o : Option Success) → IsRequestOf held
-      → AreNoticesOf call_id (success_of now held o).1
+      → AreNoticesOf call_id (success_at_tick now held o).1
   success_is now held None of_request = tt
   success_is now held (Some success) of_request =
       success_told_is (success_answer now success) held success.response of_request
@@ -332,7 +332,7 @@ module _ (call_id : List ℕ) where
 
   command_is : (state : State) (id : Id) (c : UserCommand) (now : ℕ)
       → call_of_command c ≡ call_id → IsStateOf call_id state
-      → IsTakenOf (command_taken state id c now)
+      → IsTakenOf (server_command_taken state id c now)
   command_is state id (command.Invite i) now of_call its = (its, tt)
   command_is state id (command.Plain i) now of_call its = (its, tt)
   command_is state id (command.Request i) now of_call its = (its, tt)
@@ -343,7 +343,7 @@ module _ (call_id : List ℕ) where
 
   pub item_is : (state : State) (tag : List ℕ) (id : Id) (one : Item) (now : ℕ)
       → IsItemOf call_id one → IsStateOf call_id state
-      → IsTakenOf (item_taken state tag id one now)
+      → IsTakenOf (server_item_taken state tag id one now)
   item_is state tag id (item.Up up) now of_item its =
       kind_is state tag up up.kind now of_item.0 of_item.1 its
   item_is state tag id (item.User c) now of_item its = command_is state id c now of_item its

@@ -20,8 +20,8 @@ use Rattle.sip_served.specs.declared.held_request.HeldRequest.{HeldRequest}
 use Rattle.sip_served.specs.declared.held_request.Success.{Success}
 use Rattle.sip_common.specs.declared.item.CallOut.{CallOut}
 use Rattle.sip_served.specs.declared.tick.SuccessDue.TheVariants as repeat
-use Rattle.sip_served.specs.State.{State, Taken, quiet}
-use Rattle.sip_served.specs.Tick.{is_kept_at, next_due, provisionals_by, provisionals_ticked, provisionals_told, request_due, request_ticked, success_answer, success_by, success_moment, success_of, success_ticked, success_told, tick_taken}
+use Rattle.sip_served.specs.State.{State, ServedTaken, quiet}
+use Rattle.sip_served.specs.Tick.{is_kept_at, next_server_due, provisionals_by, provisionals_ticked, provisionals_told, request_due, request_ticked, success_answer, success_by, success_moment, success_at_tick, success_ticked, success_told, tick_taken}
 use Rattle.sip_served.proofs.Dues.{nothing_from, removal_due, removal_kept, request_due_of, requests_due, success_due, success_keeps, success_says}
 
 neither : (x y : Bool) → (x || y) ≡ false → (x ≡ false) × (y ≡ false)
@@ -31,12 +31,12 @@ neither false y e = (refl, e)
 -- ---- nothing is due
 
 calm_success : (now : ℕ) (held : HeldRequest) (o : Option Success) → held.success ≡ o
-    → is_due now (option_and_then success_moment o) ≡ false → success_of now held o ≡ (held, [])
+    → is_due now (option_and_then success_moment o) ≡ false → success_at_tick now held o ≡ (held, [])
 calm_success now held None is calm = refl
 calm_success now held (Some success) is calm =
     let nothing : success_answer now success ≡ repeat.Nothing =
     nothing_from (success_answer now success) (sym (success_due now success) ∙ calm) in
-    let stays : success_of now held (Some success) ≡ (record held { success = Some success }, []) =
+    let stays : success_at_tick now held (Some success) ≡ (record held { success = Some success }, []) =
     λ i. (
       record held {
         success = Some (success_by (nothing i) now success);
@@ -106,7 +106,7 @@ calm_requests now (held ∷ requests) calm =
     ))
     ∙ (λ i. (cond (calm_kept now held parts.0 i) (held ∷ (rest i).0) (rest i).0, (rest i).1))
 
-pub quiet_before : (state : State) (now : ℕ) → is_due now (next_due state) ≡ false
+pub quiet_before : (state : State) (now : ℕ) → is_due now (next_server_due state) ≡ false
     → tick_taken state now ≡ quiet state
 quiet_before state now calm =
     let same = calm_requests now state.requests (sym (requests_due now state.requests) ∙ calm) in
@@ -237,8 +237,8 @@ differs now (held ∷ requests) due says same =
     ∙ same) in
     absurd (omega (arith, less, long)))
 
-pub busy_from : (state : State) (now : ℕ) → is_due now (next_due state) ≡ true
+pub busy_from : (state : State) (now : ℕ) → is_due now (next_server_due state) ≡ true
     → tick_taken state now ≢ quiet state
 busy_from state now due same =
     differs now state.requests (sym (requests_due now state.requests) ∙ due)
-    (ap (λ (taken : Taken). taken.1) same) (ap (λ (taken : Taken). (taken.0).requests) same)
+    (ap (λ (taken : ServedTaken). taken.1) same) (ap (λ (taken : ServedTaken). (taken.0).requests) same)

@@ -29,7 +29,7 @@ use Rattle.sip_served.specs.declared.tick.SuccessDue.{SuccessDue}
 use Rattle.sip_served.specs.declared.tick.SuccessDue.TheVariants as repeat
 use Rattle.sip_served.specs.Arrival.{pracked}
 use Rattle.sip_served.specs.Respond.{answer_to, answered, finished, if_so, is_of_dialog, is_sent_reliably, makes_dialog, sent_as, sent_reliably, with_dialog, with_routes, with_rseq}
-use Rattle.sip_served.specs.Tick.{provisionals_by, provisionals_ticked, provisionals_told, request_ticked, success_answer, success_of, success_ticked, success_told}
+use Rattle.sip_served.specs.Tick.{provisionals_by, provisionals_ticked, provisionals_told, request_ticked, success_answer, success_at_tick, success_ticked, success_told}
 use Rattle.sip_served.specs.Unacknowledged.{awaited_rseqs, kept_rseqs, repeated_rseqs, with_number}
 use Rattle.sip_served.proofs.Awaiting.{reliable_not_final}
 use Rattle.sip_served.proofs.Mapped.{append_mapped, filter_mapped}
@@ -221,7 +221,7 @@ module _ (reading : Reading (List ℕ)) (invite : Id)
     (success : (held : HeldRequest) (success : Option Success)
     → reading.read record held { success = success } ≡ reading.read held) where
   success_quiet : (now : ℕ) (held : HeldRequest) (o : Option Success)
-      → Quiet reading (success_of now held o).1
+      → Quiet reading (success_at_tick now held o).1
   success_quiet now held None numbers = refl
   success_quiet now held (Some success) numbers = by_due (success_answer now success)
     where
@@ -232,12 +232,12 @@ module _ (reading : Reading (List ℕ)) (invite : Id)
       by_due repeat.GivenUp = no_ack held.request.call_id held.id numbers
 
   success_same : (now : ℕ) (held : HeldRequest) (o : Option Success)
-      → reading.read (success_of now held o).0 ≡ reading.read held
+      → reading.read (success_at_tick now held o).0 ≡ reading.read held
   success_same now held None = refl
   success_same now held (Some one) = success held _
 
   success_id : (now : ℕ) (held : HeldRequest) (o : Option Success)
-      → ((success_of now held o).0).id ≡ held.id
+      → ((success_at_tick now held o).0).id ≡ held.id
   success_id now held None = refl
   success_id now held (Some one) = refl
 

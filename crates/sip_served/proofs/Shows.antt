@@ -36,16 +36,16 @@ use Rattle.sip_common.specs.Requests.{dialog_name, is_bye, is_cancel, is_inside}
 use Rattle.sip_served.specs.Provisionals.{of_numbers}
 use Rattle.sip_served.specs.Respond.{answer_to, by_refusal, by_request, confirms_dialog, dialogs_answered, makes_dialog, refusal_for, rejects}
 use Rattle.sip_served.specs.Run.{Event, Takes, Ticks, event_taken}
-use Rattle.sip_served.specs.ForUser.{brings, for_user, for_user_of, if_for_user, is_request, told_from}
+use Rattle.sip_served.specs.ForUser.{brings, ids_for_user, for_user_of, if_for_user, is_request, told_from}
 use Rattle.sip_common.specs.Ids.{is_id}
 use Rattle.sip_served.specs.State.{State, has_id}
-use Rattle.sip_served.specs.Step.{command_taken, kind_taken}
-use Rattle.sip_served.specs.Tick.{provisionals_ticked, provisionals_told, request_ticked, success_answer, success_of, success_ticked, success_told}
+use Rattle.sip_served.specs.Step.{server_command_taken, kind_taken}
+use Rattle.sip_served.specs.Tick.{provisionals_ticked, provisionals_told, request_ticked, success_answer, success_at_tick, success_ticked, success_told}
 
 -- ---- repeats show no request
 
 success_shows : (now : ℕ) (held : HeldRequest) (o : Option Success)
-    → shown (success_of now held o).1 ≡ []
+    → shown (success_at_tick now held o).1 ≡ []
 success_shows now held None = refl
 success_shows now held (Some success) = told (success_answer now success)
   where
@@ -148,7 +148,7 @@ kind_shows state tag up Timeout now = refl
 kind_shows state tag up Failed now = refl
 
 command_shows : (state : State) (id : Id) (c : UserCommand) (now : ℕ)
-    → shown (command_taken state id c now).1 ≡ []
+    → shown (server_command_taken state id c now).1 ≡ []
 command_shows state id (command.Invite i) now = refl
 command_shows state id (command.Plain i) now = refl
 command_shows state id (command.Request i) now = refl
@@ -159,7 +159,7 @@ command_shows state id (command.Prack i) now = refl
 command_shows state id (command.Cancel i) now = refl
 
 pub event_shows : (state : State) (event : Event)
-    → shown (event_taken state event).1 ≡ for_user state event
+    → shown (event_taken state event).1 ≡ ids_for_user state event
 event_shows state (Takes tag id (item.Up up) now) = kind_shows state tag up up.kind now
 event_shows state (Takes tag id (item.User c) now) = command_shows state id c now
 event_shows state (Ticks now) = ticks_show now state.requests
@@ -168,7 +168,7 @@ event_shows state (Ticks now) = ticks_show now state.requests
 abbrev came_from : State → List Event → List Id
 came_from state [] = []
 came_from state (event ∷ events) =
-    for_user state event ++ came_from (event_taken state event).0 events
+    ids_for_user state event ++ came_from (event_taken state event).0 events
 
 all_shown : (events : List Event) (state : State)
     → told_from state events ≡ came_from state events
@@ -211,7 +211,7 @@ kind_often state id tag one Timeout = omega arith
 kind_often state id tag one Failed = omega arith
 
 event_often : (state : State) (id : Id) (event : Event)
-    → often (is_id id) (for_user state event) ≤ cond (brings id event) 1 0
+    → often (is_id id) (ids_for_user state event) ≤ cond (brings id event) 1 0
 event_often state id (Takes tag one (item.Up up) now) = kind_often state id tag up.id up.kind
 event_often state id (Takes tag one (item.User c) now) = omega arith
 event_often state id (Ticks now) = omega arith
@@ -221,7 +221,7 @@ pub told_often : (state : State) (event : Event) (id : Id)
     → count_by (is_id id) (shown (event_taken state event).1) ≤ cond (brings id event) 1 0
 told_often state event id =
     let told : length (filter (is_id id) (shown (event_taken state event).1))
-    ≡ often (is_id id) (for_user state event) =
+    ≡ often (is_id id) (ids_for_user state event) =
     ap (λ ids. often (is_id id) ids) (event_shows state event) in
     let few = event_often state id event in
     let counted = length-filter (is_id id) (shown (event_taken state event).1) in
@@ -238,7 +238,7 @@ all_often id [] state = omega arith
 all_often id (event ∷ events) state =
     let later = came_from (event_taken state event).0 events in
     subst (λ n. n ≤ often (brings id) (event ∷ events))
-    (sym (both_often (is_id id) (for_user state event) later))
+    (sym (both_often (is_id id) (ids_for_user state event) later))
     (head_often (brings id event) event (filter (brings id) events) _ _ (event_often state id event)
     (all_often id events (event_taken state event).0))
 

@@ -54,15 +54,15 @@ use Rattle.sip_served.specs.declared.held_request.SuccessEnd.TheVariants.{Acknow
 use Rattle.sip_served.specs.Arrival.{first_rseq, new_request, by_case, case_of, noted, pracked, bye_taken, request_held}
 use Rattle.sip_served.specs.Cancel.{by_cancelled, cancelled_request, invite_terminated, is_unanswered_invite, request_terminated}
 use Rattle.sip_common.specs.Dialogs.{own_dialog, confirmed, confirms, dialog_changed, early_ended, ended_at, is_early_of, is_named, lived, visited, visits, Dialogs}
-use Rattle.sip_served.specs.Provisionals.{without}
+use Rattle.sip_served.specs.Provisionals.{without_rseq}
 use Rattle.sip_common.specs.Requests.{dialog_name, is_bye, is_cancel, is_final, is_inside, is_invite, is_success, supports_100rel}
 use Rattle.sip_served.specs.Respond.{answer_given, answer_to, made_dialog, answered, by_refusal, by_request, confirms_dialog, finished, has_ended, is_of_dialog, is_reliable, is_sent_reliably, is_user_status, makes_dialog, sent_as, may_be_reliable, refusal_for, refusal_of_fault, rejects, sent_reliably, with_dialog}
-use Rattle.sip_served.specs.Run.{Event, Takes, Ticks, event_taken, state_after}
-use Rattle.sip_served.specs.State.{State, Taken, changed_at, has_id}
-use Rattle.sip_served.specs.Step.{arrival_taken, command_taken, kind_taken}
+use Rattle.sip_served.specs.Run.{Event, Takes, Ticks, event_taken, server_state_after}
+use Rattle.sip_served.specs.State.{State, ServedTaken, changed_at, has_id}
+use Rattle.sip_served.specs.Step.{arrival_taken, server_command_taken, kind_taken}
 use Rattle.sip_served.specs.Story.{DialogStories, DialogStory, RequestStory, Story, SuccessStory, dialog_of, dialogs_of, greatest_accepted, held_by, ledger_of, next_sending, request_of, responses_of, success_of}
 use Rattle.sip_served.specs.Telling.{ack_told, answer_told, arrival_told, cancel_told, terminates, answers, at_dialog, at_request, begins, begun, command_told, ends_at, ends_early, event_told, finishes, acks, holds_one, lives_on, notes, kind_told, provisionals_go, provisionals_pass, request_passes, sends, story_after, success_goes, success_passes, takes_dialog, tick_told, told_by_case, told_by_refusal, told_by_request}
-use Rattle.sip_served.specs.Tick.{tick_taken, is_kept_at, next_retransmission, provisionals_ticked, request_ticked, success_answer, success_by, success_of as success_at, success_ticked}
+use Rattle.sip_served.specs.Tick.{tick_taken, is_kept_at, next_retransmission, provisionals_ticked, request_ticked, success_answer, success_by, success_at_tick as success_at, success_ticked}
 use Rattle.sip_served.proofs.Mapped.{append_mapped, changed_mapped, entry_mapped, filter_mapped, found_mapped, inserted_mapped, map_mapped, removed_mapped}
 use Rattle.sip_served.proofs.FewWait.{IsKept, IsKeptEach, event_keeps, kept_after}
 
@@ -142,24 +142,24 @@ found responses wanted = lookup (λ number. number == wanted) responses
 without_step : (rseq : ℕ) (responses : List (ℕ × Message)) (p : Provisional)
     (others : List Provisional) (rest : List NumberedResponse) (o : Option Message) (b : Bool)
     → found responses p.number ≡ o → (p.number == rseq) ≡ b
-    → without rseq rest ≡ responses_of responses others
-    → without rseq (cons_option (as_numbered p.number o) rest)
+    → without_rseq rseq rest ≡ responses_of responses others
+    → without_rseq rseq (cons_option (as_numbered p.number o) rest)
     ≡ responses_of responses (cond (not b) (p ∷ others) others)
 without_step rseq responses p others rest None true is same later = later
 without_step rseq responses p others rest (Some response) true is same later =
-    ap (λ c. cond (not c) (record { number = p.number; response = response } ∷ without rseq rest)
-    (without rseq rest)) same ∙ later
+    ap (λ c. cond (not c) (record { number = p.number; response = response } ∷ without_rseq rseq rest)
+    (without_rseq rseq rest)) same ∙ later
 without_step rseq responses p others rest None false is other later =
     later ∙ ap (λ o. cons_option (as_numbered p.number o) (responses_of responses others)) (sym is)
 without_step rseq responses p others rest (Some response) false is other later =
-    ap (λ c. cond (not c) (record { number = p.number; response = response } ∷ without rseq rest)
-    (without rseq rest)) other
+    ap (λ c. cond (not c) (record { number = p.number; response = response } ∷ without_rseq rseq rest)
+    (without_rseq rseq rest)) other
     ∙ ap (λ more. record { number = p.number; response = response } ∷ more) later
     ∙ ap (λ o. cons_option (as_numbered p.number o) (responses_of responses others)) (sym is)
 
 -- the response of a number that doesn't wait any more is gone
 without_one : (rseq : ℕ) (responses : List (ℕ × Message)) (ps : List Provisional)
-    → without rseq (responses_of responses ps)
+    → without_rseq rseq (responses_of responses ps)
     ≡ responses_of responses (filter (λ p. not (p.number == rseq)) ps)
 without_one rseq responses [] = refl
 without_one rseq responses (p ∷ ps) =
@@ -403,7 +403,7 @@ held_on story call_id name arrival new =
 
 bye_on : (story : Story) (name : DialogName) (b : Bool)
     → held_by (cond b (record story { dialogs = ends_at name story.dialogs }) story)
-    ≡ (cond {A = Taken} b (
+    ≡ (cond {A = ServedTaken} b (
       record (held_by story) {
         dialogs = remove_entry (is_named name)
             (held_by story).dialogs;
@@ -581,7 +581,7 @@ kind_on story tag up Timeout now = refl
 kind_on story tag up Failed now = refl
 
 command_on : (story : Story) (id : Id) (c : UserCommand) (now : ℕ) → IsKeptEach (held_by story)
-    → held_by (command_told story id c now) ≡ (command_taken (held_by story) id c now).0
+    → held_by (command_told story id c now) ≡ (server_command_taken (held_by story) id c now).0
 command_on story id (command.Invite i) now all = refl
 command_on story id (command.Plain i) now all = refl
 command_on story id (command.Request i) now all = refl
@@ -609,7 +609,7 @@ from_on (event ∷ events) story all =
     (event_keeps (held_by story) event all))
 
 pub held_after : (local : Addr) (events : List Event)
-    → state_after local events ≡ held_by (story_after local events)
+    → server_state_after local events ≡ held_by (story_after local events)
 held_after local events = from_on events record { local = local; requests = []; dialogs = [] } tt
 
 remote_of : (stories : DialogStories)
@@ -619,7 +619,7 @@ remote_of [] = refl
 remote_of (entry ∷ stories) = ap (λ rest. greatest_accepted entry.1 ∷ rest) (remote_of stories)
 
 pub remote_after : (local : Addr) (events : List Event)
-    → map (λ entry. entry.1.dialog.remote_cseq) (state_after local events).dialogs
+    → map (λ entry. entry.1.dialog.remote_cseq) (server_state_after local events).dialogs
     ≡ map (λ entry. greatest_accepted entry.1) (story_after local events).dialogs
 remote_after local events =
     ap (λ (state : State). map (λ entry. entry.1.dialog.remote_cseq) state.dialogs)

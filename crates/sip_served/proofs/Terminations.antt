@@ -14,7 +14,7 @@ use Rattle.sip_served.specs.Cancel.{invite_terminated, is_unanswered_invite, req
 use Rattle.sip_common.specs.Dialogs.{early_ended, Dialogs}
 use Rattle.sip_common.specs.Requests.{is_invite}
 use Rattle.sip_served.specs.Respond.{answer_given, answer_to, answered, by_refusal, by_request, dialogs_answered, finished, refusal_for, respond_taken, with_dialog}
-use Rattle.sip_served.specs.State.{State, Taken, changed_at, followed, has_id}
+use Rattle.sip_served.specs.State.{State, ServedTaken, changed_at, followed, has_id}
 
 both : (x y : Bool) → (x && y) ≡ true → (x ≡ true) × (y ≡ true)
 both true y e = (refl, e)
@@ -56,7 +56,7 @@ module _ (event : Id) (call_id : List ℕ) (held : HeldRequest) where
       ap (answered (user_termination call_id held.id) response now) (makes_none one)
       ∙ is_final response now one
 
-  abbrev left : State → ℕ → Message → Dialogs × List CallOut → Taken
+  abbrev left : State → ℕ → Message → Dialogs × List CallOut → ServedTaken
   left state now response dialogs = (
     record state {
       requests = changed_at held.id (finished response 487 now) state.requests;

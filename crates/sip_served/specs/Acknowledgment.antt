@@ -12,7 +12,7 @@ use Rattle.sip_served.specs.declared.held_request.SuccessEnd.TheVariants.{Acknow
 use Rattle.sip_common.specs.declared.item.CallOut.TheVariants.{Notice}
 use Rattle.sip_common.specs.declared.notice.Notice.TheVariants.{Ack}
 use Rattle.sip_common.specs.Requests.{is_invite, local_tag_of}
-use Rattle.sip_served.specs.State.{State, Taken, changed_at, quiet}
+use Rattle.sip_served.specs.State.{State, ServedTaken, changed_at, quiet}
 
 -- an INVITE that was answered with a 2xx, whose ACK is awaited
 abbrev pub awaits_ack : HeldRequest → Bool
@@ -39,7 +39,7 @@ success_ended end held = record held {
 }
 
 -- the ACK of the INVITE of this id, or of none: the user is told of the first
-abbrev pub ack_noted : State → List ℕ → Message → Option Id → Taken
+abbrev pub ack_noted : State → List ℕ → Message → Option Id → ServedTaken
 ack_noted state call_id ack None = quiet state
 ack_noted state call_id ack (Some invite) = (
   record state { requests = changed_at invite (success_ended Acknowledged) state.requests },
@@ -47,5 +47,5 @@ ack_noted state call_id ack (Some invite) = (
 )
 
 -- an ACK that comes up
-abbrev pub ack_taken : State → List ℕ → Message → Taken
+abbrev pub ack_taken : State → List ℕ → Message → ServedTaken
 ack_taken state call_id ack = ack_noted state call_id ack (acknowledged_invite ack state.requests)

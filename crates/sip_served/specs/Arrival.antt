@@ -24,10 +24,10 @@ use Rattle.sip_common.specs.declared.item.CallOut.TheVariants.{Notice, Command}
 use Rattle.sip_common.specs.declared.notice.Notice.{Notice as ANotice}
 use Rattle.sip_common.specs.declared.notice.Notice.TheVariants.{Prack, Request}
 use Rattle.sip_common.specs.Dialogs.{dialog_at, dialog_changed, ended_at, is_named, own_dialog, takes, visited, Dialogs}
-use Rattle.sip_served.specs.Provisionals.{without}
+use Rattle.sip_served.specs.Provisionals.{without_rseq}
 use Rattle.sip_common.specs.Requests.{dialog_name, is_bye, is_inside, is_invite, is_prack, is_unknown_option, local_tag_of, supports_100rel}
 use Rattle.sip_common.specs.Ids.{is_id}
-use Rattle.sip_served.specs.State.{State, Taken, changed_at, followed, quiet}
+use Rattle.sip_served.specs.State.{State, ServedTaken, changed_at, followed, quiet}
 
 -- ---- what is held of it
 
@@ -143,11 +143,11 @@ no_such_dialog arrival = answered_with arrival 481 (codes "Call/Transaction Does
 abbrev pub pracked : ℕ → HeldRequest → HeldRequest
 pracked rseq held = record held {
   ledger = acknowledged rseq held.ledger;
-  provisionals = without rseq held.provisionals;
+  provisionals = without_rseq rseq held.provisionals;
 }
 
 -- a PRACK for a response that waits: it gets 200, and the user is told
-abbrev pub prack_taken : State → List ℕ → HeldRequest → Id → ℕ → Taken
+abbrev pub prack_taken : State → List ℕ → HeldRequest → Id → ℕ → ServedTaken
 prack_taken state call_id arrival invite rseq = (
   record state { requests = changed_at invite (pracked rseq) state.requests },
   command_for arrival (response_of arrival.request 200 (codes "OK") arrival.tag)
@@ -163,7 +163,7 @@ request_notice call_id arrival =
     (local_tag_of arrival.request arrival.tag) (tag_of arrival.request.from) arrival.request.body
 
 -- it is held, in the dialog of this name where it came in one
-abbrev pub request_held : State → List ℕ → DialogName → HeldRequest → Taken
+abbrev pub request_held : State → List ℕ → DialogName → HeldRequest → ServedTaken
 request_held state call_id name arrival = (
   record state {
     requests = state.requests
@@ -173,7 +173,7 @@ request_held state call_id name arrival = (
 )
 
 -- a BYE ends its dialog (RFC 3261, section 15.1.2)
-abbrev pub bye_taken : Message → DialogName → State → Taken
+abbrev pub bye_taken : Message → DialogName → State → ServedTaken
 bye_taken request name state =
     if is_inside request && is_bye request
     then (
@@ -183,7 +183,7 @@ bye_taken request name state =
     else quiet state
 
 -- a request for the user is held; a BYE ends its dialog
-abbrev pub for_user : State → List ℕ → DialogName → HeldRequest → Taken
+abbrev pub for_user : State → List ℕ → DialogName → HeldRequest → ServedTaken
 for_user state call_id name arrival =
     followed (request_held state call_id name arrival) (bye_taken arrival.request name)
 
@@ -197,7 +197,7 @@ noted state name request =
     else state
 
 -- what becomes of it, case by case
-abbrev pub by_case : ArrivalCase → State → List ℕ → DialogName → HeldRequest → Taken
+abbrev pub by_case : ArrivalCase → State → List ℕ → DialogName → HeldRequest → ServedTaken
 by_case Merged state call_id name arrival =
     (state, answered_with arrival 482 (codes "Loop Detected"))
 by_case BadExtension state call_id name arrival = (state, refused_extension arrival)
@@ -212,7 +212,7 @@ by_case ForUser state call_id name arrival =
     for_user (noted state name arrival.request) call_id name arrival
 
 -- a request of a transaction of this Call-ID
-abbrev pub request_taken : State → List ℕ → HeldRequest → Taken
+abbrev pub request_taken : State → List ℕ → HeldRequest → ServedTaken
 request_taken state call_id arrival =
     let name = dialog_name arrival.request arrival.tag in
     by_case (case_of state.requests state.dialogs name arrival.request) state call_id name arrival

@@ -16,7 +16,7 @@ use Rattle.sip_served.specs.Arrival.{command_for, no_such_dialog}
 use Rattle.sip_common.specs.Dialogs.{early_ended}
 use Rattle.sip_common.specs.Requests.{is_invite, local_tag_of}
 use Rattle.sip_served.specs.Respond.{finished}
-use Rattle.sip_served.specs.State.{State, Taken, changed_at, followed}
+use Rattle.sip_served.specs.State.{State, ServedTaken, changed_at, followed}
 
 -- ---- the request that it names
 
@@ -56,7 +56,7 @@ termination_told call_id arrival held response =
 -- ---- what becomes of the INVITE
 
 -- it has its final response, and its early dialogs end
-abbrev pub invite_terminated : Message → Id → ℕ → State → Taken
+abbrev pub invite_terminated : Message → Id → ℕ → State → ServedTaken
 invite_terminated response invite now state = (
   record state {
     requests = changed_at invite (finished response 487 now) state.requests;
@@ -79,7 +79,7 @@ user_termination call_id invite = record {
 -- ---- all of it
 
 -- a CANCEL of the request that is held gets 200, and an unanswered INVITE gets 487; of none 481
-abbrev pub by_cancelled : State → List ℕ → HeldRequest → ℕ → Option HeldRequest → Taken
+abbrev pub by_cancelled : State → List ℕ → HeldRequest → ℕ → Option HeldRequest → ServedTaken
 by_cancelled state call_id arrival now None = (state, no_such_dialog arrival)
 by_cancelled state call_id arrival now (Some held) =
     let response = request_terminated held in
@@ -89,6 +89,6 @@ by_cancelled state call_id arrival now (Some held) =
     else (state, cancel_accepted arrival held ∷ [])
 
 -- A CANCEL is never held, and no dialog notes it.
-abbrev pub cancel_taken : State → List ℕ → HeldRequest → ℕ → Taken
+abbrev pub cancel_taken : State → List ℕ → HeldRequest → ℕ → ServedTaken
 cancel_taken state call_id arrival now =
     by_cancelled state call_id arrival now (cancelled_request arrival.key state.requests)

@@ -8,7 +8,7 @@ use Rattle.sip_served.specs.declared.arrival.ArrivalCase.{ArrivalCase}
 use Rattle.sip_served.specs.declared.arrival.ArrivalCase.TheVariants.{ForUser}
 use Rattle.sip_common.specs.declared.item.Item.TheVariants.{Up as FromBelow}
 use Rattle.sip_common.specs.Ids.{is_id}
-use Rattle.sip_common.specs.Notices.{request_in}
+use Rattle.sip_common.specs.Notices.{request_told_by}
 use Rattle.sip_common.specs.Requests.{dialog_name, is_cancel}
 use Rattle.sip_served.specs.Arrival.{case_of}
 use Rattle.sip_served.specs.Run.{Event, Takes, event_taken}
@@ -16,7 +16,7 @@ use Rattle.sip_served.specs.State.{State}
 
 -- the requests that the user is told of by an event, and by a list of events
 abbrev pub told_by : State → Event → List Id
-told_by state event = filter_map request_in (event_taken state event).1
+told_by state event = filter_map request_told_by (event_taken state event).1
 
 abbrev pub told_from : State → List Event → List Id
 told_from state [] = []
@@ -34,9 +34,9 @@ for_user_of state tag id (Request request reply_to) =
     else if_for_user id (case_of state.requests state.dialogs (dialog_name request tag) request)
 for_user_of state tag id _ = []
 
-abbrev pub for_user : State → Event → List Id
-for_user state (Takes tag id (FromBelow up) now) = for_user_of state tag up.id up.kind
-for_user state _ = []
+abbrev pub ids_for_user : State → Event → List Id
+ids_for_user state (Takes tag id (FromBelow up) now) = for_user_of state tag up.id up.kind
+ids_for_user state _ = []
 
 -- the request of an id comes up
 abbrev pub is_request : Kind → Bool → Bool

@@ -4,8 +4,8 @@ use Rattle.sip_reliable.specs.Happening.{is_among}
 use Rattle.sip_served.specs.declared.provisionals.NumberedResponse.{NumberedResponse}
 
 -- all but that of this number
-abbrev pub without : ℕ → List NumberedResponse → List NumberedResponse
-without number responses = filter (λ one. not (one.number == number)) responses
+abbrev pub without_rseq : ℕ → List NumberedResponse → List NumberedResponse
+without_rseq number responses = filter (λ one. not (one.number == number)) responses
 
 -- those of these numbers
 abbrev pub of_numbers : List ℕ → List NumberedResponse → List NumberedResponse

@@ -31,7 +31,7 @@ use Rattle.sip_common.specs.Notices.{refused}
 use Rattle.sip_common.specs.Refusal.{first_refusal}
 use Rattle.sip_common.specs.Dialogs.{confirmed, dialog_changed, early_ended, is_named, lives, Dialogs}
 use Rattle.sip_common.specs.Requests.{dialog_name, is_final, is_inside, is_invite, is_provisional, is_success, requires_100rel, supports_100rel}
-use Rattle.sip_served.specs.State.{State, Taken, changed_at, has_id}
+use Rattle.sip_served.specs.State.{State, ServedTaken, changed_at, has_id}
 
 -- ---- when it is refused
 
@@ -216,7 +216,7 @@ with_dialog event respond held =
 -- An answer goes to the transaction of its request. `changed` are the held requests with this one
 -- changed so.
 abbrev pub answer_given_at : ((HeldRequest → HeldRequest) → List HeldRequest) → State → Id → Respond
-    → ℕ → HeldRequest → Taken
+    → ℕ → HeldRequest → ServedTaken
 answer_given_at changed state event respond now held =
     let response = answer_to state.local held respond in
     let dialogs = dialogs_answered event held respond response state.dialogs in (
@@ -228,24 +228,24 @@ answer_given_at changed state event respond now held =
     )
 
 -- the same of the request of this id, among those that are held
-abbrev pub answer_given : State → Id → Respond → ℕ → HeldRequest → Taken
+abbrev pub answer_given : State → Id → Respond → ℕ → HeldRequest → ServedTaken
 answer_given state event respond now held =
     answer_given_at (λ change. changed_at respond.id change state.requests) state event respond now
     held
 
 -- refused, and then nothing changes, or given
-abbrev pub by_refusal : State → Id → Respond → ℕ → HeldRequest → Option Refusal → Taken
+abbrev pub by_refusal : State → Id → Respond → ℕ → HeldRequest → Option Refusal → ServedTaken
 by_refusal state event respond now held (Some refusal) =
     (state, refused event respond.call_id refusal)
 by_refusal state event respond now held None = answer_given state event respond now held
 
 -- an answer to the request that is held, or to none
-abbrev pub by_request : State → Id → Respond → ℕ → Option HeldRequest → Taken
+abbrev pub by_request : State → Id → Respond → ℕ → Option HeldRequest → ServedTaken
 by_request state event respond now None = (state, refused event respond.call_id NoSuchRequest)
 by_request state event respond now (Some held) =
     by_refusal state event respond now held (refusal_for state.dialogs respond held)
 
 -- the answer to the request of its id
-abbrev pub respond_taken : State → Id → Respond → ℕ → Taken
+abbrev pub respond_taken : State → Id → Respond → ℕ → ServedTaken
 respond_taken state event respond now =
     by_request state event respond now (find (has_id respond.id) state.requests)

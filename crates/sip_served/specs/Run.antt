@@ -6,8 +6,8 @@ use Rattle.sip_message.specs.declared.id.Id.{Id}
 use Rattle.sip_reliable.specs.Ledger.{FewWait}
 use Rattle.sip_common.specs.declared.item.Item.{Item}
 use Rattle.sip_served.specs.ServerSide.{empty_at}
-use Rattle.sip_served.specs.State.{State, Taken}
-use Rattle.sip_served.specs.Step.{item_taken}
+use Rattle.sip_served.specs.State.{State, ServedTaken}
+use Rattle.sip_served.specs.Step.{server_item_taken}
 use Rattle.sip_served.specs.Tick.{tick_taken}
 
 -- an item with the tag that was made for it, the id of its event and its moment, or a tick
@@ -15,13 +15,13 @@ pub data Event : Type 0 where
   Takes : List ℕ → Id → Item → ℕ → Event
   Ticks : ℕ → Event
 
-abbrev pub event_taken : State → Event → Taken
-event_taken state (Takes tag id item now) = item_taken state tag id item now
+abbrev pub event_taken : State → Event → ServedTaken
+event_taken state (Takes tag id item now) = server_item_taken state tag id item now
 event_taken state (Ticks now) = tick_taken state now
 
 -- what is held after all of them, where nothing was held before
-abbrev pub state_after : Addr → List Event → State
-state_after local events = fold (λ state event. (event_taken state event).0) (empty_at local) events
+abbrev pub server_state_after : Addr → List Event → State
+server_state_after local events = fold (λ state event. (event_taken state event).0) (empty_at local) events
 
 -- of each held request at most 8 reliable provisional responses wait for their PRACK, and none but
 -- the first until that one was acknowledged

@@ -2,7 +2,7 @@
 use Rattle.std.specs.Prelude.{Bool, true, List, []}
 use Rattle.sip_message.specs.declared.addr.Addr.{Addr}
 use Rattle.sip_common.specs.declared.item.CallOut.{CallOut}
-use Rattle.sip_served.specs.State.{State, Taken}
+use Rattle.sip_served.specs.State.{State, ServedTaken}
 
 -- whether a call met want of memory, and what is held
 pub record ServerSide : Type 0 where
@@ -19,5 +19,5 @@ abbrev pub lost : ServerSide → ServerSide
 lost side = record { broken = true; local = side.local; state = empty_at side.local }
 
 -- what was taken is held
-abbrev pub after : ServerSide → Taken → ServerSide × List CallOut
+abbrev pub after : ServerSide → ServedTaken → ServerSide × List CallOut
 after side taken = (record side { state = taken.0 }, taken.1)

@@ -15,15 +15,15 @@ pub record State : Type 0 where
   pub dialogs : Dialogs
 
 -- what is held after something happened, and what is told of it
-abbrev pub Taken : Type 0
-Taken = State × List CallOut
+abbrev pub ServedTaken : Type 0
+ServedTaken = State × List CallOut
 
 -- nothing happens
-abbrev pub quiet : State → Taken
+abbrev pub quiet : State → ServedTaken
 quiet state = (state, [])
 
 -- something happens after something else
-abbrev pub followed : Taken → (State → Taken) → Taken
+abbrev pub followed : ServedTaken → (State → ServedTaken) → ServedTaken
 followed done more = ((more done.0).0, done.1 ++ (more done.0).1)
 
 -- the request that came by this event

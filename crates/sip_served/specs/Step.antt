@@ -14,17 +14,17 @@ use Rattle.sip_served.specs.Arrival.{new_request, request_taken}
 use Rattle.sip_served.specs.Cancel.{cancel_taken}
 use Rattle.sip_common.specs.Requests.{is_cancel}
 use Rattle.sip_served.specs.Respond.{respond_taken}
-use Rattle.sip_served.specs.State.{State, Taken, quiet}
+use Rattle.sip_served.specs.State.{State, ServedTaken, quiet}
 
 -- a CANCEL is a case of its own before all others
-abbrev pub arrival_taken : State → List ℕ → HeldRequest → ℕ → Taken
+abbrev pub arrival_taken : State → List ℕ → HeldRequest → ℕ → ServedTaken
 arrival_taken state call_id arrival now =
     if is_cancel arrival.request then cancel_taken state call_id arrival now
     else request_taken state call_id arrival
 
 -- What a transaction hands up; `tag` is the To tag made for a request without one. Of the server
 -- side are the requests and the ACKs.
-abbrev pub kind_taken : State → List ℕ → Up → Kind → ℕ → Taken
+abbrev pub kind_taken : State → List ℕ → Up → Kind → ℕ → ServedTaken
 kind_taken state tag up (Request request reply_to) now =
     arrival_taken state up.call_id (new_request up.key up.id request reply_to tag) now
 kind_taken state tag up (Ack ack) now = ack_taken state up.call_id ack
@@ -33,14 +33,14 @@ kind_taken state tag up Timeout now = quiet state
 kind_taken state tag up Failed now = quiet state
 
 -- of the user's commands only answers are for the server side
-abbrev pub command_taken : State → Id → UserCommand → ℕ → Taken
-command_taken state id (command.Respond respond) now = respond_taken state id respond now
-command_taken state id _ now = quiet state
+abbrev pub server_command_taken : State → Id → UserCommand → ℕ → ServedTaken
+server_command_taken state id (command.Respond respond) now = respond_taken state id respond now
+server_command_taken state id _ now = quiet state
 
 -- an item of the event of this id, at a moment in ms
-abbrev pub item_taken : State → List ℕ → Id → Item → ℕ → Taken
-item_taken state tag id (item.Up up) now = kind_taken state tag up up.kind now
-item_taken state tag id (item.User command) now = command_taken state id command now
+abbrev pub server_item_taken : State → List ℕ → Id → Item → ℕ → ServedTaken
+server_item_taken state tag id (item.Up up) now = kind_taken state tag up up.kind now
+server_item_taken state tag id (item.User command) now = server_command_taken state id command now
 
 -- something is held
 abbrev pub holds : State → Bool

@@ -21,7 +21,7 @@ use Rattle.sip_transactions.specs.declared.timers.TheConstants.{T2}
 use Rattle.sip_served.specs.declared.tick.SuccessDue.{SuccessDue}
 use Rattle.sip_served.specs.declared.tick.SuccessDue.TheVariants as repeat
 use Rattle.sip_served.specs.Provisionals.{of_numbers}
-use Rattle.sip_served.specs.State.{State, Taken}
+use Rattle.sip_served.specs.State.{State, ServedTaken}
 
 -- a held request after a tick, and what is told
 abbrev pub Ticked : Type 0
@@ -57,16 +57,16 @@ success_by repeat.Again now success =
 success_by repeat.GivenUp now success = record success { over = Some GivenUp }
 
 -- of a request that has its 2xx, or has none yet
-abbrev pub success_of : ℕ → HeldRequest → Option Success → Ticked
-success_of now held None = (held, [])
-success_of now held (Some success) = (
+abbrev pub success_at_tick : ℕ → HeldRequest → Option Success → Ticked
+success_at_tick now held None = (held, [])
+success_at_tick now held (Some success) = (
   record held { success = Some (success_by (success_answer now success) now success) },
   success_told (success_answer now success) held success.response,
 )
 
 -- the 2xx of a held request at a tick
 abbrev pub success_ticked : ℕ → HeldRequest → Ticked
-success_ticked now held = success_of now held held.success
+success_ticked now held = success_at_tick now held held.success
 
 -- ---- the reliable provisional responses that wait for their PRACK
 
@@ -107,7 +107,7 @@ abbrev pub is_kept_at : ℕ → HeldRequest → Bool
 is_kept_at now held = option_map_or (λ moment. nat_lt now moment) held.removal true
 
 -- each held request takes the tick; those whose time is over are removed
-abbrev pub tick_taken : State → ℕ → Taken
+abbrev pub tick_taken : State → ℕ → ServedTaken
 tick_taken state now = (
   record state {
     requests = filter (is_kept_at now)
@@ -132,5 +132,5 @@ request_due held =
 abbrev pub next_due_of : List HeldRequest → Option ℕ
 next_due_of requests = fold (λ due held. earlier due (request_due held)) None requests
 
-abbrev pub next_due : State → Option ℕ
-next_due state = next_due_of state.requests
+abbrev pub next_server_due : State → Option ℕ
+next_server_due state = next_due_of state.requests

@@ -7,7 +7,7 @@ ghost use Rattle.sip_served.specs.Cancel as cancels;
 ghost use Rattle.sip_served.specs.Respond as answers;
 ghost use Rattle.sip_served.specs.Step as step;
 ghost use Rattle.std.specs.List.{slice_get};
-ghost use Rattle.sip_served.specs.Tick.{tick_taken, next_due, is_kept_at};
+ghost use Rattle.sip_served.specs.Tick.{tick_taken, next_server_due, is_kept_at};
 ghost use Rattle.sip_served.specs.declared.held_request.HeldRequest.{HeldRequest};
 
 use crate::acknowledgment::{acknowledge, acknowledged_invite, prack};
@@ -81,7 +81,7 @@ impl Holdings {
     }
 
     pub(crate) fn next_due(&self) -> Option<u64>
-        ensures { result ≡ next_due self.now }
+        ensures { result ≡ next_server_due self.now }
     {
         next_due(self.requests.as_slice())
     }
@@ -104,7 +104,7 @@ impl Holdings {
     ) -> Result<Vec<CallOut>, AllocError>
         requires { now ≤ 2 ^ 62 }
         ensures { IfOk result (λ outs. (self.new, outs.items)
-            ≡ step.item_taken self.old tag id item now) }
+            ≡ step.server_item_taken self.old tag id item now) }
     {
         match item {
             Item::Up(up) => self.come_up(tag, up, now),

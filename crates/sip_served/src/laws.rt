@@ -11,23 +11,23 @@ ghost use Rattle.sip_served.specs.Cancel.{invite_terminated, is_unanswered_invit
 ghost use Rattle.sip_common.specs.OwnCall.{IsNoticeOf};
 ghost use Rattle.sip_served.specs.OwnCall.{IsEventOf, IsStateOf};
 ghost use Rattle.sip_served.specs.Respond.{respond_taken};
-ghost use Rattle.sip_served.specs.Run.{Event, FewWaitEach, event_taken, state_after};
+ghost use Rattle.sip_served.specs.Run.{Event, FewWaitEach, event_taken, server_state_after};
 ghost use Rattle.sip_served.specs.ServerSide.{empty_at};
-ghost use Rattle.sip_served.specs.ForUser.{brings, for_user, told_by, told_from};
+ghost use Rattle.sip_served.specs.ForUser.{brings, ids_for_user, told_by, told_from};
 ghost use Rattle.sip_common.specs.Ids.{is_id};
 ghost use Rattle.sip_served.specs.State.{State, followed, has_id, quiet};
 ghost use Rattle.sip_served.specs.Story.{greatest_accepted, held_by, ledger_of};
 ghost use Rattle.sip_served.specs.Telling.{story_after};
-ghost use Rattle.sip_served.specs.Tick.{next_due, tick_taken};
+ghost use Rattle.sip_served.specs.Tick.{next_server_due, tick_taken};
 ghost use Rattle.sip_served.specs.declared.held_request.HeldRequest.{HeldRequest};
 ghost use Rattle.sip_common.specs.declared.item.CallOut.TheVariants.{Command};
 
 /// Before the moment at which something is due a tick does nothing and says nothing; from then on
 /// it does or says something. Where nothing is ever due no tick does anything.
 pub fn ticks_when_due()
-    ensures before { (state : State) (now : ℕ) → is_due now (next_due state) ≡ false
+    ensures before { (state : State) (now : ℕ) → is_due now (next_server_due state) ≡ false
         → tick_taken state now ≡ quiet state }
-    ensures from { (state : State) (now : ℕ) → is_due now (next_due state) ≡ true
+    ensures from { (state : State) (now : ℕ) → is_due now (next_server_due state) ≡ true
         → tick_taken state now ≢ quiet state }
 {}
 
@@ -36,7 +36,7 @@ pub fn ticks_when_due()
 /// acknowledged; so of those that were sent at most 8 have no PRACK after them, and none but the
 /// first until it has one (RFC 3262, section 3).
 pub fn few_provisionals_wait()
-    ensures held { (local : Addr) (events : List Event) → FewWaitEach (state_after local events) }
+    ensures held { (local : Addr) (events : List Event) → FewWaitEach (server_state_after local events) }
     ensures sent { (local : Addr) (events : List Event)
         → AllByRecursion (λ request. FewWait (ledger_of request))
         (story_after local events).requests }
@@ -46,14 +46,14 @@ pub fn few_provisionals_wait()
 /// by how it began and what happened in it since, and each request by what came for it.
 pub fn holds_what_its_story_says()
     ensures { (local : Addr) (events : List Event)
-        → state_after local events ≡ held_by (story_after local events) }
+        → server_state_after local events ≡ held_by (story_after local events) }
 {}
 
 /// The remote CSeq of each held dialog is the greatest number that was accepted in it, that of its
 /// INVITE included (RFC 3261, section 12.2.2).
 pub fn the_remote_cseq_is_the_greatest_accepted()
     ensures { (local : Addr) (events : List Event)
-        → map (λ entry. entry.1.dialog.remote_cseq) (state_after local events).dialogs
+        → map (λ entry. entry.1.dialog.remote_cseq) (server_state_after local events).dialogs
         ≡ map (λ entry. greatest_accepted entry.1) (story_after local events).dialogs }
 {}
 
@@ -61,7 +61,7 @@ pub fn the_remote_cseq_is_the_greatest_accepted()
 /// So over any list of events the user is told of no request more often than it comes up.
 pub fn each_request_is_told_once()
     ensures as_it_comes { (state : State) (event : Event)
-        → told_by state event ≡ for_user state event }
+        → told_by state event ≡ ids_for_user state event }
     ensures once { (local : Addr) (events : List Event) (id : Id)
         → count_by (is_id id) (told_from (empty_at local) events) ≤ count_by (brings id) events }
 {}

@@ -1,7 +1,7 @@
 //! The reliable provisional responses to an INVITE that wait for their PRACK.
 
 ghost use Rattle.std.specs.Prelude.{◌≡◌, ◌++◌, ◌∷◌, [], OnOk};
-ghost use Rattle.sip_served.specs.Provisionals.{without};
+ghost use Rattle.sip_served.specs.Provisionals.{without_rseq};
 
 use sip_message::Message;
 use sip_text::Boxed;
@@ -60,7 +60,7 @@ impl Provisionals {
 
     /// The PRACK of the one with this number came.
     pub(crate) fn remove(&mut self, number: u32)
-        ensures { self.new ≡ without number self.old }
+        ensures { self.new ≡ without_rseq number self.old }
     {
         self.responses.retain(|one| one.number != number);
     }

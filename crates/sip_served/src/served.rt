@@ -36,8 +36,8 @@ impl Served {
     ghost use Rattle.sip_served.specs.ServerSide.{after, empty_at, lost};
     ghost use Rattle.sip_served.specs.Acknowledgment.{ack_taken};
     ghost use Rattle.sip_served.specs.Respond.{respond_taken};
-    ghost use Rattle.sip_served.specs.Step.{arrival_taken, holds, item_taken};
-    ghost use Rattle.sip_served.specs.Tick.{next_due, tick_taken};
+    ghost use Rattle.sip_served.specs.Step.{arrival_taken, holds, server_item_taken};
+    ghost use Rattle.sip_served.specs.Tick.{next_server_due, tick_taken};
 
     /// The server side of a Call-ID under which nothing is held, at the address `local`. Takes no
     /// memory.
@@ -61,7 +61,7 @@ impl Served {
 
     /// The first moment, in ms, at which a tick does something, if there is one. Takes no memory.
     pub fn next_due(&self) -> Option<u64>
-        ensures { result ≡ next_due self.now.state }
+        ensures { result ≡ next_server_due self.now.state }
     {
         self.holdings.next_due()
     }
@@ -94,7 +94,7 @@ impl Served {
         ensures broken_stays { result ≡ Err ShardFault.Broken → self.new ≡ self.old }
         ensures no_memory { result ≡ Err ShardFault.NoMemory → self.new ≡ lost self.old }
         ensures ok { IfOk result (λ outs. (self.new, outs.items)
-            ≡ after self.old (item_taken self.old.state tag id item now)) }
+            ≡ after self.old (server_item_taken self.old.state tag id item now)) }
     {
         self.check()?;
         let taken = self.holdings.item(tag, id, item, now);

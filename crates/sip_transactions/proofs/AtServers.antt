@@ -26,13 +26,13 @@ use Rattle.sip_timers.specs.declared.estimate.TheConstants.{LIFETIME}
 use Rattle.sip_transactions.specs.declared.trigger.Class.TheVariants as class
 use Rattle.sip_transactions.specs.declared.trigger.Trigger.{Trigger}
 use Rattle.sip_transactions.specs.declared.trigger.Trigger.TheVariants as on
-use Rattle.sip_transactions.specs.Input.{answer_of, is_method, role_of, trigger_of}
+use Rattle.sip_transactions.specs.Input.{answer_of, is_same_method, role_of, trigger_of}
 use Rattle.sip_transactions.specs.Laws.{IsServer}
 use Rattle.sip_transactions.specs.Life.{stepped, stepped_by, step_for, acted, life_after}
 use Rattle.sip_transactions.specs.Output.{outputs_of, made_of, handed_out}
 use Rattle.sip_transactions.specs.Rows.{row_of, rows_of}
-use Rattle.sip_transactions.specs.ServerLaws.{is_answering, is_open, is_final, answering, AnsweredAgain, EndsAfterItsAnswer, FailedSendKeeps}
-use Rattle.sip_transactions.specs.Shard.{failure, receipt}
+use Rattle.sip_transactions.specs.ServerLaws.{is_answering, is_open, is_final_answer, answering, AnsweredAgain, EndsAfterItsAnswer, FailedSendKeeps}
+use Rattle.sip_transactions.specs.Shard.{failed_send, receipt}
 use Rattle.sip_transactions.proofs.RowFacts.{by_test}
 
 -- ---- the tables of servers
@@ -46,7 +46,7 @@ server_role : (k : Key) → IsServer k → is_server (role_of k) ≡ true
 unfolding is_server
 server_role (key.Client branch method) none = absurd none
 server_role (key.Server branch sent_by method) server =
-    by_test (is_method method (codes "INVITE"))
+    by_test (is_same_method method (codes "INVITE"))
     (λ hit. ap (λ b. is_server (cond b InviteServer Server)) hit)
     (λ miss. ap (λ b. is_server (cond b InviteServer Server)) miss)
 
@@ -129,12 +129,12 @@ acted_failed key life id now = refl
 by_failed_row : (key : Key) (life : Life) (id : Id) (now : ℕ)
     → (row_of (rows_of (role_of key)) (Some life.state) on.Failed ≡ Some keeps)
     ⊎ (row_of (rows_of (role_of key)) (Some life.state) on.Failed ≡ None)
-    → (stepped key (Some life) (failure id now)).0 ≡ Some life
+    → (stepped key (Some life) (failed_send id now)).0 ≡ Some life
 by_failed_row key life id now (inl fits) =
-    ap (λ p. p.0) (by_row key life (failure id now) on.Failed (Some keeps) refl fits)
+    ap (λ p. p.0) (by_row key life (failed_send id now) on.Failed (Some keeps) refl fits)
     ∙ acted_failed key life id now
 by_failed_row key life id now (inr none) =
-    ap (λ p. p.0) (by_row key life (failure id now) on.Failed None refl none)
+    ap (λ p. p.0) (by_row key life (failed_send id now) on.Failed None refl none)
 
 pub failed_send_keeps : FailedSendKeeps
 failed_send_keeps key server life id now =
@@ -149,7 +149,7 @@ answers = record {
   due = Ending LIFETIME;
 }
 
-answer_row : (s : State) → is_open s ≡ true → (t : Trigger) → is_final (Some t) ≡ true
+answer_row : (s : State) → is_open s ≡ true → (t : Trigger) → is_final_answer (Some t) ≡ true
     → row_of (rows_of Server) (Some s) t ≡ Some answers
 unfolding answers
 answer_row Calling unanswered t final = absurd (false≢true unanswered)
@@ -188,7 +188,7 @@ acted_answer key life id response now = refl
 
 by_answer : (key : Key) → role_of key ≡ Server → (life : Life) → is_open life.state ≡ true
     → (id : Id) (response : Message) (now : ℕ) (o : Option Trigger) → answer_of response.start ≡ o
-    → is_final o ≡ true
+    → is_final_answer o ≡ true
     → (stepped key (Some life) (answering id response now)).0 ≡ Some (answered now response life)
 by_answer key server life unanswered id response now None is final = absurd (false≢true final)
 by_answer key server life unanswered id response now (Some t) is final =

@@ -43,7 +43,7 @@ use Rattle.sip_transactions.specs.declared.step.Step.{Step}
 use Rattle.sip_transactions.specs.declared.trigger.Trigger.{Trigger}
 use Rattle.sip_transactions.specs.declared.trigger.Trigger.TheVariants as on
 use Rattle.sip_transactions.specs.Dues.{Dues}
-use Rattle.sip_transactions.specs.Input.{role_of, trigger_of, is_method, arrival_of, answer_of, class_of, message_in, arrived_in}
+use Rattle.sip_transactions.specs.Input.{role_of, trigger_of, is_same_method, arrival_of, answer_of, class_of, message_in, arrived_in}
 use Rattle.sip_transactions.specs.Laws.{FewSends, is_send_of, sends_of, most_repeats}
 use Rattle.sip_transactions.specs.Life.{stepped, acted_if, begun, life_after, life_in, entered, last_of, armed, keeps_request, context_by}
 use Rattle.sip_transactions.specs.Machine.{transaction_machine}
@@ -437,7 +437,7 @@ tick_response false false trigger is response = cc
 arrival_no_repeat : (line : StartLine) (method : List ℕ)
     → is_repeat (arrival_of line method) ≡ false
 arrival_no_repeat (start.Request uri) method =
-    by_test (is_method method (codes "ACK"))
+    by_test (is_same_method method (codes "ACK"))
     (λ ack. ap (λ b. is_repeat (cond b on.Ack on.Request)) ack)
     (λ other. ap (λ b. is_repeat (cond b on.Ack on.Request)) other)
 arrival_no_repeat (start.Response status reason) method = refl
@@ -697,16 +697,16 @@ start_row role client trigger step is row =
 
 role_client : (branch method : List ℕ) → is_client (role_of (key.Client branch method)) ≡ true
 role_client branch method =
-    by_test (is_method method (codes "INVITE"))
+    by_test (is_same_method method (codes "INVITE"))
     (λ hit. ap (λ b. is_client (cond b InviteClient Client)) hit)
     (λ miss. ap (λ b. is_client (cond b InviteClient Client)) miss)
 
 invite_method : (branch method : List ℕ) → keeps_request (role_of (key.Client branch method)) ≡ true
     → method ≡ codes "INVITE"
 invite_method branch method keeping =
-    by_test (is_method method (codes "INVITE"))
+    by_test (is_same_method method (codes "INVITE"))
     (λ hit. (slice_eq-Decides Decides-eqb method (codes "INVITE")
-    (is_method method (codes "INVITE")) refl).0 hit)
+    (is_same_method method (codes "INVITE")) refl).0 hit)
     (λ miss. absurd (false≢true (sym (ap (λ b. keeps_request (cond b InviteClient Client)) miss)
     ∙ keeping)))
 

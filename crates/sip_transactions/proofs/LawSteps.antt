@@ -30,7 +30,7 @@ use Rattle.sip_transactions.specs.declared.step.Handed.TheVariants as up
 use Rattle.sip_transactions.specs.declared.trigger.Trigger.{Trigger}
 use Rattle.sip_transactions.specs.declared.trigger.Trigger.TheVariants as on
 use Rattle.sip_transactions.specs.Rows.{row_of, rows_of}
-use Rattle.sip_transactions.specs.Input.{role_of, trigger_of, is_method, answer_of, class_of, arrived_in, message_in}
+use Rattle.sip_transactions.specs.Input.{role_of, trigger_of, is_same_method, answer_of, class_of, arrived_in, message_in}
 use Rattle.sip_transactions.specs.Output.{outputs_of, handed_out, sent_bytes, made_bytes, send_out}
 use Rattle.sip_transactions.specs.Life.{stepped, step_for, stepped_by, acted_if, context_of, state_of}
 use Rattle.sip_transactions.specs.Laws.{IsSend, CommandsOnlySend, IsServer, is_request_up, requests_in}
@@ -172,7 +172,7 @@ pub server_tables : (key : Key) → IsServer key
     → table_passes begins_by_request (rows_of (role_of key)) ≡ true
 server_tables (key.Client branch method) none = absurd none
 server_tables (key.Server branch sent_by method) server =
-    by_test (is_method method (codes "INVITE"))
+    by_test (is_same_method method (codes "INVITE"))
     (λ hit. ap (λ b. table_passes begins_by_request (rows_of (cond b InviteServer Server))) hit)
     (λ miss. ap (λ b. table_passes begins_by_request (rows_of (cond b InviteServer Server))) miss)
 

@@ -23,7 +23,7 @@ use Rattle.sip_transactions.specs.declared.step.Handed.TheVariants as up
 use Rattle.sip_transactions.specs.declared.trigger.Trigger.{Trigger}
 use Rattle.sip_transactions.specs.declared.trigger.Trigger.TheVariants as on
 use Rattle.sip_transactions.specs.Rows.{rows_of}
-use Rattle.sip_transactions.specs.Input.{role_of, trigger_of, is_method, arrival_of, arrived_in}
+use Rattle.sip_transactions.specs.Input.{role_of, trigger_of, is_same_method, arrival_of, arrived_in}
 use Rattle.sip_transactions.specs.Output.{handed_out, kind_of, up_out}
 use Rattle.sip_transactions.specs.Life.{stepped, acted_if, begun, life_after, life_in, entered, armed, last_of}
 use Rattle.sip_transactions.specs.Machine.{transaction_machine}
@@ -57,7 +57,7 @@ up_request : (key : Key) (context : Context) (handed : Handed) (message : Messag
 unfolding handed_out
 up_request key context up.Nothing message reply_to line is handed request = absurd (false≢true handed)
 up_request key context up.Message message reply_to (start.Request uri) is handed request =
-    by_test (is_method message.cseq.method (codes "ACK"))
+    by_test (is_same_method message.cseq.method (codes "ACK"))
     (λ ack. absurd (not_both _ request (ap (λ b. is_request (cond b on.Ack on.Request)) ack)))
     (λ other. ap (λ l. requests_in
     (option_to_list (Some (up_out key context (kind_of l message reply_to))))) is
@@ -127,7 +127,7 @@ later_receive key context message reply_to (start.Response status reason) is oth
     ap (λ l. requests_in (option_to_list (Some (up_out key context (kind_of l message reply_to))))) is
 later_receive key context message reply_to (start.Request uri) is other =
     ap (λ l. requests_in (option_to_list (Some (up_out key context (kind_of l message reply_to))))) is
-    ∙ by_test (is_method message.cseq.method (codes "ACK"))
+    ∙ by_test (is_same_method message.cseq.method (codes "ACK"))
     (λ ack. ap (λ b. requests_in (option_to_list
     (Some (up_out key context (cond b (kind.Ack message) (kind.Request message reply_to)))))) ack)
     (λ plain. absurd (false≢true (sym (ap (λ b. not (is_request (cond b on.Ack on.Request))) plain)

@@ -24,7 +24,7 @@ use Rattle.sip_transactions.specs.declared.step.Handed.{Handed}
 use Rattle.sip_transactions.specs.declared.step.Handed.TheVariants as up
 use Rattle.sip_transactions.specs.declared.step.Step.{Step}
 use Rattle.sip_transactions.specs.Ids.{IdsRise, id_cmp}
-use Rattle.sip_transactions.specs.Input.{role_of, is_method}
+use Rattle.sip_transactions.specs.Input.{role_of, is_same_method}
 use Rattle.sip_transactions.specs.Laws.{RequestsComeUpById, arrival_id, is_request_kind, names_in, naming_id, request_id, request_ids, requests_in}
 use Rattle.sip_transactions.specs.Life.{stepped, acted_if, begun}
 use Rattle.sip_transactions.specs.Machine.{transaction_machine}
@@ -96,7 +96,7 @@ handed_ids key context up.Message message reply_to (start.Request uri) is =
     let by_line = ap (λ l. request_ids (up_out key context (kind_of l message reply_to) ∷ [])) is in
     let by_kind : Bool → List Id = λ b. request_ids
     (up_out key context (cond b (kind.Ack message) (kind.Request message reply_to)) ∷ []) in
-    by_test (is_method message.cseq.method (codes "ACK"))
+    by_test (is_same_method message.cseq.method (codes "ACK"))
     (λ ack. inl (by_line ∙ ap by_kind ack))
     (λ other. inr (by_line ∙ ap by_kind other))
 

@@ -19,15 +19,15 @@ use Rattle.sip_transactions.specs.declared.life.Life.{Life}
 use Rattle.sip_timers.specs.Queue.{is_due}
 
 -- methods are compared with their case
-abbrev pub is_method : List ℕ → List ℕ → Bool
-is_method method name = pointwise nat_eq method name
+abbrev pub is_same_method : List ℕ → List ℕ → Bool
+is_same_method method name = pointwise nat_eq method name
 
 -- the table of a key
 abbrev pub role_of : Key → Role
 role_of (key.Client branch method) =
-    if is_method method (codes "INVITE") then role.InviteClient else role.Client
+    if is_same_method method (codes "INVITE") then role.InviteClient else role.Client
 role_of (key.Server branch sent_by method) =
-    if is_method method (codes "INVITE") then role.InviteServer else role.Server
+    if is_same_method method (codes "INVITE") then role.InviteServer else role.Server
 
 -- the class of a status code
 abbrev pub class_of : ℕ → Class
@@ -53,7 +53,7 @@ arrived_in (Some (Failed id)) = None
 -- a message that came, by its start line and its method
 abbrev pub arrival_of : StartLine → List ℕ → Trigger
 arrival_of (start.Request uri) method =
-    if is_method method (codes "ACK") then on.Ack else on.Request
+    if is_same_method method (codes "ACK") then on.Ack else on.Request
 arrival_of (start.Response status reason) method = on.Response (class_of status)
 
 -- a message that the user answers with

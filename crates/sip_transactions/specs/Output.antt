@@ -19,14 +19,14 @@ use Rattle.sip_transactions.specs.declared.step.Handed.{Handed}
 use Rattle.sip_transactions.specs.declared.step.Handed.TheVariants as up
 use Rattle.sip_transactions.specs.declared.step.Sent.{Sent}
 use Rattle.sip_transactions.specs.declared.step.Sent.TheVariants as send
-use Rattle.sip_transactions.specs.Input.{is_method}
+use Rattle.sip_transactions.specs.Input.{is_same_method}
 
 -- ---- what a row hands up
 
 -- a message that came, as it is handed up
 abbrev pub kind_of : StartLine → Message → Addr → Kind
 kind_of (start.Request uri) message reply_to =
-    if is_method message.cseq.method (codes "ACK") then kind.Ack message
+    if is_same_method message.cseq.method (codes "ACK") then kind.Ack message
     else kind.Request message reply_to
 kind_of (start.Response status reason) message reply_to = kind.Response message
 

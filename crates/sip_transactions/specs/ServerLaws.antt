@@ -20,7 +20,7 @@ use Rattle.sip_transactions.specs.Input.{answer_of, arrival_of, role_of}
 use Rattle.sip_transactions.specs.Laws.{IsServer}
 use Rattle.sip_transactions.specs.Life.{stepped}
 use Rattle.sip_model.specs.Machine.{tick_at}
-use Rattle.sip_transactions.specs.Shard.{failure, receipt}
+use Rattle.sip_transactions.specs.Shard.{failed_send, receipt}
 
 -- a response was sent, and the server waits for nothing but repeats of its request and its end
 abbrev pub is_answering : State → Bool
@@ -51,19 +51,19 @@ is_open Accepted = false
 is_open Confirmed = false
 
 -- an answer that is a final response
-abbrev pub is_final : Option Trigger → Bool
-is_final None = false
-is_final (Some on.Start) = false
-is_final (Some on.RetransmitDue) = false
-is_final (Some on.TimeoutDue) = false
-is_final (Some on.Failed) = false
-is_final (Some on.Request) = false
-is_final (Some on.Ack) = false
-is_final (Some (on.Response c)) = false
-is_final (Some (on.Answer class.Trying)) = false
-is_final (Some (on.Answer class.Provisional)) = false
-is_final (Some (on.Answer class.Success)) = true
-is_final (Some (on.Answer class.Failure)) = true
+abbrev pub is_final_answer : Option Trigger → Bool
+is_final_answer None = false
+is_final_answer (Some on.Start) = false
+is_final_answer (Some on.RetransmitDue) = false
+is_final_answer (Some on.TimeoutDue) = false
+is_final_answer (Some on.Failed) = false
+is_final_answer (Some on.Request) = false
+is_final_answer (Some on.Ack) = false
+is_final_answer (Some (on.Response c)) = false
+is_final_answer (Some (on.Answer class.Trying)) = false
+is_final_answer (Some (on.Answer class.Provisional)) = false
+is_final_answer (Some (on.Answer class.Success)) = true
+is_final_answer (Some (on.Answer class.Failure)) = true
 
 -- the user's answer, as an input
 abbrev pub answering : Id → Message → ℕ → Timed Input
@@ -74,7 +74,7 @@ answering id response now = record { moment = now; input = Some (input.Answer id
 abbrev pub EndsAfterItsAnswer : Type 0
 EndsAfterItsAnswer = (key : Key) → role_of key ≡ role.Server → (life : Life)
     → is_open life.state ≡ true → (id : Id) (response : Message) (now : ℕ)
-    → is_final (answer_of response.start) ≡ true → (moment : ℕ)
+    → is_final_answer (answer_of response.start) ≡ true → (moment : ℕ)
     → (stepped key (stepped key (Some life) (answering id response now)).0 (tick_at moment)).0
     ≡ (if nat_le (now + LIFETIME) moment then None
     else (stepped key (Some life) (answering id response now)).0)
@@ -82,4 +82,4 @@ EndsAfterItsAnswer = (key : Key) → role_of key ≡ role.Server → (life : Lif
 -- a failed send leaves a life of a server as it is
 abbrev pub FailedSendKeeps : Type 0
 FailedSendKeeps = (key : Key) → IsServer key → (life : Life) (id : Id) (now : ℕ)
-    → (stepped key (Some life) (failure id now)).0 ≡ Some life
+    → (stepped key (Some life) (failed_send id now)).0 ≡ Some life

@@ -32,8 +32,8 @@ is_stray local message = not (is_request_message message) && not (is_sent_by_of 
 abbrev pub receipt : Id → Message → Addr → ℕ → Timed Input
 receipt id message reply_to now = given_at now (Receive id message reply_to)
 
-abbrev pub failure : Id → ℕ → Timed Input
-failure id now = given_at now (Failed id)
+abbrev pub failed_send : Id → ℕ → Timed Input
+failed_send id now = given_at now (Failed id)
 
 -- the transaction that a command is for
 abbrev pub command_key : Command → Key

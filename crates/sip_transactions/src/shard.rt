@@ -41,7 +41,7 @@ impl Model for Shard {
 
 impl Shard {
     ghost use Rattle.sip_transactions.specs.Life.{state_of};
-    ghost use Rattle.sip_transactions.specs.Shard.{Lives, life_at, is_stray, receipt, failure, command_key, order};
+    ghost use Rattle.sip_transactions.specs.Shard.{Lives, life_at, is_stray, receipt, failed_send, command_key, order};
 
     /// A shard without transactions, of the agent at the address `local`.
     pub fn new(alloc: Global, local: Addr) -> Self
@@ -155,10 +155,10 @@ impl Shard {
         ensures err { OnErr result (self.new.held ≡ None) }
         ensures step { IfOk result (λ outs.
             StepsKey key_cmp transaction_machine self.old.held self.new.held key.now
-            (failure id now) outs.items) }
+            (failed_send id now) outs.items) }
         ensures histories { IfOk result
             (λ outs. AddsInput key_cmp transaction_machine self.old.held self.new.held key.now
-            (failure id now) outs.items) }
+            (failed_send id now) outs.items) }
     {
         let key = self.table.check(key.clone())?;
         self.table

@@ -3,7 +3,7 @@
 ghost use Rattle.std.specs.Prelude.{◌≡◌, codes, IfSome};
 ghost use Rattle.std.specs.Option.{option_copied};
 ghost use Rattle.sip_transactions.specs.Repeats.{RepeatIsDue};
-ghost use Rattle.sip_transactions.specs.Input.{class_of, trigger_of, arrival_of, answer_of, tick_of, is_method};
+ghost use Rattle.sip_transactions.specs.Input.{class_of, trigger_of, arrival_of, answer_of, tick_of, is_same_method};
 
 use crate::input::Input;
 use crate::life::Life;
@@ -82,7 +82,7 @@ fn arrival_of(message: &Message) -> Trigger
 
 /// Whether the message's method is ACK.
 pub fn is_ack(message: &Message) -> bool
-    ensures { result ≡ is_method message.now.cseq.method (codes "ACK") }
+    ensures { result ≡ is_same_method message.now.cseq.method (codes "ACK") }
 {
     message.cseq.method.as_slice() == b"ACK".as_slice()
 }

@@ -40,6 +40,6 @@ PostsAll before now text =
     (said : List PipeLine) × (now ≡ before ++ said) × SayLines 1 text said []
 
 -- a command is asked for, and a line that is none asks for nothing
-abbrev pub asked_by : PipeLine → List Event
-asked_by (line.Command command) = event.Command command ∷ []
-asked_by (line.NoCommand number) = []
+abbrev pub events_of_line : PipeLine → List Event
+events_of_line (line.Command command) = event.Command command ∷ []
+events_of_line (line.NoCommand number) = []

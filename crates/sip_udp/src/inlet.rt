@@ -1,7 +1,7 @@
 //! Where datagrams come from.
 
 ghost use Rattle.std.specs.Prelude.{◌≤◌, length};
-ghost use Rattle.sip_udp.specs.Receiving.{Fits};
+ghost use Rattle.sip_udp.specs.Receiving.{IsInBuffer};
 
 use sip_message::Addr;
 use std::io::ErrorKind;
@@ -22,13 +22,13 @@ pub enum Received {
 pub trait Inlet {
     /// Waits a while for a datagram.
     fn receive(&mut self, buffer: &mut [u8]) -> Received
-        ensures { Fits result buffer.new };
+        ensures { IsInBuffer result buffer.new };
 }
 
 /// The socket waits as long as its read timeout says. A datagram of an IPv6 address is passed over.
 impl Inlet for UdpSocket {
     fn receive(&mut self, buffer: &mut [u8]) -> Received
-        ensures { Fits result buffer.new }
+        ensures { IsInBuffer result buffer.new }
     {
         match self.recv_from(buffer) {
             Ok((length, SocketAddr::V4(from))) => Received::Datagram {

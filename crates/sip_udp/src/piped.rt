@@ -2,7 +2,7 @@
 
 ghost use Rattle.std.specs.Prelude.{◌≡◌, ◌++◌, OnOk};
 ghost use Rattle.std.specs.List.{flat_map};
-ghost use Rattle.sip_udp.specs.Piping.{asked_by};
+ghost use Rattle.sip_udp.specs.Piping.{events_of_line};
 
 use crate::listener::Flags;
 use crate::pipe::PipeLine;
@@ -97,7 +97,7 @@ fn ask_for<E: Write>(
     errors: &mut E,
 ) -> Result<(), AllocError>
     ensures { OnOk result (events.new.items
-        ≡ events.old.items ++ flat_map asked_by lines.items) }
+        ≡ events.old.items ++ flat_map events_of_line lines.items) }
 {
     for line in lines {
         match line {

@@ -83,7 +83,7 @@ sent_by_reads = cut_reads Colon (told_reads via.with_port (both_reads host_reads
 
 end_reads : Reads (List ℕ) (via.SentBy × List Parameter) via.end_from (Guarded via.is_closed EndCut)
 end_reads = guarded_reads via.is_closed (cut_reads (Anywhere 59)
-    (both_reads sent_by_reads many_reads) (told_reads via.without_parameters sent_by_reads))
+    (both_reads sent_by_reads many_reads) (told_reads via.sent_by_alone sent_by_reads))
 
 hop_reads : Reads (List ℕ) ViaDraft via.hop_from HopCut
 hop_reads = cut_reads Blank (told_reads via.via_of

@@ -14,7 +14,7 @@ use Rattle.sip_parts.specs.Host.{is_host}
 use Rattle.sip_parts.specs.declared.parameter.Parameter.{Parameter}
 use Rattle.sip_values.specs.Numeral.{IsNumeral}
 use Rattle.sip_values.specs.ParameterValues.{AllParameters, ManyParameters}
-use Rattle.sip_values.specs.ViaValue.{SentBy, IsPortPart, with_port, without_parameters, without_port}
+use Rattle.sip_values.specs.ViaValue.{SentBy, IsPortPart, with_port, sent_by_alone, without_port}
 use Rattle.sip_values.specs.declared.numeral.Numeral.{Numeral}
 use Rattle.sip_values.proofs.Blanks.{around, around_trimmed, trimmed_past}
 use Rattle.sip_values.proofs.Hosts.{host_passes_colon, host_passes_semicolon, host_solid}
@@ -40,7 +40,7 @@ SentByCut sent_by text = OnCut Colon (Told with_port (Both HostCut PortCut))
 -- the same, and parameters behind the first semicolon
 abbrev pub EndCut : SentBy × List Parameter → List ℕ → Type 0
 EndCut end text = OnCut (Anywhere 59) (Both SentByCut ManyParameters)
-    (Told without_parameters SentByCut) end text
+    (Told sent_by_alone SentByCut) end text
 
 -- ---- the host and the port
 

@@ -100,13 +100,13 @@ abbrev pub sent_by_now : Bor (List ℕ) × Option Numeral → SentBy
 sent_by_now sent_by = (sent_by.0.now, sent_by.1)
 
 -- a sent-by without parameters
-abbrev pub without_parameters : SentBy → SentBy × List Parameter
-without_parameters sent_by = (sent_by, [])
+abbrev pub sent_by_alone : SentBy → SentBy × List Parameter
+sent_by_alone sent_by = (sent_by, [])
 
 -- what reading a sent-by and its parameters finds
 abbrev pub end_from : List ℕ → Option (SentBy × List Parameter)
 end_from text = guarded is_closed (on_cut (Anywhere 59) (both sent_by_from many_parameters)
-    (told without_parameters sent_by_from)) text
+    (told sent_by_alone sent_by_from)) text
 
 -- a Via of these parts
 abbrev pub via_of : List ℕ × (SentBy × List Parameter) → ViaDraft

@@ -3,7 +3,7 @@ use Rattle.std.specs.Prelude.{Some}
 use Rattle.std.specs.Map.{set_value}
 use Rattle.sip_common.specs.declared.item.CallOut.{CallOut}
 use Rattle.sip_common.specs.Ids.{is_id}
-use Rattle.sip_clients.specs.Client.{Clients, Side, Taken, client_at}
+use Rattle.sip_clients.specs.Client.{Clients, Side, ClientTaken, client_at}
 use Rattle.sip_clients.specs.Clients.{found_taken, reply_ended, reply_name, reply_of, reply_settled, side_after, status_of}
 use Rattle.sip_clients.proofs.Results.{if_ok}
 use Rattle.sip_clients.proofs.held.take_response.Goals as goal
@@ -29,7 +29,7 @@ returns c =
     (reply_ended event id told.1 told.2
     (set_value (is_id id) clients c.reply_to.new.client) told.0.items) =
     is ∙ ap (λ put. reply_ended event id told.1 told.2 put told.0.items) lent in
-    let last : ◌≡◌ {A = Taken}
+    let last : ◌≡◌ {A = ClientTaken}
     (record { dialogs = dialogs; clients = c.settle_reply.new.clients.entries }, outs.items)
     (side_after event id side told.2
     (c.reply_to.new.client, dialogs, told.0.items, told.1)) =

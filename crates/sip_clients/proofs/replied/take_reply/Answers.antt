@@ -6,7 +6,7 @@ use Rattle.indexmap.specs.IndexMap.{insert_entry}
 use Rattle.sip_common.specs.declared.held_dialog.DialogName.{DialogName}
 use Rattle.sip_common.specs.declared.held_dialog.HeldDialog.{HeldDialog}
 use Rattle.sip_common.specs.Dialogs.{dialog_at, is_named, Dialogs}
-use Rattle.sip_clients.specs.Replied.{after_dialog, finished, replied_in, with_dialog}
+use Rattle.sip_clients.specs.Replied.{after_dialog, request_over, replied_in, dialogs_with}
 use Rattle.sip_clients.specs.Reply.{is_last}
 use Rattle.sip_clients.proofs.Results.{if_ok}
 use Rattle.sip_clients.proofs.replied.take_reply.Goals as goal
@@ -28,7 +28,7 @@ put_there eq k (e ∷ es) v x is =
 
 put : (name : DialogName) (held : HeldDialog) (after : Option HeldDialog) (dialogs : Dialogs)
     → dialog_at name dialogs ≡ Some held
-    → set_value (is_named name) dialogs (unwrap_or after held) ≡ with_dialog name after dialogs
+    → set_value (is_named name) dialogs (unwrap_or after held) ≡ dialogs_with name after dialogs
 put name held None dialogs is = set_value_same (is_named name) dialogs held is
 put name held (Some after) dialogs is = put_there is_named name dialogs after held is
 
@@ -48,5 +48,5 @@ returns-in-Some c =
     ∙ put reply.name held after dialogs found in
     ◌∙◌ {b = after_dialog reply.name dialogs (replied_in client (Some held) reply)}
     (λ i. ((is i).0, kept i, (is i).2, (is i).3))
-    (λ i. if sym last i then finished client dialogs reply
+    (λ i. if sym last i then request_over client dialogs reply
     else after_dialog reply.name dialogs (replied_in client (sym found i) reply)))

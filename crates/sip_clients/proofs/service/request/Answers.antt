@@ -8,7 +8,7 @@ use Rattle.sip_clients.specs.declared.service.Sending.{Sending}
 use Rattle.sip_clients.specs.declared.service.Service.TheVariants.{Sent}
 use Rattle.sip_clients.specs.Event.{branch_of}
 use Rattle.sip_common.specs.Dialogs.{lived}
-use Rattle.sip_clients.specs.Service.{sends, service_by, with_rack}
+use Rattle.sip_clients.specs.Service.{happens_by_sending, service_by, with_rack}
 use Rattle.sip_clients.proofs.service.request.Goals as goal
 
 sent_by : (found : Option DialogFault) (sending : Sending) → found ≡ None
@@ -36,6 +36,6 @@ returns-in-Err-clause-held c =
     let held = c.args.held.now in
     let P : Dialog → Type 0 = λ dialog.
     OnOk c.refused_by.result (record held { dialog = dialog }
-    ≡ lived (sends c.args.method (request_fault held.dialog c.args.method)) held) in
+    ≡ lived (happens_by_sending c.args.method (request_fault held.dialog c.args.method)) held) in
     subst P (sym c.in-Err.ensures.err)
     (c.refused_by.ensures.held _ c.args.method held c.in-Err.ensures.fault)

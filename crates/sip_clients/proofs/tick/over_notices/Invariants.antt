@@ -1,10 +1,10 @@
 use Rattle.std.proofs.Common.{◌≡◌, take}
 use Rattle.std.specs.List.{flat_map}
 use Rattle.std.specs.Map.{values_of}
-use Rattle.sip_clients.specs.Tick.{notices_of}
+use Rattle.sip_clients.specs.Tick.{early_ends_told}
 use Rattle.sip_clients.proofs.tick.over_notices.Given as goal
 
 abbrev pub invariant-loop-client : goal.invariant-loop-client
 invariant-loop-client l = l.outs.items
-    ≡ flat_map (notices_of l.now l.dialogs.entries)
+    ≡ flat_map (early_ends_told l.now l.dialogs.entries)
     (take l.client-index (values_of l.clients.entries))
