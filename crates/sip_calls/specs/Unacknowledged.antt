@@ -1,6 +1,6 @@
 -- Which reliable provisional responses to an INVITE that came up await their PRACK, and which are
 -- still sent again, over all inputs of a call, read off what the call gives (RFC 3262, section 3).
-use Rattle.std.specs.Prelude.{◌≡◌, ℕ, List, [], ◌∷◌, Option, None, Some, find, fold, is_some, if◌then◌else◌}
+use Rattle.std.specs.Prelude.{◌≡◌, List, [], ◌∷◌, Option, None, Some, find, fold, is_some, if◌then◌else◌}
 use Rattle.sip_model.specs.Machine.{Timed}
 use Rattle.sip_message.specs.declared.id.Id.{Id}
 use Rattle.sip_common.specs.declared.item.CallOut.{CallOut}

@@ -25,10 +25,12 @@ use Rattle.sip_calls.specs.Histories.{History, call_from, history_of}
 use Rattle.sip_calls.specs.Provisionals.{EventsDiffer, event_in, side_held}
 use Rattle.sip_calls.proofs.Awaiting.{awaits_as_told}
 use Rattle.sip_calls.proofs.Histories.{counts_its_requests, has_its_name, has_the_greatest_number, has_the_latest_route, has_the_next_number, holds_its_history, numbers_its_requests}
+use Rattle.sip_calls.proofs.Owing.{owes_as_told}
+use Rattle.sip_calls.proofs.Unacknowledged.{awaited_as_told, kept_as_told, repeated_as_told}
 use Rattle.sip_round.specs.declared.config.Config.{Config}
 use Rattle.sip_round.specs.declared.round.Round.{Round}
 use Rattle.sip_round.specs.Answers.{calls_of, past_of}
-use Rattle.sip_round.specs.CallsHeld.{DialogsHaveTheirHistory, EachInviteAwaitsAsTold, InputsNumberOn, call_after}
+use Rattle.sip_round.specs.CallsHeld.{DialogsHaveTheirHistory, EachDialogOwesAsTold, EachInviteAwaitsAsTold, EachResponseAwaitsAsTold, InputsNumberOn, call_after}
 use Rattle.sip_round.specs.Laws.{call_inputs_of}
 use Rattle.sip_round.proofs.CallEvents.{events_differ}
 use Rattle.sip_round.proofs.RequestsDiffer.{requests_differ}
@@ -130,3 +132,24 @@ invites_await_as_told config rounds call_id invite held is =
     awaits_as_told (calls_of config) (call_inputs_of config rounds call_id)
     (requests_differ config call_id rounds) invite held
     (ap (λ call. find (has_id invite) (requests_held call)) (held_so config rounds call_id) ∙ is)
+
+pub responses_await_as_told : EachResponseAwaitsAsTold
+responses_await_as_told config rounds call_id invite held is =
+    let calls = calls_of config in
+    let given = call_inputs_of config rounds call_id in
+    let differ = requests_differ config call_id rounds in
+    let at : find (has_id invite) (requests_held (call_from calls None given)) ≡ Some held =
+    ap (λ call. find (has_id invite) (requests_held call)) (held_so config rounds call_id) ∙ is in
+    record {
+      kept = kept_as_told calls given differ invite held at;
+      awaited = awaited_as_told calls given differ invite held at;
+      repeated = repeated_as_told calls given differ invite held at;
+    }
+
+-- ---- what is owed
+
+pub dialogs_owe_as_told : EachDialogOwesAsTold
+dialogs_owe_as_told config rounds call_id name held is =
+    owes_as_told (calls_of config) (call_inputs_of config rounds call_id)
+    (events_differ config call_id rounds) name held
+    (ap (λ call. dialog_at name (side_held call).dialogs) (held_so config rounds call_id) ∙ is)

@@ -1,6 +1,6 @@
 -- What is held of each call after whole rounds: its dialogs, each by its history, and the INVITEs
 -- that await their ACK (RFC 3261, sections 12 and 13.3.1.4).
-use Rattle.std.specs.Prelude.{◌≡◌, ℕ, ◌+◌, Bool, true, false, List, ◌∷◌, ◌++◌, Option, None, Some, filter_map, find, fold, length}
+use Rattle.std.specs.Prelude.{◌≡◌, ℕ, ◌+◌, Bool, true, false, List, [], ◌∷◌, ◌++◌, Option, None, Some, filter_map, find, fold, length}
 use Rattle.sip_message.specs.declared.cseq.CSeq.{CSeq}
 use Rattle.sip_message.specs.declared.id.Id.{Id}
 use Rattle.sip_model.specs.Machine.{Timed, tick_at}
@@ -15,12 +15,15 @@ use Rattle.sip_common.specs.Sent.{NumberedAfter, NumberedFrom, cseqs_in, name_of
 use Rattle.sip_served.specs.declared.held_request.HeldRequest.{HeldRequest}
 use Rattle.sip_served.specs.Acknowledgment.{awaits_ack}
 use Rattle.sip_served.specs.State.{has_id}
+use Rattle.sip_served.specs.Unacknowledged.{awaited_by, awaited_rseqs, kept_rseqs, repeated_by, repeated_rseqs}
 use Rattle.sip_calls.specs.declared.call.Call.{Call}
 use Rattle.sip_calls.specs.Awaiting.{awaits_from, requests_held}
 use Rattle.sip_calls.specs.Call.{CallItem, call_machine, call_step}
 use Rattle.sip_calls.specs.CallShard.{call_cmp}
 use Rattle.sip_calls.specs.Histories.{History, call_from, history_of, opening_in}
+use Rattle.sip_calls.specs.Owing.{owed_from}
 use Rattle.sip_calls.specs.Provisionals.{side_held}
+use Rattle.sip_calls.specs.Unacknowledged.{read_from}
 use Rattle.sip_round.specs.declared.config.Config.{Config}
 use Rattle.sip_round.specs.declared.round.Round.{Round}
 use Rattle.sip_round.specs.Answers.{calls_of, past_of}
@@ -85,3 +88,35 @@ InvitesAwaitAsTold config rounds = (call_id : List ℕ) (invite : Id) (held : He
 -- so in any rounds
 abbrev pub EachInviteAwaitsAsTold : Type 0
 EachInviteAwaitsAsTold = (config : Config) (rounds : List Round) → InvitesAwaitAsTold config rounds
+
+-- in a dialog that is held after rounds the ACKs and PRACKs are owed that were asked for since it
+-- was made, and didn't go out
+abbrev pub DialogsOweAsTold : Config → List Round → Type 0
+DialogsOweAsTold config rounds = (call_id : List ℕ) (name : DialogName) (held : HeldDialog)
+    → dialog_at name (side_held (call_after config rounds call_id)).dialogs ≡ Some held
+    → held.owed
+    ≡ owed_from (calls_of config) name None [] (call_inputs_of config rounds call_id)
+
+-- so in any rounds
+abbrev pub EachDialogOwesAsTold : Type 0
+EachDialogOwesAsTold = (config : Config) (rounds : List Round) → DialogsOweAsTold config rounds
+
+-- The reliable provisional responses to an INVITE that is held after rounds: those are kept, and
+-- get a 200 to their PRACK, that went out with an RSeq and of whose PRACK the user wasn't told since;
+-- those of them are sent again since whose sending no final response went out, and the user wasn't
+-- told that no PRACK came.
+pub record AwaitsItsPracks (config : Config) (rounds : List Round) (call_id : List ℕ)
+    (invite : Id) (held : HeldRequest) : Type 0 where
+  pub kept : kept_rseqs held ≡ read_from (awaited_by invite) [] (calls_of config) invite None []
+      (call_inputs_of config rounds call_id)
+  pub awaited : awaited_rseqs held ≡ read_from (awaited_by invite) [] (calls_of config) invite
+      None [] (call_inputs_of config rounds call_id)
+  pub repeated : repeated_rseqs held ≡ read_from (repeated_by invite) [] (calls_of config) invite
+      None [] (call_inputs_of config rounds call_id)
+
+-- so of each INVITE in any rounds
+abbrev pub EachResponseAwaitsAsTold : Type 0
+EachResponseAwaitsAsTold = (config : Config) (rounds : List Round) (call_id : List ℕ) (invite : Id)
+    (held : HeldRequest)
+    → find (has_id invite) (requests_held (call_after config rounds call_id)) ≡ Some held
+    → AwaitsItsPracks config rounds call_id invite held

@@ -2,7 +2,7 @@
 
 ghost use Rattle.std.specs.Prelude.{List};
 ghost use Rattle.sip_round.specs.Answers.{answers};
-ghost use Rattle.sip_round.specs.CallsHeld.{DialogsHaveTheirHistory, EachInviteAwaitsAsTold, InputsNumberOn};
+ghost use Rattle.sip_round.specs.CallsHeld.{DialogsHaveTheirHistory, EachDialogOwesAsTold, EachInviteAwaitsAsTold, EachResponseAwaitsAsTold, InputsNumberOn};
 ghost use Rattle.sip_round.specs.Given.{AnswersGiveOwnNotices, AnswersGiveOwnSends, GivesNothingAfterEnds, GivesProvisionalsInOrder, GivesRequestsById, GivesRequestsOnce, GivesStartedRequests};
 ghost use Rattle.sip_round.specs.Laws.{NothingAfterEachEnd, OneRequestInEachLife, ProvisionalsInLives};
 ghost use Rattle.sip_round.specs.declared.config.Config.{Config};
@@ -68,6 +68,20 @@ pub fn each_dialog_holds_its_history(config: &Config)
 /// was told neither of its ACK nor that none came since (RFC 3261, section 13.3.1.4).
 pub fn each_invite_awaits_its_ack()
     ensures { EachInviteAwaitsAsTold }
+{}
+
+/// After any rounds, of the reliable provisional responses to a held INVITE those await their PRACK
+/// that went out with an RSeq and of whose PRACK the user wasn't told since; these are sent again
+/// until a final response goes out or the user is told that no PRACK came (RFC 3262, section 3).
+pub fn each_response_awaits_its_prack()
+    ensures { EachResponseAwaitsAsTold }
+{}
+
+/// After any rounds, in a held dialog are owed, the oldest first, the ACK of each 2xx and the PRACK
+/// of each reliable provisional response of which the user was told since the dialog was made, unless
+/// it went out (RFC 3261, section 13.2.2.4; RFC 3262, section 4).
+pub fn each_dialog_owes_as_told()
+    ensures { EachDialogOwesAsTold }
 {}
 
 /// In any rounds, the Sends with a transaction's key, among all that they give, are in order just

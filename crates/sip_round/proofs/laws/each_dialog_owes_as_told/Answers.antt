@@ -1,0 +1,5 @@
+use Rattle.sip_round.proofs.CallsHeld.{dialogs_owe_as_told}
+use Rattle.sip_round.proofs.laws.each_dialog_owes_as_told.Goals as goal
+
+pub returns : goal.returns
+returns c = dialogs_owe_as_told
