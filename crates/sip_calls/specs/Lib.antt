@@ -1,6 +1,7 @@
 pub mod Awaiting
 pub mod Call
 pub mod CallShard
+pub mod HeldById
 pub mod Histories
 pub mod Idle
 pub mod OwnCall

@@ -1,6 +1,7 @@
 //! Laws of calls.
 
 ghost use Rattle.sip_calls.specs.Awaiting.{AwaitsAsTold};
+ghost use Rattle.sip_calls.specs.HeldById.{HeldById};
 ghost use Rattle.sip_calls.specs.Histories.{CountsItsRequests, HasItsName, HasTheGreatestNumber, HasTheLatestRoute, HasTheNextNumber, HoldsItsHistory, NumbersItsRequests};
 ghost use Rattle.sip_calls.specs.OwnCall.{EachNoticeIsOwn};
 ghost use Rattle.sip_calls.specs.Owing.{OwesAsTold};
@@ -53,6 +54,13 @@ pub fn a_dialog_holds_its_history()
     ensures next { HasTheNextNumber }
     ensures remote { HasTheGreatestNumber }
     ensures route { HasTheLatestRoute }
+{}
+
+/// Whatever comes to a call, where the ids of the requests that come up rise: the held requests stand
+/// in the order of their ids. So the first that fits is that of the least id, and the last that of the
+/// greatest.
+pub fn requests_are_held_by_id()
+    ensures { HeldById }
 {}
 
 /// Whatever comes to a call, where no id of a request comes up twice: a held INVITE awaits its ACK

@@ -40,7 +40,7 @@ use Rattle.sip_round.proofs.FewUps.{Few, events_of, few_ups, no_ups, raised}
 abbrev pub item_event : Id × Item → Option Id
 item_event item = event_in (Some item)
 
-abbrev input_event : Timed CallItem → Option Id
+abbrev pub input_event : Timed CallItem → Option Id
 input_event timed = event_in timed.input
 
 raised_append : (id : Id) (xs ys : List Out) → raised id (xs ++ ys) ≡ raised id xs ++ raised id ys
@@ -234,7 +234,7 @@ own_placed key now at round place (item ∷ items) places =
 -- ---- over rounds
 
 module _ (config : Config) (key : List ℕ) where
-  abbrev events_in : List (Phase (List ℕ) (Timed CallItem)) → List Id
+  abbrev pub events_in : List (Phase (List ℕ) (Timed CallItem)) → List Id
   events_in phases = filter_map input_event (history call_cmp tick_at phases key)
 
   -- the phases of later rounds, whose events rise
@@ -264,10 +264,14 @@ module _ (config : Config) (key : List ℕ) where
             more.rise);
       }
 
+  pub events_rise : (rounds : List Round)
+      → Rise config.first 0 (events_in (past_of config rounds).calls)
+  unfolding past_of
+  events_rise rounds =
+      let all = later rounds config.first no_past in
+      subst (λ phases. Rise config.first 0 (events_in phases)) (sym all.calls) all.rise
+
   pub events_differ : (rounds : List Round)
       → EventsDiffer (history call_cmp tick_at (past_of config rounds).calls key)
-  unfolding past_of
   events_differ rounds =
-      let all = later rounds config.first no_past in
-      subst (λ phases. EventsDiffer (history call_cmp tick_at phases key)) (sym all.calls)
-      (rise_apart config.first 0 (events_in all.phases) all.rise)
+      rise_apart config.first 0 (events_in (past_of config rounds).calls) (events_rise rounds)

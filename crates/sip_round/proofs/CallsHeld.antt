@@ -1,6 +1,6 @@
 -- What is held of each call after rounds is what the laws of calls say of its inputs.
 use Rattle.std.proofs.Common.{◌≡◌, ℕ, ◌+◌, false, List, [], ◌∷◌, ◌++◌, length, refl, sym, ap, subst, ◌∙◌}
-use Rattle.std.specs.Prelude.{Option, None, Some, filter_map, find, fold, unwrap_or}
+use Rattle.std.specs.Prelude.{Option, None, Some, filter_map, find, fold, map, unwrap_or}
 use Rattle.std.specs.List.{AllByRecursion, IsDistinct}
 use Rattle.std.proofs.lemmas.List.Elements.{filter_map-append}
 use Rattle.std.proofs.lemmas.Map.Keys.{IsDistinct-cons, IsDistinct-head, IsDistinct-tail}
@@ -9,6 +9,7 @@ use Rattle.sip_model.specs.Laws.{EachKeyAlone}
 use Rattle.sip_model.specs.Machine.{Timed, state_from, tick_at}
 use Rattle.sip_dialog.specs.Life.{accepted_number, greater, routes_by, target_by}
 use Rattle.sip_dialog.specs.Opening.{opened}
+use Rattle.sip_transactions.specs.Ids.{IdsRise}
 use Rattle.sip_common.specs.declared.held_dialog.DialogName.{DialogName}
 use Rattle.sip_common.specs.declared.held_dialog.HeldDialog.{HeldDialog}
 use Rattle.sip_common.specs.Dialogs.{dialog_at}
@@ -24,16 +25,17 @@ use Rattle.sip_calls.specs.CallShard.{call_cmp}
 use Rattle.sip_calls.specs.Histories.{History, call_from, history_of}
 use Rattle.sip_calls.specs.Provisionals.{EventsDiffer, event_in, side_held}
 use Rattle.sip_calls.proofs.Awaiting.{awaits_as_told}
+use Rattle.sip_calls.proofs.HeldById.{held_by_id}
 use Rattle.sip_calls.proofs.Histories.{counts_its_requests, has_its_name, has_the_greatest_number, has_the_latest_route, has_the_next_number, holds_its_history, numbers_its_requests}
 use Rattle.sip_calls.proofs.Owing.{owes_as_told}
 use Rattle.sip_calls.proofs.Unacknowledged.{awaited_as_told, kept_as_told, repeated_as_told}
 use Rattle.sip_round.specs.declared.config.Config.{Config}
 use Rattle.sip_round.specs.declared.round.Round.{Round}
 use Rattle.sip_round.specs.Answers.{calls_of, past_of}
-use Rattle.sip_round.specs.CallsHeld.{DialogsHaveTheirHistory, EachDialogOwesAsTold, EachInviteAwaitsAsTold, EachResponseAwaitsAsTold, InputsNumberOn, call_after}
+use Rattle.sip_round.specs.CallsHeld.{DialogsHaveTheirHistory, EachDialogOwesAsTold, EachInviteAwaitsAsTold, EachRequestHeldById, EachResponseAwaitsAsTold, InputsNumberOn, call_after}
 use Rattle.sip_round.specs.Laws.{call_inputs_of}
 use Rattle.sip_round.proofs.CallEvents.{events_differ}
-use Rattle.sip_round.proofs.RequestsDiffer.{requests_differ}
+use Rattle.sip_round.proofs.RequestsDiffer.{brought_rise, requests_differ}
 use Rattle.sip_round.proofs.SaidInDialogs.{said_in_dialog}
 
 -- what is held after rounds, input by input
@@ -125,7 +127,14 @@ inputs_number_on config rounds call_id before after input are name =
     has_the_next_number (calls_of config) before input
     (front_apart (events_in before) (events_in (input ∷ after)) whole) name
 
--- ---- INVITEs
+-- ---- requests
+
+pub requests_held_by_id : EachRequestHeldById
+requests_held_by_id config rounds call_id =
+    subst (λ call. IdsRise (map (λ held. held.id) (requests_held call)))
+    (held_so config rounds call_id)
+    (held_by_id (calls_of config) (call_inputs_of config rounds call_id)
+    (brought_rise config call_id rounds))
 
 pub invites_await_as_told : EachInviteAwaitsAsTold
 invites_await_as_told config rounds call_id invite held is =

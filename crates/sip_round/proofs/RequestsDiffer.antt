@@ -1,13 +1,17 @@
--- In any rounds no id of a request comes up twice for a call: each is that of its own event.
+-- In any rounds the ids of the requests that come up for a call rise, and so none comes up twice: each
+-- is that of its own event.
 use Rattle.std.proofs.Common.{◌≡◌, ◌⊎◌, inl, inr, ℕ, suc, Bool, true, false, cond, List, [], ◌∷◌, ◌++◌, map, sym, refl, ap, subst}
 use Rattle.std.specs.Prelude.{Option, None, Some, filter, filter_map}
 use Rattle.std.specs.BTreeMap.{is_at}
 use Rattle.std.specs.List.{AllByRecursion, IsDistinct, cons_option}
+use Rattle.std.specs.List.Sorted.{IsStrictlySortedBy}
+use Rattle.std.specs.declared.cmp.Ordering.TheVariants.{Less}
 use Rattle.std.proofs.lemmas.Map.Keys.{IsDistinct-cons, IsDistinct-head, IsDistinct-tail}
 use Rattle.sip_message.specs.declared.id.Id.{Id}
 use Rattle.sip_model.specs.Machine.{Timed, tick_at}
 use Rattle.sip_model.specs.Phase.{history, inputs_of, own_inputs, timed_items}
 use Rattle.sip_model.proofs.Ordered.{by_bool}
+use Rattle.sip_transactions.specs.Ids.{IdsRise, id_cmp}
 use Rattle.sip_transactions.specs.declared.output.Kind.{Kind}
 use Rattle.sip_transactions.specs.declared.output.Kind.TheVariants as kind
 use Rattle.sip_common.specs.declared.item.Item.{Item}
@@ -19,16 +23,18 @@ use Rattle.sip_common.proofs.Entries.{none_apart}
 use Rattle.sip_calls.specs.Awaiting.{RequestsDiffer, id_of_kind, request_brought}
 use Rattle.sip_calls.specs.Call.{CallItem}
 use Rattle.sip_calls.specs.CallShard.{call_cmp, item_input}
+use Rattle.sip_calls.specs.HeldById.{RequestsRise}
 use Rattle.sip_calls.specs.Provisionals.{EventsDiffer, event_in, event_of_kind}
 use Rattle.sip_round.specs.declared.config.Config.{Config}
 use Rattle.sip_round.specs.declared.round.Round.{Round}
 use Rattle.sip_round.specs.Answers.{Past, items_of_round, no_past, past_after, past_of, second}
 use Rattle.sip_round.specs.Laws.{call_inputs_of}
 use Rattle.sip_round.specs.Phases.{call_items}
-use Rattle.sip_round.proofs.CallEvents.{events_differ}
+use Rattle.sip_round.proofs.CallEvents.{events_differ, events_rise}
 use Rattle.sip_round.proofs.GivenNotices.{calls_are, calls_from}
 use Rattle.sip_round.proofs.OwnItems.{AreOwnItems, IsItemBy, items_own}
 use Rattle.sip_round.proofs.OwnRequests.{IsKindBy}
+use Rattle.sip_round.proofs.RequestsRise.{rise_sorted}
 
 -- ---- a request is of its own event
 
@@ -140,12 +146,49 @@ requests_apart (input ∷ inputs) own apart =
     (events_in inputs) own.0 apart (λ P. all_requests P inputs own.1)
     (requests_apart inputs own.1 (apart_left (event_in input.input) (events_in inputs) apart))
 
+left_rises : (event : Option Id) (ids : List Id) → IdsRise (cons_option event ids) → IdsRise ids
+unfolding IsStrictlySortedBy
+left_rises None ids rise = rise
+left_rises (Some id) ids rise = rise.1
+
+rise_with : (brought event : Option Id) (ids events : List Id)
+    → ((brought ≡ None) ⊎ (brought ≡ event)) → IdsRise (cons_option event events)
+    → ((P : Id → Type 0) → AllByRecursion P events → AllByRecursion P ids)
+    → IdsRise ids → IdsRise (cons_option brought ids)
+unfolding IsStrictlySortedBy
+rise_with brought event ids events (inl none) rise all later =
+    subst (λ o. IdsRise (cons_option o ids)) (sym none) later
+rise_with brought None ids events (inr same) rise all later =
+    subst (λ o. IdsRise (cons_option o ids)) (sym same) later
+rise_with brought (Some id) ids events (inr same) rise all later =
+    subst (λ o. IdsRise (cons_option o ids)) (sym same)
+    (all (λ y. id_cmp id y ≡ Less) rise.0, later)
+
+requests_by_events : (inputs : List (Timed CallItem)) → AllByRecursion BringsItsOwn inputs
+    → IdsRise (events_in inputs) → RequestsRise inputs
+requests_by_events [] own rise = rise
+requests_by_events (input ∷ inputs) own rise =
+    rise_with (request_brought input.input) (event_in input.input) (requests_in inputs)
+    (events_in inputs) own.0 rise (λ P. all_requests P inputs own.1)
+    (requests_by_events inputs own.1 (left_rises (event_in input.input) (events_in inputs) rise))
+
+each_brings : (config : Config) (call_id : List ℕ) (rounds : List Round)
+    → AllByRecursion BringsItsOwn (call_inputs_of config rounds call_id)
+unfolding past_of
+each_brings config call_id rounds =
+    subst (λ phases. AllByRecursion BringsItsOwn (history call_cmp tick_at phases call_id))
+    (sym (calls_are config config.first no_past rounds))
+    (rounds_bring config call_id config.first no_past rounds)
+
+pub brought_rise : (config : Config) (call_id : List ℕ) (rounds : List Round)
+    → RequestsRise (call_inputs_of config rounds call_id)
+brought_rise config call_id rounds =
+    let inputs = call_inputs_of config rounds call_id in
+    requests_by_events inputs (each_brings config call_id rounds)
+    (rise_sorted config.first 0 (events_in inputs) (events_rise config call_id rounds))
+
 pub requests_differ : (config : Config) (call_id : List ℕ) (rounds : List Round)
     → RequestsDiffer (call_inputs_of config rounds call_id)
-unfolding past_of
 requests_differ config call_id rounds =
-    requests_apart (call_inputs_of config rounds call_id)
-    (subst (λ phases. AllByRecursion BringsItsOwn (history call_cmp tick_at phases call_id))
-    (sym (calls_are config config.first no_past rounds))
-    (rounds_bring config call_id config.first no_past rounds))
+    requests_apart (call_inputs_of config rounds call_id) (each_brings config call_id rounds)
     (events_differ config call_id rounds)

@@ -84,7 +84,7 @@ less_than x round place (id ∷ ids) below rise =
     next_below (inr early) (inr same) =
         inr (early.0 ∙ sym same.0, omega (arith, early.1, same.1))
 
-rise_sorted : (round place : ℕ) (ids : List Id) → Rise round place ids → IdsRise ids
+pub rise_sorted : (round place : ℕ) (ids : List Id) → Rise round place ids → IdsRise ids
 unfolding IsStrictlySortedBy
 rise_sorted round place [] rise = tt
 rise_sorted round place (id ∷ ids) rise = (

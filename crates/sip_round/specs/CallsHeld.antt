@@ -1,6 +1,6 @@
--- What is held of each call after whole rounds: its dialogs, each by its history, and the INVITEs
--- that await their ACK (RFC 3261, sections 12 and 13.3.1.4).
-use Rattle.std.specs.Prelude.{◌≡◌, ℕ, ◌+◌, Bool, true, false, List, [], ◌∷◌, ◌++◌, Option, None, Some, filter_map, find, fold, length}
+-- What is held of each call after whole rounds: its dialogs, each by its history, its requests by
+-- their ids, and the INVITEs that await their ACK (RFC 3261, sections 12 and 13.3.1.4).
+use Rattle.std.specs.Prelude.{◌≡◌, ℕ, ◌+◌, Bool, true, false, List, [], ◌∷◌, ◌++◌, Option, None, Some, filter_map, find, fold, length, map}
 use Rattle.sip_message.specs.declared.cseq.CSeq.{CSeq}
 use Rattle.sip_message.specs.declared.id.Id.{Id}
 use Rattle.sip_model.specs.Machine.{Timed, tick_at}
@@ -8,6 +8,7 @@ use Rattle.sip_model.specs.Phase.{states_after}
 use Rattle.sip_dialog.specs.declared.dialog.Dialog.{Dialog}
 use Rattle.sip_dialog.specs.Life.{accepted_number, dialog_after, greater, routes_by, target_by}
 use Rattle.sip_dialog.specs.Opening.{opened}
+use Rattle.sip_transactions.specs.Ids.{IdsRise}
 use Rattle.sip_common.specs.declared.held_dialog.DialogName.{DialogName}
 use Rattle.sip_common.specs.declared.held_dialog.HeldDialog.{HeldDialog}
 use Rattle.sip_common.specs.Dialogs.{dialog_at, is_named}
@@ -76,6 +77,11 @@ InputsNumberOn config rounds =
     NumberedFrom
     (number_before (opening_in call input.input) (dialog_at name (side_held call).dialogs))
     (cseqs_in name (call_step (calls_of config) call input.input input.moment).1)
+
+-- in any rounds: the requests that are held after them stand in the order of their ids
+abbrev pub EachRequestHeldById : Type 0
+EachRequestHeldById = (config : Config) (rounds : List Round) (call_id : List ℕ)
+    → IdsRise (map (λ held. held.id) (requests_held (call_after config rounds call_id)))
 
 -- an INVITE that is held after rounds awaits its ACK where a 2xx to it went out, and neither its
 -- ACK nor that none came was told since

@@ -2,7 +2,7 @@
 
 ghost use Rattle.std.specs.Prelude.{List};
 ghost use Rattle.sip_round.specs.Answers.{answers};
-ghost use Rattle.sip_round.specs.CallsHeld.{DialogsHaveTheirHistory, EachDialogOwesAsTold, EachInviteAwaitsAsTold, EachResponseAwaitsAsTold, InputsNumberOn};
+ghost use Rattle.sip_round.specs.CallsHeld.{DialogsHaveTheirHistory, EachDialogOwesAsTold, EachInviteAwaitsAsTold, EachRequestHeldById, EachResponseAwaitsAsTold, InputsNumberOn};
 ghost use Rattle.sip_round.specs.Given.{AnswersGiveOwnNotices, AnswersGiveOwnSends, GivesNothingAfterEnds, GivesProvisionalsInOrder, GivesRequestsById, GivesRequestsOnce, GivesStartedRequests};
 ghost use Rattle.sip_round.specs.Laws.{NothingAfterEachEnd, OneRequestInEachLife, ProvisionalsInLives};
 ghost use Rattle.sip_round.specs.declared.config.Config.{Config};
@@ -63,6 +63,12 @@ pub fn each_dialog_holds_its_history(config: &Config)
     };
     laws_of_phases(&calls);
 }
+
+/// After any rounds the requests that are held of a call stand in the order of their ids. So the
+/// first that fits is that of the least id, and the last that of the greatest.
+pub fn each_request_is_held_by_id()
+    ensures { EachRequestHeldById }
+{}
 
 /// After any rounds an INVITE that is held awaits its ACK where a 2xx to it went out, and the user
 /// was told neither of its ACK nor that none came since (RFC 3261, section 13.3.1.4).

@@ -1,0 +1,5 @@
+use Rattle.sip_calls.proofs.HeldById.{held_by_id}
+use Rattle.sip_calls.proofs.laws.requests_are_held_by_id.Goals as goal
+
+pub returns : goal.returns
+returns c = held_by_id

@@ -1,0 +1,5 @@
+use Rattle.sip_round.proofs.CallsHeld.{requests_held_by_id}
+use Rattle.sip_round.proofs.laws.each_request_is_held_by_id.Goals as goal
+
+pub returns : goal.returns
+returns c = requests_held_by_id
