@@ -19,10 +19,12 @@ use Rattle.sip_served.proofs.NoStarts.{kind_starts, respond_starts, tick_starts}
 use Rattle.sip_clients.specs.Client.{Side, client_at}
 use Rattle.sip_clients.specs.Clients.{request_lost}
 use Rattle.sip_clients.specs.Tick.{clients_left, over_notices}
-pub use Rattle.sip_clients.proofs.FewStarts.{AllClients, Fits, IsClient, how_many, ids_of, waiting}
+pub use Rattle.sip_clients.proofs.StartBounds.{AllClients, Fits, IsClient, how_many, ids_of, waiting}
 pub use Rattle.sip_clients.proofs.FirstInvite.{id_exact}
 pub use Rattle.sip_clients.proofs.Tally.{count_option, weight}
-use Rattle.sip_clients.proofs.FewStarts.{ack_fits, cancel_fits, invite_fits, lost_fits, plain_fits, prack_fits, quiet_then, request_fits, response_fits, stays_quiet, tick_fits, tick_none}
+use Rattle.sip_clients.proofs.CommandStarts.{ack_fits, cancel_fits, invite_fits, plain_fits, prack_fits, request_fits}
+use Rattle.sip_clients.proofs.ReplyStarts.{response_fits}
+use Rattle.sip_clients.proofs.WithoutStarts.{lost_fits, quiet_then, stays_quiet, tick_fits, tick_none}
 use Rattle.sip_calls.specs.declared.call.Call.{Call}
 use Rattle.sip_calls.specs.declared.calls.Calls.{Calls}
 use Rattle.sip_calls.specs.Call.{CallItem}

@@ -20,7 +20,7 @@ use Rattle.sip_served.proofs.Found.{passed_id}
 use Rattle.sip_served.proofs.RequestIds.{Adds, ack_ids, arrival_adds, ids_of, respond_ids}
 use Rattle.sip_calls.specs.declared.call.Call.{Call}
 use Rattle.sip_calls.specs.declared.calls.Calls.{Calls}
-use Rattle.sip_calls.specs.Awaiting.{id_of_kind, request_brought, requests_held}
+use Rattle.sip_calls.specs.HeldRequests.{id_of_kind, request_brought, requests_held}
 use Rattle.sip_calls.specs.Call.{CallItem, call_step, command_taken, event_of, first_command_taken, kept, new_call, tag_of_answers, up_taken}
 use Rattle.sip_calls.specs.HeldById.{HeldById}
 use Rattle.sip_calls.specs.Histories.{call_from}

@@ -20,7 +20,7 @@ use Rattle.sip_common.specs.Sent.{NumberedAfter, NumberedFrom, cseqs_in, name_of
 use Rattle.sip_common.proofs.Entries.{none_apart}
 use Rattle.sip_common.proofs.Heard.{AreApart, Begins, Goes, Life, OpensBy, Stays, id_laws}
 use Rattle.sip_common.proofs.Lives.{all_on}
-use Rattle.sip_clients.proofs.ClientLives.{AreNamed}
+use Rattle.sip_clients.proofs.DialogSends.{AreNamed}
 use Rattle.sip_clients.proofs.Hearing.{NoneOf, apart_now}
 use Rattle.sip_calls.specs.declared.call.Call.{Call}
 use Rattle.sip_calls.specs.declared.calls.Calls.{Calls}

@@ -24,7 +24,8 @@ use Rattle.sip_served.proofs.DialogSteps.{ack_leads as server_ack, request_leads
 use Rattle.sip_served.proofs.NoStarts.{kind_starts, respond_starts}
 use Rattle.sip_clients.specs.Client.{Side, client_at}
 use Rattle.sip_clients.specs.Tick.{ends_early_at}
-use Rattle.sip_clients.proofs.ClientLives.{AreNamed, AreNumbered, Sends, ack_lives, by_outs, cancel_lives, lost_lives, prack_lives, request_lives, response_lives, sends_none, silent_outs}
+use Rattle.sip_clients.proofs.ClientLives.{ack_lives, cancel_lives, lost_lives, prack_lives, request_lives, response_lives}
+use Rattle.sip_clients.proofs.DialogSends.{AreNamed, AreNumbered, Sends, by_outs, sends_none, silent_outs}
 use Rattle.sip_calls.specs.declared.call.Call.{Call}
 use Rattle.sip_calls.specs.declared.calls.Calls.{Calls}
 use Rattle.sip_calls.specs.Call.{CallItem, call_step, command_taken, event_of, first_command_taken, kept, lost_taken, new_call, tag_of_answers, up_taken}

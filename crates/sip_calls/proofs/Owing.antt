@@ -21,8 +21,10 @@ use Rattle.sip_common.proofs.Owing.{OweSame, Owes, filtered_same, owes_as, same_
 use Rattle.sip_served.proofs.Owing.{ack_same, request_same, respond_owes}
 use Rattle.sip_clients.specs.Client.{Side, client_at}
 use Rattle.sip_clients.specs.Tick.{ends_early_at}
-use Rattle.sip_clients.proofs.ClientLives.{AreNamed}
-use Rattle.sip_clients.proofs.Owing.{ack_pays, lost_owes, prack_pays_off, request_owes, response_leaves}
+use Rattle.sip_clients.proofs.DialogSends.{AreNamed}
+use Rattle.sip_clients.proofs.CommandDebts.{ack_pays, prack_pays_off, request_owes}
+use Rattle.sip_clients.proofs.DialogDebts.{lost_owes}
+use Rattle.sip_clients.proofs.ReplyDebts.{response_leaves}
 use Rattle.sip_calls.specs.declared.call.Call.{Call}
 use Rattle.sip_calls.specs.declared.calls.Calls.{Calls}
 use Rattle.sip_calls.specs.Call.{CallItem, call_step, command_taken, event_of, first_command_taken, kept, new_call, tag_of_answers, up_taken}

@@ -28,7 +28,8 @@ use Rattle.sip_clients.specs.Clients.{ack_by_user, invite_taken, request_lost, p
 use Rattle.sip_clients.specs.OwnCall.{AreNoticesOf, IsSideOf, KeepsTo, on_side}
 use Rattle.sip_clients.specs.Tick as clients
 use Rattle.sip_clients.specs.declared.event.Event.{Event}
-use Rattle.sip_clients.proofs.OwnCall.{ack_own, cancel_own, dialog_request_own, invite_own, lost_own, plain_own, prack_own, response_own, tick_own}
+use Rattle.sip_clients.proofs.OwnCommands.{ack_own, cancel_own, dialog_request_own, invite_own, plain_own, prack_own}
+use Rattle.sip_clients.proofs.OwnReplies.{lost_own, response_own, tick_own}
 use Rattle.sip_calls.specs.declared.call.Call.{Call}
 use Rattle.sip_calls.specs.declared.calls.Calls.{Calls}
 use Rattle.sip_calls.specs.Call.{CallItem}

@@ -31,7 +31,6 @@ use Rattle.sip_calls.specs.declared.calls.Calls.{Calls}
 use Rattle.sip_calls.specs.Call.{CallItem, call_step, command_taken, event_of, first_command_taken, kept, new_call, tag_of_answers, up_taken}
 use Rattle.sip_calls.specs.Histories.{call_from}
 use Rattle.sip_calls.specs.Sides.{CallTaken, ticked}
-use Rattle.sip_calls.specs.Awaiting.{RequestsDiffer, id_of_kind, kind_is_about, request_brought, requests_held}
 use Rattle.std.specs.Option.{option_map_or}
 use Rattle.sip_message.specs.declared.addr.Addr.{Addr}
 use Rattle.sip_message.specs.declared.key.Key.{Key}
@@ -40,7 +39,7 @@ use Rattle.sip_served.specs.Unacknowledged.{at_tick}
 use Rattle.sip_served.proofs.ItemsFollow.{ack_follows, arrival_follows, respond_follows}
 use Rattle.sip_served.proofs.Reading.{Follows, IsTold, Quiet, Reading, fold_on, quiet_both}
 use Rattle.sip_served.proofs.TickFollows.{tick_follows}
-use Rattle.sip_calls.specs.Unacknowledged.{OfEachRequest, read_from, read_in, read_next}
+use Rattle.sip_calls.specs.HeldRequests.{OfEachRequest, RequestsDiffer, id_of_kind, kind_is_about, read_from, read_in, read_next, request_brought, requests_held}
 use Rattle.sip_calls.proofs.HeldRequests.{Sound, adds_sound, first_command, heads, kept_requests, none_differ, none_found, requests_of, rest_differ, same_sound}
 
 -- ---- what is said of the request of each id

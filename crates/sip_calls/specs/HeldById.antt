@@ -3,8 +3,8 @@ use Rattle.std.specs.Prelude.{List, None, filter_map, map}
 use Rattle.sip_model.specs.Machine.{Timed}
 use Rattle.sip_transactions.specs.Ids.{IdsRise}
 use Rattle.sip_calls.specs.declared.calls.Calls.{Calls}
-use Rattle.sip_calls.specs.Awaiting.{request_brought, requests_held}
 use Rattle.sip_calls.specs.Call.{CallItem}
+use Rattle.sip_calls.specs.HeldRequests.{request_brought, requests_held}
 use Rattle.sip_calls.specs.Histories.{call_from}
 
 -- the ids of the requests that come up rise

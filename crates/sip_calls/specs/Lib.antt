@@ -2,12 +2,14 @@ pub mod Awaiting
 pub mod Call
 pub mod CallShard
 pub mod HeldById
+pub mod HeldRequests
 pub mod Histories
 pub mod Idle
 pub mod OwnCall
 pub mod Owing
 pub mod Provisionals
 pub mod RefusedCommands
+pub mod RequestHistories
 pub mod Requests
 pub mod Sides
 pub mod Unacknowledged

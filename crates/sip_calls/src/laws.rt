@@ -7,6 +7,7 @@ ghost use Rattle.sip_calls.specs.OwnCall.{EachNoticeIsOwn};
 ghost use Rattle.sip_calls.specs.Owing.{OwesAsTold};
 ghost use Rattle.sip_calls.specs.Provisionals.{ShownConsecutive, ShownInOrder, ShownOnce};
 ghost use Rattle.sip_calls.specs.RefusedCommands.{RefusedAlone};
+ghost use Rattle.sip_calls.specs.RequestHistories.{FewUnacknowledged, HoldsItsStories};
 ghost use Rattle.sip_calls.specs.Requests.{EachToldOnce};
 ghost use Rattle.sip_calls.specs.Unacknowledged.{AwaitedAsTold, KeptAsTold, RepeatedAsTold};
 
@@ -56,9 +57,20 @@ pub fn a_dialog_holds_its_history()
     ensures route { HasTheLatestRoute }
 {}
 
-/// Whatever comes to a call, where the ids of the requests that come up rise: the held requests stand
-/// in the order of their ids. So the first that fits is that of the least id, and the last that of the
-/// greatest.
+/// Whatever comes to a call: each request of the peer that is held is what its story says, which
+/// begins as it came up. Since then answers went out, its PRACKs or the ACK of its 2xx came, a CANCEL
+/// ended it, or time went on. So its 2xx goes out again after T1, twice that and so on up to T2, and
+/// 64*T1 after its final response it is removed (RFC 3261, section 13.3.1.4). Of its reliable
+/// provisional responses at most 8 have no PRACK after them, and none but the first until it has
+/// one (RFC 3262, section 3).
+pub fn a_request_holds_its_history()
+    ensures history { HoldsItsStories }
+    ensures few { FewUnacknowledged }
+{}
+
+/// Whatever comes to a call, where the ids of the requests that come up rise: the held requests
+/// stand in the order of their ids. So the first that fits is that of the least id, and the last
+/// that of the greatest.
 pub fn requests_are_held_by_id()
     ensures { HeldById }
 {}

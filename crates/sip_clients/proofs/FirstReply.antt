@@ -28,7 +28,8 @@ use Rattle.sip_clients.specs.Replied.{Replied, after_dialog, by_reply_case, ends
 use Rattle.sip_clients.specs.Reply.{is_last, offer_case, reliable_case, reply_case, rseq_of, success_case}
 use Rattle.sip_clients.specs.Dialogs.{dialog_for_provisional}
 use Rattle.sip_clients.specs.Provisionals.{in_life, is_response, provisional_number, told_of}
-use Rattle.sip_clients.proofs.ClientDialogs.{Answered, IsNamedSo, case_begun, case_life, case_moves, ended_leads, first_name, heard_number, may_make, reply_names, start, unnamed_unheard}
+use Rattle.sip_clients.proofs.CommandDialogs.{ended_leads}
+use Rattle.sip_clients.proofs.ReplyDialogs.{Answered, IsNamedSo, case_begun, case_life, case_moves, first_name, heard_number, may_make, reply_names, start, unnamed_unheard}
 use Rattle.sip_common.proofs.Entries as entries
 use Rattle.sip_clients.proofs.FirstInvite.{ear_in, no_number, passed_so, silent_from, taken_so}
 use Rattle.sip_common.proofs.Heard.{AreApart, Goes, Life, OpensBy, in_one, name_laws, nothing}

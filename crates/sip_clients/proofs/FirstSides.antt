@@ -35,7 +35,8 @@ use Rattle.sip_clients.specs.Debts.{paid}
 use Rattle.sip_clients.specs.Dialogs.{paid_at}
 use Rattle.sip_clients.specs.Replied.{Replied, reply_taken}
 use Rattle.sip_clients.specs.Provisionals.{OfTheCall, in_life, is_for, number_for, provisional_number, told_of}
-use Rattle.sip_clients.proofs.ClientDialogs.{bye_leads, ended_leads, heard_number, paid_keeps, request_keeps, served_leads}
+use Rattle.sip_clients.proofs.CommandDialogs.{bye_leads, ended_leads, paid_keeps, request_keeps, served_leads}
+use Rattle.sip_clients.proofs.ReplyDialogs.{heard_number}
 use Rattle.sip_clients.proofs.FirstInvite.{ear_in, no_number, none_in_life, silent_from, told_more}
 use Rattle.sip_clients.proofs.FirstReply.{first, first_replied, other_replied}
 use Rattle.sip_common.proofs.Heard.{AreApart, Leads, Lives, Moves, OpensBy, in_one, leads_same, leads_then, moves_led, none_came, quiet}

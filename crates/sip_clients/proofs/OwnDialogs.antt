@@ -32,7 +32,7 @@ use Rattle.sip_clients.specs.Commands.{bye_ended, request_in_held, requested_at}
 use Rattle.sip_clients.specs.Debts.{dropped_if_sent, kept_unless_sent, owed, paid}
 use Rattle.sip_clients.specs.Dialogs.{accepted, ended_with, dialog_for_provisional, own_ended, paid_at, served_at}
 use Rattle.sip_clients.specs.Happenings.{success_brings}
-use Rattle.sip_clients.proofs.ClientDialogs.{success_keeps}
+use Rattle.sip_clients.proofs.ReplyDialogs.{success_keeps}
 use Rattle.sip_clients.proofs.Served.{bad_request, good_request, is_bad, served_in}
 use Rattle.sip_clients.specs.Event.{branch_of}
 use Rattle.sip_clients.specs.OwnCall.{AreDialogsOf, IsDialogOf, IsNoticeOf, IsRequestOf}

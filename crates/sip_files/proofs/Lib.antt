@@ -8,8 +8,15 @@ pub mod Shown
 pub mod Streams
 pub mod NumberLaws
 pub mod FieldLaws
+pub mod CommandLines
+pub mod FailedLines
 pub mod LineLaws
+pub mod LineEnds
 pub mod LowerCase
 pub mod Drafts
-pub mod Files
+pub mod DraftStages
+pub mod FileLines
+pub mod OneFile
+pub mod FileFaults
+pub mod ReadSoFar
 pub mod WrittenLaws

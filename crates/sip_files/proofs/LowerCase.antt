@@ -17,7 +17,7 @@ use Rattle.sip_files.specs.Word.{is_plain, letter_of, hex_digit, spelled_byte, s
 use Rattle.sip_files.specs.Events.{SpellsClient, SpellsServer, SpellsLine, AreAlike}
 use Rattle.sip_files.proofs.Escapes.{spelled_itself, spelled_letter, spelled_hex}
 use Rattle.sip_files.proofs.WordLaws.{hyphen, word_is}
-use Rattle.sip_files.proofs.LineLaws.{client_text, server_text}
+use Rattle.sip_files.proofs.FailedLines.{client_text, server_text}
 
 abbrev lower : List ℕ → List ℕ
 lower = str_to_ascii_lowercase

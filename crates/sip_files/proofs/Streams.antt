@@ -18,7 +18,7 @@ use Rattle.sip_files.specs.declared.events_fault.EventsFault.{EventsFault}
 use Rattle.sip_files.specs.declared.events_fault.EventsFault.TheVariants as events_fault
 use Rattle.sip_files.specs.declared.file_replay.ReplayFault.{ReplayFault}
 use Rattle.sip_files.specs.declared.file_replay.ReplayFault.TheVariants as replay_fault
-use Rattle.sip_files.proofs.Files.{never_bad}
+use Rattle.sip_files.proofs.FileFaults.{never_bad}
 
 -- the reader gave this text, in one read for each turn, at least a byte at each, and no more than an
 -- event file has

@@ -1,32 +1,24 @@
 -- The headers of lines are those of their draft.
-use Rattle.std.proofs.Common.{◌≡◌, ◌⊎◌, inl, inr, ℕ, Bool, true, false, ◌&&◌, ◌||◌, List, [], ◌∷◌, ◌++◌, cond, Option, Some, None, Ok, fold, find, refl, sym, ap, subst, ◌∙◌, append_assoc}
-use Rattle.std.specs.Prelude.{is_none}
-use Rattle.std.specs.List.{AllZip, AllByRecursion, flat_map, list_any}
+use Rattle.std.proofs.Common.{◌≡◌, ℕ, true, false, List, [], ◌∷◌, ◌++◌, Option, Some, None, Ok, refl, sym, ap, subst, ◌∙◌, append_assoc}
+use Rattle.std.specs.List.{AllZip, flat_map}
 use Rattle.std.proofs.lemmas.List.{append-nil}
-use Rattle.std.proofs.lemmas.Option.{same_Some, none-some}
+use Rattle.std.proofs.lemmas.Option.{same_Some}
 use Rattle.sip_text.proofs.ReadForms.{Reads}
-use Rattle.sip_parts.specs.HeaderEntry.{entry, headers, is_needed, header_named}
-use Rattle.sip_parts.specs.HeaderValue.{is_header_value}
-use Rattle.sip_parts.specs.OtherName.{is_other_name}
-use Rattle.sip_parts.specs.declared.header_name.HeaderName.{HeaderName}
 use Rattle.sip_parts.specs.declared.header_name.HeaderName.TheVariants as name
-use Rattle.sip_message.specs.declared.fault.ReadFault.TheVariants as fault
-use Rattle.sip_message.specs.declared.header.Header.{Header}
 use Rattle.sip_values.proofs.Rows.{numeral_reads, party_reads, name_addrs_reads, vias_reads, tokens_reads, call_id_reads, cseq_reads, rack_reads}
-use Rattle.sip_headers.specs.Complete.{slot_of, draft_with, fault_in, first_fault, unless_fault, faultless}
-use Rattle.sip_headers.specs.Draft.{long_name, other_from, no_draft, draft_of}
-use Rattle.sip_headers.specs.HeaderLine.{class_by_name, class_by_parts, line_from}
-use Rattle.sip_headers.specs.Headers.{Headers, One, AtMostOne, Many, IsOther, AreHeaders}
-use Rattle.sip_headers.specs.Named.{IsSomeHeaderLine}
-use Rattle.sip_headers.specs.Presence.{slot_presence, list_presence, presence_of, is_nowhere, is_repeated, is_unfit, has_bad_header, missing, repeated}
-use Rattle.sip_headers.specs.Section.{is_bad_class, has_bad_line, values, others_of, IsDraftOf}
+use Rattle.sip_headers.specs.Complete.{slot_of, draft_with, faultless}
+use Rattle.sip_headers.specs.Draft.{no_draft, draft_of}
+use Rattle.sip_headers.specs.Headers.{Headers, One, AtMostOne, Many, AreHeaders}
+use Rattle.sip_headers.specs.Presence.{list_presence, is_nowhere, has_bad_header, missing, repeated}
+use Rattle.sip_headers.specs.Section.{values, others_of, IsDraftOf}
 use Rattle.sip_headers.specs.Slot.{met, listed, slot_from, list_from, IsSlot}
 use Rattle.sip_headers.specs.declared.draft.Draft.{Draft}
 use Rattle.sip_headers.specs.declared.slot.Slot.TheVariants.{Absent, Once}
 use Rattle.sip_headers.proofs.Completes.{headers_there, via_there}
 use Rattle.sip_headers.proofs.Drafts.{fold-with_line, is_draft}
-use Rattle.sip_headers.proofs.NamedLines.{ByLine, by_line, by_name, line_reads}
-use Rattle.sip_headers.proofs.Presences.{list_never_repeated}
+use Rattle.sip_headers.proofs.FaultlessDrafts.{no_fault}
+use Rattle.sip_headers.proofs.KeptHeaders.{good_lines, lines_are, others_list, others_are}
+use Rattle.sip_headers.proofs.NamedLines.{ByLine, by_line, by_name}
 
 -- ---- columns of values
 
@@ -63,142 +55,6 @@ at_most_one_is : {X : Type 0} (P : X → List ℕ → Type 0) (o : Option X) (vs
 at_most_one_is P None vs is = subst (λ (ws : List (List ℕ)). AllZip P [] ws) (sym is) tt
 at_most_one_is P (Some x) vs is = is
 
--- ---- header lines
-
-class_good : (name value : List ℕ) (o : Option HeaderName) (rest : Bool)
-    → is_bad_class (class_by_name name value o) rest ≡ rest
-class_good name value None rest = refl
-class_good name value (Some header) rest = refl
-
-good_lines : (lines : List (List ℕ)) → AllByRecursion IsSomeHeaderLine lines
-    → has_bad_line lines ≡ false
-good_lines [] all = refl
-good_lines (line ∷ lines) all =
-    ap (λ o. is_bad_class (class_by_parts o) (has_bad_line lines))
-    (line_reads.again line all.0.0 all.0.1)
-    ∙ class_good all.0.0.0 all.0.0.1 (header_named all.0.0.0) (has_bad_line lines)
-    ∙ good_lines lines all.1
-
-line_is_by : (line : List ℕ) (rest : Bool) (o : Option (List ℕ × List ℕ)) → line_from line ≡ o
-    → is_bad_class (class_by_parts o) rest ≡ false → IsSomeHeaderLine line × (rest ≡ false)
-line_is_by line rest None is e = absurd cc
-line_is_by line rest (Some parts) is e = (
-  (parts, line_reads.takes line parts is),
-  sym (class_good parts.0 parts.1 (header_named parts.0) rest) ∙ e,
-)
-
-pub lines_are : (lines : List (List ℕ)) → has_bad_line lines ≡ false
-    → AllByRecursion IsSomeHeaderLine lines
-lines_are [] e = tt
-lines_are (line ∷ lines) e =
-    let parts = line_is_by line (has_bad_line lines) (line_from line) refl e in
-    (parts.0, lines_are lines parts.1)
-
-pub no_good_lines : (lines : List (List ℕ)) → has_bad_line lines ≡ true
-    → AllByRecursion IsSomeHeaderLine lines → ⊥
-no_good_lines lines e all = let f : true ≡ false = sym e ∙ good_lines lines all in cc
-
--- ---- headers that stay as they stand
-
-abbrev pub with_other : Option (List Header) → List ℕ × List ℕ → Option (List Header)
-with_other list other = listed list (other_from other.0 other.1)
-
-other_again : (kept : Header) (other : List ℕ × List ℕ) → IsOther kept other
-    → other_from other.0 other.1 ≡ Some (kept ∷ [])
-other_again kept other is =
-    let named : is_other_name (long_name other.0) ≡ true =
-    ap is_other_name (sym is.name_is) ∙ is.good_name in
-    let valued : is_header_value other.1 ≡ true =
-    ap is_header_value (sym is.value_is) ∙ is.good_value in
-    let kept_is : ◌≡◌ {A = Header} (record { name = long_name other.0; value = other.1 }) kept =
-    λ i. record { name = sym is.name_is i; value = sym is.value_is i } in
-    ap (λ b. cond b (cond (is_header_value other.1)
-    (Some ((record { name = long_name other.0; value = other.1 }) ∷ [])) None) None) named
-    ∙ ap (λ b. cond b (Some ((record { name = long_name other.0; value = other.1 }) ∷ [])) None)
-    valued
-    ∙ ap (λ (k : Header). Some (k ∷ [])) kept_is
-
-others_list : (front kept : List Header) (others : List (List ℕ × List ℕ))
-    → AllZip IsOther kept others → fold with_other (Some front) others ≡ Some (front ++ kept)
-others_list front [] [] all = ap (λ xs. Some xs) (sym (append-nil front))
-others_list front [] (o ∷ os) all = absurd all
-others_list front (k ∷ kept) [] all = absurd all
-others_list front (k ∷ kept) (o ∷ os) all =
-    ap (λ x. fold with_other (listed (Some front) x) os) (other_again k o all.0)
-    ∙ others_list (front ++ k ∷ []) kept os all.1
-    ∙ ap (λ xs. Some xs) (append_assoc front (k ∷ []) kept)
-
-none_stays : (others : List (List ℕ × List ℕ)) → fold with_other None others ≡ None
-none_stays [] = refl
-none_stays (o ∷ os) = none_stays os
-
-record Kept (front all : List Header) (others : List (List ℕ × List ℕ)) : Type 0 where
-  pub kept : List Header
-  pub parts : all ≡ front ++ kept
-  pub each : AllZip IsOther kept others
-
-other_by : (name value : List ℕ) (a b : Bool) → is_other_name (long_name name) ≡ a
-    → is_header_value value ≡ b → (o : Option (List Header))
-    → cond a (cond b (Some ((record { name = long_name name; value = value }) ∷ [])) None) None ≡ o
-    → (o ≡ None) ⊎ ((kept : Header) × (o ≡ Some (kept ∷ [])) × IsOther kept (name, value))
-other_by name value true true f g o e =
-    inr (
-      record { name = long_name name; value = value },
-      sym e,
-      record { name_is = refl; value_is = refl; good_name = f; good_value = g },
-    )
-other_by name value true false f g o e = inl (sym e)
-other_by name value false b f g o e = inl (sym e)
-
-others_take : (front all : List Header) (others : List (List ℕ × List ℕ))
-    → fold with_other (Some front) others ≡ Some all → Kept front all others
-others_take front all [] e =
-    record { kept = []; parts = sym (same_Some front all e) ∙ sym (append-nil front); each = tt }
-others_take front all (o ∷ os) e =
-    elim (other_by o.0 o.1 (is_other_name (long_name o.0)) (is_header_value o.1) refl refl
-    (other_from o.0 o.1) refl) [
-      | inl none ↦
-          let gone : Some all ≡ None =
-          sym e ∙ ap (λ x. fold with_other (listed (Some front) x) os) none ∙ none_stays os in
-          absurd (none-some all (sym gone))
-      | inr one ↦
-          let more = others_take (front ++ one.0 ∷ []) all os
-          (sym (ap (λ x. fold with_other (listed (Some front) x) os) one.1) ∙ e) in
-          record {
-            kept = one.0 ∷ more.kept;
-            parts = more.parts ∙ append_assoc front (one.0 ∷ []) more.kept;
-            each =
-                (one.2, more.each);
-          }
-    ]
-
-pub others_column : (lines : List (List ℕ))
-    → (draft_of lines).others ≡ fold with_other (Some []) (others_of lines)
-others_column lines = ap (λ (d : Draft). d.others) (fold-with_line no_draft lines)
-
-pub others_are : (kept : List Header) (lines : List (List ℕ)) → (draft_of lines).others ≡ Some kept
-    → AllZip IsOther kept (others_of lines)
-others_are kept lines e =
-    let k = others_take [] kept (others_of lines) (sym (others_column lines) ∙ e) in
-    subst (λ (hs : List Header). AllZip IsOther hs (others_of lines)) (sym k.parts) k.each
-
-kept_of : (others : List (List ℕ × List ℕ))
-    → AllByRecursion (λ other. (header : Header) × IsOther header other) others
-    → (kept : List Header) × AllZip IsOther kept others
-kept_of [] all = ([], tt)
-kept_of (o ∷ os) all = let more = kept_of os all.1 in (all.0.0 ∷ more.0, (all.0.1, more.1))
-
--- where each of the other headers can stay, none is lost
-pub others_list_from : (lines : List (List ℕ))
-    → AllByRecursion (λ other. (header : Header) × IsOther header other) (others_of lines)
-    → is_none (draft_of lines).others ≡ true → ⊥
-others_list_from lines all none =
-    let kept = kept_of (others_of lines) all in
-    let some : is_none (draft_of lines).others ≡ false =
-    ap is_none (others_column lines ∙ others_list [] kept.0 (others_of lines) kept.1) in
-    let f : true ≡ false = sym none ∙ some in
-    cc
-
 -- ---- the draft of lines with these headers
 
 pub drafted : (h : Headers) (lines : List (List ℕ)) → ByLine h lines
@@ -225,155 +81,6 @@ drafted h lines is =
           (values name.ContentLength lines) is.1.content_length i;
       others = others_list [] h.others (others_of lines) is.1.others i;
     })
-
--- ---- a draft with headers has no fault
-
-none_any : {A : Type 0} (p : A → Bool) (xs : List A) → AllByRecursion (λ x. p x ≡ false) xs
-    → list_any p xs ≡ false
-none_any p [] all = refl
-none_any p (x ∷ xs) all = ap (λ b. b || list_any p xs) all.0 ∙ none_any p xs all.1
-
-none_found : {A : Type 0} (p : A → Bool) (xs : List A) → AllByRecursion (λ x. p x ≡ false) xs
-    → find p xs ≡ None
-none_found p [] all = refl
-none_found p (x ∷ xs) all = ap (λ b. cond b (Some x) (find p xs)) all.0 ∙ none_found p xs all.1
-
-fit_list : {X : Type 0} (xs : List X) → is_unfit (list_presence (Some xs)) ≡ false
-fit_list [] = refl
-fit_list (x ∷ xs) = refl
-
-fit_slot : {X : Type 0} (o : Option X) → is_unfit (slot_presence (slot_of o)) ≡ false
-fit_slot None = refl
-fit_slot (Some x) = refl
-
-single_slot : {X : Type 0} (o : Option X) → is_repeated (slot_presence (slot_of o)) ≡ false
-single_slot None = refl
-single_slot (Some x) = refl
-
-list_there : {X : Type 0} (xs : List X) → (xs ≡ [] → ⊥)
-    → is_nowhere (list_presence (Some xs)) ≡ false
-list_there [] some = absurd (some refl)
-list_there (x ∷ xs) some = refl
-
-no_bad_header : (h : Headers) → has_bad_header (draft_with h) ≡ false
-no_bad_header h =
-    none_any (λ header. is_unfit (presence_of (draft_with h) header)) headers (
-      fit_list h.vias,
-      (
-        refl,
-        (
-          refl,
-          (
-            refl,
-            (
-              refl,
-              (
-                fit_slot h.max_forwards,
-                (
-                  fit_slot h.content_length,
-                  (
-                    fit_slot h.rseq,
-                    (
-                      fit_slot h.rack,
-                      (
-                        fit_list h.contacts,
-                        (
-                          fit_list h.record_routes,
-                          (
-                            fit_list h.routes,
-                            (fit_list h.require, (fit_list h.supported, tt)),
-                          ),
-                        ),
-                      ),
-                    ),
-                  ),
-                ),
-              ),
-            ),
-          ),
-        ),
-      ),
-    )
-
-none_missing : (h : Headers) → (h.vias ≡ [] → ⊥) → missing (draft_with h) ≡ None
-none_missing h some =
-    none_found (λ header. is_needed (entry header).kind
-    && is_nowhere (presence_of (draft_with h) header)) headers (
-      list_there h.vias some,
-      (
-        refl,
-        (
-          refl,
-          (
-            refl,
-            (
-              refl,
-              (
-                refl,
-                (refl, (refl, (refl, (refl, (refl, (refl, (refl, (refl, tt)))))))),
-              ),
-            ),
-          ),
-        ),
-      ),
-    )
-
-none_repeated : (h : Headers) → repeated (draft_with h) ≡ None
-none_repeated h =
-    none_found (λ header. is_repeated (presence_of (draft_with h) header)) headers (
-      list_never_repeated (Some h.vias),
-      (
-        refl,
-        (
-          refl,
-          (
-            refl,
-            (
-              refl,
-              (
-                single_slot h.max_forwards,
-                (
-                  single_slot h.content_length,
-                  (
-                    single_slot h.rseq,
-                    (
-                      single_slot h.rack,
-                      (
-                        list_never_repeated (Some h.contacts),
-                        (
-                          list_never_repeated (Some h.record_routes),
-                          (
-                            list_never_repeated (Some h.routes),
-                            (
-                              list_never_repeated (Some h.require),
-                              (list_never_repeated (Some h.supported), tt),
-                            ),
-                          ),
-                        ),
-                      ),
-                    ),
-                  ),
-                ),
-              ),
-            ),
-          ),
-        ),
-      ),
-    )
-
-pub fault_from : (d : Draft) (b : Bool) (m r : Option HeaderName) → has_bad_header d ≡ b
-    → missing d ≡ m → repeated d ≡ r → fault_in d ≡ cond b (Some fault.BadHeader) (first_fault m r)
-unfolding fault_in
-fault_from d b m r e f g =
-    ap (λ x. cond x (Some fault.BadHeader) (first_fault (missing d) (repeated d))) e
-    ∙ ap (λ x. cond b (Some fault.BadHeader) (first_fault x (repeated d))) f
-    ∙ ap (λ x. cond b (Some fault.BadHeader) (first_fault m x)) g
-
-pub no_fault : (h : Headers) → (h.vias ≡ [] → ⊥) → faultless (draft_with h) ≡ Ok (draft_with h)
-no_fault h some =
-    ap (λ o. unless_fault o (draft_with h))
-    (fault_from (draft_with h) false None None (no_bad_header h) (none_missing h some)
-    (none_repeated h))
 
 pub headers_again : (h : Headers) (lines : List (List ℕ)) → AreHeaders h lines
     → faultless (draft_of lines) ≡ Ok (draft_with h)

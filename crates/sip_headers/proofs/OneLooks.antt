@@ -11,7 +11,7 @@ use Rattle.sip_headers.specs.declared.draft.Draft.{Draft}
 use Rattle.sip_headers.specs.declared.slot.Slot.{Slot}
 use Rattle.sip_headers.specs.declared.slot.Slot.TheVariants.{Absent, Once, Twice, Bad}
 use Rattle.sip_headers.proofs.Completes.{complete_with}
-use Rattle.sip_headers.proofs.HeaderSets.{no_fault}
+use Rattle.sip_headers.proofs.FaultlessDrafts.{no_fault}
 
 not_true : (b : Bool) → not b ≡ true → b ≡ false
 not_true true e = absurd cc

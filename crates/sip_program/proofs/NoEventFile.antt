@@ -1,7 +1,7 @@
 -- An event file is not one of the texts that end in status 1.
 use Rattle.std.proofs.Common.{◌≡◌, ◌≢◌, ℕ, List, Option, Some, None, IfSome, ap, arith}
 use Rattle.sip_files.specs.EventFile.{IsEventFile}
-use Rattle.sip_files.proofs.Files.{never_bad}
+use Rattle.sip_files.proofs.FileFaults.{never_bad}
 use Rattle.sip_program.specs.EventsStatus.{events_status}
 use Rattle.sip_program.specs.Inputs.{IsNoEventFile}
 

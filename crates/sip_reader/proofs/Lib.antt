@@ -3,8 +3,11 @@ pub mod Layouts
 pub mod Outcomes
 pub mod Making
 pub mod Spelled
+pub mod LastFaults
 pub mod FirstFaults
 pub mod Answering
 pub mod Sections
 pub mod WrittenLines
+pub mod WrittenStarts
+pub mod EachHeader
 pub mod RoundTrip

@@ -35,7 +35,7 @@ use Rattle.sip_values.proofs.Characters.{token_without, token_full}
 use Rattle.sip_reader.proofs.Layouts.{line_again}
 use Rattle.sip_values.proofs.Passing.{cut_here, token_passes}
 use Rattle.sip_values.proofs.WrittenBytes.{solid_end, token_solid, no_lf, header_value_kept, header_value_plain}
-use Rattle.sip_headers.proofs.WrittenValues.{Good}
+use Rattle.sip_headers.proofs.TextEnds.{Good}
 
 -- ---- a line with its end
 

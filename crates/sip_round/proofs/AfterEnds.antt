@@ -1,6 +1,6 @@
 -- In the rounds after those in which a life of a transaction has ended nothing of what a call is
 -- given comes from it under its id.
-use Rattle.std.proofs.Common.{◌≡◌, ℕ, suc, ◌+◌, Bool, true, false, cond, ◌&&◌, ◌||◌, List, [], ◌∷◌, ◌++◌, map, length, nat_eq, refl, sym, ap, subst, ◌∙◌, append_assoc, append-nil}
+use Rattle.std.proofs.Common.{◌≡◌, ℕ, suc, ◌+◌, Bool, true, false, cond, ◌&&◌, ◌||◌, List, [], ◌∷◌, ◌++◌, map, length, nat_eq, refl, sym, ap, ◌∙◌, append_assoc, append-nil}
 use Rattle.std.specs.Prelude.{Option, None, Some, drop, filter, option_map, option_to_list}
 use Rattle.std.specs.BTreeMap.{is_at}
 use Rattle.std.specs.List.{AllByRecursion, flat_map, list_any}
@@ -43,9 +43,8 @@ use Rattle.sip_calls.specs.CallShard.{call_cmp, item_input}
 use Rattle.sip_round.specs.Arrivals.{Arrival}
 use Rattle.sip_round.specs.Arrivals as arrival
 use Rattle.sip_round.specs.declared.config.Config.{Config}
-use Rattle.sip_round.specs.declared.output.Output.{Output}
 use Rattle.sip_round.specs.declared.round.Round.{Round}
-use Rattle.sip_round.specs.Answers.{Past, answers, answers_from, arrivals, calls_of, first, items_of_round, no_past, past_after, past_from, past_of, said_by_transactions, second, third}
+use Rattle.sip_round.specs.Answers.{Past, answers, answers_from, arrivals, calls_of, first, items_of_round, no_past, past_after, past_of, said_by_transactions, second, third}
 use Rattle.sip_round.specs.Given.{HasEnded, NoneComesFrom, all_given, comes_from, notice_in, notices_of}
 use Rattle.sip_round.specs.Laws.{NothingAfterEachEnd, call_inputs_of}
 use Rattle.sip_round.specs.Laws as laws

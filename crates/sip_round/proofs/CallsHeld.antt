@@ -10,8 +10,6 @@ use Rattle.sip_model.specs.Machine.{Timed, state_from, tick_at}
 use Rattle.sip_dialog.specs.Life.{accepted_number, greater, routes_by, target_by}
 use Rattle.sip_dialog.specs.Opening.{opened}
 use Rattle.sip_transactions.specs.Ids.{IdsRise}
-use Rattle.sip_common.specs.declared.held_dialog.DialogName.{DialogName}
-use Rattle.sip_common.specs.declared.held_dialog.HeldDialog.{HeldDialog}
 use Rattle.sip_common.specs.Dialogs.{dialog_at}
 use Rattle.sip_common.specs.Ids.{is_id}
 use Rattle.sip_common.specs.Sent.{NumberedAfter, cseqs_in}
@@ -19,20 +17,21 @@ use Rattle.sip_common.proofs.Entries.{none_apart}
 use Rattle.sip_served.specs.State.{has_id}
 use Rattle.sip_calls.specs.declared.call.Call.{Call}
 use Rattle.sip_calls.specs.declared.calls.Calls.{Calls}
-use Rattle.sip_calls.specs.Awaiting.{requests_held}
+use Rattle.sip_calls.specs.HeldRequests.{requests_held}
 use Rattle.sip_calls.specs.Call.{CallItem, call_machine, call_step}
 use Rattle.sip_calls.specs.CallShard.{call_cmp}
 use Rattle.sip_calls.specs.Histories.{History, call_from, history_of}
-use Rattle.sip_calls.specs.Provisionals.{EventsDiffer, event_in, side_held}
+use Rattle.sip_calls.specs.Provisionals.{event_in, side_held}
 use Rattle.sip_calls.proofs.Awaiting.{awaits_as_told}
 use Rattle.sip_calls.proofs.HeldById.{held_by_id}
 use Rattle.sip_calls.proofs.Histories.{counts_its_requests, has_its_name, has_the_greatest_number, has_the_latest_route, has_the_next_number, holds_its_history, numbers_its_requests}
 use Rattle.sip_calls.proofs.Owing.{owes_as_told}
+use Rattle.sip_calls.proofs.RequestHistories.{holds_its_stories}
 use Rattle.sip_calls.proofs.Unacknowledged.{awaited_as_told, kept_as_told, repeated_as_told}
 use Rattle.sip_round.specs.declared.config.Config.{Config}
 use Rattle.sip_round.specs.declared.round.Round.{Round}
 use Rattle.sip_round.specs.Answers.{calls_of, past_of}
-use Rattle.sip_round.specs.CallsHeld.{DialogsHaveTheirHistory, EachDialogOwesAsTold, EachInviteAwaitsAsTold, EachRequestHeldById, EachResponseAwaitsAsTold, InputsNumberOn, call_after}
+use Rattle.sip_round.specs.CallsHeld.{DialogsHaveTheirHistory, EachDialogOwesAsTold, EachInviteAwaitsAsTold, EachRequestHasItsStory, EachRequestHeldById, EachResponseAwaitsAsTold, InputsNumberOn, call_after}
 use Rattle.sip_round.specs.Laws.{call_inputs_of}
 use Rattle.sip_round.proofs.CallEvents.{events_differ}
 use Rattle.sip_round.proofs.RequestsDiffer.{brought_rise, requests_differ}
@@ -135,6 +134,11 @@ requests_held_by_id config rounds call_id =
     (held_so config rounds call_id)
     (held_by_id (calls_of config) (call_inputs_of config rounds call_id)
     (brought_rise config call_id rounds))
+
+pub requests_have_their_stories : EachRequestHasItsStory
+requests_have_their_stories config rounds call_id =
+    ap requests_held (sym (held_so config rounds call_id))
+    ∙ holds_its_stories (calls_of config) (call_inputs_of config rounds call_id)
 
 pub invites_await_as_told : EachInviteAwaitsAsTold
 invites_await_as_told config rounds call_id invite held is =

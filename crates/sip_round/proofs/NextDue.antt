@@ -1,5 +1,5 @@
 -- What the tables of all shards hold, and the first moment at which something is due in them.
-use Rattle.std.proofs.Common.{◌≡◌, ◌⊎◌, inl, inr, ◌<◌, ◌≤◌, ℕ, zero, suc, ◌+◌, ◌-◌, Bool, true, false, cond, List, [], ◌∷◌, ◌++◌, length, map, min, nat_eq, nat_le, refl, sym, ap, subst, ◌∙◌, ◌||◌, arith}
+use Rattle.std.proofs.Common.{◌≡◌, ◌⊎◌, inl, inr, ◌<◌, ◌≤◌, ℕ, zero, suc, ◌+◌, ◌-◌, Bool, true, false, cond, List, [], ◌∷◌, ◌++◌, length, min, nat_eq, nat_le, refl, sym, ap, subst, ◌∙◌, ◌||◌, arith}
 use Rattle.std.specs.Prelude.{IfSome, IsSome, None, Option, Some, drop, get_or, take, unwrap_or}
 use Rattle.std.specs.List.{AllByRecursion}
 use Rattle.std.specs.declared.cmp.Ordering.{Ordering}
@@ -31,7 +31,7 @@ use Rattle.sip_round.specs.declared.config.Config.{Config}
 use Rattle.sip_round.specs.declared.output.Output.{Output}
 use Rattle.sip_round.specs.declared.round.Round.{Round}
 use Rattle.sip_round.specs.AgentState.{AgentState, AreShards, ShardTables}
-use Rattle.sip_round.specs.Answers.{HoldCalls, HoldTransactions, Past, StandsFor, answers, calls_of, past_of}
+use Rattle.sip_round.specs.Answers.{HoldCalls, HoldTransactions, StandsFor, calls_of, past_of}
 use Rattle.sip_round.specs.NextDue.{IsDueAfter, IsQuietAfter, without_events}
 use Rattle.sip_round.specs.Parts.{owner_of}
 use Rattle.sip_round.specs.Steps.AllShards.{IsIdle}

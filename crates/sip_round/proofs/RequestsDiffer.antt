@@ -1,6 +1,6 @@
--- In any rounds the ids of the requests that come up for a call rise, and so none comes up twice: each
--- is that of its own event.
-use Rattle.std.proofs.Common.{◌≡◌, ◌⊎◌, inl, inr, ℕ, suc, Bool, true, false, cond, List, [], ◌∷◌, ◌++◌, map, sym, refl, ap, subst}
+-- In any rounds the ids of the requests that come up for a call rise, and none comes up twice: each is
+-- that of its own event.
+use Rattle.std.proofs.Common.{◌≡◌, ◌⊎◌, inl, inr, ℕ, suc, Bool, false, cond, List, [], ◌∷◌, map, sym, refl, ap, subst}
 use Rattle.std.specs.Prelude.{Option, None, Some, filter, filter_map}
 use Rattle.std.specs.BTreeMap.{is_at}
 use Rattle.std.specs.List.{AllByRecursion, IsDistinct, cons_option}
@@ -20,7 +20,7 @@ use Rattle.sip_common.specs.Command.{call_of_item}
 use Rattle.sip_common.specs.Ids.{is_id}
 use Rattle.sip_common.proofs.Each.{both}
 use Rattle.sip_common.proofs.Entries.{none_apart}
-use Rattle.sip_calls.specs.Awaiting.{RequestsDiffer, id_of_kind, request_brought}
+use Rattle.sip_calls.specs.HeldRequests.{RequestsDiffer, id_of_kind, request_brought}
 use Rattle.sip_calls.specs.Call.{CallItem}
 use Rattle.sip_calls.specs.CallShard.{call_cmp, item_input}
 use Rattle.sip_calls.specs.HeldById.{RequestsRise}

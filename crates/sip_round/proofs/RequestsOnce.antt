@@ -1,12 +1,12 @@
 -- Of all that rounds give, at most one notice `request` has an id: a request comes up under the id
 -- of its own event, and events differ.
 use Rattle.std.proofs.Common.{◌≡◌, ℕ, suc, ◌+◌, ◌≤◌, Bool, true, false, cond, List, [], ◌∷◌, ◌++◌, map, length, refl, sym, ap, subst, ◌∙◌, arith}
-use Rattle.std.specs.Prelude.{Option, None, Some, count_by, filter, filter_map, unwrap_or}
-use Rattle.std.specs.List.{AllByRecursion, flat_map}
+use Rattle.std.specs.Prelude.{Option, None, Some, filter, filter_map, unwrap_or}
+use Rattle.std.specs.List.{flat_map}
 use Rattle.std.proofs.lemmas.List.{length-append}
 use Rattle.std.proofs.lemmas.List.Elements.{filter-append, filter_map-append}
 use Rattle.sip_message.specs.declared.id.Id.{Id}
-use Rattle.sip_model.specs.Machine.{adds, next, Timed, tick_at}
+use Rattle.sip_model.specs.Machine.{adds, next, tick_at}
 use Rattle.sip_model.specs.Phase.{keys_of_phases, states_after, stepped, timed_items, told_items}
 use Rattle.sip_model.specs.Groups.{speaks}
 use Rattle.sip_transactions.specs.declared.output.Kind.{Kind}

@@ -1,6 +1,6 @@
 -- Of all that rounds give, the notices `request` come by rising ids: each is told by the input that
 -- brings it, under the id of its own event, and events rise.
-use Rattle.std.proofs.Common.{◌≡◌, ◌⊎◌, inl, inr, ℕ, suc, ◌+◌, ◌<◌, ◌≤◌, Bool, true, false, cond, List, [], ◌∷◌, ◌++◌, map, refl, sym, ap, subst, ◌∙◌, arith}
+use Rattle.std.proofs.Common.{◌≡◌, ◌⊎◌, inl, inr, ℕ, suc, ◌<◌, ◌≤◌, Bool, true, false, cond, List, [], ◌∷◌, ◌++◌, map, refl, sym, ap, subst, ◌∙◌, arith}
 use Rattle.std.specs.Prelude.{Option, None, Some, filter, filter_map, is_some}
 use Rattle.std.specs.List.{AllByRecursion, cons_option, flat_map}
 use Rattle.std.specs.List.Sorted.{IsStrictlySortedBy}
@@ -8,7 +8,7 @@ use Rattle.std.specs.declared.cmp.Ordering.TheVariants.{Less}
 use Rattle.std.proofs.lemmas.Grind.{common_steps}
 use Rattle.std.proofs.lemmas.List.Elements.{filter_map-append}
 use Rattle.sip_message.specs.declared.id.Id.{Id}
-use Rattle.sip_model.specs.Machine.{adds, next, Timed, tick_at}
+use Rattle.sip_model.specs.Machine.{adds, next, tick_at}
 use Rattle.sip_model.specs.Phase.{keys_of_phases, states_after, stepped, timed_items, told_items}
 use Rattle.sip_model.specs.Groups.{speaks}
 use Rattle.sip_model.proofs.Ordered.{by_bool}

@@ -1,5 +1,5 @@
 -- A life of a client's transaction begins by a request that is started, which goes out at once.
-use Rattle.std.proofs.Common.{◌≡◌, ℕ, Bool, true, false, cond, ◌&&◌, ◌||◌, List, [], ◌∷◌, ◌++◌, refl, sym, ap, subst, ◌∙◌}
+use Rattle.std.proofs.Common.{◌≡◌, ℕ, Bool, true, false, cond, ◌&&◌, ◌||◌, List, [], ◌∷◌, ◌++◌, refl, sym, ap, ◌∙◌}
 use Rattle.std.specs.Prelude.{not, IsSome, Option, None, Some, is_none, is_some, option_map, unwrap_or, codes}
 use Rattle.std.specs.List.{flat_map}
 use Rattle.std.proofs.lemmas.Bool.{false≢true}
@@ -14,15 +14,13 @@ use Rattle.sip_message.specs.declared.start_line.StartLine.TheVariants as start
 use Rattle.sip_message.specs.Key.{key_cmp}
 use Rattle.sip_message.specs.Written.{written}
 use Rattle.sip_model.specs.Laws.{EachKeyAlone}
-use Rattle.sip_model.specs.Machine.{LifeIn, Timed, adds, given_at, next, outputs_from, said_after, said_at_first, said_in_rest, tick_at}
+use Rattle.sip_model.specs.Machine.{Timed, adds, given_at, outputs_from, said_after, said_in_rest, tick_at}
 use Rattle.sip_model.proofs.Ordered.{by_bool}
 use Rattle.sip_transactions.specs.declared.input.Input.{Input}
 use Rattle.sip_transactions.specs.declared.input.Input.TheVariants.{Receive, Start, Answer, Failed}
 use Rattle.sip_transactions.specs.declared.life.Context.{Context}
 use Rattle.sip_transactions.specs.declared.life.Life.{Life}
-use Rattle.sip_transactions.specs.declared.output.Out.{Out}
 use Rattle.sip_transactions.specs.declared.output.Out.TheVariants as out
-use Rattle.sip_transactions.specs.declared.state.Role.{Role}
 use Rattle.sip_transactions.specs.declared.state.Role.TheVariants as role
 use Rattle.sip_transactions.specs.declared.state.State.{State}
 use Rattle.sip_transactions.specs.declared.step.Due.{Due}
@@ -43,12 +41,9 @@ use Rattle.sip_transactions.specs.Rows.{rows_of}
 use Rattle.sip_transactions.proofs.LawSteps.{RowFor, by_step, is_ended}
 use Rattle.sip_transactions.proofs.RowFacts.{and-left, and-right, row_passes, table_passes}
 use Rattle.sip_round.specs.declared.config.Config.{Config}
-use Rattle.sip_round.specs.declared.output.Output.{Output}
-use Rattle.sip_round.specs.declared.output.Output.TheVariants as output
 use Rattle.sip_round.specs.declared.round.Round.{Round}
 use Rattle.sip_round.specs.Answers.{answers, past_of}
-use Rattle.sip_round.specs.Given.{AnswersGiveOwnSends, GivesStartedRequests, all_given, send_in, sends_with}
-use Rattle.sip_round.specs.Laws.{inputs_of, said_of}
+use Rattle.sip_round.specs.Given.{AnswersGiveOwnSends, GivesStartedRequests, send_in}
 use Rattle.sip_round.proofs.Lives.{in_lives}
 
 -- ---- tests of the tables of clients

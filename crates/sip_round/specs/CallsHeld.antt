@@ -1,6 +1,7 @@
--- What is held of each call after whole rounds: its dialogs, each by its history, its requests by
--- their ids, and the INVITEs that await their ACK (RFC 3261, sections 12 and 13.3.1.4).
-use Rattle.std.specs.Prelude.{◌≡◌, ℕ, ◌+◌, Bool, true, false, List, [], ◌∷◌, ◌++◌, Option, None, Some, filter_map, find, fold, length, map}
+-- What is held of each call after whole rounds: its dialogs, each by its history, its requests,
+-- each by its story, in the order of their ids, and the INVITEs that await their ACK (RFC 3261,
+-- sections 12 and 13.3.1.4).
+use Rattle.std.specs.Prelude.{◌≡◌, ℕ, ◌+◌, true, false, List, [], ◌∷◌, ◌++◌, Option, None, Some, filter_map, find, fold, length, map}
 use Rattle.sip_message.specs.declared.cseq.CSeq.{CSeq}
 use Rattle.sip_message.specs.declared.id.Id.{Id}
 use Rattle.sip_model.specs.Machine.{Timed, tick_at}
@@ -15,16 +16,18 @@ use Rattle.sip_common.specs.Dialogs.{dialog_at, is_named}
 use Rattle.sip_common.specs.Sent.{NumberedAfter, NumberedFrom, cseqs_in, name_of_dialog, number_before}
 use Rattle.sip_served.specs.declared.held_request.HeldRequest.{HeldRequest}
 use Rattle.sip_served.specs.Acknowledgment.{awaits_ack}
+use Rattle.sip_served.specs.Awaiting.{awaits_by}
 use Rattle.sip_served.specs.State.{has_id}
+use Rattle.sip_served.specs.Story.{request_of}
 use Rattle.sip_served.specs.Unacknowledged.{awaited_by, awaited_rseqs, kept_rseqs, repeated_by, repeated_rseqs}
 use Rattle.sip_calls.specs.declared.call.Call.{Call}
-use Rattle.sip_calls.specs.Awaiting.{awaits_from, requests_held}
 use Rattle.sip_calls.specs.Call.{CallItem, call_machine, call_step}
 use Rattle.sip_calls.specs.CallShard.{call_cmp}
+use Rattle.sip_calls.specs.HeldRequests.{read_from, requests_held}
 use Rattle.sip_calls.specs.Histories.{History, call_from, history_of, opening_in}
 use Rattle.sip_calls.specs.Owing.{owed_from}
 use Rattle.sip_calls.specs.Provisionals.{side_held}
-use Rattle.sip_calls.specs.Unacknowledged.{read_from}
+use Rattle.sip_calls.specs.RequestHistories.{stories_of}
 use Rattle.sip_round.specs.declared.config.Config.{Config}
 use Rattle.sip_round.specs.declared.round.Round.{Round}
 use Rattle.sip_round.specs.Answers.{calls_of, past_of}
@@ -83,13 +86,20 @@ abbrev pub EachRequestHeldById : Type 0
 EachRequestHeldById = (config : Config) (rounds : List Round) (call_id : List ℕ)
     → IdsRise (map (λ held. held.id) (requests_held (call_after config rounds call_id)))
 
+-- and each is what its story over the inputs of its call says
+abbrev pub EachRequestHasItsStory : Type 0
+EachRequestHasItsStory = (config : Config) (rounds : List Round) (call_id : List ℕ)
+    → requests_held (call_after config rounds call_id)
+    ≡ map request_of (stories_of (calls_of config) (call_inputs_of config rounds call_id))
+
 -- an INVITE that is held after rounds awaits its ACK where a 2xx to it went out, and neither its
 -- ACK nor that none came was told since
 abbrev pub InvitesAwaitAsTold : Config → List Round → Type 0
 InvitesAwaitAsTold config rounds = (call_id : List ℕ) (invite : Id) (held : HeldRequest)
     → find (has_id invite) (requests_held (call_after config rounds call_id)) ≡ Some held
     → awaits_ack held
-    ≡ awaits_from (calls_of config) invite None false (call_inputs_of config rounds call_id)
+    ≡ read_from (awaits_by invite) false (calls_of config) invite None false
+    (call_inputs_of config rounds call_id)
 
 -- so in any rounds
 abbrev pub EachInviteAwaitsAsTold : Type 0

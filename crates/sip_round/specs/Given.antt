@@ -10,7 +10,6 @@ use Rattle.sip_message.specs.declared.message.Message.{Message}
 use Rattle.sip_message.specs.Key.{key_cmp}
 use Rattle.sip_message.specs.Written.{written}
 use Rattle.sip_model.specs.Machine.{LifeIn, Timed, given_at, outputs_from, said_after, said_in_rest, state_after, state_left}
-use Rattle.sip_transactions.specs.declared.input.Input.{Input}
 use Rattle.sip_transactions.specs.declared.input.Input.TheVariants.{Start}
 use Rattle.sip_transactions.specs.declared.output.Out.{Out}
 use Rattle.sip_transactions.specs.declared.output.Out.TheVariants as out

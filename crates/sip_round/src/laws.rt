@@ -2,7 +2,7 @@
 
 ghost use Rattle.std.specs.Prelude.{List};
 ghost use Rattle.sip_round.specs.Answers.{answers};
-ghost use Rattle.sip_round.specs.CallsHeld.{DialogsHaveTheirHistory, EachDialogOwesAsTold, EachInviteAwaitsAsTold, EachRequestHeldById, EachResponseAwaitsAsTold, InputsNumberOn};
+ghost use Rattle.sip_round.specs.CallsHeld.{DialogsHaveTheirHistory, EachDialogOwesAsTold, EachInviteAwaitsAsTold, EachRequestHasItsStory, EachRequestHeldById, EachResponseAwaitsAsTold, InputsNumberOn};
 ghost use Rattle.sip_round.specs.Given.{AnswersGiveOwnNotices, AnswersGiveOwnSends, GivesNothingAfterEnds, GivesProvisionalsInOrder, GivesRequestsById, GivesRequestsOnce, GivesStartedRequests};
 ghost use Rattle.sip_round.specs.Laws.{NothingAfterEachEnd, OneRequestInEachLife, ProvisionalsInLives};
 ghost use Rattle.sip_round.specs.declared.config.Config.{Config};
@@ -68,6 +68,13 @@ pub fn each_dialog_holds_its_history(config: &Config)
 /// first that fits is that of the least id, and the last that of the greatest.
 pub fn each_request_is_held_by_id()
     ensures { EachRequestHeldById }
+{}
+
+/// After any rounds each request of the peer that is held of a call is what its story says: how it
+/// came up, and what happened to it since by the inputs of its call (RFC 3261, section 13.3.1.4;
+/// RFC 3262, section 3).
+pub fn each_request_holds_its_history()
+    ensures { EachRequestHasItsStory }
 {}
 
 /// After any rounds an INVITE that is held awaits its ACK where a 2xx to it went out, and the user

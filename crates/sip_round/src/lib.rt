@@ -28,8 +28,8 @@ pub use agent::{Agent, MAX_EVENTS_OF_ROUND, MAX_MOMENT};
 pub use config::Config;
 pub use laws::{
     each_dialog_holds_its_history, each_dialog_owes_as_told, each_invite_awaits_its_ack,
-    each_response_awaits_its_prack, nothing_after_each_end, one_request_in_each_life,
-    provisionals_in_each_life,
+    each_request_holds_its_history, each_request_is_held_by_id, each_response_awaits_its_prack,
+    nothing_after_each_end, one_request_in_each_life, provisionals_in_each_life,
 };
 pub use output::Output;
 pub use round::{Event, Round};

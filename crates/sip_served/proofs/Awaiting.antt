@@ -1,8 +1,7 @@
 -- What each item of the server side makes of the INVITE of an id: it awaits its ACK as what is given
 -- says.
 use Rattle.std.proofs.Common.{◌≡◌, ℕ, Bool, true, false, ◌&&◌, ◌||◌, cond, List, [], ◌∷◌, map, refl, sym, ap, ◌∙◌, arith}
-use Rattle.std.specs.Prelude.{Option, None, Some, Result, Ok, Err, find, is_none, nat_le, nat_lt, if◌then◌else◌}
-use Rattle.std.specs.List.{IsDistinct}
+use Rattle.std.specs.Prelude.{Option, None, Some, Result, Ok, Err, fold, is_none, nat_le, nat_lt, if◌then◌else◌}
 use Rattle.std.specs.Option.{option_map, option_map_or}
 use Rattle.std.specs.Cmp.{first_so, second_so}
 use Rattle.std.specs.Result.{result_ok}
@@ -24,27 +23,32 @@ use Rattle.sip_common.specs.Ids.{is_id}
 use Rattle.sip_common.specs.Requests.{dialog_name, is_final, is_invite, is_provisional, is_success, requires_100rel, supports_100rel}
 use Rattle.sip_served.specs.declared.held_request.HeldRequest.{HeldRequest}
 use Rattle.sip_served.specs.declared.held_request.Success.{Success}
-use Rattle.sip_served.specs.declared.held_request.SuccessEnd.TheVariants.{Acknowledged}
+use Rattle.sip_served.specs.declared.held_request.SuccessEnd.{SuccessEnd}
+use Rattle.sip_served.specs.declared.held_request.SuccessEnd.TheVariants.{Acknowledged, GivenUp}
 use Rattle.sip_served.specs.declared.provisionals.NumberedResponse.{NumberedResponse}
 use Rattle.sip_served.specs.declared.tick.SuccessDue.{SuccessDue}
 use Rattle.sip_served.specs.declared.tick.SuccessDue.TheVariants as repeat
-use Rattle.sip_served.specs.Acknowledgment.{ack_taken, awaits_ack, success_ended}
-use Rattle.sip_served.specs.Awaiting.{awaits_by, ends_after, ends_by, has_success}
+use Rattle.sip_served.specs.Acknowledgment.{awaits_ack, success_ended}
+use Rattle.sip_served.specs.Awaiting.{awaits_by, has_success}
 use Rattle.sip_served.specs.Cancel.{request_terminated}
 use Rattle.sip_served.specs.Provisionals.{of_numbers}
-use Rattle.sip_served.specs.Respond.{answer_to, answered, finished, if_so, is_of_dialog, is_reliable, is_sent_reliably, makes_dialog, may_be_reliable, respond_taken, sent_as, sent_reliably, success_sent, with_dialog, with_routes, with_rseq}
-use Rattle.sip_served.specs.State.{State, has_id}
-use Rattle.sip_served.specs.Step.{arrival_taken}
-use Rattle.sip_served.specs.Tick.{provisionals_told, provisionals_ticked, request_ticked, success_answer, success_by, success_at_tick, success_ticked, success_told}
-use Rattle.sip_served.proofs.ItemsFollow as items
+use Rattle.sip_served.specs.RequestLife.{Finishes, MakesDialog, RepeatsSuccess, request_happened, success_sent, went_on}
+use Rattle.sip_served.specs.Respond.{answer_to, answered, finished, if_so, is_of_dialog, is_reliable, is_sent_reliably, makes_dialog, may_be_reliable, sends_as, sent_as, sent_reliably, with_dialog, with_routes, with_rseq}
+use Rattle.sip_served.specs.Tick.{provisionals_told, provisionals_ticked, request_ticked, success_answer, success_at_tick, success_goes, success_ticked, success_told}
+use Rattle.sip_served.specs.Unacknowledged.{at_tick}
 use Rattle.sip_served.proofs.Reading as reading
 use Rattle.sip_served.proofs.Reading.{IsTold, Reading}
-use Rattle.sip_served.proofs.TickFollows as passing
+use Rattle.sip_served.proofs.RequestLives.{provisionals_alone}
 
 -- an INVITE awaits its ACK, or doesn't
 abbrev pub awaiting : Id → Reading Bool
 awaiting invite =
-    record { none = false; read = awaits_ack; by = awaits_by invite; ticks = ends_by invite }
+    record {
+      none = false;
+      read = awaits_ack;
+      by = awaits_by invite;
+      ticks = at_tick (awaits_by invite);
+    }
 
 no_wait : (b : Bool) → (b && false) ≡ false
 no_wait true = refl
@@ -52,12 +56,12 @@ no_wait false = refl
 
 -- ---- an ACK, and a CANCEL
 
-over_now : (held : HeldRequest) → awaits_ack (success_ended Acknowledged held) ≡ false
-over_now held = by_success held.success
+over_now : (end : SuccessEnd) (held : HeldRequest) → awaits_ack (success_ended end held) ≡ false
+over_now end held = by_success held.success
   where
     by_success : (o : Option Success) → (is_invite held.request
         && option_map_or (λ success. is_none success.over)
-        (option_map (λ (success : Success). record success { over = Some Acknowledged }) o)
+        (option_map (λ (success : Success). record success { over = Some end }) o)
         false) ≡ false
     by_success None = no_wait (is_invite held.request)
     by_success (Some success) = no_wait (is_invite held.request)
@@ -155,14 +159,14 @@ module _ (r : Answer) (response : Message) (now : ℕ) (held : HeldRequest) wher
       by_both false success = refl
 
   by_final : (final : Bool) → is_final r.status ≡ final
-      → awaits_ack (if final then finished response r.status now held else held)
+      → awaits_ack (went_on (if final then Finishes response r.status now ∷ [] else []) held)
       ≡ waits_now (is_success r.status)
   by_final true is = finished_waits
   by_final false is = not_success false is refl
 
   by_reliable : (b : Bool) → is_sent_reliably held r ≡ b
-      → awaits_ack (if b then sent_reliably response now held
-      else (if is_final r.status then finished response r.status now held else held))
+      → awaits_ack (went_on (if b then sends_as (send_answer held.ledger) response now
+      else (if is_final r.status then Finishes response r.status now ∷ [] else [])) held)
       ≡ waits_now (is_success r.status)
   by_reliable false is = by_final (is_final r.status) refl
   by_reliable true is =
@@ -176,11 +180,9 @@ given_waits : (response : Message) (event : Id) (r : Answer) (now : ℕ) (held :
     → awaits_ack (answered r response now (with_dialog event r held))
     ≡ waits_now r response now held (is_success r.status)
 given_waits response event r now held =
-    elim (makes_dialog held r.status) as (λ b. awaits_ack (answered r response now (if b
-    then record held {
-      dialog = Some record { name = dialog_name held.request held.tag; born = event };
-    }
-    else held)) ≡ waits_now r response now held (is_success r.status)) [
+    elim (makes_dialog held r.status) as (λ b. awaits_ack (answered r response now (went_on (if b
+    then MakesDialog record { name = dialog_name held.request held.tag; born = event } ∷ []
+    else []) held)) ≡ waits_now r response now held (is_success r.status)) [
       | true ↦ answered_waits r response now record held {
         dialog = Some record { name = dialog_name held.request held.tag; born = event };
       }
@@ -190,7 +192,7 @@ given_waits response event r now held =
 -- ---- a tick
 
 module _ (invite : Id) where
-  abbrev pub Quiet : List CallOut → Type 0
+  abbrev Quiet : List CallOut → Type 0
   Quiet outs = reading.Quiet (awaiting invite) outs
 
   repeats_quiet : (held : HeldRequest) (responses : List NumberedResponse)
@@ -206,24 +208,25 @@ module _ (invite : Id) where
 
   -- the 2xx of this request, or of another
   success_waits : (now : ℕ) (held : HeldRequest) → is_id held.id invite ≡ true
-      → (o : Option Success) → held.success ≡ o
-      → awaits_ack (success_at_tick now held o).0
-      ≡ ends_after invite (awaits_ack held) (success_at_tick now held o).1
-  success_waits now held own None is = refl
-  success_waits now held own (Some success) is = by_due (success_answer now success)
+      → (o : Option Success) → awaits_ack (success_at_tick now held o).0
+      ≡ fold (at_tick (awaits_by invite)) (awaits_ack held) (success_at_tick now held o).1
+  success_waits now held own None = refl
+  success_waits now held own (Some success) = by_due (success_answer now success)
     where
-      was : awaits_ack held ≡ (is_invite held.request && is_none success.over)
-      was = ap (λ o. is_invite held.request
-          && option_map_or (λ (success : Success). is_none success.over) o false) is
+      again : (o : Option Success)
+          → awaits_ack (request_happened record held { success = o } (RepeatsSuccess now))
+          ≡ awaits_ack record held { success = o }
+      again None = refl
+      again (Some success) = refl
 
       by_due : (due : SuccessDue)
-          → (is_invite held.request && is_none (success_by due now success).over)
-          ≡ ends_after invite (awaits_ack held) (success_told due held success.response)
-      by_due repeat.Nothing = sym was
-      by_due repeat.Again = sym was
+          → awaits_ack (went_on (success_goes due now) held)
+          ≡ fold (at_tick (awaits_by invite)) (awaits_ack held)
+          (success_told due held success.response)
+      by_due repeat.Nothing = refl
+      by_due repeat.Again = again held.success
       by_due repeat.GivenUp =
-          no_wait (is_invite held.request)
-          ∙ ap (λ b. cond b false (awaits_ack held)) (sym own)
+          over_now GivenUp held ∙ ap (λ b. cond b false (awaits_ack held)) (sym own)
 
   success_quiet : (now : ℕ) (held : HeldRequest) → is_id held.id invite ≡ false
       → (o : Option Success) → Quiet (success_at_tick now held o).1
@@ -231,21 +234,23 @@ module _ (invite : Id) where
   success_quiet now held other (Some success) awaits = by_due (success_answer now success)
     where
       by_due : (due : SuccessDue)
-          → ends_after invite awaits (success_told due held success.response) ≡ awaits
+          → fold (at_tick (awaits_by invite)) awaits (success_told due held success.response)
+          ≡ awaits
       by_due repeat.Nothing = refl
       by_due repeat.Again = refl
       by_due repeat.GivenUp = ap (λ b. cond b false awaits) other
 
   own_ticks : (now : ℕ) (held : HeldRequest) → is_id held.id invite ≡ true
       → awaits_ack (request_ticked now held).0
-      ≡ ends_after invite (awaits_ack held) (request_ticked now held).1
+      ≡ fold (at_tick (awaits_by invite)) (awaits_ack held) (request_ticked now held).1
   own_ticks now held own =
       let first = success_ticked now held in
       let second = provisionals_ticked now first.0 in
-      success_waits now held own held.success refl
-      ∙ sym (reading.fold_on (ends_by invite) (awaits_ack held) first.1 second.1
+      ap awaits_ack (provisionals_alone (tick_answer (first.0).ledger now) now first.0)
+      ∙ success_waits now held own held.success
+      ∙ sym (reading.fold_on (at_tick (awaits_by invite)) (awaits_ack held) first.1 second.1
       ∙ provisionals_quiet (tick_answer (first.0).ledger now) first.0
-      (ends_after invite (awaits_ack held) first.1))
+      (fold (at_tick (awaits_by invite)) (awaits_ack held) first.1))
 
   other_ticks : (now : ℕ) (held : HeldRequest) → is_id held.id invite ≡ false
       → Quiet (request_ticked now held).1
@@ -270,7 +275,7 @@ module _ (invite : Id) where
     prack = λ call_id id rseq body own held. refl;
     other_prack = λ call_id id rseq body other awaits. refl;
     ack = λ call_id id body own held.
-        over_now held ∙ ap (λ b. cond b false (awaits_ack held)) (sym own);
+        over_now Acknowledged held ∙ ap (λ b. cond b false (awaits_ack held)) (sym own);
     other_ack = λ call_id id body other awaits. ap (λ b. cond b false awaits) other;
     terminated = λ id own of key now held.
         terminated_as (request_terminated of) now held
@@ -282,39 +287,3 @@ module _ (invite : Id) where
     ticked = own_ticks;
     other_ticked = other_ticks;
   }
-
-  -- ---- each item
-
-  abbrev pub waits_of : Option HeldRequest → Bool
-  waits_of o = reading.read_of (awaiting invite) o
-
-  abbrev pub Follows : List HeldRequest → List HeldRequest → List CallOut → Type 0
-  Follows before after outs = reading.Follows (awaiting invite) invite before after outs
-
-  pub arrival_follows : (state : State) (call_id : List ℕ) (arrival : HeldRequest) (now : ℕ)
-      → find (has_id arrival.id) state.requests ≡ None → arrival.success ≡ None
-      → Follows state.requests ((arrival_taken state call_id arrival now).0).requests
-      (arrival_taken state call_id arrival now).1
-  arrival_follows state call_id arrival now fresh new =
-      items.arrival_follows (awaiting invite) invite ack_told state call_id arrival now fresh
-      (ap (λ success. is_invite arrival.request
-      && option_map_or (λ (success : Success). is_none success.over) success false) new
-      ∙ no_wait (is_invite arrival.request))
-
-  pub ack_follows : (state : State) (call_id : List ℕ) (ack : Message)
-      → Follows state.requests ((ack_taken state call_id ack).0).requests
-      (ack_taken state call_id ack).1
-  ack_follows state call_id ack =
-      items.ack_follows (awaiting invite) invite ack_told state call_id ack
-
-  pub respond_follows : (state : State) (event : Id) (r : Answer) (now : ℕ)
-      → Follows state.requests ((respond_taken state event r now).0).requests
-      (respond_taken state event r now).1
-  respond_follows state event r now =
-      items.respond_follows (awaiting invite) invite ack_told state event r now
-
-  pub tick_follows : (now : ℕ) (requests : List HeldRequest)
-      → IsDistinct is_id (map (λ held. held.id) requests)
-      → passing.Ticks (awaiting invite) invite ack_told now requests
-  tick_follows now requests apart =
-      passing.tick_follows (awaiting invite) invite ack_told now requests apart

@@ -1,5 +1,5 @@
 -- When something of a held request is due.
-use Rattle.std.proofs.Common.{◌≡◌, ℕ, Bool, true, false, not, ◌||◌, min, nat_le, nat_lt, List, [], ◌∷◌, refl, sym, ap, ◌∙◌, arith}
+use Rattle.std.proofs.Common.{◌≡◌, ℕ, Bool, true, false, not, ◌||◌, min, nat_le, nat_lt, List, [], ◌∷◌, refl, sym, ap, subst, ◌∙◌, arith}
 use Rattle.std.specs.Prelude.{Option, None, Some, fold, if◌then◌else◌}
 use Rattle.std.specs.List.{list_any}
 use Rattle.std.specs.Option.{is_some, option_and_then, option_map_or}
@@ -8,13 +8,14 @@ use Rattle.sip_timers.specs.Queue.{is_due}
 use Rattle.sip_timers.specs.Earlier.{earlier}
 use Rattle.sip_model.specs.Groups.{speaks}
 use Rattle.sip_message.specs.declared.message.Message.{Message}
-use Rattle.sip_reliable.specs.Ledger.{next_moment}
+use Rattle.sip_reliable.specs.Ledger.{next_moment, tick_answer}
 use Rattle.sip_common.proofs.Dues.{earlier_due, earliest, or_assoc, or_false}
 use Rattle.sip_served.specs.declared.held_request.HeldRequest.{HeldRequest}
 use Rattle.sip_served.specs.declared.held_request.Success.{Success}
 use Rattle.sip_served.specs.declared.tick.SuccessDue.{SuccessDue}
 use Rattle.sip_served.specs.declared.tick.SuccessDue.TheVariants as repeat
-use Rattle.sip_served.specs.Tick.{next_due_of, request_due, request_ticked, success_answer, success_moment, success_at_tick, success_told}
+use Rattle.sip_served.specs.Tick.{next_due_of, request_due, request_ticked, success_answer, success_moment, success_at_tick, success_ticked, success_told}
+use Rattle.sip_served.proofs.RequestLives.{provisionals_alone, success_alone}
 
 -- ---- the 2xx
 
@@ -69,12 +70,16 @@ pub record Kept (held after : HeldRequest) : Type 0 where
 
 pub success_keeps : (now : ℕ) (held : HeldRequest) (o : Option Success)
     → Kept held (success_at_tick now held o).0
-success_keeps now held None = record { ledger = refl; removal = refl }
-success_keeps now held (Some success) = record { ledger = refl; removal = refl }
+success_keeps now held o =
+    subst (Kept held) (sym (success_alone now held o).1) record { ledger = refl; removal = refl }
 
 pub removal_kept : (now : ℕ) (held : HeldRequest)
     → ((request_ticked now held).0).removal ≡ held.removal
-removal_kept now held = (success_keeps now held held.success).removal
+removal_kept now held =
+    let first = (success_ticked now held).0 in
+    ap (λ (held : HeldRequest). held.removal)
+    (provisionals_alone (tick_answer first.ledger now) now first)
+    ∙ (success_keeps now held held.success).removal
 
 pub removal_due : (now : ℕ) (removal : Option ℕ)
     → not (option_map_or (λ moment. nat_lt now moment) removal true) ≡ is_due now removal

@@ -1,5 +1,5 @@
 -- Of each held request few reliable provisional responses wait for their PRACK.
-use Rattle.std.proofs.Common.{◌≡◌, ℕ, not, ◌==◌, List, [], ◌∷◌, map, refl}
+use Rattle.std.proofs.Common.{◌≡◌, ℕ, not, ◌==◌, List, [], ◌∷◌, map, refl, sym, subst}
 use Rattle.std.specs.Prelude.{Option, None, Some, find, fold}
 use Rattle.std.specs.List.{AllByRecursion}
 use Rattle.sip_model.proofs.Ordered.{by_bool}
@@ -38,6 +38,7 @@ use Rattle.sip_served.specs.Step.{arrival_taken, server_command_taken, kind_take
 use Rattle.sip_served.specs.Tick.{is_kept_at, provisionals_by, request_ticked, success_at_tick, success_ticked}
 use Rattle.sip_common.proofs.Each as each
 use Rattle.sip_served.proofs.FirstChanged.{first_changed}
+use Rattle.sip_served.proofs.RequestLives.{success_alone}
 
 -- ---- one request
 
@@ -83,8 +84,8 @@ provisionals_keep tick.GivenUp now held kept =
 
 success_keeps : (now : ℕ) (held : HeldRequest) (o : Option Success) → IsKept held
     → IsKept (success_at_tick now held o).0
-success_keeps now held None kept = kept
-success_keeps now held (Some success) kept = kept
+success_keeps now held o kept =
+    subst (λ (held : HeldRequest). IsKept held) (sym (success_alone now held o).1) kept
 
 request_keeps : (now : ℕ) (held : HeldRequest) → IsKept held
     → IsKept (request_ticked now held).0

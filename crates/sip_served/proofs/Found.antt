@@ -1,24 +1,23 @@
 -- The held requests: which is found after a step, and that its id stays.
-use Rattle.std.proofs.Common.{◌≡◌, ℕ, Bool, true, false, ◌&&◌, cond, List, [], ◌∷◌, ◌++◌, refl, sym, ap, ◌∙◌}
-use Rattle.std.specs.Prelude.{Option, None, Some, Result, Ok, Err, find, if◌then◌else◌}
+use Rattle.std.proofs.Common.{◌≡◌, ℕ, Bool, true, false, cond, List, [], ◌∷◌, ◌++◌, refl, sym, ap, ◌∙◌}
+use Rattle.std.specs.Prelude.{Option, None, Some, find, if◌then◌else◌}
 use Rattle.std.specs.Option.{option_map, option_map_or}
 use Rattle.sip_message.specs.declared.id.Id.{Id}
 use Rattle.sip_message.specs.declared.message.Message.{Message}
-use Rattle.sip_reliable.specs.declared.send_fault.SendFault.{SendFault}
-use Rattle.sip_reliable.specs.Ledger.{send_answer}
+use Rattle.sip_reliable.specs.Ledger.{tick_answer}
 use Rattle.sip_common.specs.declared.command.Respond.{Respond as Answer}
 use Rattle.sip_common.specs.declared.held_dialog.DialogName.{DialogName}
 use Rattle.sip_common.specs.declared.item.CallOut.{CallOut}
 use Rattle.sip_common.specs.Dialogs.{Dialogs, dialog_changed, visited}
 use Rattle.sip_common.specs.Ids.{is_id}
-use Rattle.sip_common.specs.Requests.{dialog_name, is_final, is_inside}
+use Rattle.sip_common.specs.Requests.{is_inside}
 use Rattle.sip_common.proofs.Heard.{id_laws}
 use Rattle.sip_served.specs.declared.held_request.HeldRequest.{HeldRequest}
-use Rattle.sip_served.specs.declared.held_request.Success.{Success}
 use Rattle.sip_served.specs.Arrival.{noted}
-use Rattle.sip_served.specs.Respond.{answer_to, answered, finished, is_sent_reliably, makes_dialog, sent_as, sent_reliably, with_dialog}
+use Rattle.sip_served.specs.Respond.{answer_to, answered, answers, makes, with_dialog}
 use Rattle.sip_served.specs.State.{State, ServedTaken, changed_at, has_id}
-use Rattle.sip_served.specs.Tick.{request_ticked, success_at_tick}
+use Rattle.sip_served.specs.Tick.{provisionals_go, request_ticked, success_ticked}
+use Rattle.sip_served.proofs.RequestLives.{lives_id, success_alone}
 
 -- ---- what is found
 
@@ -130,19 +129,7 @@ bye_requests false state dialogs outs = refl
 
 answered_id : (r : Answer) (response : Message) (now : ℕ) (held : HeldRequest)
     → (answered r response now held).id ≡ held.id
-answered_id r response now held =
-    elim (is_sent_reliably held r) as (λ b. (if b then sent_reliably response now held
-    else (if is_final r.status then finished response r.status now held
-    else held)).id ≡ held.id) [
-      | true ↦ by_answer (send_answer held.ledger)
-      | false ↦ elim (is_final r.status) as (λ b. (if b
-          then finished response r.status now held else held).id ≡ held.id)
-          [ true ↦ refl | false ↦ refl ]
-    ]
-  where
-    by_answer : (o : Result ℕ SendFault) → (sent_as o response now held).id ≡ held.id
-    by_answer (Ok number) = refl
-    by_answer (Err fault) = refl
+answered_id r response now held = lives_id (answers held r response now) held
 
 module _ (state : State) (event : Id) (r : Answer) (now : ℕ) (held : HeldRequest) where
   -- a request after the answer to this one
@@ -152,15 +139,10 @@ module _ (state : State) (event : Id) (r : Answer) (now : ℕ) (held : HeldReque
   pub keeps : (other : HeldRequest) → (change other).id ≡ other.id
   keeps other =
       answered_id r (answer_to state.local held r) now (with_dialog event r other)
-      ∙ elim (makes_dialog other r.status) as (λ b. (if b
-      then record other {
-        dialog = Some record { name = dialog_name other.request other.tag; born = event };
-      }
-      else other).id ≡ other.id) [ true ↦ refl | false ↦ refl ]
+      ∙ lives_id (makes event other r) other
 
 pub passed_id : (now : ℕ) (held : HeldRequest) → ((request_ticked now held).0).id ≡ held.id
-passed_id now held = by_success held.success
-  where
-    by_success : (o : Option Success) → ((success_at_tick now held o).0).id ≡ held.id
-    by_success None = refl
-    by_success (Some success) = refl
+passed_id now held =
+    let first = (success_ticked now held).0 in
+    lives_id (provisionals_go (tick_answer first.ledger now) now) first
+    ∙ ap (λ (held : HeldRequest). held.id) (success_alone now held held.success).1

@@ -16,10 +16,12 @@ pub mod Found
 pub mod ItemsFollow
 pub mod Places
 pub mod Reading
+pub mod RequestLives
 pub mod RequestIds
 pub mod Rseqs
 pub mod Shows
 pub mod Stories
+pub mod StoryLives
 pub mod Terminations
 pub mod TickFollows
 pub mod Ticks

@@ -1,12 +1,8 @@
--- Lists and entries whose elements are read by a function: what is done to the elements is done to
--- what is read of them.
-use Rattle.std.proofs.Common.{◌≡◌, Bool, true, false, cond, List, [], ◌∷◌, ◌++◌, map, refl, sym, ap, ◌∙◌}
-use Rattle.std.specs.Prelude.{Option, None, Some, filter, find, unwrap_or}
+-- Lists whose elements are read by a function: what is done to the elements is done to what is read
+-- of them.
+use Rattle.std.proofs.Common.{◌≡◌, Bool, true, false, cond, List, [], ◌∷◌, ◌++◌, map, refl, ap}
+use Rattle.std.specs.Prelude.{Option, Some, filter, find, unwrap_or}
 use Rattle.std.specs.List.{AllByRecursion}
-use Rattle.std.specs.Map.{lookup, remove_entry, set_value}
-use Rattle.std.specs.Option.{option_map, option_map_or}
-use Rattle.std.proofs.lemmas.Map.Made.{lookup-map_values}
-use Rattle.indexmap.specs.IndexMap.{insert_entry}
 use Rattle.sip_served.specs.State.{changed_first}
 
 some_same : {A : Type 0} (x y : A) → Some x ≡ Some y → x ≡ y
@@ -63,57 +59,4 @@ module _ {A B : Type 0} (f : A → B) where
       ≡ cond b (g (f x) ∷ map f xs) (f x ∷ changed_first test g (map f xs))) [
         | true ↦ ap (λ y. y ∷ map f xs) (step x)
         | false ↦ ap (λ ys. f x ∷ ys) (changed_mapped test g h step xs)
-      ]
-
--- ---- the values of entries
-module _ {K A B : Type 0} (f : A → B) where
-  abbrev pub mapped : List (K × A) → List (K × B)
-  mapped entries = map (λ entry. (entry.0, f entry.1)) entries
-
-  set_mapped : (test : K → Bool) (es : List (K × A)) (w : A)
-      → mapped (set_value test es w) ≡ set_value test (mapped es) (f w)
-  set_mapped test [] w = refl
-  set_mapped test (e ∷ es) w =
-      elim (test e.0) as (λ b. mapped (cond b ((e.0, w) ∷ es) (e ∷ set_value test es w))
-      ≡ cond b ((e.0, f w) ∷ mapped es) ((e.0, f e.1) ∷ set_value test (mapped es) (f w))) [
-        | true ↦ refl
-        | false ↦ ap (λ ys. (e.0, f e.1) ∷ ys) (set_mapped test es w)
-      ]
-
-  set_found : (test : K → Bool) (es : List (K × A)) (g : B → B) (h : A → A)
-      → ((x : A) → f (h x) ≡ g (f x)) → (o : Option A)
-      → mapped (option_map_or (λ x. set_value test es (h x)) o es)
-      ≡ option_map_or (λ y. set_value test (mapped es) (g y)) (option_map f o) (mapped es)
-  set_found test es g h step None = refl
-  set_found test es g h step (Some x) =
-      set_mapped test es (h x) ∙ ap (set_value test (mapped es)) (step x)
-
-  pub entry_mapped : (test : K → Bool) (es : List (K × A)) (g : B → B) (h : A → A)
-      → ((x : A) → f (h x) ≡ g (f x))
-      → mapped (option_map_or (λ x. set_value test es (h x)) (lookup test es) es)
-      ≡ option_map_or (λ y. set_value test (mapped es) (g y)) (lookup test (mapped es))
-      (mapped es)
-  entry_mapped test es g h step =
-      set_found test es g h step (lookup test es)
-      ∙ ap (λ o. option_map_or (λ y. set_value test (mapped es) (g y)) o (mapped es))
-      (sym (lookup-map_values f test es))
-
-  pub removed_mapped : (test : K → Bool) (es : List (K × A))
-      → mapped (remove_entry test es) ≡ remove_entry test (mapped es)
-  removed_mapped test [] = refl
-  removed_mapped test (e ∷ es) =
-      elim (test e.0) as (λ b. mapped (cond b es (e ∷ remove_entry test es))
-      ≡ cond b (mapped es) ((e.0, f e.1) ∷ remove_entry test (mapped es))) [
-        | true ↦ refl
-        | false ↦ ap (λ ys. (e.0, f e.1) ∷ ys) (removed_mapped test es)
-      ]
-
-  pub inserted_mapped : (eq : K → K → Bool) (es : List (K × A)) (k : K) (v : A)
-      → mapped (insert_entry eq es k v) ≡ insert_entry eq (mapped es) k (f v)
-  inserted_mapped eq [] k v = refl
-  inserted_mapped eq (e ∷ es) k v =
-      elim (eq k e.0) as (λ b. mapped (cond b ((e.0, v) ∷ es) (e ∷ insert_entry eq es k v))
-      ≡ cond b ((e.0, f v) ∷ mapped es) ((e.0, f e.1) ∷ insert_entry eq (mapped es) k (f v))) [
-        | true ↦ refl
-        | false ↦ ap (λ ys. (e.0, f e.1) ∷ ys) (inserted_mapped eq es k v)
       ]

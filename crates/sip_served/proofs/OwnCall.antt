@@ -1,14 +1,13 @@
 -- The server side of a call holds and tells what is of its own Call-ID, and nothing else.
 use Rattle.std.proofs.Common.{◌≡◌, ℕ, ◌&&◌, List, [], ◌∷◌, map, refl, ap, ◌∙◌}
-use Rattle.std.specs.Prelude.{Option, None, Some, Result, Ok, Err, find}
+use Rattle.std.specs.Prelude.{Option, None, Some, find}
 use Rattle.sip_model.proofs.Ordered.{by_bool}
 use Rattle.sip_message.specs.declared.addr.Addr.{Addr}
 use Rattle.sip_message.specs.declared.id.Id.{Id}
 use Rattle.sip_message.specs.declared.message.Message.{Message}
 use Rattle.sip_reliable.specs.declared.tick.Tick.{Tick}
 use Rattle.sip_reliable.specs.declared.tick.Tick.TheVariants as tick
-use Rattle.sip_reliable.specs.declared.send_fault.SendFault.{SendFault}
-use Rattle.sip_reliable.specs.Ledger.{send_answer, tick_answer}
+use Rattle.sip_reliable.specs.Ledger.{tick_answer}
 use Rattle.sip_transactions.specs.declared.input.Command.TheVariants.{Answer as ByAnswer}
 use Rattle.sip_transactions.specs.declared.output.Kind.{Kind}
 use Rattle.sip_transactions.specs.declared.output.Kind.TheVariants.{Request, Ack, Response, Timeout, Failed}
@@ -37,40 +36,32 @@ use Rattle.sip_common.specs.Dialogs.{confirmed, confirms, is_named, visited, vis
 use Rattle.sip_common.specs.OwnCall.{AreDialogsOf, AreNoticesOf, IsDialogOf, IsItemOf, IsKindOf, IsNoticeOf}
 use Rattle.sip_served.specs.OwnCall.{AreRequestsOf, IsEventOf, IsStateOf}
 use Rattle.sip_served.specs.Provisionals.{of_numbers}
-use Rattle.sip_common.specs.Requests.{dialog_name, is_bye, is_cancel, is_final, is_inside}
-use Rattle.sip_served.specs.Respond.{answer_to, answered, by_refusal, by_request, confirms_dialog, dialogs_answered, finished, is_sent_reliably, made_dialog, makes_dialog, refusal_for, rejects, respond_taken, sent_as, with_dialog}
+use Rattle.sip_common.specs.Requests.{dialog_name, is_bye, is_cancel, is_inside}
+use Rattle.sip_served.specs.Respond.{answer_to, answered, answers, by_refusal, by_request, confirms_dialog, dialogs_answered, finished, made_dialog, makes, makes_dialog, refusal_for, rejects, respond_taken, with_dialog}
 use Rattle.sip_served.specs.Run.{Event, Takes, Ticks, event_taken}
 use Rattle.sip_served.specs.ServerSide.{empty_at}
 use Rattle.sip_served.specs.State.{State, ServedTaken, changed_at, followed, has_id}
 use Rattle.sip_served.specs.Step.{arrival_taken, server_command_taken, server_item_taken, kind_taken}
 use Rattle.sip_common.specs.Command.{call_of_command}
-use Rattle.sip_served.specs.Tick.{is_kept_at, provisionals_ticked, provisionals_told, request_ticked, success_answer, success_at_tick, success_ticked, success_told, tick_taken}
+use Rattle.sip_served.specs.Tick.{is_kept_at, provisionals_go, provisionals_ticked, provisionals_told, request_ticked, success_answer, success_at_tick, success_ticked, success_told, tick_taken}
 use Rattle.sip_common.proofs.Each as each
 use Rattle.sip_served.proofs.FirstChanged.{first_changed}
+use Rattle.sip_served.proofs.RequestLives.{lives_request, success_alone}
 
 -- ---- one request, and one dialog, keeps its Call-ID
 
-sent_keeps : (answer : Result ℕ SendFault) (response : Message) (now : ℕ) (held : HeldRequest)
-    → (sent_as answer response now held).request ≡ held.request
-sent_keeps (Ok number) response now held = refl
-sent_keeps (Err fault) response now held = refl
-
 answered_keeps : (r : Answer) (response : Message) (now : ℕ) (held : HeldRequest)
     → (answered r response now held).request ≡ held.request
-answered_keeps r response now held =
-    by_bool (is_sent_reliably held r)
-    (λ e. rw e (sent_keeps (send_answer held.ledger) response now held))
-    (λ e. by_bool (is_final r.status) (λ f. rw (e, f) refl) (λ f. rw (e, f) refl))
+answered_keeps r response now held = lives_request (answers held r response now) held
 
 with_dialog_keeps : (event : Id) (r : Answer) (held : HeldRequest)
     → (with_dialog event r held).request ≡ held.request
-with_dialog_keeps event r held =
-    by_bool (makes_dialog held r.status) (λ e. rw e refl) (λ e. rw e refl)
+with_dialog_keeps event r held = lives_request (makes event held r) held
 
 success_keeps : (now : ℕ) (held : HeldRequest) (o : Option Success)
     → ((success_at_tick now held o).0).request ≡ held.request
-success_keeps now held None = refl
-success_keeps now held (Some success) = refl
+success_keeps now held o =
+    ap (λ (held : HeldRequest). held.request) (success_alone now held o).1
 
 module _ (call_id : List ℕ) where
   abbrev pub IsRequestOf : HeldRequest → Type 0
@@ -290,7 +281,10 @@ module _ (call_id : List ℕ) where
 
   ticked_keeps : (now : ℕ) (held : HeldRequest)
       → ((request_ticked now held).0).request ≡ held.request
-  ticked_keeps now held = success_keeps now held held.success
+  ticked_keeps now held =
+      let first = (success_ticked now held).0 in
+      lives_request (provisionals_go (tick_answer first.ledger now) now) first
+      ∙ success_keeps now held held.success
 
   ticked_is : (now : ℕ) (held : HeldRequest) → IsRequestOf held
       → AreNoticesOf call_id (request_ticked now held).1

@@ -20,8 +20,9 @@ use Rattle.sip_served.specs.declared.held_request.HeldRequest.{HeldRequest}
 use Rattle.sip_served.specs.declared.held_request.Success.{Success}
 use Rattle.sip_common.specs.declared.item.CallOut.{CallOut}
 use Rattle.sip_served.specs.declared.tick.SuccessDue.TheVariants as repeat
+use Rattle.sip_served.specs.RequestLife.{went_on}
 use Rattle.sip_served.specs.State.{State, ServedTaken, quiet}
-use Rattle.sip_served.specs.Tick.{is_kept_at, next_server_due, provisionals_by, provisionals_ticked, provisionals_told, request_due, request_ticked, success_answer, success_by, success_moment, success_at_tick, success_ticked, success_told, tick_taken}
+use Rattle.sip_served.specs.Tick.{is_kept_at, next_server_due, provisionals_by, provisionals_ticked, provisionals_told, request_due, request_ticked, success_answer, success_goes, success_moment, success_at_tick, success_ticked, success_told, tick_taken}
 use Rattle.sip_served.proofs.Dues.{nothing_from, removal_due, removal_kept, request_due_of, requests_due, success_due, success_keeps, success_says}
 
 neither : (x y : Bool) → (x || y) ≡ false → (x ≡ false) × (y ≡ false)
@@ -30,20 +31,16 @@ neither false y e = (refl, e)
 
 -- ---- nothing is due
 
-calm_success : (now : ℕ) (held : HeldRequest) (o : Option Success) → held.success ≡ o
+calm_success : (now : ℕ) (held : HeldRequest) (o : Option Success)
     → is_due now (option_and_then success_moment o) ≡ false → success_at_tick now held o ≡ (held, [])
-calm_success now held None is calm = refl
-calm_success now held (Some success) is calm =
+calm_success now held None calm = refl
+calm_success now held (Some success) calm =
     let nothing : success_answer now success ≡ repeat.Nothing =
     nothing_from (success_answer now success) (sym (success_due now success) ∙ calm) in
-    let stays : success_at_tick now held (Some success) ≡ (record held { success = Some success }, []) =
     λ i. (
-      record held {
-        success = Some (success_by (nothing i) now success);
-      },
+      went_on (success_goes (nothing i) now) held,
       success_told (nothing i) held success.response,
-    ) in
-    stays ∙ (λ i. (record held { success = sym is i }, []))
+    )
 
 calm_provisionals : (now : ℕ) (held : HeldRequest)
     → is_due now (next_moment held.ledger) ≡ false → provisionals_ticked now held ≡ (held, [])
@@ -58,7 +55,7 @@ calm_request now held calm =
     let parts = neither _ _ (sym (request_due_of now held) ∙ calm) in
     let both = neither _ _ parts.0 in
     let first : success_ticked now held ≡ (held, []) =
-    calm_success now held held.success refl both.0 in
+    calm_success now held held.success both.0 in
     let second : provisionals_ticked now held ≡ (held, []) = calm_provisionals now held both.1 in
     (λ i. (
       (provisionals_ticked now (first i).0).0,

@@ -28,12 +28,14 @@ use Rattle.sip_served.specs.declared.provisionals.NumberedResponse.{NumberedResp
 use Rattle.sip_served.specs.declared.tick.SuccessDue.{SuccessDue}
 use Rattle.sip_served.specs.declared.tick.SuccessDue.TheVariants as repeat
 use Rattle.sip_served.specs.Arrival.{pracked}
-use Rattle.sip_served.specs.Respond.{answer_to, answered, finished, if_so, is_of_dialog, is_sent_reliably, makes_dialog, sent_as, sent_reliably, with_dialog, with_routes, with_rseq}
+use Rattle.sip_served.specs.RequestLife.{Finishes, MakesDialog, went_on}
+use Rattle.sip_served.specs.Respond.{answer_to, answered, if_so, is_of_dialog, is_sent_reliably, makes_dialog, sends_as, sent_as, with_dialog, with_routes, with_rseq}
 use Rattle.sip_served.specs.Tick.{provisionals_by, provisionals_ticked, provisionals_told, request_ticked, success_answer, success_at_tick, success_ticked, success_told}
 use Rattle.sip_served.specs.Unacknowledged.{awaited_rseqs, kept_rseqs, repeated_rseqs, with_number}
 use Rattle.sip_served.proofs.Awaiting.{reliable_not_final}
 use Rattle.sip_served.proofs.Mapped.{append_mapped, filter_mapped}
 use Rattle.sip_served.proofs.Reading.{Quiet, Reading, fold_on, quiet_both}
+use Rattle.sip_served.proofs.RequestLives.{success_alone}
 
 -- ---- the response of an answer
 
@@ -108,26 +110,27 @@ module _ (r : Answer) (response : Message) (now : ℕ) (held : HeldRequest) wher
 
   pub keeps_answered : kept_rseqs (answered r response now held) ≡ said held r (kept_rseqs held)
   keeps_answered =
-      elim (is_sent_reliably held r) as (λ b. kept_rseqs (if b then sent_reliably response now held
-      else (if is_final r.status then finished response r.status now held else held))
+      elim (is_sent_reliably held r) as (λ b. kept_rseqs (went_on (if b
+      then sends_as (send_answer held.ledger) response now
+      else (if is_final r.status then Finishes response r.status now ∷ [] else [])) held)
       ≡ with_number (if b then result_ok (send_answer held.ledger) else None) (kept_rseqs held)) [
         | true ↦ keeps_sent (send_fault held.ledger)
-        | false ↦ elim (is_final r.status) as (λ b. kept_rseqs (if b
-            then finished response r.status now held else held) ≡ kept_rseqs held)
+        | false ↦ elim (is_final r.status) as (λ b. kept_rseqs (went_on (if b
+            then Finishes response r.status now ∷ [] else []) held) ≡ kept_rseqs held)
             [ true ↦ refl | false ↦ refl ]
       ]
 
   pub awaits_answered : awaited_rseqs (answered r response now held)
       ≡ said held r (awaited_rseqs held)
   awaits_answered =
-      elim (is_sent_reliably held r) as (λ b. awaited_rseqs (if b
-      then sent_reliably response now held
-      else (if is_final r.status then finished response r.status now held else held))
+      elim (is_sent_reliably held r) as (λ b. awaited_rseqs (went_on (if b
+      then sends_as (send_answer held.ledger) response now
+      else (if is_final r.status then Finishes response r.status now ∷ [] else [])) held)
       ≡ with_number (if b then result_ok (send_answer held.ledger) else None)
       (awaited_rseqs held)) [
         | true ↦ awaits_sent (send_fault held.ledger)
-        | false ↦ elim (is_final r.status) as (λ b. awaited_rseqs (if b
-            then finished response r.status now held else held) ≡ awaited_rseqs held)
+        | false ↦ elim (is_final r.status) as (λ b. awaited_rseqs (went_on (if b
+            then Finishes response r.status now ∷ [] else []) held) ≡ awaited_rseqs held)
             [ true ↦ refl | false ↦ refl ]
       ]
 
@@ -176,8 +179,8 @@ module _ (r : Answer) (response : Message) (now : ℕ) (held : HeldRequest) wher
 
   abbrev pub RepeatsAfter : Bool → Bool → Type 0
   RepeatsAfter reliable final =
-      repeated_rseqs (if reliable then sent_reliably response now held
-      else (if final then finished response r.status now held else held))
+      repeated_rseqs (went_on (if reliable then sends_as (send_answer held.ledger) response now
+      else (if final then Finishes response r.status now ∷ [] else [])) held)
       ≡ (if final then []
       else with_number (if reliable then result_ok (send_answer held.ledger) else None)
       (repeated_rseqs held))
@@ -203,11 +206,10 @@ pub given_as : (read : HeldRequest → List ℕ) (by : HeldRequest → List ℕ 
     → (held : HeldRequest)
     → read (answered r response now (with_dialog event r held)) ≡ by held (read held)
 given_as read by same response event r now answers held =
-    let made : Option DialogLife =
-    Some record { name = dialog_name held.request held.tag; born = event } in
-    elim (makes_dialog held r.status) as (λ b. read (answered r response now (if b
-    then record held { dialog = made } else held)) ≡ by held (read held)) [
-      | true ↦ answers record held { dialog = made } ∙ same held made
+    let made : DialogLife = record { name = dialog_name held.request held.tag; born = event } in
+    elim (makes_dialog held r.status) as (λ b. read (answered r response now (went_on (if b
+    then MakesDialog made ∷ [] else []) held)) ≡ by held (read held)) [
+      | true ↦ answers record held { dialog = Some made } ∙ same held (Some made)
       | false ↦ answers held
     ]
 
@@ -233,13 +235,12 @@ module _ (reading : Reading (List ℕ)) (invite : Id)
 
   success_same : (now : ℕ) (held : HeldRequest) (o : Option Success)
       → reading.read (success_at_tick now held o).0 ≡ reading.read held
-  success_same now held None = refl
-  success_same now held (Some one) = success held _
+  success_same now held o =
+      let after = success_alone now held o in ap reading.read after.1 ∙ success held after.0
 
   success_id : (now : ℕ) (held : HeldRequest) (o : Option Success)
       → ((success_at_tick now held o).0).id ≡ held.id
-  success_id now held None = refl
-  success_id now held (Some one) = refl
+  success_id now held o = ap (λ (held : HeldRequest). held.id) (success_alone now held o).1
 
   pub again_quiet : (held : HeldRequest) (responses : List NumberedResponse)
       → Quiet reading

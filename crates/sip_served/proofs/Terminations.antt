@@ -13,7 +13,8 @@ use Rattle.sip_common.specs.declared.item.CallOut.TheVariants.{Command}
 use Rattle.sip_served.specs.Cancel.{invite_terminated, is_unanswered_invite, request_terminated, user_termination}
 use Rattle.sip_common.specs.Dialogs.{early_ended, Dialogs}
 use Rattle.sip_common.specs.Requests.{is_invite}
-use Rattle.sip_served.specs.Respond.{answer_given, answer_to, answered, by_refusal, by_request, dialogs_answered, finished, refusal_for, respond_taken, with_dialog}
+use Rattle.sip_served.specs.RequestLife.{Finishes, went_on}
+use Rattle.sip_served.specs.Respond.{answer_given, answer_to, answered, answers, by_refusal, by_request, dialogs_answered, finished, refusal_for, respond_taken, with_dialog}
 use Rattle.sip_served.specs.State.{State, ServedTaken, changed_at, followed, has_id}
 
 both : (x y : Bool) → (x && y) ≡ true → (x ≡ true) × (y ≡ true)
@@ -46,7 +47,11 @@ module _ (event : Id) (call_id : List ℕ) (held : HeldRequest) where
   is_final : (response : Message) (now : ℕ) (one : HeldRequest)
       → answered (user_termination call_id held.id) response now one
       ≡ finished response 487 now one
-  is_final response now one = by_bool (is_invite one.request) (λ e. rw e refl) (λ e. rw e refl)
+  is_final response now one = ap (λ life. went_on life one) one_answer
+    where
+      one_answer : answers one (user_termination call_id held.id) response now
+          ≡ Finishes response 487 now ∷ []
+      one_answer = by_bool (is_invite one.request) (λ e. rw e refl) (λ e. rw e refl)
 
   same_change : (response : Message) (now : ℕ) (one : HeldRequest)
       → answered (user_termination call_id held.id) response now

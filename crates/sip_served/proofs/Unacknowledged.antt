@@ -18,6 +18,7 @@ use Rattle.sip_served.specs.Tick.{provisionals_by, provisionals_told}
 use Rattle.sip_served.specs.Unacknowledged.{at_tick, awaited_by, awaited_rseqs, has_final, kept_rseqs, repeated_by, repeated_rseqs, with_number, without_number}
 use Rattle.sip_served.proofs.Mapped.{filter_mapped}
 use Rattle.sip_served.proofs.Reading.{IsTold, Quiet, Reading}
+use Rattle.sip_served.proofs.RequestLives.{provisionals_alone}
 use Rattle.sip_served.proofs.Rseqs.{again_quiet, another_ticked, answer_rseq, answer_start, awaits_answered, given_as, given_up_numbers, keeps_answered, none_open, open_numbers, open_repeated, own_ticked, repeated_numbers, repeats_answered, repeats_pracked, said, said_of_repeats}
 
 -- those that are kept, those whose PRACK gets a 200, and those that are sent again
@@ -92,7 +93,8 @@ module _ (invite : Id) where
       by_tick : (t : Tick) (now : ℕ) (held : HeldRequest)
           → kept_rseqs (provisionals_by t now held).0
           ≡ fold (at_tick (awaited_by invite)) (kept_rseqs held) (provisionals_told t held)
-      by_tick t now held = sym (told_quiet t held (kept_rseqs held))
+      by_tick t now held =
+          ap kept_rseqs (provisionals_alone t now held) ∙ sym (told_quiet t held (kept_rseqs held))
 
   pub told_awaited : IsTold (List ℕ) (awaiting invite) invite
   told_awaited = record {

@@ -6,12 +6,12 @@ use Rattle.sip_message.specs.declared.id.Id.{Id}
 use Rattle.sip_message.specs.declared.message.Message.{Message}
 use Rattle.sip_message.specs.Party.{tag_of}
 use Rattle.sip_served.specs.declared.held_request.HeldRequest.{HeldRequest}
-use Rattle.sip_served.specs.declared.held_request.Success.{Success}
 use Rattle.sip_served.specs.declared.held_request.SuccessEnd.{SuccessEnd}
 use Rattle.sip_served.specs.declared.held_request.SuccessEnd.TheVariants.{Acknowledged}
 use Rattle.sip_common.specs.declared.item.CallOut.TheVariants.{Notice}
 use Rattle.sip_common.specs.declared.notice.Notice.TheVariants.{Ack}
 use Rattle.sip_common.specs.Requests.{is_invite, local_tag_of}
+use Rattle.sip_served.specs.RequestLife.{EndsSuccess, went_on}
 use Rattle.sip_served.specs.State.{State, ServedTaken, changed_at, quiet}
 
 -- an INVITE that was answered with a 2xx, whose ACK is awaited
@@ -34,9 +34,7 @@ acknowledged_invite ack requests =
 
 -- its 2xx is sent no more
 abbrev pub success_ended : SuccessEnd → HeldRequest → HeldRequest
-success_ended end held = record held {
-  success = option_map (λ (success : Success). record success { over = Some end }) held.success;
-}
+success_ended end held = went_on (EndsSuccess end ∷ []) held
 
 -- the ACK of the INVITE of this id, or of none: the user is told of the first
 abbrev pub ack_noted : State → List ℕ → Message → Option Id → ServedTaken

@@ -12,7 +12,7 @@ use Rattle.sip_message.specs.declared.message.Message.{Message}
 use Rattle.sip_message.specs.declared.rack.RAck.{RAck}
 use Rattle.sip_message.specs.Party.{tag_of}
 use Rattle.sip_message.specs.Response.{response_of}
-use Rattle.sip_reliable.specs.Ledger.{acknowledged, ledger_after, waits_for}
+use Rattle.sip_reliable.specs.Ledger.{ledger_after, waits_for}
 use Rattle.sip_transactions.specs.declared.input.Command.TheVariants.{Answer}
 use Rattle.sip_served.specs.declared.arrival.ArrivalCase.{ArrivalCase}
 use Rattle.sip_served.specs.declared.arrival.ArrivalCase.TheVariants.{Merged, BadExtension, NoDialog, OutOfOrder, Acknowledges, AcknowledgesNothing, ForUser}
@@ -24,9 +24,9 @@ use Rattle.sip_common.specs.declared.item.CallOut.TheVariants.{Notice, Command}
 use Rattle.sip_common.specs.declared.notice.Notice.{Notice as ANotice}
 use Rattle.sip_common.specs.declared.notice.Notice.TheVariants.{Prack, Request}
 use Rattle.sip_common.specs.Dialogs.{dialog_at, dialog_changed, ended_at, is_named, own_dialog, takes, visited, Dialogs}
-use Rattle.sip_served.specs.Provisionals.{without_rseq}
 use Rattle.sip_common.specs.Requests.{dialog_name, is_bye, is_inside, is_invite, is_prack, is_unknown_option, local_tag_of, supports_100rel}
 use Rattle.sip_common.specs.Ids.{is_id}
+use Rattle.sip_served.specs.RequestLife.{TakesPrack, went_on}
 use Rattle.sip_served.specs.State.{State, ServedTaken, changed_at, followed, quiet}
 
 -- ---- what is held of it
@@ -141,10 +141,7 @@ no_such_dialog arrival = answered_with arrival 481 (codes "Call/Transaction Does
 
 -- the response of this RSeq waits no longer, and is kept no longer
 abbrev pub pracked : ℕ → HeldRequest → HeldRequest
-pracked rseq held = record held {
-  ledger = acknowledged rseq held.ledger;
-  provisionals = without_rseq rseq held.provisionals;
-}
+pracked rseq held = went_on (TakesPrack rseq ∷ []) held
 
 -- a PRACK for a response that waits: it gets 200, and the user is told
 abbrev pub prack_taken : State → List ℕ → HeldRequest → Id → ℕ → ServedTaken
@@ -162,13 +159,15 @@ request_notice call_id arrival =
     Request call_id arrival.id arrival.request.cseq.method
     (local_tag_of arrival.request arrival.tag) (tag_of arrival.request.from) arrival.request.body
 
--- it is held, in the dialog of this name where it came in one
+-- a request in the dialog of this name, where it came in one
+abbrev pub in_its_dialog : Dialogs → DialogName → HeldRequest → HeldRequest
+in_its_dialog dialogs name arrival =
+    record arrival { dialog = own_dialog arrival.request name dialogs }
+
+-- it is held so
 abbrev pub request_held : State → List ℕ → DialogName → HeldRequest → ServedTaken
 request_held state call_id name arrival = (
-  record state {
-    requests = state.requests
-        ++ record arrival { dialog = own_dialog arrival.request name state.dialogs } ∷ [];
-  },
+  record state { requests = state.requests ++ in_its_dialog state.dialogs name arrival ∷ [] },
   Notice (request_notice call_id arrival) ∷ [],
 )
 

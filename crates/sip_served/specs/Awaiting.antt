@@ -1,5 +1,5 @@
 -- Which INVITE awaits its ACK, read off what a call gives (RFC 3261, section 13.3.1.4).
-use Rattle.std.specs.Prelude.{Bool, true, false, ◌&&◌, List, fold, if◌then◌else◌}
+use Rattle.std.specs.Prelude.{Bool, true, false, ◌&&◌, if◌then◌else◌}
 use Rattle.sip_message.specs.declared.id.Id.{Id}
 use Rattle.sip_message.specs.declared.start_line.StartLine.{StartLine}
 use Rattle.sip_message.specs.declared.start_line.StartLine.TheVariants as start
@@ -44,17 +44,3 @@ awaits_by invite awaits (out.Notice notice) =
 awaits_by invite awaits (out.Command id command) =
     if sends_success invite id command then true else awaits
 awaits_by invite awaits (out.Direct to bytes) = awaits
-
--- after the outputs of an item
-abbrev pub awaits_after : Id → Bool → List CallOut → Bool
-awaits_after invite awaits outs = fold (awaits_by invite) awaits outs
-
--- after what a tick gives: what it sends was sent before
-abbrev pub ends_by : Id → Bool → CallOut → Bool
-ends_by invite awaits (out.Notice notice) = if tells_of_ack invite notice then false else awaits
-ends_by invite awaits (out.Command id command) = awaits
-ends_by invite awaits (out.Direct to bytes) = awaits
-
--- after all outputs of a tick
-abbrev pub ends_after : Id → Bool → List CallOut → Bool
-ends_after invite awaits outs = fold (ends_by invite) awaits outs

@@ -15,7 +15,7 @@ use Rattle.sip_common.specs.declared.notice.Notice.TheVariants.{Cancel}
 use Rattle.sip_served.specs.Arrival.{command_for, no_such_dialog}
 use Rattle.sip_common.specs.Dialogs.{early_ended}
 use Rattle.sip_common.specs.Requests.{is_invite, local_tag_of}
-use Rattle.sip_served.specs.Respond.{finished}
+use Rattle.sip_served.specs.RequestLife.{RequestHappening, Finishes, went_on}
 use Rattle.sip_served.specs.State.{State, ServedTaken, changed_at, followed}
 
 -- ---- the request that it names
@@ -55,11 +55,15 @@ termination_told call_id arrival held response =
 
 -- ---- what becomes of the INVITE
 
--- it has its final response, and its early dialogs end
+-- its final response goes out
+abbrev pub terminates : Message → ℕ → List RequestHappening
+terminates response now = Finishes response 487 now ∷ []
+
+-- so it has that, and its early dialogs end
 abbrev pub invite_terminated : Message → Id → ℕ → State → ServedTaken
 invite_terminated response invite now state = (
   record state {
-    requests = changed_at invite (finished response 487 now) state.requests;
+    requests = changed_at invite (went_on (terminates response now)) state.requests;
     dialogs = (early_ended invite state.dialogs).0;
   },
   (early_ended invite state.dialogs).1,

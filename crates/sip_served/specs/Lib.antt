@@ -5,6 +5,7 @@ pub mod Cancel
 pub mod Lending
 pub mod OwnCall
 pub mod Provisionals
+pub mod RequestLife
 pub mod Respond
 pub mod Run
 pub mod ServerSide

@@ -1,6 +1,6 @@
 -- The user's answer to a held request: when it is refused, what is sent, and what is held then (RFC
 -- 3261, sections 8.2.6, 12.1.1 and 13.3.1; RFC 3262, section 3).
-use Rattle.std.specs.Prelude.{ℕ, ◌+◌, Bool, true, false, not, ◌&&◌, ◌||◌, nat_lt, nat_le, List, [], ◌∷◌, ◌++◌, length, Option, None, Some, Result, Ok, Err, codes, find, is_some, is_none, if◌then◌else◌}
+use Rattle.std.specs.Prelude.{ℕ, Bool, true, false, not, ◌&&◌, ◌||◌, nat_le, List, [], ◌∷◌, Option, None, Some, Result, Ok, Err, codes, find, is_some, is_none, if◌then◌else◌}
 use Rattle.std.specs.List.{list_any}
 use Rattle.std.specs.Option.{option_map, option_map_or}
 use Rattle.std.specs.Result.{result_ok}
@@ -14,23 +14,22 @@ use Rattle.sip_dialog.specs.Opening.{opened_by_request}
 use Rattle.sip_dialog.specs.Request.{contact_of}
 use Rattle.sip_reliable.specs.declared.send_fault.SendFault.{SendFault}
 use Rattle.sip_reliable.specs.declared.send_fault.SendFault.TheVariants as send
-use Rattle.sip_reliable.specs.Ledger.{closed_now, send_answer, send_fault, with_sent}
+use Rattle.sip_reliable.specs.Ledger.{send_answer, send_fault}
 use Rattle.sip_transactions.specs.declared.input.Command.TheVariants.{Answer}
 use Rattle.sip_common.specs.declared.command.Reliability.{Reliability}
 use Rattle.sip_common.specs.declared.command.Reliability.TheVariants.{Plain, Reliable}
 use Rattle.sip_common.specs.declared.command.Respond.{Respond}
 use Rattle.sip_common.specs.declared.held_dialog.HeldDialog.{HeldDialog}
 use Rattle.sip_served.specs.declared.held_request.HeldRequest.{HeldRequest}
-use Rattle.sip_served.specs.declared.held_request.Success.{Success}
 use Rattle.sip_common.specs.declared.item.CallOut.{CallOut}
 use Rattle.sip_common.specs.declared.item.CallOut.TheVariants.{Command}
 use Rattle.sip_common.specs.declared.refusal.Refusal.{Refusal}
-use Rattle.sip_timers.specs.declared.estimate.TheConstants.{LIFETIME, T1}
 use Rattle.sip_common.specs.declared.refusal.Refusal.TheVariants.{NoSuchRequest, AlreadyFinal, BadStatus, ReliablePending, NotSupported, SequenceUsedUp, DialogEnded}
 use Rattle.sip_common.specs.Notices.{refused}
 use Rattle.sip_common.specs.Refusal.{first_refusal}
 use Rattle.sip_common.specs.Dialogs.{confirmed, dialog_changed, early_ended, is_named, lives, Dialogs}
 use Rattle.sip_common.specs.Requests.{dialog_name, is_final, is_inside, is_invite, is_provisional, is_success, requires_100rel, supports_100rel}
+use Rattle.sip_served.specs.RequestLife.{RequestHappening, Finishes, MakesDialog, SendsReliably, went_on}
 use Rattle.sip_served.specs.State.{State, ServedTaken, changed_at, has_id}
 
 -- ---- when it is refused
@@ -118,46 +117,33 @@ answer_to local held respond =
 
 -- ---- the request after it
 
--- a reliable provisional response waits for its PRACK, with the number that it has
-abbrev pub sent_as : Result ℕ SendFault → Message → ℕ → HeldRequest → HeldRequest
-sent_as (Ok number) response now held =
-    record held {
-      ledger = with_sent (nat_lt 0 (length response.body)) now held.ledger;
-      provisionals = held.provisionals ++ record { number = number; response = response } ∷ [];
-    }
-sent_as (Err fault) response now held = held
+-- a reliable provisional response goes out, with the number that it has
+abbrev pub sends_as : Result ℕ SendFault → Message → ℕ → List RequestHappening
+sends_as (Ok number) response now = SendsReliably number response now ∷ []
+sends_as (Err fault) response now = []
 
--- it is kept until its PRACK comes
+-- what happens to the request: a reliable provisional response goes out, or the final one
+abbrev pub answers : HeldRequest → Respond → Message → ℕ → List RequestHappening
+answers held respond response now =
+    if is_sent_reliably held respond then sends_as (send_answer held.ledger) response now
+    else (if is_final respond.status then Finishes response respond.status now ∷ []
+    else [])
+
+-- the held request after that
+abbrev pub answered : Respond → Message → ℕ → HeldRequest → HeldRequest
+answered respond response now held = went_on (answers held respond response now) held
+
+-- after a reliable provisional response
+abbrev pub sent_as : Result ℕ SendFault → Message → ℕ → HeldRequest → HeldRequest
+sent_as number response now held = went_on (sends_as number response now) held
+
+-- after the next one
 abbrev pub sent_reliably : Message → ℕ → HeldRequest → HeldRequest
 sent_reliably response now held = sent_as (send_answer held.ledger) response now held
 
--- A 2xx to an INVITE is sent again after T1, and given up 64*T1 after it was sent, where its ACK
--- doesn't come.
-abbrev pub success_sent : Message → ℕ → Success
-success_sent response now =
-    record {
-      response = response;
-      end = now + LIFETIME;
-      retransmission = record { due = now + T1; interval = T1 };
-      over = None;
-    }
-
--- a final response is the last one; 64*T1 later the request is removed (RFC 3261, section 17.2.2)
+-- after the final one
 abbrev pub finished : Message → ℕ → ℕ → HeldRequest → HeldRequest
-finished response status now held = record held {
-  ledger = closed_now held.ledger;
-  success =
-      if is_invite held.request && is_success status then Some (success_sent response now)
-      else held.success;
-  removal = Some (now + LIFETIME);
-}
-
--- the held request after its answer
-abbrev pub answered : Respond → Message → ℕ → HeldRequest → HeldRequest
-answered respond response now held =
-    if is_sent_reliably held respond then sent_reliably response now held
-    else (if is_final respond.status then finished response respond.status now held
-    else held)
+finished response status now held = went_on (Finishes response status now ∷ []) held
 
 -- ---- the dialogs after it
 
@@ -199,17 +185,16 @@ dialogs_answered event held respond response dialogs =
     else (if rejects held respond.status then early_ended held.id dialogs
     else (dialogs, [])))
 
--- the dialog that it made is the request's
-abbrev pub with_dialog : Id → Respond → HeldRequest → HeldRequest
-with_dialog event respond held =
+-- what happens to its request: the dialog that is made is its own
+abbrev pub makes : Id → HeldRequest → Respond → List RequestHappening
+makes event held respond =
     if makes_dialog held respond.status
-    then record held {
-      dialog = Some record {
-        name = dialog_name held.request held.tag;
-        born = event;
-      };
-    }
-    else held
+    then MakesDialog record { name = dialog_name held.request held.tag; born = event } ∷ []
+    else []
+
+-- the held request after that
+abbrev pub with_dialog : Id → Respond → HeldRequest → HeldRequest
+with_dialog event respond held = went_on (makes event held respond) held
 
 -- ---- all of it
 

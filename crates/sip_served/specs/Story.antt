@@ -1,57 +1,70 @@
--- The server side of a call as a story: each held dialog by the message that it began with and what
--- happened in it since, and each held request by what came for it.
-use Rattle.std.specs.Prelude.{ℕ, ◌+◌, ◌*◌, ◌==◌, List, [], length, map, fold, Option, None}
-use Rattle.std.specs.List.{filter_map}
-use Rattle.std.specs.Map.{lookup}
+-- A held request of the peer as it came up, and what happened to it since: each field of the record
+-- is read off that (RFC 3261, section 13.3.1.4; RFC 3262, section 3). Moments are in ms.
+use Rattle.std.specs.Prelude.{ℕ, ◌+◌, ◌*◌, ◌==◌, ◌&&◌, nat_lt, Bool, false, List, [], ◌∷◌, ◌++◌, length, fold, filter_map, Option, None, Some, if◌then◌else◌}
+use Rattle.std.specs.List.{list_any}
 use Rattle.std.specs.Option.{option_map}
-use Rattle.sip_message.specs.declared.addr.Addr.{Addr}
-use Rattle.sip_message.specs.declared.id.Id.{Id}
 use Rattle.sip_message.specs.declared.message.Message.{Message}
-use Rattle.sip_dialog.specs.Life.{Happening, accepted_number, dialog_after, greater}
-use Rattle.sip_dialog.specs.Opening.{Opening, opened}
 use Rattle.sip_reliable.specs.Happening as reliable
 use Rattle.sip_reliable.specs.Ledger.{Ledger, ledger_after}
-use Rattle.sip_reliable.specs.Provisional.{Provisional}
+use Rattle.sip_timers.specs.declared.estimate.TheConstants.{T1}
 use Rattle.sip_transactions.specs.declared.step.Pace.TheVariants.{Capped}
 use Rattle.sip_transactions.specs.Timers.{interval}
 use Rattle.sip_common.specs.declared.held_dialog.DialogLife.{DialogLife}
-use Rattle.sip_common.specs.declared.held_dialog.DialogName.{DialogName}
-use Rattle.sip_common.specs.declared.held_dialog.HeldDialog.{HeldDialog}
+use Rattle.sip_common.specs.Requests.{is_invite, is_success, supports_100rel}
 use Rattle.sip_served.specs.declared.held_request.HeldRequest.{HeldRequest}
 use Rattle.sip_served.specs.declared.held_request.Retransmission.{Retransmission}
 use Rattle.sip_served.specs.declared.held_request.Success.{Success}
 use Rattle.sip_served.specs.declared.held_request.SuccessEnd.{SuccessEnd}
 use Rattle.sip_served.specs.declared.provisionals.NumberedResponse.{NumberedResponse}
-use Rattle.sip_timers.specs.declared.estimate.TheConstants.{T1}
 use Rattle.sip_served.specs.Arrival.{first_rseq}
-use Rattle.sip_common.specs.Requests.{supports_100rel}
-use Rattle.sip_common.specs.Dialogs.{Dialogs}
-use Rattle.sip_served.specs.State.{State}
+use Rattle.sip_served.specs.RequestLife.{RequestHappening, EndsSuccess, Finishes, GivesUpProvisionals, MakesDialog, RepeatsProvisionals, RepeatsSuccess, SendsReliably, TakesPrack}
 
--- ---- a dialog
+-- how it came up, in its dialog where it came in one, and what happened to it since
+pub record RequestStory : Type 0 where
+  pub arrival : HeldRequest
+  pub life : List RequestHappening
 
--- how it began, and what happened in it since
-pub record DialogStory : Type 0 where
-  pub opening : Opening
-  pub life : List Happening
-  pub address : Addr
-  pub made_by : Id
-  pub born : Id
+-- more happens to it
+abbrev pub goes_on : List RequestHappening → RequestStory → RequestStory
+goes_on more story = record story { life = story.life ++ more }
 
-abbrev pub dialog_of : DialogStory → HeldDialog
-dialog_of story = record {
-  dialog = dialog_after story.opening story.life;
-  address = story.address;
-  made_by = story.made_by;
-  born = story.born;
-  heard = None;
-  owed = [];
-}
+-- ---- its dialog
 
--- the greatest number of a request of the peer: that of the INVITE, and those accepted since
-abbrev pub greatest_accepted : DialogStory → Option ℕ
-greatest_accepted story =
-    fold greater (opened story.opening).remote_cseq (filter_map accepted_number story.life)
+-- the one that it came in, or that its answer made
+abbrev pub dialog_by : Option DialogLife → RequestHappening → Option DialogLife
+dialog_by dialog (MakesDialog life) = Some life
+dialog_by dialog _ = dialog
+
+-- ---- its reliable provisional responses
+
+-- what happens to these
+abbrev pub to_provisionals : RequestHappening → Option reliable.Happening
+to_provisionals (SendsReliably number response now) =
+    Some (reliable.Sends number (nat_lt 0 (length response.body)) now)
+to_provisionals (TakesPrack number) = Some (reliable.Acknowledges number)
+to_provisionals (RepeatsProvisionals numbers now) = Some (reliable.Repeats numbers now)
+to_provisionals (GivesUpProvisionals now) = Some reliable.GivesUp
+to_provisionals (Finishes response status now) = Some reliable.Closes
+to_provisionals _ = None
+
+-- their ledger after that
+abbrev pub ledger_of : RequestStory → Ledger
+ledger_of story =
+    ledger_after first_rseq (supports_100rel story.arrival.request)
+    (filter_map to_provisionals story.life)
+
+-- the PRACK of this RSeq comes
+abbrev pub is_prack_of : ℕ → RequestHappening → Bool
+is_prack_of wanted (TakesPrack number) = wanted == number
+is_prack_of wanted _ = false
+
+-- those that went out, and whose PRACK didn't come after that
+abbrev pub unacknowledged : List RequestHappening → List NumberedResponse
+unacknowledged [] = []
+unacknowledged (SendsReliably number response now ∷ later) =
+    if list_any (is_prack_of number) later then unacknowledged later
+    else record { number = number; response = response } ∷ unacknowledged later
+unacknowledged (_ ∷ later) = unacknowledged later
 
 -- ---- the 2xx to an INVITE
 
@@ -68,6 +81,7 @@ next_sending story =
     let pause = interval Capped (length story.repeats) in
     record { due = fold (λ last moment. moment) story.sent story.repeats + pause; interval = pause }
 
+-- it is given up 64*T1 after it was sent
 abbrev pub success_of : SuccessStory → Success
 success_of story = record {
   response = story.response;
@@ -76,55 +90,32 @@ success_of story = record {
   over = story.over;
 }
 
--- ---- a request
+-- the 2xx of a request, by one thing after another
+abbrev pub success_by : HeldRequest → Option SuccessStory → RequestHappening → Option SuccessStory
+success_by arrival success (Finishes response status now) =
+    if is_invite arrival.request && is_success status
+    then Some record { response = response; sent = now; repeats = []; over = None }
+    else success
+success_by arrival success (RepeatsSuccess now) =
+    option_map (λ (story : SuccessStory). record story { repeats = story.repeats ++ now ∷ [] })
+    success
+success_by arrival success (EndsSuccess end) =
+    option_map (λ (story : SuccessStory). record story { over = Some end }) success
+success_by arrival success _ = success
 
--- how it came up, the dialog that it came in or that its answer made, what happened to its reliable
--- provisional responses, each of these by its number, the latest first, its 2xx, and the moment of
--- its final response
-pub record RequestStory : Type 0 where
-  pub arrival : HeldRequest
-  pub dialog : Option DialogLife
-  pub provisionals : List reliable.Happening
-  pub responses : List (ℕ × Message)
-  pub success : Option SuccessStory
-  pub answered : Option ℕ
+-- ---- all of it
 
-abbrev pub ledger_of : RequestStory → Ledger
-ledger_of story =
-    ledger_after first_rseq (supports_100rel story.arrival.request) story.provisionals
+-- it is removed 64*T1 after its final response
+abbrev pub removal_by : Option ℕ → RequestHappening → Option ℕ
+removal_by removal (Finishes response status now) = Some (now + 64 * T1)
+removal_by removal _ = removal
 
--- each response that waits for its PRACK, with its number
-abbrev pub responses_of : List (ℕ × Message) → List Provisional → List NumberedResponse
-responses_of responses waiting =
-    filter_map (λ p. option_map (λ response. record { number = p.number; response = response })
-    (lookup (λ number. number == p.number) responses)) waiting
-
+-- the request after all that happened to it
 abbrev pub request_of : RequestStory → HeldRequest
 request_of story = record story.arrival {
-  dialog = story.dialog;
+  dialog = fold dialog_by story.arrival.dialog story.life;
   ledger = ledger_of story;
-  provisionals = responses_of story.responses (ledger_of story).waiting;
-  success = option_map success_of story.success;
-  removal = option_map (λ moment. moment + 64 * T1) story.answered;
-}
-
--- ---- all that is held
-
--- the dialogs by name, in the order in which they were made
-abbrev pub DialogStories : Type 0
-DialogStories = List (DialogName × DialogStory)
-
-abbrev pub dialogs_of : DialogStories → Dialogs
-dialogs_of stories = map (λ entry. (entry.0, dialog_of entry.1)) stories
-
-pub record Story : Type 0 where
-  pub local : Addr
-  pub requests : List RequestStory
-  pub dialogs : DialogStories
-
-abbrev pub held_by : Story → State
-held_by story = record {
-  local = story.local;
-  requests = map request_of story.requests;
-  dialogs = dialogs_of story.dialogs;
+  provisionals = unacknowledged story.life;
+  success = option_map success_of (fold (success_by story.arrival) None story.life);
+  removal = fold removal_by None story.life;
 }

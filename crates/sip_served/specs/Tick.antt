@@ -1,26 +1,25 @@
 -- A tick: what is sent again, given up and removed, and when something of it is due (RFC 3261,
 -- section 13.3.1.4; RFC 3262, section 3). Moments are in ms.
-use Rattle.std.specs.Prelude.{ℕ, ◌+◌, ◌*◌, Bool, true, nat_le, nat_lt, min, List, [], ◌∷◌, ◌++◌, map, filter, fold, Option, None, Some, if◌then◌else◌}
+use Rattle.std.specs.Prelude.{ℕ, Bool, true, nat_le, nat_lt, min, List, [], ◌∷◌, ◌++◌, map, filter, fold, Option, None, Some, if◌then◌else◌}
 use Rattle.std.specs.List.{flat_map}
 use Rattle.std.specs.Option.{is_some, option_map_or, option_and_then}
 use Rattle.sip_message.specs.declared.message.Message.{Message}
 use Rattle.sip_reliable.specs.declared.tick.Tick.{Tick}
 use Rattle.sip_reliable.specs.declared.tick.Tick.TheVariants as tick
-use Rattle.sip_reliable.specs.Ledger.{next_moment, tick_answer, ticked}
+use Rattle.sip_reliable.specs.Ledger.{next_moment, tick_answer}
 use Rattle.sip_timers.specs.Earlier.{earlier}
 use Rattle.sip_transactions.specs.declared.input.Command.TheVariants.{Answer}
 use Rattle.sip_served.specs.declared.held_request.HeldRequest.{HeldRequest}
-use Rattle.sip_served.specs.declared.held_request.Retransmission.{Retransmission}
 use Rattle.sip_served.specs.declared.held_request.Success.{Success}
 use Rattle.sip_served.specs.declared.held_request.SuccessEnd.TheVariants.{GivenUp}
 use Rattle.sip_common.specs.declared.item.CallOut.{CallOut}
 use Rattle.sip_common.specs.declared.item.CallOut.TheVariants as out
 use Rattle.sip_common.specs.declared.item.CallOut.TheVariants.{Command}
 use Rattle.sip_common.specs.declared.notice.Notice.TheVariants.{NoAck, NoPrack}
-use Rattle.sip_transactions.specs.declared.timers.TheConstants.{T2}
 use Rattle.sip_served.specs.declared.tick.SuccessDue.{SuccessDue}
 use Rattle.sip_served.specs.declared.tick.SuccessDue.TheVariants as repeat
 use Rattle.sip_served.specs.Provisionals.{of_numbers}
+use Rattle.sip_served.specs.RequestLife.{RequestHappening, EndsSuccess, GivesUpProvisionals, RepeatsProvisionals, RepeatsSuccess, went_on}
 use Rattle.sip_served.specs.State.{State, ServedTaken}
 
 -- a held request after a tick, and what is told
@@ -44,23 +43,22 @@ success_answer now success =
     else (if nat_le success.retransmission.due now then repeat.Again
     else repeat.Nothing))
 
--- the next interval is twice the last, up to T2, and counts from this moment
-abbrev pub next_retransmission : ℕ → Retransmission → Retransmission
-next_retransmission now last =
-    record { due = now + min (2 * last.interval) T2; interval = min (2 * last.interval) T2 }
+-- what happens to the request
+abbrev pub success_goes : SuccessDue → ℕ → List RequestHappening
+success_goes repeat.Nothing now = []
+success_goes repeat.Again now = RepeatsSuccess now ∷ []
+success_goes repeat.GivenUp now = EndsSuccess GivenUp ∷ []
 
--- the 2xx after that
-abbrev pub success_by : SuccessDue → ℕ → Success → Success
-success_by repeat.Nothing now success = success
-success_by repeat.Again now success =
-    record success { retransmission = next_retransmission now success.retransmission }
-success_by repeat.GivenUp now success = record success { over = Some GivenUp }
+-- where it has its 2xx, or has none yet
+abbrev pub success_passes : ℕ → Option Success → List RequestHappening
+success_passes now None = []
+success_passes now (Some success) = success_goes (success_answer now success) now
 
--- of a request that has its 2xx, or has none yet
+-- the request after that, and what it gives
 abbrev pub success_at_tick : ℕ → HeldRequest → Option Success → Ticked
 success_at_tick now held None = (held, [])
 success_at_tick now held (Some success) = (
-  record held { success = Some (success_by (success_answer now success) now success) },
+  went_on (success_passes now (Some success)) held,
   success_told (success_answer now success) held success.response,
 )
 
@@ -82,12 +80,16 @@ provisionals_told tick.Nothing held = []
 provisionals_told (tick.Again numbers) held = sent_again numbers.items held
 provisionals_told tick.GivenUp held = out.Notice (NoPrack held.request.call_id held.id) ∷ []
 
+-- what happens to the request
+abbrev pub provisionals_go : Tick → ℕ → List RequestHappening
+provisionals_go tick.Nothing now = []
+provisionals_go (tick.Again numbers) now = RepeatsProvisionals numbers.items now ∷ []
+provisionals_go tick.GivenUp now = GivesUpProvisionals now ∷ []
+
 -- the request after it, and what it gives
 abbrev pub provisionals_by : Tick → ℕ → HeldRequest → Ticked
-provisionals_by answer now held = (
-  record held { ledger = ticked answer held.ledger now },
-  provisionals_told answer held,
-)
+provisionals_by answer now held =
+    (went_on (provisionals_go answer now) held, provisionals_told answer held)
 
 -- the reliable provisional responses of a held request at a tick
 abbrev pub provisionals_ticked : ℕ → HeldRequest → Ticked
@@ -95,7 +97,12 @@ provisionals_ticked now held = provisionals_by (tick_answer held.ledger now) now
 
 -- ---- one request, and all
 
--- first the 2xx and then the provisional responses
+-- what happens to a request: first to its 2xx and then to the provisional responses
+abbrev pub request_passes : ℕ → HeldRequest → List RequestHappening
+request_passes now held =
+    success_passes now held.success ++ provisionals_go (tick_answer held.ledger now) now
+
+-- the request after that, and what it gives
 abbrev pub request_ticked : ℕ → HeldRequest → Ticked
 request_ticked now held =
     let first = success_ticked now held in

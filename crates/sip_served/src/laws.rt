@@ -1,10 +1,9 @@
 //! Laws of the server side of a call.
 
-ghost use Rattle.std.specs.Prelude.{◌≡◌, ◌≢◌, ◌≤◌, ℕ, List, [], ◌∷◌, Some, count_by, find, map, true, false};
+ghost use Rattle.std.specs.Prelude.{◌≡◌, ◌≢◌, ◌≤◌, ℕ, List, [], ◌∷◌, Some, count_by, find, true, false};
 ghost use Rattle.std.specs.List.{AllByRecursion};
 ghost use Rattle.sip_message.specs.declared.id.Id.{Id};
 ghost use Rattle.sip_message.specs.declared.addr.Addr.{Addr};
-ghost use Rattle.sip_reliable.specs.Ledger.{FewWait};
 ghost use Rattle.sip_timers.specs.Queue.{is_due};
 ghost use Rattle.sip_transactions.specs.declared.input.Command.TheVariants.{Answer};
 ghost use Rattle.sip_served.specs.Cancel.{invite_terminated, is_unanswered_invite, request_terminated, user_termination};
@@ -16,8 +15,6 @@ ghost use Rattle.sip_served.specs.ServerSide.{empty_at};
 ghost use Rattle.sip_served.specs.ForUser.{brings, ids_for_user, told_by, told_from};
 ghost use Rattle.sip_common.specs.Ids.{is_id};
 ghost use Rattle.sip_served.specs.State.{State, followed, has_id, quiet};
-ghost use Rattle.sip_served.specs.Story.{greatest_accepted, held_by, ledger_of};
-ghost use Rattle.sip_served.specs.Telling.{story_after};
 ghost use Rattle.sip_served.specs.Tick.{next_server_due, tick_taken};
 ghost use Rattle.sip_served.specs.declared.held_request.HeldRequest.{HeldRequest};
 ghost use Rattle.sip_common.specs.declared.item.CallOut.TheVariants.{Command};
@@ -33,28 +30,9 @@ pub fn ticks_when_due()
 
 /// Whatever happened to the server side of a call, of each held request at most 8 reliable
 /// provisional responses wait for their PRACK, and none but the first until that one was
-/// acknowledged; so of those that were sent at most 8 have no PRACK after them, and none but the
-/// first until it has one (RFC 3262, section 3).
+/// acknowledged (RFC 3262, section 3).
 pub fn few_provisionals_wait()
     ensures held { (local : Addr) (events : List Event) → FewWaitEach (server_state_after local events) }
-    ensures sent { (local : Addr) (events : List Event)
-        → AllByRecursion (λ request. FewWait (ledger_of request))
-        (story_after local events).requests }
-{}
-
-/// Whatever happened to the server side of a call, what is held is what its story says: each dialog
-/// by how it began and what happened in it since, and each request by what came for it.
-pub fn holds_what_its_story_says()
-    ensures { (local : Addr) (events : List Event)
-        → server_state_after local events ≡ held_by (story_after local events) }
-{}
-
-/// The remote CSeq of each held dialog is the greatest number that was accepted in it, that of its
-/// INVITE included (RFC 3261, section 12.2.2).
-pub fn the_remote_cseq_is_the_greatest_accepted()
-    ensures { (local : Addr) (events : List Event)
-        → map (λ entry. entry.1.dialog.remote_cseq) (server_state_after local events).dialogs
-        ≡ map (λ entry. greatest_accepted entry.1) (story_after local events).dialogs }
 {}
 
 /// By an event the user is told of the request that comes up by it for the user, and of no other.

@@ -19,8 +19,7 @@ mod unsupported;
 pub use held_request::{HeldRequest, Retransmission, Success, SuccessEnd};
 pub use laws::{
     a_cancel_answers_as_the_user_would, each_notice_is_of_its_call, each_request_is_told_once,
-    few_provisionals_wait, holds_what_its_story_says, the_remote_cseq_is_the_greatest_accepted,
-    ticks_when_due,
+    few_provisionals_wait, ticks_when_due,
 };
 pub use provisionals::{NumberedResponse, Provisionals};
 pub use served::Served;

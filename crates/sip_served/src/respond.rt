@@ -4,6 +4,7 @@ ghost use Rattle.std.specs.Prelude.{◌≡◌, ◌≤◌, ◌^◌, IfOk, OnOk, c
 ghost use Rattle.indexmap.specs.IndexMap.{insert_entry};
 ghost use Rattle.sip_common.specs.Dialogs.{is_named};
 ghost use Rattle.sip_common.specs.Requests.{dialog_name};
+ghost use Rattle.sip_served.specs.RequestLife as life;
 ghost use Rattle.sip_served.specs.Respond as spec;
 
 use crate::held_request::{HeldRequest, Retransmission, Success};
@@ -234,7 +235,7 @@ pub(crate) fn finish(
 
 fn success_sent(response: Boxed<Message>, now: u64) -> Success
     requires { now ≤ 2 ^ 62 }
-    ensures { result ≡ spec.success_sent response now }
+    ensures { result ≡ life.success_sent response now }
 {
     Success {
         response,

@@ -2,10 +2,10 @@
 
 ghost use Rattle.std.specs.Prelude.{◌≡◌, ◌≤◌, ◌^◌, ◌++◌, [], IfOk, OnOk, map, None};
 ghost use Rattle.std.specs.List.{flat_map};
-ghost use Rattle.std.specs.Option.{option_and_then, option_map};
+ghost use Rattle.std.specs.Option.{option_and_then};
 ghost use Rattle.sip_reliable.specs.Happening.{is_among};
+ghost use Rattle.sip_served.specs.RequestLife as life;
 ghost use Rattle.sip_served.specs.Tick as spec;
-ghost use Rattle.sip_served.specs.declared.tick.SuccessDue.TheVariants.{Again};
 ghost use Rattle.sip_common.specs.declared.notice.Notice.TheVariants as notices;
 
 use crate::acknowledgment::end_success;
@@ -108,9 +108,7 @@ fn success_answer(success: &Success, now: u64) -> SuccessDue
 
 fn repeat_success(held: &mut HeldRequest, now: u64)
     requires { now ≤ 2 ^ 62 }
-    ensures { held.new ≡ record held.old {
-      success = option_map (spec.success_by Again now) held.old.success;
-    } }
+    ensures { held.new ≡ life.request_happened held.old (life.RepeatsSuccess now) }
 {
     if let Some(success) = &mut held.success {
         success.retransmission = next_retransmission(success.retransmission, now);
@@ -119,7 +117,7 @@ fn repeat_success(held: &mut HeldRequest, now: u64)
 
 fn next_retransmission(last: Retransmission, now: u64) -> Retransmission
     requires { now ≤ 2 ^ 62 }
-    ensures { result ≡ spec.next_retransmission now last }
+    ensures { result ≡ life.next_retransmission now last }
 {
     let interval = last.interval.saturating_mul(2).min(u64::from(T2));
     Retransmission {
@@ -138,6 +136,7 @@ fn no_ack(held: &HeldRequest) -> Result<Notice, AllocError>
 }
 
 // What is due of the reliable provisional responses that wait.
+#[tactic(auto, using(crate::proofs::RequestLives::provisionals_alone))]
 fn tick_provisionals(
     alloc: Global,
     held: &mut HeldRequest,

@@ -6,4 +6,7 @@ mod RequestsById
 pub mod Pace
 pub mod RowFacts
 pub mod Passing
+pub mod Firings
+pub mod AckTexts
+pub mod ClientRows
 pub mod FewSends

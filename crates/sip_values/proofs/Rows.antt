@@ -24,7 +24,8 @@ use Rattle.sip_values.specs.ParameterValues as parameters
 use Rattle.sip_values.specs.Sequence as sequence
 use Rattle.sip_values.specs.ViaValue as via
 use Rattle.sip_values.proofs.SentBys.{HostCut, PortCut, SentByCut, EndCut}
-use Rattle.sip_values.proofs.CutVias.{HopCut, BehindProtocol, ViaCut, as_parts, as_cuts}
+use Rattle.sip_values.proofs.CutVias.{BehindProtocol, ViaCut, as_parts, as_cuts}
+use Rattle.sip_values.proofs.Transports.{HopCut}
 
 pub numeral_reads : Reads (List ℕ) Numeral numeral_from IsNumeral
 numeral_reads = told_reads numeral (passing_reads is_word)

@@ -1,4 +1,5 @@
-use Rattle.sip_clients.proofs.OwnCall.{ack_own, cancel_own, dialog_request_own, invite_own, lost_own, plain_own, prack_own, response_own, tick_own}
+use Rattle.sip_clients.proofs.OwnCommands.{ack_own, cancel_own, dialog_request_own, invite_own, plain_own, prack_own}
+use Rattle.sip_clients.proofs.OwnReplies.{lost_own, response_own, tick_own}
 use Rattle.sip_clients.proofs.laws.each_notice_is_of_its_call.Goals as goal
 
 pub returns-clause-response : goal.returns-clause-response

@@ -1,6 +1,6 @@
 use Rattle.std.proofs.Common.{◌++◌, ◌∷◌, List, ℕ, ap, sym, ◌∙◌}
 use Rattle.sip_text.proofs.Cuts.{cut_took}
-use Rattle.sip_files.proofs.Files.{version_named}
+use Rattle.sip_files.proofs.FileFaults.{version_named}
 use Rattle.sip_files.proofs.events_file.after_version.Goals as goal
 
 pub returns-in-Some-read_version-2 : goal.returns-in-Some-read_version-2

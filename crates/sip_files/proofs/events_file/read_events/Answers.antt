@@ -1,7 +1,8 @@
 use Rattle.std.proofs.Common.{sym, ◌∙◌, arith, inr}
 use Rattle.std.proofs.lemmas.Result.{err_from_is_err_and}
-use Rattle.sip_files.proofs.Files.{found, only_draft, no_local, version_only, version_tells, line_only, line_tells, local_at, begun_stage}
-use Rattle.sip_files.proofs.Drafts.{not_local}
+use Rattle.sip_files.proofs.FileFaults.{found, no_local, version_only, version_tells, line_only, line_tells, local_at, begun_stage}
+use Rattle.sip_files.proofs.OneFile.{only_draft}
+use Rattle.sip_files.proofs.DraftStages.{not_local}
 use Rattle.sip_files.proofs.events_file.read_events.Goals as goal
 
 pub returns-in_err-version-clause-only : goal.returns-in_err-version-clause-only

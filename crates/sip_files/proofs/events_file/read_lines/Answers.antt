@@ -1,6 +1,6 @@
 use Rattle.std.proofs.Common.{◌<◌, length, ap, arith}
 use Rattle.std.proofs.lemmas.Bool.Decides.{nat_tests}
-use Rattle.sip_files.proofs.Files.{nothing_yet, one_further, without_end, no_such_line, not_there}
+use Rattle.sip_files.proofs.ReadSoFar.{nothing_yet, one_further, without_end, no_such_line, not_there}
 use Rattle.sip_files.proofs.events_file.read_lines.Goals as goal
 
 pub loop-left-init : goal.loop-left-init

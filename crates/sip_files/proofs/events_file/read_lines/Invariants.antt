@@ -1,5 +1,5 @@
 use Rattle.std.proofs.Common.{◌+◌, ◌≤◌, length}
-use Rattle.sip_files.proofs.Files.{SoFar}
+use Rattle.sip_files.proofs.ReadSoFar.{SoFar}
 use Rattle.sip_files.proofs.events_file.read_lines.Given as goal
 
 -- each line takes at least one byte, so the number of lines is bounded by that of bytes

@@ -1,4 +1,4 @@
-use Rattle.std.proofs.Common.{◌≡◌, [], map, subst, sym}
+use Rattle.std.proofs.Common.{[], map, subst, sym}
 use Rattle.std.proofs.lemmas.Result.{IfOk-weaker}
 use Rattle.sip_model.specs.Groups.{groups}
 use Rattle.sip_model.specs.Machine.{tick_at}

@@ -1,7 +1,6 @@
 use Rattle.std.proofs.Common.{◌∷◌, ◌∙◌, sym, ap, subst}
 use Rattle.std.proofs.lemmas.List.{nil_from_length}
 use Rattle.std.specs.Vec.Iter.{into_iter_items}
-use Rattle.sip_round.specs.declared.waiting.SetOut.{SetOut}
 use Rattle.sip_round.proofs.EventRuns.{JoinsLeft, all_joined, none_joined, one_joined}
 use Rattle.sip_round.proofs.reading.joined.Goals as goal
 

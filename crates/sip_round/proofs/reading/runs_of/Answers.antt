@@ -1,4 +1,4 @@
-use Rattle.std.proofs.Common.{◌+◌, length, refl, sym, ap, subst, ◌∙◌, arith, rules, length-append}
+use Rattle.std.proofs.Common.{length, refl, sym, ap, subst, ◌∙◌, arith, rules, length-append}
 use Rattle.std.specs.Slice.Iter.{chunks_rest}
 use Rattle.sip_workers.specs.Ran.{IsNumbered}
 use Rattle.sip_workers.proofs.Gathers.{numbered_more}

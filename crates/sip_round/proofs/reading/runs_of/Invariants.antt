@@ -1,6 +1,6 @@
 use Rattle.std.proofs.Common.{◌≡◌, ◌+◌, ◌++◌, length}
 use Rattle.std.specs.List.{flat_map}
-use Rattle.std.specs.Slice.Iter.{chunks_rest, chunks_size}
+use Rattle.std.specs.Slice.Iter.{chunks_rest}
 use Rattle.sip_workers.specs.Ran.{IsNumbered}
 use Rattle.sip_round.specs.Arrivals.{arrivals_from}
 use Rattle.sip_round.specs.Steps.EventRuns.{arrivals_of_run}

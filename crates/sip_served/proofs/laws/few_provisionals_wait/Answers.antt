@@ -1,6 +1,5 @@
 use Rattle.sip_served.proofs.FewWait.{few_wait}
-use Rattle.sip_served.proofs.Stories.{few_unacknowledged}
 use Rattle.sip_served.proofs.laws.few_provisionals_wait.Goals as goal
 
 pub returns : goal.returns
-returns c = record { held = few_wait; sent = few_unacknowledged }
+returns c = record { held = few_wait }

@@ -1,4 +1,4 @@
-use Rattle.std.proofs.Common.{◌≡◌, ℕ, ◌<◌, List, length, subst, sym, arith}
+use Rattle.std.proofs.Common.{ℕ, ◌<◌, List, length, subst, sym, arith}
 use Rattle.sip_model.specs.Machine.{tick_at}
 use Rattle.sip_model.specs.Shards.{HoldFrom}
 use Rattle.sip_calls.specs.Call.{call_machine}

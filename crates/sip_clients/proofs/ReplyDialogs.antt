@@ -1,153 +1,38 @@
--- What the client side makes happen in the dialog of each name, which stays, is over or is made anew,
--- and what is heard in it of the reliable provisional responses to the first INVITE.
-use Rattle.std.proofs.Common.{◌≡◌, inl, inr, ℕ, Bool, true, false, not, ◌&&◌, cond, List, [], refl, sym, ap, subst, ◌∙◌}
-use Rattle.std.specs.Prelude.{Option, None, Some, codes, filter, fold, if◌then◌else◌}
+-- What a response makes happen in the dialog of each name, which stays, is over or is made anew, and
+-- what is heard in it of the reliable provisional responses to the first INVITE.
+use Rattle.std.proofs.Common.{◌≡◌, inl, inr, ℕ, Bool, true, false, ◌&&◌, cond, List, [], refl, sym, ap, subst, ◌∙◌}
+use Rattle.std.specs.Prelude.{Option, None, Some, if◌then◌else◌}
 use Rattle.indexmap.specs.IndexMap.{insert_entry}
 use Rattle.sip_message.specs.declared.id.Id.{Id}
 use Rattle.sip_message.specs.declared.message.Message.{Message}
 use Rattle.sip_message.specs.Party.{tag_of}
 use Rattle.sip_dialog.specs.declared.dialog.Dialog.{Dialog}
-use Rattle.sip_dialog.specs.declared.fault.DialogFault.{DialogFault}
-use Rattle.sip_dialog.specs.Fault.{request_fault}
 use Rattle.sip_dialog.specs.Life.{Happening}
 use Rattle.sip_dialog.specs.Opening.{ByResponse, Opening, contact_uri, opened as dialog_opened}
-use Rattle.sip_common.specs.declared.debt.Debt.{Debt}
 use Rattle.sip_common.specs.declared.debt.Debt.TheVariants.{Ack, Prack}
 use Rattle.sip_common.specs.declared.held_dialog.DialogName.{DialogName}
 use Rattle.sip_common.specs.declared.held_dialog.HeldDialog.{HeldDialog}
-use Rattle.sip_common.specs.declared.item.CallOut.{CallOut}
-use Rattle.sip_common.specs.Dialogs.{dialog_at, ended_at, happened, is_early_of, is_named, lives, Dialogs}
+use Rattle.sip_common.specs.Dialogs.{dialog_at, is_named, Dialogs}
 use Rattle.sip_common.specs.Requests.{is_final, name_of_tags}
-use Rattle.sip_common.specs.Sent.{name_of_dialog, requests_made}
+use Rattle.sip_common.specs.Sent.{name_of_dialog}
 use Rattle.sip_clients.specs.declared.client.RequestKind.{RequestKind}
 use Rattle.sip_clients.specs.declared.client.RequestKind.TheVariants.{First, Again, Inside, Plain}
 use Rattle.sip_clients.specs.declared.client.Client.{Client}
-use Rattle.sip_clients.specs.declared.event.Event.{Event}
 use Rattle.sip_clients.specs.declared.reply.Reply.{Reply as Answer}
 use Rattle.sip_clients.specs.declared.reply.ReplyCase.{ReplyCase}
 use Rattle.sip_clients.specs.declared.reply.ReplyCase.TheVariants as reply
-use Rattle.sip_clients.specs.declared.service.Service.{Service}
-use Rattle.sip_clients.specs.declared.service.Service.TheVariants.{Sent, Waits, Refused}
-use Rattle.sip_common.specs.declared.refusal.Refusal.{Refusal as ARefusal}
-use Rattle.sip_common.specs.Refusal.{first_refusal}
 use Rattle.sip_clients.specs.Answers.{has_answer}
 use Rattle.sip_clients.specs.Clients.{reply_name}
-use Rattle.sip_clients.specs.Commands.{bye_ended, request_in_held, request_refusals, sent_unless}
-use Rattle.sip_clients.specs.Debts.{dropped_if_sent, kept_unless_sent, owed, paid}
-use Rattle.sip_clients.specs.Dialogs.{accepted, accepted_in, ended_with, hearing, dialog_by_response, dialog_for_provisional, own_ended, served_at}
+use Rattle.sip_clients.specs.Debts.{owed}
+use Rattle.sip_clients.specs.Dialogs.{accepted, accepted_in, hearing, dialog_by_response, dialog_for_provisional}
 use Rattle.sip_clients.specs.Happenings.{success_brings}
 use Rattle.sip_clients.specs.Replied.{ack_owed, by_reply_case, heard_first, offer_to, prack_owed, dialogs_with}
 use Rattle.sip_clients.specs.Reply.{heard_of, is_dialog_response, is_there, reliable_case, reply_case, rseq_of}
-use Rattle.sip_clients.specs.Service.{Outcome, discharged, sending_in, happens_by_sending}
 use Rattle.sip_common.proofs.Entries as entries
-use Rattle.sip_common.proofs.Heard.{AreApart, Goes, Grows, Keeps, Leads, Life, Moves, OpensBy, Stays, in_one, keeps_same, keeps_then, leads_changed, leads_filtered, leads_removed, leads_same, leads_then, name_laws, none_either, nothing, quiet, same_name, stays_same, tag_kept}
+use Rattle.sip_common.proofs.Heard.{AreApart, Goes, Keeps, Life, Moves, OpensBy, Stays, in_one, keeps_same, keeps_then, name_laws, none_either, nothing, same_name, stays_same, tag_kept}
 use Rattle.sip_common.proofs.Lives.{cases_fit}
-use Rattle.sip_clients.proofs.SentIn.{asks, discharge_life, request_life, unless_refused}
-use Rattle.sip_clients.proofs.Served.{served_dialogs}
-
--- ---- what is sent in a dialog, owed and paid
-
--- the requests that a dialog doesn't refuse are made in it
-sends_made : (method : List ℕ) (fault : Option DialogFault) (dialog : Dialog)
-    → Grows dialog (requests_made (asks method fault dialog))
-    (fold happened dialog (happens_by_sending method fault))
-sends_made method None dialog = ((tt, tt), refl)
-sends_made method (Some fault) dialog = (tt, refl)
-
-discharged_keeps : (event : Event) (debt : Debt) (offer : Option (List ℕ)) (held : HeldDialog)
-    → Keeps None (discharge_life debt offer held.dialog) held (discharged event debt offer held).0
-unfolding discharged
-discharged_keeps event (Ack invite number) None held = keeps_same held
-discharged_keeps event (Prack rseq number) None held = keeps_same held
-discharged_keeps event (Ack invite number) (Some body) held = keeps_same held
-discharged_keeps event (Prack rseq number) (Some body) held =
-    let fault = request_fault held.dialog (codes "PRACK") in
-    (refl, refl, sends_made (codes "PRACK") fault held.dialog)
-
-unless_sent_keeps : (debt : Debt) (service : Service) (held : HeldDialog)
-    → Keeps None [] held (kept_unless_sent debt service held)
-unless_sent_keeps debt (Sent sending) held = keeps_same held
-unless_sent_keeps debt Waits held = (refl, refl, (tt, refl))
-unless_sent_keeps debt (Refused refusal) held = (refl, refl, (tt, refl))
-
-if_sent_keeps : (debt : Debt) (service : Service) (held : HeldDialog)
-    → Keeps None [] held (dropped_if_sent debt service held)
-if_sent_keeps debt (Sent sending) held = (refl, refl, (tt, refl))
-if_sent_keeps debt Waits held = keeps_same held
-if_sent_keeps debt (Refused refusal) held = keeps_same held
-
-pub owed_keeps : (event : Event) (debt : Debt) (offer : Option (List ℕ)) (held : HeldDialog)
-    → Keeps None (discharge_life debt offer held.dialog) held (owed event debt offer held).0
-unfolding owed
-owed_keeps event debt offer held =
-    let done = discharged event debt offer held in
-    keeps_then None (discharge_life debt offer held.dialog) held done.0
-    (kept_unless_sent debt done.1 done.0)
-    (discharged_keeps event debt offer held) (unless_sent_keeps debt done.1 done.0)
-
-pub paid_keeps : (event : Event) (debt : Debt) (body : List ℕ) (held : HeldDialog)
-    → Keeps None (discharge_life debt (Some body) held.dialog) held (paid event debt body held).0
-unfolding paid
-paid_keeps event debt body held =
-    let done = discharged event debt (Some body) held in
-    keeps_then None (discharge_life debt (Some body) held.dialog) held done.0
-    (dropped_if_sent debt done.1 done.0)
-    (discharged_keeps event debt (Some body) held) (if_sent_keeps debt done.1 done.0)
-
-pub request_keeps : (event : Event) (method body : List ℕ) (held : HeldDialog)
-    → Keeps None (request_life method held.dialog) held (request_in_held event method body held).0
-unfolding request_in_held
-request_keeps event method body held =
-    unless (first_refusal (request_refusals held.dialog method) None)
-  where
-    unless : (refusal : Option ARefusal)
-        → Keeps None (requests_made (unless_refused refusal method held.dialog)) held
-        (sent_unless refusal (sending_in event method None body held) held).0
-    unless None = (refl, refl, ((tt, tt), refl))
-    unless (Some refusal) = keeps_same held
-
-pub served_leads : (name : DialogName) (serve : HeldDialog → Outcome) (otherwise : Service)
-    (life : Life) → ((held : HeldDialog) → Keeps None (life held) held (serve held).0)
-    → (dialogs : Dialogs) → AreApart dialogs
-    → Leads (in_one name life) dialogs (served_at name serve otherwise dialogs).0
-served_leads name serve otherwise life keeps dialogs apart =
-    subst (Leads (in_one name life) dialogs) (sym (served_dialogs name serve otherwise dialogs))
-    (leads_changed name (λ held. (serve held).0) life keeps dialogs apart)
-
--- ---- what ends dialogs
-
-removed_or_same : (b : Bool) (name : DialogName) (dialogs : Dialogs) → AreApart dialogs
-    → Leads quiet dialogs (cond {A = Dialogs × List CallOut} b (ended_at name dialogs)
-    (dialogs, [])).0
-removed_or_same true name dialogs apart = leads_removed name dialogs apart
-removed_or_same false name dialogs apart = leads_same dialogs apart
-
-own_leads : (kind : RequestKind) (ends : Bool) (dialogs : Dialogs) → AreApart dialogs
-    → Leads quiet dialogs (own_ended kind ends dialogs).0
-own_leads First ends dialogs apart = leads_same dialogs apart
-own_leads (Again life) true dialogs apart =
-    removed_or_same (lives dialogs life) life.name dialogs apart
-own_leads (Again life) false dialogs apart = leads_same dialogs apart
-own_leads (Inside life) true dialogs apart =
-    removed_or_same (lives dialogs life) life.name dialogs apart
-own_leads (Inside life) false dialogs apart = leads_same dialogs apart
-own_leads Plain ends dialogs apart = leads_same dialogs apart
-
-pub ended_leads : (client : Client) (ends : Bool) (dialogs : Dialogs) → AreApart dialogs
-    → Leads quiet dialogs (ended_with client ends dialogs).0
-ended_leads client ends dialogs apart =
-    let left : Dialogs = filter (λ entry. not (is_early_of client.id entry.1)) dialogs in
-    leads_then quiet dialogs left (own_ended client.kind ends left).0
-    (leads_filtered (λ held. not (is_early_of client.id held)) dialogs apart)
-    (own_leads client.kind ends left)
-
-pub bye_leads : (name : DialogName) (method : List ℕ) (service : Service) (dialogs : Dialogs)
-    → AreApart dialogs → Leads quiet dialogs (bye_ended name method service dialogs).0
-bye_leads name method (Sent sending) dialogs apart = removed_or_same _ name dialogs apart
-bye_leads name method Waits dialogs apart = leads_same dialogs apart
-bye_leads name method (Refused refusal) dialogs apart = leads_same dialogs apart
-
--- ---- a response
+use Rattle.sip_clients.proofs.CommandDialogs.{owed_keeps}
+use Rattle.sip_clients.proofs.SentIn.{discharge_life}
 
 abbrev pub heard_number : ReplyCase → RequestKind → Bool → Option ℕ
 heard_number (reply.Reliable number) First true = Some number

@@ -1,0 +1,169 @@
+-- An INVITE in a life of a dialog: what a response keeps of it, and which case the response is.
+use Rattle.std.proofs.Common.{◌≡◌, ℕ, Bool, true, false, ◌&&◌, cond, refl, sym, ap, ◌∙◌}
+use Rattle.std.specs.Prelude.{Option, None, Some, if◌then◌else◌}
+use Rattle.std.specs.Cmp.{first_so, second_so}
+use Rattle.std.specs.Option.{option_map_or}
+use Rattle.indexmap.specs.IndexMap.{insert_entry}
+use Rattle.sip_model.proofs.Ordered.{by_bool}
+use Rattle.sip_common.specs.declared.debt.Debt.TheVariants.{Prack}
+use Rattle.sip_common.specs.declared.held_dialog.DialogLife.{DialogLife}
+use Rattle.sip_common.specs.declared.held_dialog.DialogName.{DialogName}
+use Rattle.sip_common.specs.declared.held_dialog.HeldDialog.{HeldDialog}
+use Rattle.sip_common.specs.Dialogs.{dialog_at, is_named, lives, Dialogs}
+use Rattle.sip_common.specs.Ids.{is_id}
+use Rattle.sip_common.proofs.Entries as entries
+use Rattle.sip_common.proofs.Heard.{name_laws}
+use Rattle.sip_clients.specs.declared.client.RequestKind.{RequestKind}
+use Rattle.sip_clients.specs.declared.client.RequestKind.TheVariants.{First, Again, Inside, Plain}
+use Rattle.sip_clients.specs.declared.client.Client.{Client}
+use Rattle.sip_clients.specs.declared.reply.Reply.{Reply as Answer}
+use Rattle.sip_clients.specs.declared.reply.ReplyCase.{ReplyCase}
+use Rattle.sip_clients.specs.declared.reply.ReplyCase.TheVariants as reply
+use Rattle.sip_clients.specs.Answers.{has_answer}
+use Rattle.sip_clients.specs.Debts.{owed}
+use Rattle.sip_clients.specs.Dialogs.{dialog_for_provisional}
+use Rattle.sip_clients.specs.Replied.{Replied, after_dialog, by_reply_case, request_over, heard_again, offer_to, prack_owed, replied_in, reply_taken}
+use Rattle.sip_clients.specs.Reply.{is_last, is_there, reliable_case, reply_case, success_case}
+use Rattle.sip_clients.proofs.AgainInvite.{StartsUnheard, said_unheard}
+use Rattle.sip_clients.proofs.CommandDialogs.{owed_keeps}
+use Rattle.sip_clients.proofs.FirstInvite.{id_exact}
+use Rattle.sip_clients.proofs.FirstReply.{Unheard, number_by}
+
+abbrev pub again : DialogLife → Client → Client
+again own client = record client { kind = Again own }
+
+-- ---- the request after a response
+
+pub asks_kept : (case : ReplyCase) (client : Client) (found : Option HeldDialog) (answer : Answer)
+    → ((by_reply_case case client found answer).0).kind ≡ client.kind
+asks_kept reply.Repeated client found answer = refl
+asks_kept reply.Accepted client found answer = refl
+asks_kept reply.Late client found answer = refl
+asks_kept (reply.Reliable number) client found answer = by_asks client.kind
+  where
+    by_asks : (kind : RequestKind) → (heard_again kind number client).kind ≡ client.kind
+    by_asks First = refl
+    by_asks (Again own) = refl
+    by_asks (Inside own) = refl
+    by_asks Plain = refl
+asks_kept reply.Passed client found answer = refl
+asks_kept reply.Early client found answer = refl
+asks_kept reply.Told client found answer = refl
+
+pub heard_kept : (case : ReplyCase) (client : Client) (found : Option HeldDialog) (answer : Answer)
+    → Unheard case → ((by_reply_case case client found answer).0).heard ≡ client.heard
+heard_kept reply.Repeated client found answer none = refl
+heard_kept reply.Accepted client found answer none = refl
+heard_kept reply.Late client found answer none = refl
+heard_kept (reply.Reliable number) client found answer none = absurd cc
+heard_kept reply.Passed client found answer none = refl
+heard_kept reply.Early client found answer none = refl
+heard_kept reply.Told client found answer none = refl
+
+pub change_unheard : (case : ReplyCase) (client : Client) (found : Option HeldDialog)
+    (answer : Answer)
+    → StartsUnheard (by_reply_case case client found answer).3
+unfolding prack_owed
+change_unheard reply.Repeated client found answer = tt
+change_unheard reply.Accepted client found answer = tt
+change_unheard reply.Late client found answer = tt
+change_unheard (reply.Reliable number) client found answer =
+    said_unheard answer.event answer.call_id answer.name
+    (prack_owed number client (dialog_for_provisional client answer found) answer).1
+change_unheard reply.Passed client found answer = tt
+change_unheard reply.Early client found answer = tt
+change_unheard reply.Told client found answer = tt
+
+-- the last response too keeps what the request asks, and starts none
+module _ (client : Client) (dialogs : Dialogs) (answer : Answer) where
+  abbrev found_at : Option HeldDialog
+  found_at = dialog_at answer.name dialogs
+
+  abbrev taken_by : Bool → Replied
+  taken_by last = cond {A = Replied} last (request_over client dialogs answer)
+      (after_dialog answer.name dialogs (replied_in client found_at answer))
+
+  pub asks_taken : ((reply_taken client dialogs answer).0).kind ≡ client.kind
+  asks_taken = elim (is_last client.kind answer.status) as (λ last.
+      ((taken_by last).0).kind ≡ client.kind) [
+        | true ↦ refl
+        | false ↦ asks_kept (reply_case client found_at answer) client found_at answer
+      ]
+
+  pub change_taken : StartsUnheard (reply_taken client dialogs answer).3
+  change_taken = elim (is_last client.kind answer.status) as (λ last.
+      StartsUnheard (taken_by last).3) [
+        | true ↦ tt
+        | false ↦ change_unheard (reply_case client found_at answer) client found_at answer
+      ]
+
+-- ---- which case it is
+
+abbrev pub case_by : Bool → Bool → Bool → ReplyCase → Option ℕ → Option ℕ → ReplyCase
+case_by final inside alive winning heard rseq =
+    if final then winning else (if inside
+    && alive then reliable_case heard rseq else reply.Told)
+
+-- the dialog isn't there: there is no number, or the response is told as any other
+abbrev pub Gone : Option ℕ → ReplyCase → Type 0
+Gone None case = Unheard case
+Gone (Some number) case = case ≡ reply.Told
+
+pub gone : (final inside : Bool) (winning : ReplyCase) (heard rseq : Option ℕ) → Unheard winning
+    → Gone (number_by final inside rseq) (case_by final inside false winning heard rseq)
+gone true inside winning heard rseq none = none
+gone false true winning heard None none = refl
+gone false true winning heard (Some number) none = refl
+gone false false winning heard rseq none = refl
+
+pub success_unheard : (own : DialogLife) (client : Client) (answer : Answer)
+    (found : Option HeldDialog) → Unheard (success_case (again own client) found answer.name)
+success_unheard own client answer found =
+    elim (has_answer answer.name client.answers) as (λ b.
+    Unheard (if b then reply.Repeated
+    else (if is_there (Again own) found then reply.Accepted else reply.Late))) [
+      | true ↦ refl
+      | false ↦ elim (is_there (Again own) found) as (λ b.
+          Unheard (if b then reply.Accepted else reply.Late)) [ true ↦ refl | false ↦ refl ]
+    ]
+
+-- ---- lives
+
+pub lives_same : (life own : DialogLife) (dialogs : Dialogs)
+    → (is_named life.name own.name && is_id own.born life.born) ≡ true
+    → lives dialogs own ≡ lives dialogs life
+lives_same life own dialogs same =
+    let named = first_so (is_named life.name own.name) (is_id own.born life.born) same in
+    let born = id_exact own.born life.born
+    (second_so (is_named life.name own.name) (is_id own.born life.born) same) in
+    λ i. option_map_or (λ (held : HeldDialog). is_id held.born (born i))
+    (entries.same_key name_laws life.name own.name dialogs named i) false
+
+-- the dialog of a name is another of the same life
+lives_put : (life : DialogLife) (name : DialogName) (held after : HeldDialog) (dialogs : Dialogs)
+    → dialog_at name dialogs ≡ Some held → after.born ≡ held.born
+    → lives (insert_entry is_named dialogs name after) life ≡ lives dialogs life
+lives_put life name held after dialogs is born =
+    ap is_own (entries.found_inserted name_laws name life.name after dialogs)
+    ∙ by_bool (is_named name life.name)
+    (λ same. ap (λ b. is_own (cond b (Some after) (dialog_at life.name dialogs))) same
+    ∙ ap (λ id. is_id id life.born) born
+    ∙ ap is_own (sym (entries.same_key name_laws name life.name dialogs same ∙ is)))
+    (λ other. ap (λ b. is_own (cond b (Some after) (dialog_at life.name dialogs))) other)
+  where
+    is_own : Option HeldDialog → Bool
+    is_own o = option_map_or (λ (held : HeldDialog). is_id held.born life.born) o false
+
+pub lives_owed : (life own : DialogLife) (number : ℕ) (client : Client) (dialogs : Dialogs)
+    (answer : Answer) (found : Option HeldDialog) → dialog_at answer.name dialogs ≡ found
+    → is_there (Again own) found ≡ true
+    → lives (insert_entry is_named dialogs answer.name
+    (prack_owed number (again own client) (dialog_for_provisional (again own client) answer found) answer).0) life
+    ≡ lives dialogs life
+unfolding prack_owed
+lives_owed life own number client dialogs answer None is there = absurd cc
+lives_owed life own number client dialogs answer (Some held) is there =
+    let debt = Prack number ((client.request).cseq).number in
+    let offer = offer_to client answer.response in
+    lives_put life answer.name held (owed answer.event debt offer held).0 dialogs is
+    (owed_keeps answer.event debt offer held).0

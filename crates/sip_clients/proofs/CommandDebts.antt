@@ -1,0 +1,220 @@
+-- What commands of the user leave owed in the dialog of each name is what was owed before them,
+-- changed as they pay.
+use Rattle.std.proofs.Common.{◌≡◌, ℕ, Bool, true, false, ◌&&◌, cond, List, [], ◌∷◌, ◌++◌, refl, sym, ap, subst, ◌∙◌}
+use Rattle.std.specs.Prelude.{Option, None, Some, Err, find, if◌then◌else◌}
+use Rattle.std.specs.List.{list_any}
+use Rattle.std.specs.Option.{option_map, option_map_or}
+use Rattle.sip_common.specs.declared.command.DialogBody.{DialogBody}
+use Rattle.sip_common.specs.declared.command.DialogRequest.{DialogRequest}
+use Rattle.sip_common.specs.declared.debt.Debt.{Debt}
+use Rattle.sip_common.specs.declared.debt.Debt.TheVariants.{Ack, Prack}
+use Rattle.sip_common.specs.declared.held_dialog.DialogName.{DialogName}
+use Rattle.sip_common.specs.declared.held_dialog.HeldDialog.{HeldDialog}
+use Rattle.sip_common.specs.declared.item.CallOut.{CallOut}
+use Rattle.sip_common.specs.declared.refusal.Refusal.{Refusal}
+use Rattle.sip_common.specs.declared.refusal.Refusal.TheVariants.{NoSuchDialog, NothingToAck, NothingToPrack}
+use Rattle.sip_common.specs.Dialogs.{Dialogs, dialog_at, is_named}
+use Rattle.sip_common.specs.Notices.{refused}
+use Rattle.sip_common.specs.Refusal.{first_refusal}
+use Rattle.sip_common.proofs.Entries as entries
+use Rattle.sip_common.proofs.Heard.{AreApart, name_laws}
+use Rattle.sip_common.proofs.Owing.{OweSame, OwesStill, changed_same, same_then, still_as, still_same, unchanged}
+use Rattle.sip_clients.specs.declared.debts.DebtKind.{DebtKind}
+use Rattle.sip_clients.specs.declared.debts.DebtKind.TheVariants as kind
+use Rattle.sip_clients.specs.declared.event.Event.{Event}
+use Rattle.sip_clients.specs.declared.service.Service.TheVariants.{Waits, Refused}
+use Rattle.sip_clients.specs.Client.{Side}
+use Rattle.sip_clients.specs.Clients.{ack_paid, ack_by_user, paid_or_refused, prack_paid, prack_by_user, request_by_user, settled}
+use Rattle.sip_clients.specs.Commands.{bye_ended, debt_or_refusal, name_in, oldest_debt, request_in_held, request_refusals, requested_at, sent_unless}
+use Rattle.sip_clients.specs.Debts.{is_of, paid}
+use Rattle.sip_clients.specs.Dialogs.{paid_at}
+use Rattle.sip_clients.specs.Outputs.{ack_said, request_said}
+use Rattle.sip_clients.specs.Owing.{command_pays, goes_out, is_of_prack, oldest_paid}
+use Rattle.sip_clients.specs.Service.{sending_in}
+use Rattle.sip_clients.proofs.CommandDialogs.{request_keeps, served_leads}
+use Rattle.sip_clients.proofs.DialogSends.{AreNamed, after_silent}
+use Rattle.sip_clients.proofs.DialogDebts.{neither_way, bye_same, goes, all_but, paid_drops, ack_goes, prack_pays}
+use Rattle.sip_clients.proofs.WithoutStarts.{request_said_none}
+use Rattle.sip_clients.proofs.SentIn.{request_life, said_sent, service_cseqs}
+use Rattle.sip_clients.proofs.Served.{served_dialogs, served_in}
+
+-- ---- a request in a dialog
+
+request_kept : (event : Event) (method body : List ℕ) (held : HeldDialog)
+    → OwesStill unchanged (Some held) (Some (request_in_held event method body held).0)
+unfolding request_in_held
+request_kept event method body held =
+    unless (first_refusal (request_refusals held.dialog method) None)
+  where
+    unless : (refusal : Option Refusal) → OwesStill unchanged (Some held)
+        (Some (sent_unless refusal (sending_in event method None body held) held).0)
+    unless None = (refl, refl)
+    unless (Some refusal) = (refl, refl)
+
+pub request_owes : (event : Event) (command : DialogRequest) (side : Side) → AreApart side.dialogs
+    → OweSame side.dialogs ((request_by_user event command side).0).dialogs
+unfolding requested_at
+request_owes event command side apart =
+    let name = name_in command.local_tag command.remote_tag in
+    let serve = request_in_held event command.method command.body in
+    let done = requested_at name event command side.dialogs in
+    let leads = served_leads name serve (Refused NoSuchDialog)
+    (λ held. request_life command.method held.dialog)
+    (request_keeps event command.method command.body) side.dialogs apart in
+    same_then side.dialogs done.0 (bye_ended name command.method done.1 done.0).0
+    (subst (OweSame side.dialogs)
+    (sym (served_dialogs name serve (Refused NoSuchDialog) side.dialogs))
+    (changed_same name (λ held. (serve held).0) (request_kept event command.method command.body)
+    side.dialogs))
+    (bye_same name command.method done.1 done.0 leads.apart)
+
+-- ---- the commands Ack and Prack
+
+found_kind : (p : Debt → Bool) (debts : List Debt) (debt : Debt) → find p debts ≡ Some debt
+    → p debt ≡ true
+found_kind p [] debt is = absurd cc
+found_kind p (first ∷ debts) debt is =
+    by_first (p first) refl is (λ later. found_kind p debts debt later)
+  where
+    by_first : (b : Bool) → p first ≡ b → cond b (Some first) (find p debts) ≡ Some debt
+        → (find p debts ≡ Some debt → p debt ≡ true) → p debt ≡ true
+    by_first true passes is rest = let same : first ≡ debt = cc in ap p (sym same) ∙ passes
+    by_first false fails is rest = rest is
+
+module _ (event : Event) (command : DialogBody) (side : Side) where
+  abbrev asked_name : DialogName
+  asked_name = name_in command.local_tag command.remote_tag
+
+  -- the dialog where this is paid
+  abbrev paid_of : Debt → HeldDialog → HeldDialog
+  paid_of debt held = (paid event debt command.body held).0
+
+  -- in the dialog of each name
+  abbrev Pays : DebtKind → List CallOut → Dialogs → Type 0
+  Pays kind outs after = (name : DialogName)
+      → OwesStill (command_pays kind command name outs) (dialog_at name side.dialogs)
+      (dialog_at name after)
+
+  nothing_paid : (kind : DebtKind) (outs : List CallOut)
+      → ((name : DialogName) → goes_out kind name outs ≡ false) → Pays kind outs side.dialogs
+  nothing_paid kind outs none name =
+      let held = dialog_at name side.dialogs in
+      still_as unchanged (command_pays kind command name outs) held held
+      (λ debts. sym (ap (λ b. if is_named asked_name name && b then oldest_paid kind debts
+      else debts) (none name)
+      ∙ neither_way (is_named asked_name name) (oldest_paid kind debts) debts)) (still_same held)
+
+  refused_pays : (kind : DebtKind) (refusal : Refusal)
+      → Pays kind (refused event.id command.call_id refusal) side.dialogs
+  refused_pays kind.Ack refusal =
+      nothing_paid kind.Ack (refused event.id command.call_id refusal) (λ name. refl)
+  refused_pays kind.Prack refusal =
+      nothing_paid kind.Prack (refused event.id command.call_id refusal) (λ name. refl)
+
+  debt_paid : (kind : DebtKind) (debt : Debt) (held : HeldDialog) (outs : List CallOut)
+      → dialog_at asked_name side.dialogs ≡ Some held → find (is_of kind) held.owed ≡ Some debt
+      → ((name : DialogName) → is_named asked_name name ≡ true
+      → goes_out kind name outs ≡ goes (paid event debt command.body held).1)
+      → Pays kind outs (paid_at asked_name event debt command.body side.dialogs).0
+  debt_paid kind debt held outs at oldest goes_so name =
+      subst (λ after. OwesStill (command_pays kind command name outs)
+      (dialog_at name side.dialogs) (dialog_at name after))
+      (sym (served_dialogs asked_name (paid event debt command.body) Waits side.dialogs))
+      (subst (OwesStill (command_pays kind command name outs) (dialog_at name side.dialogs))
+      (sym (entries.found_changed name_laws asked_name name (paid_of debt) side.dialogs))
+      (by_name (is_named asked_name name) refl))
+    where
+      by_name : (b : Bool) → is_named asked_name name ≡ b
+          → OwesStill (command_pays kind command name outs) (dialog_at name side.dialogs)
+          (cond b (option_map (paid_of debt) (dialog_at name side.dialogs))
+          (dialog_at name side.dialogs))
+      by_name false is =
+          let there = dialog_at name side.dialogs in
+          still_as unchanged (command_pays kind command name outs) there there
+          (λ debts i. if sym is i && goes_out kind name outs then oldest_paid kind debts
+          else debts) (still_same there)
+      by_name true is =
+          let there : dialog_at name side.dialogs ≡ Some held =
+          entries.same_key name_laws asked_name name side.dialogs is ∙ at in
+          let less = paid_drops event debt command.body held in
+          let pays : (if goes (paid event debt command.body held).1 then all_but debt held.owed
+          else held.owed) ≡ command_pays kind command name outs held.owed =
+          sym (λ i. if is i && goes_so name is i
+          then option_map_or (λ debt. all_but debt held.owed) (oldest i) held.owed
+          else held.owed) in
+          subst (λ (o : Option HeldDialog). OwesStill (command_pays kind command name outs) o
+          (option_map (paid_of debt) o)) (sym there) (less.0, less.1 ∙ pays)
+
+  -- what becomes of it where the dialog is held
+  served_as : (debt : Debt) (held : HeldDialog) → dialog_at asked_name side.dialogs ≡ Some held
+      → (paid_at asked_name event debt command.body side.dialogs).1
+      ≡ (paid event debt command.body held).1
+  served_as debt held at =
+      ap (λ found. (served_in asked_name (paid event debt command.body) Waits side.dialogs found).1)
+      at
+
+  by_ack : (o : Option HeldDialog) → dialog_at asked_name side.dialogs ≡ o
+      → let taken = paid_or_refused event command (ack_paid event command asked_name)
+      (option_map_or (oldest_debt kind.Ack) o (Err NoSuchDialog)) side in
+      Pays kind.Ack taken.1 (taken.0).dialogs
+  by_ack None at = refused_pays kind.Ack NoSuchDialog
+  by_ack (Some held) at = by_oldest (find (is_of kind.Ack) held.owed) refl
+    where
+      by_oldest : (o : Option Debt) → find (is_of kind.Ack) held.owed ≡ o
+          → let taken = paid_or_refused event command (ack_paid event command asked_name)
+          (debt_or_refusal kind.Ack o) side in
+          Pays kind.Ack taken.1 (taken.0).dialogs
+      by_oldest None is = refused_pays kind.Ack NothingToAck
+      by_oldest (Some debt) is =
+          let service = (paid_at asked_name event debt command.body side.dialogs).1 in
+          debt_paid kind.Ack debt held (ack_said event command.call_id service).0 at is
+          (λ name same. ack_goes event command.call_id service
+          ∙ ap goes (served_as debt held at))
+
+  pub ack_pays : Pays kind.Ack (ack_by_user event command side).1
+      ((ack_by_user event command side).0).dialogs
+  ack_pays = by_ack (dialog_at asked_name side.dialogs) refl
+
+  module _ (named : AreNamed side.dialogs) where
+    prack_out : (debt : Debt) (held : HeldDialog) → dialog_at asked_name side.dialogs ≡ Some held
+        → is_of kind.Prack debt ≡ true → (name : DialogName) → is_named asked_name name ≡ true
+        → let done = paid_at asked_name event debt command.body side.dialogs in
+        let said = request_said event command.call_id asked_name done.1 in
+        goes_out kind.Prack name
+        (said.0 ++ (settled event event.id said.1 side.clients).1)
+        ≡ goes (paid event debt command.body held).1
+    prack_out (Ack invite number) held at is name same = absurd cc
+    prack_out (Prack rseq number) held at is name same =
+        let debt = Prack rseq number in
+        let service = (paid_at asked_name event debt command.body side.dialogs).1 in
+        let said = request_said event command.call_id asked_name service in
+        ap (list_any is_of_prack)
+        (after_silent name said.0 (settled event event.id said.1 side.clients).1
+        (request_said_none event command.call_id asked_name service)
+        ∙ said_sent name event event.id command.call_id asked_name service side.clients
+        ∙ ap (service_cseqs name) (served_as debt held at))
+        ∙ prack_pays name asked_name event held (named asked_name held at) same rseq number
+        command.body
+
+    by_prack : (o : Option HeldDialog) → dialog_at asked_name side.dialogs ≡ o
+        → let taken = paid_or_refused event command (prack_paid event command asked_name)
+        (option_map_or (oldest_debt kind.Prack) o (Err NoSuchDialog)) side in
+        Pays kind.Prack taken.1 (taken.0).dialogs
+    by_prack None at = refused_pays kind.Prack NoSuchDialog
+    by_prack (Some held) at = by_oldest (find (is_of kind.Prack) held.owed) refl
+      where
+        by_oldest : (o : Option Debt) → find (is_of kind.Prack) held.owed ≡ o
+            → let taken = paid_or_refused event command (prack_paid event command asked_name)
+            (debt_or_refusal kind.Prack o) side in
+            Pays kind.Prack taken.1 (taken.0).dialogs
+        by_oldest None is = refused_pays kind.Prack NothingToPrack
+        by_oldest (Some debt) is =
+            let done = paid_at asked_name event debt command.body side.dialogs in
+            let said = request_said event command.call_id asked_name done.1 in
+            debt_paid kind.Prack debt held
+            (said.0 ++ (settled event event.id said.1 side.clients).1) at is
+            (prack_out debt held at (found_kind (is_of kind.Prack) held.owed debt is))
+
+    pub prack_pays_off : Pays kind.Prack (prack_by_user event command side).1
+        ((prack_by_user event command side).0).dialogs
+    prack_pays_off = by_prack (dialog_at asked_name side.dialogs) refl

@@ -1,0 +1,5 @@
+use Rattle.sip_round.proofs.CallsHeld.{requests_have_their_stories}
+use Rattle.sip_round.proofs.laws.each_request_holds_its_history.Goals as goal
+
+pub returns : goal.returns
+returns c = requests_have_their_stories
