@@ -9,8 +9,8 @@ use std::alloc::Global;
 use std::marker::Model;
 use std::ptr;
 
-/// The owner of a boxed host, or of none, as C can hold it. To drop it frees nothing: `into_box` gives
-/// the box back.
+/// The owner of a boxed host, or of none, as C can hold it. To drop it frees nothing: `into_box`
+/// gives the box back.
 #[repr(C)]
 #[derive(Drop)]
 pub struct Owned {

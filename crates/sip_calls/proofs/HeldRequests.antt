@@ -107,7 +107,8 @@ same_sound ids before after sound same = record {
 }
 
 pub first_command : (calls : Calls) (id : Id) (now : ℕ) (command : UserCommand)
-    → [] ≡ requests_of (first_command_taken (new_call calls.local) (event_of calls id now) command).0
+    → [] ≡ requests_of (first_command_taken (new_call calls.local) (event_of calls id now)
+    command).0
 first_command calls id now (Invite invite) = refl
 first_command calls id now (PlainCommand plain) = refl
 first_command calls id now (Request request) = refl

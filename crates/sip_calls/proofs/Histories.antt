@@ -162,7 +162,8 @@ module _ (name : DialogName) (event : Option Id) (ids : List Id) (start : Option
       ∙ all_on opening [] life fits in
       subst (λ (b : Bool). Stands name (Some after) (next_history b start cseqs more history) ids)
       (sym born)
-      (subst (λ (o : Option Opening). Stands name (Some after) (option_map (begun_with cseqs) o) ids)
+      (subst (λ (o : Option Opening). Stands name (Some after) (option_map (begun_with cseqs) o)
+      ids)
       (sym opens.0) (
         same,
         opens.1,
@@ -217,7 +218,8 @@ pub record Sound (state : Option Call) (histories : DialogName → Option Histor
 pub are_named : (state : Option Call) (histories : DialogName → Option History) (ids : List Id)
     → AllStand state histories ids → AreNamed (side_held state).dialogs
 are_named state histories ids stand name held at =
-    named_so name (dialog_at name (side_held state).dialogs) (histories name) ids (stand name) held at
+    named_so name (dialog_at name (side_held state).dialogs) (histories name) ids (stand name) held
+    at
 
 -- after one input
 pub next_sound : (calls : Calls) (input : Timed CallItem) (inputs : List (Timed CallItem))

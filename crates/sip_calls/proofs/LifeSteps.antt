@@ -1,4 +1,5 @@
--- Each input of a call: what happens in the dialog of each name, which stays, is over or is made anew.
+-- Each input of a call: what happens in the dialog of each name, which stays, is over or is made
+-- anew.
 use Rattle.std.proofs.Common.{◌≡◌, ℕ, Bool, true, false, not, List, [], ◌++◌, refl, sym, ap, subst, ◌∙◌, append-nil}
 use Rattle.std.specs.Prelude.{Option, None, Some}
 use Rattle.sip_message.specs.declared.id.Id.{Id}
@@ -70,7 +71,8 @@ without_outs event start brought call taken none moves = (
       (λ name held at. sym (ap (λ xs. brought name held ++ xs) (none_sent name taken.1 none)
       ∙ append-nil (brought name held)))
       (λ name. sym (none_sent name taken.1 none)) moves,
-  λ name. numbered_silent (number_before start (dialog_at name (dialogs_of call))) name taken.1 none,
+  λ name. numbered_silent (number_before start (dialog_at name (dialogs_of call))) name taken.1
+      none,
 )
 
 -- ---- what comes up
@@ -173,7 +175,8 @@ tick_step call now apart =
 none_held : (event : Option Id) (lives : Lives) (outs : List CallOut)
     → MovesTo event None lives outs [] []
 none_held event lives outs =
-    led event lives outs [] [] record { apart = none_apart is_named; stays = λ name. tt } (λ name. tt)
+    led event lives outs [] [] record { apart = none_apart is_named; stays = λ name. tt }
+    (λ name. tt)
 
 no_opening : (local : Calls) (id : Id) (k : Kind)
     → opening_by_kind (new_call local.local) id k ≡ None

@@ -1,5 +1,5 @@
--- What is read of a held request over all inputs of a call is what the outputs said of it, where it is
--- so of one item of the server side.
+-- What is read of a held request over all inputs of a call is what the outputs said of it, where it
+-- is so of one item of the server side.
 use Rattle.std.proofs.Common.{◌≡◌, ℕ, Bool, true, false, List, [], ◌∷◌, ◌++◌, map, refl, sym, ap, subst, ◌∙◌}
 use Rattle.std.specs.Prelude.{Option, None, Some, IfSome, filter, filter_map, find, fold, is_some, if◌then◌else◌}
 use Rattle.std.specs.List.{IsDistinct, cons_option, flat_map}
@@ -186,7 +186,8 @@ module _ {X : Type 0} (none : X) (read : HeldRequest → X) (by : Id → X → C
               up.call_id ack);
         }
     up_step id now up (kind.Response response) ids differ sound =
-        untouched ids (up_taken call (event_of calls id now) up (kind.Response response)).0 sound refl
+        untouched ids (up_taken call (event_of calls id now) up (kind.Response response)).0 sound
+        refl
     up_step id now up kind.Timeout ids differ sound =
         untouched ids (up_taken call (event_of calls id now) up kind.Timeout).0 sound refl
     up_step id now up kind.Failed ids differ sound =

@@ -40,7 +40,8 @@ answered_told event held respond response dialogs =
     by_bool (makes_dialog held respond.status) (λ makes. rw makes refl)
     (λ no. rw no (by_bool (confirms_dialog held respond.status) (λ confirms. rw confirms refl)
     (λ no. rw no (by_bool (rejects held respond.status)
-    (λ rejected. rw rejected (ends_told (filter (is_early_of held.id) (values_of dialogs)))) (λ no. rw no refl)))))
+    (λ rejected. rw rejected (ends_told (filter (is_early_of held.id) (values_of dialogs))))
+    (λ no. rw no refl)))))
 
 respond_alone : (state : State) (event : Id) (respond : ARespond) (now : ℕ)
     → IsRefusedAlone state respond.call_id event (respond_taken state event respond now)

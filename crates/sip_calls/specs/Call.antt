@@ -65,7 +65,8 @@ tag_of_answers event request = local_tag_of request (name_of event.seed event.id
 -- that a transaction is lost is told, and then what ends with its request ends
 abbrev pub lost_taken : Call → Id → ANotice → Bool → CallTaken
 lost_taken call id notice timed_out =
-    one_after_other (call, Notice notice ∷ []) (λ call. by_clients call (request_lost id timed_out (side_of call)))
+    one_after_other (call, Notice notice ∷ []) (λ call. by_clients call
+    (request_lost id timed_out (side_of call)))
 
 -- what comes up from a transaction: a request and an ACK go to the server side, the others to the
 -- client side
@@ -92,8 +93,10 @@ first_command_taken call event (Invite invite) =
     with_clients call (invite_taken event invite call.clients)
 first_command_taken call event (Plain plain) =
     with_clients call (plain_taken event plain call.clients)
-first_command_taken call event (Request request) = (call, refused event.id request.call_id NoSuchCall)
-first_command_taken call event (Respond respond) = (call, refused event.id respond.call_id NoSuchCall)
+first_command_taken call event (Request request) =
+    (call, refused event.id request.call_id NoSuchCall)
+first_command_taken call event (Respond respond) =
+    (call, refused event.id respond.call_id NoSuchCall)
 first_command_taken call event (Ack ack) = (call, refused event.id ack.call_id NoSuchCall)
 first_command_taken call event (Prack prack) = (call, refused event.id prack.call_id NoSuchCall)
 first_command_taken call event (Cancel cancel) = (call, refused event.id cancel.call_id NoSuchCall)

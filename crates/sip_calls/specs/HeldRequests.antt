@@ -70,7 +70,8 @@ module _ {X : Type 0} (by : X → CallOut → X) (none : X) (calls : Calls) (inv
   -- by the next input; nothing is said yet of a request that isn't held
   abbrev pub read_next : Option Call → X → Timed CallItem → X
   read_next call x timed =
-      read_in by timed.input (if is_some (find (has_id invite) (requests_held call)) then x else none)
+      read_in by timed.input (if is_some (find (has_id invite) (requests_held call)) then x else
+      none)
       (call_step calls call timed.input timed.moment).1
 
   -- by a list of inputs

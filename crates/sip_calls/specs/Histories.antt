@@ -1,5 +1,5 @@
--- The history of the dialog of a name over all inputs of a call: how it opened, and what happened in
--- it since (RFC 3261, section 12).
+-- The history of the dialog of a name over all inputs of a call: how it opened, and what happened
+-- in it since (RFC 3261, section 12).
 use Rattle.std.specs.Prelude.{◌≡◌, ◌+◌, Bool, true, false, List, [], ◌∷◌, ◌++◌, Option, None, Some, filter_map, fold, length, if◌then◌else◌}
 use Rattle.std.specs.Option.{option_map, option_map_or}
 use Rattle.sip_model.specs.Machine.{Timed}

@@ -59,7 +59,8 @@ module _ (calls : Calls) (invite : AnInvite) (life : DialogLife) where
   abbrev pub shown_from : Option Call → List (Timed CallItem) → List ℕ
   shown_from call [] = []
   shown_from call (input ∷ inputs) =
-      told_of (number_in_life call input) (done call input).1 ++ shown_from (done call input).0 inputs
+      told_of (number_in_life call input) (done call input).1
+      ++ shown_from (done call input).0 inputs
 
   -- over all inputs of a call, of which nothing was held before
   abbrev pub came : List (Timed CallItem) → List ℕ

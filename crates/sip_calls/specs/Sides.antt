@@ -50,4 +50,5 @@ ticked call now =
 
 -- the first moment at which something is due
 abbrev pub next_due : Call → Option ℕ
-next_due call = earlier (served.next_server_due (call.served).state) (clients.next_removal call.clients)
+next_due call =
+    earlier (served.next_server_due (call.served).state) (clients.next_removal call.clients)

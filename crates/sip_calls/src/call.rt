@@ -144,7 +144,8 @@ impl Call {
         timed_out: bool,
     ) -> Result<Vec<CallOut>, AllocError>
         ensures { IfOk result (λ outs. (self.new, outs.items)
-            ≡ spec.by_clients self.old (clients.request_lost id timed_out (spec.side_of self.old))) }
+            ≡ spec.by_clients self.old (clients.request_lost id timed_out
+            (spec.side_of self.old))) }
     {
         self.clients
             .fail_request(self.served.dialogs(), id, timed_out)

@@ -40,13 +40,13 @@ pub fn each_request_is_told_once()
     ensures { EachToldOnce }
 {}
 
-/// Whatever comes to a call, by events that differ: each dialog that is held, at either side, is what
-/// its opening and all that happened in it since make. It opened by a message at one of the inputs;
-/// since then requests of the peer were accepted in it, responses and answers confirmed it or gave
-/// it another target, and requests of the agent went out in it. So its local CSeq is that of its
-/// opening and one more for each request that went out in it, and each of these had the number after
-/// the one before it; its remote CSeq is the greatest that was accepted, and its routes and its
-/// target are those that came last (RFC 3261, section 12).
+/// Whatever comes to a call, by events that differ: each dialog that is held, at either side, is
+/// what its opening and all that happened in it since make. It opened by a message at one of the
+/// inputs; since then requests of the peer were accepted in it, responses and answers confirmed it
+/// or gave it another target, and requests of the agent went out in it. So its local CSeq is that
+/// of its opening and one more for each request that went out in it, and each of these had the
+/// number after the one before it; its remote CSeq is the greatest that was accepted, and its
+/// routes and its target are those that came last (RFC 3261, section 12).
 pub fn a_dialog_holds_its_history()
     ensures history { HoldsItsHistory }
     ensures name { HasItsName }
@@ -58,11 +58,11 @@ pub fn a_dialog_holds_its_history()
 {}
 
 /// Whatever comes to a call: each request of the peer that is held is what its story says, which
-/// begins as it came up. Since then answers went out, its PRACKs or the ACK of its 2xx came, a CANCEL
-/// ended it, or time went on. So its 2xx goes out again after T1, twice that and so on up to T2, and
-/// 64*T1 after its final response it is removed (RFC 3261, section 13.3.1.4). Of its reliable
-/// provisional responses at most 8 have no PRACK after them, and none but the first until it has
-/// one (RFC 3262, section 3).
+/// begins as it came up. Since then answers went out, its PRACKs or the ACK of its 2xx came, a
+/// CANCEL ended it, or time went on. So its 2xx goes out again after T1, twice that and so on up to
+/// T2, and 64*T1 after its final response it is removed (RFC 3261, section 13.3.1.4). Of its
+/// reliable provisional responses at most 8 have no PRACK after them, and none but the first until
+/// it has one (RFC 3262, section 3).
 pub fn a_request_holds_its_history()
     ensures history { HoldsItsStories }
     ensures few { FewUnacknowledged }
@@ -92,10 +92,10 @@ pub fn a_dialog_owes_as_told()
 {}
 
 /// Whatever comes to a call, where no id of a request comes up twice: of the reliable provisional
-/// responses to a held INVITE, those await their PRACK that went out with an RSeq and of whose PRACK
-/// the user wasn't told since. These are kept, and a PRACK of these alone gets a 200. They are sent
-/// again until a final response goes out or the user is told that no PRACK came (RFC 3262, section
-/// 3).
+/// responses to a held INVITE, those await their PRACK that went out with an RSeq and of whose
+/// PRACK the user wasn't told since. These are kept, and a PRACK of these alone gets a 200. They
+/// are sent again until a final response goes out or the user is told that no PRACK came (RFC 3262,
+/// section 3).
 pub fn a_response_awaits_its_prack_as_told()
     ensures kept { KeptAsTold }
     ensures awaited { AwaitedAsTold }

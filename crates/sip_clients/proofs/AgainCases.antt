@@ -158,7 +158,8 @@ pub lives_owed : (life own : DialogLife) (number : ℕ) (client : Client) (dialo
     (answer : Answer) (found : Option HeldDialog) → dialog_at answer.name dialogs ≡ found
     → is_there (Again own) found ≡ true
     → lives (insert_entry is_named dialogs answer.name
-    (prack_owed number (again own client) (dialog_for_provisional (again own client) answer found) answer).0) life
+    (prack_owed number (again own client) (dialog_for_provisional (again own client) answer found)
+    answer).0) life
     ≡ lives dialogs life
 unfolding prack_owed
 lives_owed life own number client dialogs answer None is there = absurd cc

@@ -237,7 +237,8 @@ module _ (life : DialogLife) (invite : Id) (event : Option Id) where
         (made ∙ ap (λ x. Some x) (id_exact id invite same)) none);
   }
 
-  pub keeps_settled : (of : Event) (id : Id) (change : ClientChange) → event ≡ Some of.id → StartsUnheard change
+  pub keeps_settled : (of : Event) (id : Id) (change : ClientChange) → event ≡ Some of.id
+      → StartsUnheard change
       → (clients : Clients) → AreApart clients → Keeps clients (settled of id change clients).0
   keeps_settled of id Stays made unheard clients apart = keeps_same clients apart
   keeps_settled of id Over made unheard clients apart = keeps_removed id clients apart

@@ -250,7 +250,8 @@ module _ (life : DialogLife) (invite : Id) (event : Option Id) (answer : Answer)
         finish_heard after (left found is) done.1 done.3
         (change_unheard (reply.Reliable number) now held answer)
         (done.2 ++ (settled answer.event answer.id done.3 after).1) number client.heard
-        (lives_owed life own number (noting found is client) side.dialogs answer held refl there ∙ alive) was
+        (lives_owed life own number (noting found is client) side.dialogs answer held refl there
+        ∙ alive) was
         (heard ∙ (λ i. if ours i then Some
         (latest_after (offered client.heard number) client.heard number) else None))
         (told_once number answer answer.id

@@ -1,5 +1,5 @@
--- The steps of the client side: what happens in the dialog of each name is what the response does in
--- it and what goes out in it.
+-- The steps of the client side: what happens in the dialog of each name is what the response does
+-- in it and what goes out in it.
 use Rattle.std.proofs.Common.{◌≡◌, ℕ, Bool, true, false, cond, List, [], ◌∷◌, ◌++◌, refl, sym, ap, subst, ◌∙◌}
 use Rattle.std.specs.Prelude.{Option, None, Some, Result, Ok, Err, find}
 use Rattle.std.specs.Map.{set_value}
@@ -163,7 +163,8 @@ module _ (event : Event) (side : Side) (apart : AreApart side.dialogs)
   cancel_by (asked.Refused refusal) command invite name = refl
   cancel_by asked.Repeated command invite name = refl
   cancel_by asked.Waits command invite name = refl
-  cancel_by asked.Starts command invite name = sym (beside_sent name (Some event.id) invite (side.clients, []))
+  cancel_by asked.Starts command invite name =
+      sym (beside_sent name (Some event.id) invite (side.clients, []))
 
   cancel_found : (o : Option Client) (command : Cancel) (name : DialogName)
       → [] ≡ cseqs_in name (cancelled_of o event command side.clients).1
@@ -189,7 +190,8 @@ module _ (event : Event) (id : Id) (call_id : List ℕ) (response : Message) (si
       × Moves (Some event.id) (option_map (λ client. ByResponse client.request response) o) came
       (λ name held. brings_by status o name held ++ sent_in name taken.1)
       (λ name. sent_in name taken.1) side.dialogs (taken.0).dialogs
-      × AreNumbered (option_map (λ client. ByResponse client.request response) o) side.dialogs taken.1
+      × AreNumbered (option_map (λ client. ByResponse client.request response) o) side.dialogs
+      taken.1
 
   unchanged : (start : Option Opening) → (came : DialogName → Option ℕ)
       × Moves (Some event.id) start came quiet (λ name. []) side.dialogs side.dialogs
@@ -216,7 +218,8 @@ module _ (event : Event) (id : Id) (call_id : List ℕ) (response : Message) (si
       let taken = reply_settled answer client side in
       let so = replied_so event id call_id response status client side.dialogs apart named in
       let same : (name : DialogName) → change_cseqs name done.3 ≡ cseqs_in name taken.1 =
-      λ name. sym (beside_sent name (freed_by final client.cancel) client (after.0, done.2 ++ after.1)
+      λ name. sym (beside_sent name (freed_by final client.cancel) client
+      (after.0, done.2 ++ after.1)
       ∙ after_silent name done.2 after.1 (replies with_note side.dialogs answer).silent
       ∙ settled_cseqs name event id done.3 clients) in (
         so.0,

@@ -59,7 +59,8 @@ module _ (event : Event) where
   pub invite_fits : (command : Invite) (clients : Clients)
       → OwnOf clients (invite_taken event command clients)
   invite_fits command clients =
-      started_fits (client_for event.id First (invite_of event command) command.address) clients refl
+      started_fits (client_for event.id First (invite_of event command) command.address) clients
+      refl
 
   plain_by : (b : Bool) (client : Client) (clients : Clients) (refused : List CallOut)
       → starts refused ≡ [] → client.cancel ≡ cancel.NotAsked

@@ -114,7 +114,8 @@ module _ (event : Option Id) (life : DialogLife) (client : Client) (answer : Ans
   -- it isn't heard
   goes_unheard : (client : Client) (done : Replied) (clients : Clients)
       → AreApart done.1 → (lived : Life) (begun : List Happening)
-      → Goes event (OpensBy (Some (start event client answer made)) life.name) None lived begun before
+      → Goes event (OpensBy (Some (start event client answer made)) life.name) None lived begun
+      before
       (dialog_at life.name done.1)
       → Result client None done clients
   goes_unheard client done clients apart lived begun goes = (
@@ -173,7 +174,8 @@ module _ (event : Option Id) (life : DialogLife) (client : Client) (answer : Ans
         taken_so event life number Opens lived begun before (dialog_at life.name done.1)
             (lives done.1 life) (given answer done clients) refl here is
             (told_once number answer answer.id
-            (prack_owed number (first client) (dialog_for_provisional (first client) answer found) answer).1
+            (prack_owed number (first client) (dialog_for_provisional (first client) answer found)
+            answer).1
             clients),
       )
   by_offer number Repeat clients own named is = (

@@ -187,7 +187,8 @@ all_over_ask : (now : ℕ) (dialogs : Dialogs) (clients : List Client)
     → shown (flat_map (early_ends_told now dialogs) clients) ≡ []
 all_over_ask now dialogs [] = refl
 all_over_ask now dialogs (client ∷ clients) =
-    none_of_both (early_ends_told now dialogs client) (flat_map (early_ends_told now dialogs) clients)
+    none_of_both (early_ends_told now dialogs client)
+    (flat_map (early_ends_told now dialogs) clients)
     (over_asks now dialogs client (is_over now client)) (all_over_ask now dialogs clients)
 
 pub tick_asks : (side : Side) (now : ℕ) → shown (clients_ticked side now).1 ≡ []

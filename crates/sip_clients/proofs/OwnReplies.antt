@@ -90,7 +90,8 @@ module _ (call_id : List ℕ) where
   started_own event client clients its own =
       (each_inserted (IsRequestOf call_id) is_id event.id client its clients own, (tt, tt))
 
-  pub settled_own : (event : Event) (id : Id) (change : ClientChange) (clients : Clients) → IsChangeOf change
+  pub settled_own : (event : Event) (id : Id) (change : ClientChange) (clients : Clients)
+      → IsChangeOf change
       → AreClientsOf call_id clients → AreSettledOf (settled event id change clients)
   settled_own event id Stays clients its own = (own, tt)
   settled_own event id Over clients its own =
@@ -276,7 +277,8 @@ response_own event id call_id response side own =
     found_own call_id event id response (status_of response.start) (client_at id side.clients)
     side (client_own call_id id side.clients own.clients) own
 
-pub lost_own : (call_id : List ℕ) (id : Id) (timed_out : Bool) → KeepsTo call_id (request_lost id timed_out)
+pub lost_own : (call_id : List ℕ) (id : Id) (timed_out : Bool)
+    → KeepsTo call_id (request_lost id timed_out)
 lost_own call_id id timed_out side own =
     lost_one_own call_id id timed_out (client_at id side.clients) side own
 

@@ -54,7 +54,8 @@ silent now dialogs (client ∷ clients) calm =
     silent_step (is_over now client) (early_ended client.id dialogs).1
     (flat_map (early_ends_told now dialogs) clients) parts.0 (silent now dialogs clients parts.1)
 
-kept_step : {X : Type 0} (dropped : Bool) (x : X) (xs change : List X) → dropped ≡ false → change ≡ xs
+kept_step : {X : Type 0} (dropped : Bool) (x : X) (xs change : List X) → dropped ≡ false → change
+    ≡ xs
     → cond (not dropped) (x ∷ change) change ≡ x ∷ xs
 kept_step true x xs change e same = absurd cc
 kept_step false x xs change e same = ap (λ ys. x ∷ ys) same

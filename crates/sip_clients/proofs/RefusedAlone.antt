@@ -71,7 +71,8 @@ requested_same : (event : Event) (method : List ℕ) (rack : Option RAck) (body 
 requested_same event method rack body held refusal e = by_fault _ _ e
   where
     by_fault : (fault : Option DialogFault) (sending : Sending)
-        → service_by fault sending ≡ Refused refusal → lived (happens_by_sending method fault) held ≡ held
+        → service_by fault sending ≡ Refused refusal → lived (happens_by_sending method fault) held
+        ≡ held
     by_fault None sending is = absurd cc
     by_fault (Some fault) sending is = refl
 
@@ -234,7 +235,8 @@ module _ (event : Event) (side : Side) where
       (paid_at name event owed command.body side.dialogs).1 (paid_same name owed command.body))
       _
 
-  pub prack_alone : (command : DialogBody) → Lonely command.call_id (prack_by_user event command side)
+  pub prack_alone : (command : DialogBody) → Lonely command.call_id
+      (prack_by_user event command side)
   prack_alone command =
       let name = name_in command.local_tag command.remote_tag in
       paid_alone command (prack_paid event command name)
@@ -269,5 +271,8 @@ module _ (event : Event) (side : Side) where
 
   pub cancel_alone : (command : Cancel) → Lonely command.call_id (cancel_by_user event command side)
   cancel_alone command some =
-      let alone = cancel_found command (client_at command.id side.clients) some in
-      (alone.0, ap (λ (after : Clients × List CallOut). (record side { clients = after.0 }, after.1)) alone.1)
+      let alone = cancel_found command (client_at command.id side.clients) some in (
+        alone.0,
+        ap (λ (after : Clients × List CallOut).
+            (record side { clients = after.0 }, after.1)) alone.1,
+      )

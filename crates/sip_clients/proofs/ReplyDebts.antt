@@ -131,7 +131,8 @@ module _ (event : Event) (id : Id) (call_id : List ℕ) (response : Message) (st
         inl (adds.0 ∙ kept.0, adds.1 ∙ ap (λ debts. debts ++ left) kept.1)
 
     abbrev early_here : (o : Option HeldDialog)
-        → Owes (Some event.id) (λ debts. debts ++ []) o (Some (dialog_for_provisional client answer o))
+        → Owes (Some event.id) (λ debts. debts ++ []) o
+        (Some (dialog_for_provisional client answer o))
     early_here None = inr (refl, refl)
     early_here (Some held) = inl (refl, sym (append-nil held.owed))
 
@@ -194,7 +195,8 @@ module _ (event : Event) (id : Id) (call_id : List ℕ) (response : Message) (st
 
     opened_named : (rseq : ℕ) (o : Option HeldDialog) → found ≡ o → IsNamedSo client answer found
         → is_named own
-        (name_of_dialog (heard_first client.kind rseq (dialog_for_provisional client answer o)).dialog) ≡ true
+        (name_of_dialog (heard_first client.kind rseq (dialog_for_provisional client answer
+        o)).dialog) ≡ true
     opened_named rseq None is so =
         ap (λ dialog. is_named own (name_of_dialog dialog))
         (heard_dialog client.kind rseq (dialog_by_response client answer)) ∙ so is

@@ -1,5 +1,5 @@
--- What a response makes happen in the dialog of each name, which stays, is over or is made anew, and
--- what is heard in it of the reliable provisional responses to the first INVITE.
+-- What a response makes happen in the dialog of each name, which stays, is over or is made anew,
+-- and what is heard in it of the reliable provisional responses to the first INVITE.
 use Rattle.std.proofs.Common.{◌≡◌, inl, inr, ℕ, Bool, true, false, ◌&&◌, cond, List, [], refl, sym, ap, subst, ◌∙◌}
 use Rattle.std.specs.Prelude.{Option, None, Some, if◌then◌else◌}
 use Rattle.indexmap.specs.IndexMap.{insert_entry}
@@ -196,7 +196,8 @@ module _ (event : Option Id) (client : Client) (answer : Answer)
           (success_keeps client.kind answer.response held) (keeps before))
 
   -- a reliable provisional response
-  owed_goes : (number : ℕ) (found : Option HeldDialog) → IsNamedSo client answer found → (other : DialogName)
+  owed_goes : (number : ℕ) (found : Option HeldDialog) → IsNamedSo client answer found
+      → (other : DialogName)
       → is_named answer.name other ≡ true
       → Goes event (OpensBy (Some start) other) None (case_life (reply.Reliable number))
       (case_begun (reply.Reliable number) found) found
@@ -215,12 +216,14 @@ module _ (event : Option Id) (client : Client) (answer : Answer)
       inl (owed_keeps answer.event (Prack number ((client.request).cseq).number)
       (offer_to client answer.response) held)
 
-  heard_goes : (number : ℕ) (found : Option HeldDialog) → IsNamedSo client answer found → (other : DialogName)
+  heard_goes : (number : ℕ) (found : Option HeldDialog) → IsNamedSo client answer found
+      → (other : DialogName)
       → is_named answer.name other ≡ true
       → Goes event (OpensBy (Some start) other) (Some number) (case_life (reply.Reliable number))
       (case_begun (reply.Reliable number) found) found
       (Some (owed answer.event (Prack number ((client.request).cseq).number)
-      (offer_to client answer.response) (hearing number (dialog_for_provisional client answer found))).0)
+      (offer_to client answer.response) (hearing number
+      (dialog_for_provisional client answer found))).0)
   heard_goes number None named other same =
       let kept = owed_keeps answer.event (Prack number ((client.request).cseq).number)
       (offer_to client answer.response) (hearing number (dialog_by_response client answer)) in
@@ -234,7 +237,8 @@ module _ (event : Option Id) (client : Client) (answer : Answer)
       inl (owed_keeps answer.event (Prack number ((client.request).cseq).number)
       (offer_to client answer.response) (hearing number held))
 
-  prack_goes : (kind : RequestKind) (number : ℕ) (found : Option HeldDialog) → IsNamedSo client answer found
+  prack_goes : (kind : RequestKind) (number : ℕ) (found : Option HeldDialog)
+      → IsNamedSo client answer found
       → (other : DialogName) → is_named answer.name other ≡ true
       → Goes event (OpensBy (Some start) other) (heard_number (reply.Reliable number) kind true)
       (case_life (reply.Reliable number)) (case_begun (reply.Reliable number) found) found

@@ -141,7 +141,8 @@ module _ (event : Event) (id : Id) (call_id : List ℕ) (response : Message) (st
     case_cseqs reply.Told o = []
 
     begun_made : (case : ReplyCase)
-        → requests_made (case_cseqs case found) ≡ case_begun (Some event.id) client answer refl case found
+        → requests_made (case_cseqs case found) ≡ case_begun (Some event.id) client answer refl case
+        found
     begun_made reply.Repeated = refl
     begun_made reply.Accepted = refl
     begun_made reply.Late = refl
@@ -228,7 +229,8 @@ module _ (event : Event) (id : Id) (call_id : List ℕ) (response : Message) (st
         (dialog_for_provisional client answer found).dialog) []
     prack_same number name held at false is = refl
     prack_same number name held at true is =
-        ap (λ o. prack_life (Some event.id) client answer refl number (dialog_for_provisional client answer o).dialog)
+        ap (λ o. prack_life (Some event.id) client answer refl number
+        (dialog_for_provisional client answer o).dialog)
         (sym (sym (entries.same_key name_laws own name dialogs is) ∙ at))
 
     lives : (case : ReplyCase) → Named case → (name : DialogName) (held : HeldDialog)
@@ -241,7 +243,8 @@ module _ (event : Event) (id : Id) (call_id : List ℕ) (response : Message) (st
     lives (reply.Reliable number) so name held at =
         prack_same number name held at (is_named own name) refl
         ∙ sym (changes (reply.Reliable number) so name)
-        ∙ ap (λ xs. xs ++ change_sent name (by_reply_case (reply.Reliable number) client found answer).3)
+        ∙ ap (λ xs. xs ++ change_sent name (by_reply_case (reply.Reliable number) client found
+        answer).3)
         (sym (none_either (is_named own name)))
     lives reply.Passed so name held at = sym (append-nil (brings reply.Passed name held))
     lives reply.Early so name held at = sym (append-nil (brings reply.Early name held))
@@ -280,7 +283,8 @@ module _ (event : Event) (id : Id) (call_id : List ℕ) (response : Message) (st
       where
         by_kind : (kind : RequestKind) (named success first there : Bool)
             → (is_final status && not (is_inviting kind && success)) ≡ true
-            → (if named && (success && first) && there then success_brings kind response held else [])
+            → (if named && (success && first) && there then success_brings kind response held else
+            [])
             ≡ []
         by_kind kind true false first there last = refl
         by_kind kind false success first there last = refl

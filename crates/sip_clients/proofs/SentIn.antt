@@ -197,7 +197,8 @@ module _ (name own : DialogName) (event : Event) (held : HeldDialog)
   request_sent_in method body =
       by_refusal method body (first_refusal (request_refusals held.dialog method) None)
       (λ none. number_of_user (bytes_eq method (codes "ACK")) (bytes_eq method (codes "CANCEL"))
-      (bytes_eq method (codes "PRACK")) (own_refused (is_own_kind method) (drop 1 (request_refusals held.dialog method))
+      (bytes_eq method (codes "PRACK")) (own_refused (is_own_kind method)
+      (drop 1 (request_refusals held.dialog method))
       none))
 
 -- ---- what is given
@@ -208,7 +209,8 @@ pub served_sent : (own : DialogName) (serve : HeldDialog → Outcome) (otherwise
     → ((held : HeldDialog) → dialog_at own dialogs ≡ Some held
     → service_cseqs name (serve held).1 ≡ cond (is_named own name) (cseqs held) [])
     → service_cseqs name otherwise ≡ [] → (held : HeldDialog) → dialog_at name dialogs ≡ Some held
-    → cond (is_named own name) (cseqs held) [] ≡ service_cseqs name (served_at own serve otherwise dialogs).1
+    → cond (is_named own name) (cseqs held) [] ≡ service_cseqs name
+    (served_at own serve otherwise dialogs).1
 served_sent own serve otherwise cseqs dialogs name sends none held at =
     by_name (is_named own name) refl
   where

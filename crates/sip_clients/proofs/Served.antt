@@ -99,7 +99,8 @@ module _ (event : Event) (method body : List ℕ) (held : HeldDialog) where
   is_bad = is_own_kind method
       || (is_early (held.dialog).state && is_bad_early (held.dialog).side method)
 
-  pub bad_request : is_bad ≡ true → request_in_held event method body held ≡ (held, Refused BadMethod)
+  pub bad_request : is_bad ≡ true → request_in_held event method body held
+      ≡ (held, Refused BadMethod)
   unfolding request_in_held
   bad_request is =
       ap (λ refusal. sent_unless refusal (sending_in event method None body held) held)

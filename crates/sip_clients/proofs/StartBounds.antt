@@ -163,7 +163,8 @@ pub at_most_same : (clients : Clients) (id : Id)
 at_most_same clients id = omega arith
 
 -- a request that is just sent waits for no CANCEL
-with_fewer : (id : Id) (client : Client) → client.cancel ≡ cancel.NotAsked → (clients : Clients) (of : Id)
+with_fewer : (id : Id) (client : Client) → client.cancel ≡ cancel.NotAsked
+    → (clients : Clients) (of : Id)
     → how_many of (waiting (with_client id client clients)) ≤ how_many of (waiting clients)
 with_fewer id client fresh clients of =
     no_weight (how_many of (waiting (with_client id client clients)))
@@ -190,7 +191,8 @@ and_one allowed started id client branch method clients fresh within = record {
       (with_fewer id client fresh clients of));
 }
 
-pub started_within : (event : Event) (client : Client) (clients : Clients) → client.cancel ≡ cancel.NotAsked
+pub started_within : (event : Event) (client : Client) (clients : Clients) → client.cancel
+    ≡ cancel.NotAsked
     → Within (λ id. weight (is_id id) (Some event.id) + how_many id (waiting clients))
     (starts (start_command event client ∷ [])) (with_client event.id client clients)
 unfolding start_command
@@ -204,7 +206,8 @@ StartsFresh Stays = Unit {0}
 StartsFresh Over = Unit {0}
 StartsFresh (Starts client) = client.cancel ≡ cancel.NotAsked
 
-pub settled_within : (event : Event) (id : Id) (change : ClientChange) (clients : Clients) → StartsFresh change
+pub settled_within : (event : Event) (id : Id) (change : ClientChange) (clients : Clients)
+    → StartsFresh change
     → Within (λ of. weight (is_id of) (Some event.id) + how_many of (waiting clients))
     (starts (settled event id change clients).1) (settled event id change clients).0
 settled_within event id Stays clients fresh =

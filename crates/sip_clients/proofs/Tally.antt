@@ -76,7 +76,8 @@ module _ {K X Y : Type 0} (f : X → Option Y) (p : Y → Bool) where
       same : Some e.1 ≡ Some x → of_value f p x ≡ of_value f p e.1
       same is = ap (λ o. option_map_or (of_value f p) o 0) (sym is)
   set_step false e es set x y found is later =
-      other_later (of_value f p x) (of_value f p y) (of_value f p e.1) (tally es) (tally set) (tally (e ∷ es))
+      other_later (of_value f p x) (of_value f p y) (of_value f p e.1) (tally es) (tally set)
+      (tally (e ∷ es))
       (tally (e ∷ set)) (more e.0 e.1 es) (more e.0 e.1 set) (later is)
 
   pub tally_set : (test : K → Bool) (es : List (K × X)) (x y : X) → lookup test es ≡ Some x
@@ -106,7 +107,8 @@ module _ {K X Y : Type 0} (f : X → Option Y) (p : Y → Bool) where
       → tally put ≤ tally es + of_value f p v
       → tally (cond b ((e.0, v) ∷ es) (e ∷ put)) ≤ tally (e ∷ es) + of_value f p v
   insert_step true e es put v later =
-      put_here (of_value f p e.1) (of_value f p v) (tally es) (tally (e ∷ es)) (tally ((e.0, v) ∷ es))
+      put_here (of_value f p e.1) (of_value f p v) (tally es) (tally (e ∷ es))
+      (tally ((e.0, v) ∷ es))
       (more e.0 e.1 es) (more e.0 v es)
   insert_step false e es put v later =
       put_later (of_value f p v) (of_value f p e.1) (tally es) (tally put) (tally (e ∷ es))
@@ -120,7 +122,8 @@ module _ {K X Y : Type 0} (f : X → Option Y) (p : Y → Bool) where
 
   -- ---- some are left out
 
-  pub tally_removed : (test : K → Bool) (es : List (K × X)) → tally (remove_entry test es) ≤ tally es
+  pub tally_removed : (test : K → Bool) (es : List (K × X))
+      → tally (remove_entry test es) ≤ tally es
   tally_removed test [] = omega arith
   tally_removed test (e ∷ es) =
       elim (test e.0) as (λ b. tally (cond b es (e ∷ remove_entry test es)) ≤ tally (e ∷ es)) [

@@ -97,7 +97,8 @@ reply_of event id call_id name status response = record {
 }
 
 -- a response to the request that is held, or to none
-abbrev pub found_taken : Event → Id → List ℕ → Message → Option ℕ → Option Client → Side → ClientTaken
+abbrev pub found_taken : Event → Id → List ℕ → Message → Option ℕ → Option Client → Side
+    → ClientTaken
 found_taken event id call_id response None client side = nothing_done side
 found_taken event id call_id response (Some status) None side = nothing_done side
 found_taken event id call_id response (Some status) (Some client) side =
@@ -179,7 +180,8 @@ prack_paid event command name debt side =
     (record { dialogs = told.0; clients = after.0 }, told.1 ++ after.1)
 
 -- where nothing is owed the command is refused
-abbrev pub paid_or_refused : Event → DialogBody → (Debt → Side → ClientTaken) → Result Debt Refusal → Side
+abbrev pub paid_or_refused : Event → DialogBody → (Debt → Side → ClientTaken) → Result Debt Refusal
+    → Side
     → ClientTaken
 paid_or_refused event command pay (Err refusal) side =
     (side, refused event.id command.call_id refusal)

@@ -57,7 +57,8 @@ is_bad_early side method =
 
 -- ---- a request
 
--- the conditions under which one of this method is refused, in the order in which they are looked at
+-- the conditions under which one of this method is refused, in the order in which they are looked
+-- at
 abbrev pub request_refusals : Dialog → List ℕ → List (Bool × Refusal)
 request_refusals dialog method =
     (is_own_kind method, BadMethod)
@@ -82,7 +83,8 @@ request_in_held event method body held =
 -- in the dialog of this name
 unfoldable pub requested_at : DialogName → Event → DialogRequest → Dialogs → Dialogs × Service
 requested_at name event command dialogs =
-    served_at name (request_in_held event command.method command.body) (Refused NoSuchDialog) dialogs
+    served_at name (request_in_held event command.method command.body) (Refused NoSuchDialog)
+    dialogs
 
 -- a BYE that is sent ends its dialog at once
 abbrev pub bye_ended : DialogName → List ℕ → Service → Dialogs → Dialogs × List CallOut

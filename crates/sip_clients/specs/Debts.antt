@@ -56,4 +56,5 @@ dropped_if_sent debt (Refused refusal) held = held
 -- the dialog after it, and what becomes of it
 unfoldable pub paid : Event → Debt → List ℕ → HeldDialog → Outcome
 paid event debt body held =
-    let done = discharged event debt (Some body) held in (dropped_if_sent debt done.1 done.0, done.1)
+    let done = discharged event debt (Some body) held in
+    (dropped_if_sent debt done.1 done.0, done.1)

@@ -1,6 +1,6 @@
--- What a response makes happen in the held dialog of a name, and how a dialog opens by it (RFC 3261,
--- sections 12.1.2, 12.2.1.2 and 13.2.2.4). The requests that go out in a dialog are read off what is
--- given.
+-- What a response makes happen in the held dialog of a name, and how a dialog opens by it (RFC
+-- 3261, sections 12.1.2, 12.2.1.2 and 13.2.2.4). The requests that go out in a dialog are read off
+-- what is given.
 use Rattle.std.specs.Prelude.{ℕ, Bool, not, ◌&&◌, List, [], Option, Some, if◌then◌else◌}
 use Rattle.std.specs.Option.{option_map, option_map_or}
 use Rattle.sip_message.specs.declared.id.Id.{Id}

@@ -139,7 +139,8 @@ abbrev pub by_reply_case : ReplyCase → Client → Option HeldDialog → Answer
 by_reply_case reply.Repeated client found answer = (client, None, ack_again client answer, Stays)
 by_reply_case reply.Accepted client found answer =
     accepted_by_ack client (accepted client answer found) answer
-by_reply_case reply.Late client found answer = (held_after_success answer None client, None, notice answer, Stays)
+by_reply_case reply.Late client found answer =
+    (held_after_success answer None client, None, notice answer, Stays)
 by_reply_case (reply.Reliable rseq) client found answer =
     reliable rseq client (dialog_for_provisional client answer found) answer
 by_reply_case reply.Passed client found answer = (client, None, [], Stays)

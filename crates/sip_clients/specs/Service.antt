@@ -83,7 +83,8 @@ abbrev pub discharged_with : Event → Debt → List ℕ → HeldDialog → Outc
 discharged_with event (Ack invite number) body held = (held, acked event held number body)
 discharged_with event (Prack rseq number) body held = prack_requested event rseq number body held
 
--- what is owed is discharged with the body that its request carries; without one it waits for the user
+-- what is owed is discharged with the body that its request carries; without one it waits for the
+-- user
 unfoldable pub discharged : Event → Debt → Option (List ℕ) → HeldDialog → Outcome
 discharged event debt None held = (held, Waits)
 discharged event debt (Some body) held = discharged_with event debt body held

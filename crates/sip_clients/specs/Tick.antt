@@ -30,7 +30,8 @@ clients_left now clients = filter (λ entry. not (is_over now entry.1)) clients
 
 -- the end of each is told, of one INVITE after the other
 abbrev pub early_ends_told : ℕ → Dialogs → Client → List CallOut
-early_ends_told now dialogs client = if is_over now client then (early_ended client.id dialogs).1 else []
+early_ends_told now dialogs client =
+    if is_over now client then (early_ended client.id dialogs).1 else []
 
 -- the ends that the user is told of
 abbrev pub over_notices : ℕ → Dialogs → Clients → List CallOut

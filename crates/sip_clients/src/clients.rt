@@ -81,7 +81,8 @@ impl Clients {
     pub fn tick(&mut self, dialogs: &mut Dialogs, now: u64) -> Result<Vec<CallOut>, AllocError>
         ensures taken { IfOk result (λ outs.
             (record { dialogs = dialogs.new.entries; clients = self.new }, outs.items)
-            ≡ ticks.clients_ticked record { dialogs = dialogs.old.entries; clients = self.old } now) }
+            ≡ ticks.clients_ticked record { dialogs = dialogs.old.entries; clients = self.old }
+            now) }
         ensures err { OnErr result (self.new ≡ []) }
     {
         let mut requests = self.take();
@@ -129,7 +130,10 @@ impl Clients {
     ) -> Result<Vec<CallOut>, AllocError>
         ensures taken { IfOk result (λ outs.
             (record { dialogs = dialogs.new.entries; clients = self.new }, outs.items)
-            ≡ spec.request_lost id timed_out record { dialogs = dialogs.old.entries; clients = self.old }) }
+            ≡ spec.request_lost id timed_out record {
+              dialogs = dialogs.old.entries;
+              clients = self.old;
+            }) }
         ensures err { OnErr result (self.new ≡ []) }
     {
         let mut requests = self.take();

@@ -49,5 +49,6 @@ pub fn each_notice_is_of_its_call()
         → KeepsTo command.call_id (prack_by_user event command) }
     ensures cancel { (event : Event) (command : Cancel)
         → KeepsTo command.call_id (cancel_by_user event command) }
-    ensures tick { (call_id : List ℕ) (now : ℕ) → KeepsTo call_id (λ side. clients_ticked side now) }
+    ensures tick { (call_id : List ℕ) (now : ℕ) → KeepsTo call_id
+        (λ side. clients_ticked side now) }
 {}

@@ -124,7 +124,8 @@ fn prack(
 ) -> Result<Service, AllocError>
     ensures service { IfOk result (λ service. service
         ≡ (spec.prack_requested event rseq number body held.old).1) }
-    ensures held { OnOk result (held.new ≡ (spec.prack_requested event rseq number body held.old).0) }
+    ensures held { OnOk result (held.new ≡ (spec.prack_requested event rseq number body
+        held.old).0) }
 {
     let rack = RAck {
         rseq,
@@ -140,7 +141,8 @@ fn refused_by(fault: DialogFault) -> Result<Service, AllocError>
     ensures service { (found : Option DialogFault) (sending : Sending) → fault ≡ or_no_memory found
         → IfOk result (λ service. service ≡ spec.service_by found sending) }
     ensures held { (found : Option DialogFault) (method : List ℕ) (held : HeldDialog)
-        → fault ≡ or_no_memory found → OnOk result (held ≡ lived (spec.happens_by_sending method found) held) }
+        → fault ≡ or_no_memory found → OnOk result (held
+        ≡ lived (spec.happens_by_sending method found) held) }
 {
     match fault {
         DialogFault::NoMemory => Err(AllocError),

@@ -56,7 +56,8 @@ pub(crate) fn drop_dialogs(dialogs: &mut Dialogs, clients: &ClientMap, now: u64)
 {
     dialogs.retain(
         |_name, held| -> bool
-            ensures kept { result ≡ not (spec.ends_early_at now clients.entry.now.entries held.old) }
+            ensures kept { result ≡ not (spec.ends_early_at now clients.entry.now.entries
+                held.old) }
             ensures same { held.new ≡ held.old }
         { !ends_at(clients, now, held) },
     );

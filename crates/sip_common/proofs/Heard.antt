@@ -114,7 +114,8 @@ pub grows_then : (x y z : Dialog) (life : List Happening) → Grows x life y →
 grows_then x y z life first same = (first.0, same ∙ first.1)
 
 -- nothing more happens in it
-pub keeps_then : (came : Option ℕ) (life : List Happening) (x y z : HeldDialog) → Keeps came life x y
+pub keeps_then : (came : Option ℕ) (life : List Happening) (x y z : HeldDialog)
+    → Keeps came life x y
     → Keeps None [] y z → Keeps came life x z
 keeps_then came life x y z first second = (
   second.0 ∙ first.0,
@@ -217,7 +218,8 @@ pub leads_removed : (name : DialogName) (dialogs : Dialogs) → AreApart dialogs
     → Leads quiet dialogs (remove_entry (is_named name) dialogs)
 leads_removed name dialogs apart = record {
   apart = entries.apart_removed name_laws (is_named name) dialogs apart;
-  stays = λ other. entries.by_removal name_laws (Stays None nothing) stays_same stays_over name other
+  stays =
+      λ other. entries.by_removal name_laws (Stays None nothing) stays_same stays_over name other
       dialogs apart;
 }
 

@@ -29,7 +29,8 @@ happened_on : (opening : Opening) (life : List Happening) (one : Happening)
     → happened (dialog_after opening life) one ≡ dialog_after opening (life ++ one ∷ [])
 happened_on opening life (happen.Requests method) fits =
     let dialog = dialog_after opening life in
-    request_stands {A = Unit {0}} {E = DialogFault} dialog (with_next_number dialog) (Ok tt) method refl
+    request_stands {A = Unit {0}} {E = DialogFault} dialog (with_next_number dialog) (Ok tt) method
+    refl
     opening life refl
 happened_on opening life (happen.Acknowledges number) fits =
     ack_stands (dialog_after opening life) number opening life refl

@@ -1,5 +1,5 @@
--- What is owed in the dialog of a name before and after something: it changed in the dialog that was
--- there, which may be over, or in one that is made anew.
+-- What is owed in the dialog of a name before and after something: it changed in the dialog that
+-- was there, which may be over, or in one that is made anew.
 use Rattle.std.proofs.Common.{◌≡◌, ◌⊎◌, inl, inr, Bool, List, [], refl, ◌∙◌}
 use Rattle.std.specs.Prelude.{Option, None, Some, filter}
 use Rattle.std.specs.Map.{remove_entry}
@@ -81,7 +81,8 @@ same_then x y z first second name =
 pub removed_same : (name : DialogName) (dialogs : Dialogs) → AreApart dialogs
     → OweSame dialogs (remove_entry (is_named name) dialogs)
 removed_same name dialogs apart other =
-    entries.by_removal name_laws (OwesStill unchanged) still_same still_over name other dialogs apart
+    entries.by_removal name_laws (OwesStill unchanged) still_same still_over name other dialogs
+    apart
 
 pub filtered_same : (p : HeldDialog → Bool) (dialogs : Dialogs) → AreApart dialogs
     → OweSame dialogs (filter (λ entry. p entry.1) dialogs)

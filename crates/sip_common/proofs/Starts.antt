@@ -74,7 +74,8 @@ none_numbered name (out.Command id (order.Answer key message) ∷ outs) none =
 none_numbered name (out.Command id (order.Start key call_id message to) ∷ outs) none =
     absurd (started (id, key) (starts outs) none)
 
-pub none_sent : (name : DialogName) (outs : List CallOut) → starts outs ≡ [] → sent_in name outs ≡ []
+pub none_sent : (name : DialogName) (outs : List CallOut) → starts outs ≡ [] → sent_in name outs
+    ≡ []
 none_sent name outs none = ap requests_made (none_numbered name outs none)
 
 pub cseqs_both : (name : DialogName) (xs ys : List CallOut)

@@ -15,7 +15,8 @@ abbrev pub shown : List CallOut → List Id
 shown outs = filter_map request_told_by outs
 
 pub none_of_both : (xs ys : List CallOut) → shown xs ≡ [] → shown ys ≡ [] → shown (xs ++ ys) ≡ []
-none_of_both xs ys first second = filter_map-append request_told_by xs ys ∙ (λ i. first i ++ second i)
+none_of_both xs ys first second =
+    filter_map-append request_told_by xs ys ∙ (λ i. first i ++ second i)
 
 pub ends_shown : (dialogs : List HeldDialog) → shown (map ended_notice dialogs) ≡ []
 ends_shown [] = refl

@@ -1,5 +1,5 @@
--- The record of a dialog and its story: both say the same of all that happened in it, on either side
--- of a call (RFC 3261, section 12).
+-- The record of a dialog and its story: both say the same of all that happened in it, on either
+-- side of a call (RFC 3261, section 12).
 use Rattle.std.specs.Prelude.{◌≡◌, ℕ, List, [], ◌∷◌, ◌++◌, Option, None, fold}
 use Rattle.sip_message.specs.declared.message.Message.{Message}
 use Rattle.sip_dialog.specs.declared.dialog.Dialog.{Dialog}

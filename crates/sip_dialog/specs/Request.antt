@@ -48,7 +48,8 @@ bare_request_in dialog method number branch local =
     let from = party_of dialog.local.uri dialog.local.tag in
     let to = party_of dialog.remote.uri dialog.remote.tag in
     let cseq : CSeq = record { number = number; method = method } in
-    record (bare (Request dialog.target) (agent_via local branch ∷ []) from to dialog.call_id cseq) {
+    record (bare (Request dialog.target) (agent_via local branch ∷ []) from to dialog.call_id
+    cseq) {
       max_forwards = Some MAX_FORWARDS;
       contacts = contacts_of method local;
       routes = dialog.route_set;

@@ -124,7 +124,8 @@ impl Dialog {
     ///
     /// # Errors
     ///
-    /// `Ended` and, at the caller alone, `NoMemory`, in this order. The dialog stays as it was then.
+    /// `Ended` and, at the caller alone, `NoMemory`, in this order. The dialog stays as it was
+    /// then.
     pub fn confirm(&mut self, response: &Message) -> Result<(), DialogFault>
         ensures open { OnOk result (ended_fault self.old ≡ None) }
         ensures fault { IfErr result (λ fault. fault ≡ or_no_memory (ended_fault self.old)) }

@@ -1,5 +1,5 @@
--- What a reader of an event file finds: a draft, or the line with which no event file begins, and the
--- fault that says so.
+-- What a reader of an event file finds: a draft, or the line with which no event file begins, and
+-- the fault that says so.
 use Rattle.std.proofs.Common.{◌≡◌, ℕ, ◌≤◌, ◌^◌, true, false, cond, List, [], ◌∷◌, ◌++◌, length, Option, Some, None, refl, sym, ap, subst, ◌∙◌, append_assoc, arith, inl, inr, codes}
 use Rattle.std.specs.Str.{bytes_eq}
 use Rattle.std.proofs.lemmas.List.{append-nil}

@@ -20,8 +20,8 @@ use Rattle.sip_files.specs.declared.file_replay.ReplayFault.{ReplayFault}
 use Rattle.sip_files.specs.declared.file_replay.ReplayFault.TheVariants as replay_fault
 use Rattle.sip_files.proofs.FileFaults.{never_bad}
 
--- the reader gave this text, in one read for each turn, at least a byte at each, and no more than an
--- event file has
+-- the reader gave this text, in one read for each turn, at least a byte at each, and no more than
+-- an event file has
 pub record ReadSoFar (before now : Option (List ℕ)) (reads_before reads_now : Option ℕ)
     (text : List ℕ) (turns : ℕ) : Type 0 where
   pub consumed : Consumes before now text

@@ -89,8 +89,8 @@ abbrev pub IsOneLine : List ℕ → Type 0
 IsOneLine text = IsTrue (list_all (λ b. not (b == 10)) text)
 
 -- The text is no event file, and this is the line that it breaks off at: the lines before are how
--- some event file begins. With the line of this number they are not; or there is no such line, since
--- the text ends there or the line has no end.
+-- some event file begins. With the line of this number they are not; or there is no such line,
+-- since the text ends there or the line has no end.
 pub record IsBadLine (number : ℕ) (text : List ℕ) : Type 0 where
   pub none : ¬ (IsEventFile text)
   pub before : List (List ℕ)
@@ -111,7 +111,8 @@ HasVersion text = (version : Version) × ((text ≡ version_line version)
 abbrev pub TellsFileFault : EventsFault → List ℕ → Type 0
 TellsFileFault TooLong text = 2 ^ 26 < length text
 TellsFileFault BadVersion text = (length text ≤ 2 ^ 26) × ¬ (HasVersion text)
-TellsFileFault (BadLine number) text = (length text ≤ 2 ^ 26) × HasVersion text × IsBadLine number text
+TellsFileFault (BadLine number) text =
+    (length text ≤ 2 ^ 26) × HasVersion text × IsBadLine number text
 TellsFileFault NoMemory text = Unit {0}
 
 -- the answer is this one, unless memory ran out

@@ -103,8 +103,8 @@ pub fn replay<T: Threads + Sync, R: CountedRead, W: Write, C: Cut + Drop, G: Gat
     write_whole(writer, file.as_slice())
 }
 
-/// All bytes of the reader, up to the limit of an event file. Each read gives at least one byte, the
-/// end or an error.
+/// All bytes of the reader, up to the limit of an event file. Each read gives at least one byte,
+/// the end or an error.
 ///
 /// # Errors
 ///

@@ -33,7 +33,8 @@ line_from line =
 -- the name, and what stands behind the colon
 abbrev pub name_before_colon : List ℕ → Option (List ℕ × List ℕ)
 name_before_colon line =
-    on_cut (Byte 58) (both (reading_of (passing is_token) trimmed_end) (λ rest. Some rest)) never line
+    on_cut (Byte 58) (both (reading_of (passing is_token) trimmed_end) (λ rest. Some rest)) never
+    line
 
 -- ---- what it is
 

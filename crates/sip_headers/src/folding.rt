@@ -124,8 +124,8 @@ fn add_section<'a>(
     Ok(None)
 }
 
-/// Adds the header lines that stand in the text as they are, as far as one follows another, and gives
-/// the text behind them.
+/// Adds the header lines that stand in the text as they are, as far as one follows another, and
+/// gives the text behind them.
 fn add_plain<'a>(alloc: Global, draft: &mut Draft, text: &'a [u8]) -> Result<&'a [u8], AllocError>
     ensures same { IfOk result (λ rest. steps.drafted_at draft.new rest.now
         ≡ steps.drafted_at draft.old text.now) }

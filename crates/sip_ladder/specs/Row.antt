@@ -27,7 +27,8 @@ is_same_address one other = (one.port == other.port) && bytes_eq one.ip other.ip
 -- how many columns of peers stand before that of this one; a peer without one has the last
 abbrev pub place_of : List Addr → Addr → ℕ
 place_of [] address = 0
-place_of (peer ∷ peers) address = if is_same_address peer address then 0 else 1 + place_of peers address
+place_of (peer ∷ peers) address =
+    if is_same_address peer address then 0 else 1 + place_of peers address
 
 -- the column of the agent, and those of the peers, the first of which are crossed by the arrow
 unfoldable pub columns_text : Columns → Way → List ℕ

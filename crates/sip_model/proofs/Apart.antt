@@ -236,7 +236,8 @@ module _ {K S I O : Type 0} {cmp : K → K → Ordering} (total : IsTotalOrder c
   tick_apart states (Some moment) part whole covers_part covers_whole =
       ticks_apart states moment part whole covers_part covers_whole
 
-  same_told : {K O : Type 0} (a b : PhaseOutputs K O) → a.ticks ≡ b.ticks → a.items ≡ b.items → a ≡ b
+  same_told : {K O : Type 0} (a b : PhaseOutputs K O) → a.ticks ≡ b.ticks → a.items ≡ b.items → a
+      ≡ b
   same_told a b ticks items = λ i. record { ticks = ticks i; items = items i }
 
   pub works_apart : (phases : List (Phase K I)) (phase : Phase K I)

@@ -1,5 +1,5 @@
--- A token comes with an input, may wait in the state of its key, and goes out with what is said. One
--- that comes once goes out once at most, over all keys.
+-- A token comes with an input, may wait in the state of its key, and goes out with what is said.
+-- One that comes once goes out once at most, over all keys.
 use Rattle.std.proofs.Common.{◌≡◌, ◌⊎◌, inl, inr, ℕ, zero, suc, ◌+◌, ◌≤◌, true, false, cond, List, [], ◌∷◌, ◌++◌, refl, sym, ◌∙◌, ap, subst, add_assoc, zero-add, arith}
 use Rattle.std.specs.Prelude.{Option}
 use Rattle.std.specs.declared.cmp.Ordering.{Ordering}

@@ -6,10 +6,10 @@ ghost use Rattle.sip_model.specs.Shards.{ShardsTellAll};
 
 use crate::machine::StateMachine;
 
-/// What phases say of a key, after others, is what that key's own inputs add. A shard that was given its part
-/// of each phase says its part of what all say, and holds the states of its own keys; and what all
-/// shards say, joined and brought into order, is what all say. What is said to a tick is in the
-/// order of the keys, and what items add in their own.
+/// What phases say of a key, after others, is what that key's own inputs add. A shard that was
+/// given its part of each phase says its part of what all say, and holds the states of its own
+/// keys; and what all shards say, joined and brought into order, is what all say. What is said to a
+/// tick is in the order of the keys, and what items add in their own.
 pub fn laws_of_phases<M: StateMachine>(_machine: &M)
     ensures each_key_alone { EachKeyAlone M.Key.cmp (M.machine _machine.now) tick_at }
     ensures shards_work_apart { ShardsWorkApart M.Key.cmp (M.machine _machine.now) tick_at }

@@ -48,7 +48,8 @@ module _ {K S I O : Type 0} (cmp : K → K → Ordering) (machine : Machine K S 
     (ticks : List (K × List O)) (said : List (ℕ × List O))
     (adds : AddsPhase cmp machine tick old new (phase_at now with_tick items) ticks said) where
   -- the one part is all items
-  deals_one : DealsParts cmp machine tick now with_tick (items ∷ []) (old ∷ []) (new ∷ []) ticks said
+  deals_one : DealsParts cmp machine tick now with_tick (items ∷ []) (old ∷ []) (new ∷ []) ticks
+      said
   unfolding first_of
   deals_one = λ owner all within cut rising.
       let same : items ≡ all = ap (first_of items) cut ∙ all_in_one owner all within in

@@ -80,7 +80,8 @@ few_acted id key now input state (Some context) step =
     few_told id key context.to (handed_out key context step.handed (arrived_in input))
     (sent_bytes context.last step.sent (made_bytes context.request step.sent (message_in input)))
 
-few_by : (id : Id) (key : Key) (held : Option Life) (now : ℕ) (input : Option Input) (o : Option Step)
+few_by : (id : Id) (key : Key) (held : Option Life) (now : ℕ) (input : Option Input)
+    (o : Option Step)
     → Few id (raised id (stepped_by key held now input o).1)
 few_by id key held now input None = inl refl
 few_by id key held now input (Some step) =

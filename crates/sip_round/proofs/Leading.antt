@@ -42,7 +42,8 @@ joined_by_place [] = refl
 joined_by_place (t ∷ ts) = ap (λ more. t.1 ++ more) (joined_by_place ts)
 
 -- what was said, shard by shard in order, is all that is said
-whole : {K O : Type 0} (told : PhaseOutputs K O) (ticks : List (K × List O)) (said : List (ℕ × List O))
+whole : {K O : Type 0} (told : PhaseOutputs K O) (ticks : List (K × List O))
+    (said : List (ℕ × List O))
     → ticks ≡ told.ticks → said ≡ map by_place told.items
     → joined ticks ++ joined said ≡ all_said told
 whole told ticks said by_tick by_item =

@@ -1,5 +1,5 @@
--- In any rounds the requests that come to a transaction, and its starts, have different ids: those of
--- a server's rise, and under no id a client's is started twice.
+-- In any rounds the requests that come to a transaction, and its starts, have different ids: those
+-- of a server's rise, and under no id a client's is started twice.
 use Rattle.std.proofs.Common.{◌≡◌, ◌⊎◌, inl, inr, ℕ, suc, ◌≤◌, Bool, true, false, cond, List, [], ◌∷◌, ◌++◌, map, refl, sym, ap, subst, ◌∙◌, append_assoc, append-nil, arith}
 use Rattle.std.specs.Prelude.{Option, None, Some, Result, Ok, Err, filter, filter_map, if◌then◌else◌}
 use Rattle.std.specs.BTreeMap.{is_at}
@@ -300,7 +300,8 @@ module _ (calls : Calls) where
       let later = joined (told_items call_cmp (call_machine calls) after
       (timed_items now (call_items (suc at) items))) in
       subst AllClients (sym (filter_map-append start_in outs later))
-      (all_both (starts outs) (starts later) (call_starts calls (states key) input.input now).of_clients
+      (all_both (starts outs) (starts later) (call_starts calls (states key) input.input
+      now).of_clients
       (items_of_clients now (suc at) after items))
 
 round_of_clients : (config : Config) (number : ℕ) (past : Past) (round : Round)

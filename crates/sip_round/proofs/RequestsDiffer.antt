@@ -1,5 +1,5 @@
--- In any rounds the ids of the requests that come up for a call rise, and none comes up twice: each is
--- that of its own event.
+-- In any rounds the ids of the requests that come up for a call rise, and none comes up twice: each
+-- is that of its own event.
 use Rattle.std.proofs.Common.{◌≡◌, ◌⊎◌, inl, inr, ℕ, suc, Bool, false, cond, List, [], ◌∷◌, map, sym, refl, ap, subst}
 use Rattle.std.specs.Prelude.{Option, None, Some, filter, filter_map}
 use Rattle.std.specs.BTreeMap.{is_at}

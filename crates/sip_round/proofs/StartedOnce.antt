@@ -47,7 +47,8 @@ pub counted : (x y : Id) (ys : List Id)
     → how_many x (y ∷ ys) ≡ cond (is_id x y) 1 0 + how_many x ys
 counted x y ys = sum_by-cons (λ z. cond (is_id x z) 1 0) y ys
 
-pub counted_one : (x y : Id) (ys : List Id) → is_id x y ≡ true → how_many x (y ∷ ys) ≡ 1 + how_many x ys
+pub counted_one : (x y : Id) (ys : List Id) → is_id x y ≡ true → how_many x (y ∷ ys)
+    ≡ 1 + how_many x ys
 counted_one x y ys is = counted x y ys ∙ ap (λ b. cond b 1 0 + how_many x ys) is
 
 counted_none : (x y : Id) (ys : List Id) → is_id x y ≡ false → how_many x (y ∷ ys) ≡ how_many x ys
@@ -67,7 +68,12 @@ once_of_distinct x (y ∷ ys) apart =
     (λ is. let none = none_counted x ys (subst (λ z. AllByRecursion (λ w. is_id z w ≡ false) ys)
     (sym (id_exact x y is)) (IsDistinct-head is_id y ys apart)) in
     omega (arith, counted_one x y ys is, none))
-    (λ isnt. omega (arith, counted_none x y ys isnt, once_of_distinct x ys (IsDistinct-tail is_id y ys apart)))
+    (λ isnt. omega (
+      arith,
+      counted_none x y ys isnt,
+      once_of_distinct x ys
+          (IsDistinct-tail is_id y ys apart),
+    ))
 
 none_of_counted : (x : Id) (xs : List Id) → how_many x xs ≡ 0
     → AllByRecursion (λ y. is_id x y ≡ false) xs

@@ -118,9 +118,9 @@ abbrev pub EachDialogOwesAsTold : Type 0
 EachDialogOwesAsTold = (config : Config) (rounds : List Round) → DialogsOweAsTold config rounds
 
 -- The reliable provisional responses to an INVITE that is held after rounds: those are kept, and
--- get a 200 to their PRACK, that went out with an RSeq and of whose PRACK the user wasn't told since;
--- those of them are sent again since whose sending no final response went out, and the user wasn't
--- told that no PRACK came.
+-- get a 200 to their PRACK, that went out with an RSeq and of whose PRACK the user wasn't told
+-- since; those of them are sent again since whose sending no final response went out, and the user
+-- wasn't told that no PRACK came.
 pub record AwaitsItsPracks (config : Config) (rounds : List Round) (call_id : List ℕ)
     (invite : Id) (held : HeldRequest) : Type 0 where
   pub kept : kept_rseqs held ≡ read_from (awaited_by invite) [] (calls_of config) invite None []

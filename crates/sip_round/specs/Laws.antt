@@ -29,8 +29,8 @@ abbrev pub said_of : Config → List Round → Key → List Out
 said_of config rounds key =
     said_from key_cmp transaction_machine tick_at key [] (past_of config rounds).transactions
 
--- what rounds say of a transaction is what is said before a life, to its first input, to the rest of
--- it, and after it; its request comes up with the first input, and not again
+-- what rounds say of a transaction is what is said before a life, to its first input, to the rest
+-- of it, and after it; its request comes up with the first input, and not again
 pub record OneRequestSaid (said : List Out) (key : Key) (inputs : List (Timed Input))
     (life : LifeIn transaction_machine key inputs) : Type 0 where
   pub said_in_order : said ≡ outputs_from transaction_machine key None life.before

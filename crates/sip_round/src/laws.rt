@@ -91,8 +91,8 @@ pub fn each_response_awaits_its_prack()
 {}
 
 /// After any rounds, in a held dialog are owed, the oldest first, the ACK of each 2xx and the PRACK
-/// of each reliable provisional response of which the user was told since the dialog was made, unless
-/// it went out (RFC 3261, section 13.2.2.4; RFC 3262, section 4).
+/// of each reliable provisional response of which the user was told since the dialog was made,
+/// unless it went out (RFC 3261, section 13.2.2.4; RFC 3262, section 4).
 pub fn each_dialog_owes_as_told()
     ensures { EachDialogOwesAsTold }
 {}
@@ -125,8 +125,8 @@ pub fn requests_given_by_id()
 {}
 
 /// In any rounds, each life of a client's transaction begins by a request that is started; and of
-/// all that they give the Sends with its key are those of before, then one of that request, as it is
-/// written, to the address that it is started with, and then those of the rest.
+/// all that they give the Sends with its key are those of before, then one of that request, as it
+/// is written, to the address that it is started with, and then those of the rest.
 pub fn started_requests_given()
     ensures { (config : Config) (rounds : List Round)
         → GivesStartedRequests config rounds (answers config rounds) }

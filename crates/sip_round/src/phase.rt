@@ -50,7 +50,8 @@ pub(crate) fn tell_of_each<G: Gate>(shards: usize, gate: &G) {
     }
 }
 
-/// Whether nothing happens in a phase at this moment in ms: no shard has an item, and nothing is due.
+/// Whether nothing happens in a phase at this moment in ms: no shard has an item, and nothing is
+/// due.
 pub(crate) fn is_idle_phase<M: StateMachine>(
     machine: &M,
     now: u64,
@@ -134,8 +135,8 @@ pub(crate) fn pieces_of<M: StateMachine + Copy>(
     Ok(pieces)
 }
 
-/// Ends a phase whose pieces of work have run: the tables, in order, and what was said, in the order
-/// of keys and of places.
+/// Ends a phase whose pieces of work have run: the tables, in order, and what was said, in the
+/// order of keys and of places.
 ///
 /// # Errors
 ///

@@ -139,8 +139,8 @@ impl<'a, C: Cut> TurnRunner<'a, C> {
     }
 }
 
-/// Deals with a phase at a moment in ms, with a tick or without: each shard with its part, one after
-/// the other. Gives the tables back, in order, and what was said, in the order of keys and of
+/// Deals with a phase at a moment in ms, with a tick or without: each shard with its part, one
+/// after the other. Gives the tables back, in order, and what was said, in the order of keys and of
 /// places.
 ///
 /// # Errors

@@ -1,5 +1,5 @@
--- What each item of the server side makes of the INVITE of an id: it awaits its ACK as what is given
--- says.
+-- What each item of the server side makes of the INVITE of an id: it awaits its ACK as what is
+-- given says.
 use Rattle.std.proofs.Common.{◌≡◌, ℕ, Bool, true, false, ◌&&◌, ◌||◌, cond, List, [], ◌∷◌, map, refl, sym, ap, ◌∙◌, arith}
 use Rattle.std.specs.Prelude.{Option, None, Some, Result, Ok, Err, fold, is_none, nat_le, nat_lt, if◌then◌else◌}
 use Rattle.std.specs.Option.{option_map, option_map_or}
@@ -146,7 +146,8 @@ module _ (r : Answer) (response : Message) (now : ℕ) (held : HeldRequest) wher
       (sym (ap (λ b. is_invite held.request && (b && nat_lt r.status 300)) (is ∙ never)
       ∙ no_wait (is_invite held.request)))
 
-  finished_waits : awaits_ack (finished response r.status now held) ≡ waits_now (is_success r.status)
+  finished_waits : awaits_ack (finished response r.status now held)
+      ≡ waits_now (is_success r.status)
   finished_waits = by_both (is_invite held.request) (is_success r.status)
     where
       by_both : (inviting success : Bool)

@@ -1,5 +1,5 @@
--- Each item of the server side: what it makes happen in the dialog of each name, which stays, is over
--- or is made anew.
+-- Each item of the server side: what it makes happen in the dialog of each name, which stays, is
+-- over or is made anew.
 use Rattle.std.proofs.Common.{◌≡◌, ℕ, Bool, true, false, not, ◌&&◌, ◌==◌, cond, List, [], ◌∷◌, ◌++◌, length, refl, sym, ap, ◌∙◌, append-nil}
 use Rattle.std.specs.Prelude.{Option, None, Some, find, is_none, if◌then◌else◌}
 use Rattle.std.specs.Cmp.{first_so, second_so}
@@ -293,7 +293,8 @@ module _ (event : Id) (request : HeldRequest) (r : Answer) (response : Message)
   dialogs_move true success rejected makes =
       moves_made event (confirmed_by success []) name (made_dialog event request r.status) start
       (made_name request r.status makes)
-      (λ other held apart. ap (λ b. if b && success then confirms response held ++ [] else []) apart)
+      (λ other held apart. ap (λ b. if b && success then confirms response held ++ [] else [])
+      apart)
       refl refl refl dialogs apart
   dialogs_move false true rejected makes =
       let after = dialog_changed name (confirmed response) dialogs in

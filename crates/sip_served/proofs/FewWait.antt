@@ -148,7 +148,8 @@ ack_keeps : (state : State) (call_id : List ℕ) (ack : Message) (o : Option Id)
     → IsKeptEach (ack_noted state call_id ack o).0
 ack_keeps state call_id ack None all = all
 ack_keeps state call_id ack (Some invite) all =
-    first_changed IsKept (has_id invite) (success_ended Acknowledged) (λ held one. one) state.requests all
+    first_changed IsKept (has_id invite) (success_ended Acknowledged) (λ held one. one)
+    state.requests all
 
 refusal_keeps : (state : State) (event : Id) (r : Answer) (now : ℕ) (held : HeldRequest)
     (o : Option Refusal) → IsKeptEach state → IsKeptEach (by_refusal state event r now held o).0

@@ -120,7 +120,8 @@ module _ {X : Type 0} (reading : Reading X) (invite : Id) (told : IsTold X readi
         by_new true = new ∙ sym (silent reading.none)
 
         by_found : (o : Option HeldRequest) → FollowsAs reading o
-            (option_map_or (λ held. Some held) o (cond (is_id held.id invite) (Some held) None)) outs
+            (option_map_or (λ held. Some held) o (cond (is_id held.id invite) (Some held) None))
+            outs
         by_found None = by_new (is_id held.id invite)
         by_found (Some there) = sym (silent (reading.read there))
 

@@ -191,7 +191,9 @@ module _ (call_id : List ℕ) where
   ack_is state its_call ack None of_call its = (its, tt)
   ack_is state its_call ack (Some invite) of_call its = (
     record {
-      requests = request_changed invite (success_ended Acknowledged) (λ held. refl) state.requests its.requests;
+      requests =
+          request_changed invite (success_ended Acknowledged) (λ held. refl) state.requests
+          its.requests;
       dialogs = its.dialogs;
     },
     (of_call, tt),

@@ -32,7 +32,8 @@ neither false y e = (refl, e)
 -- ---- nothing is due
 
 calm_success : (now : ℕ) (held : HeldRequest) (o : Option Success)
-    → is_due now (option_and_then success_moment o) ≡ false → success_at_tick now held o ≡ (held, [])
+    → is_due now (option_and_then success_moment o) ≡ false → success_at_tick now held o
+    ≡ (held, [])
 calm_success now held None calm = refl
 calm_success now held (Some success) calm =
     let nothing : success_answer now success ≡ repeat.Nothing =
@@ -238,4 +239,5 @@ pub busy_from : (state : State) (now : ℕ) → is_due now (next_server_due stat
     → tick_taken state now ≢ quiet state
 busy_from state now due same =
     differs now state.requests (sym (requests_due now state.requests) ∙ due)
-    (ap (λ (taken : ServedTaken). taken.1) same) (ap (λ (taken : ServedTaken). (taken.0).requests) same)
+    (ap (λ (taken : ServedTaken). taken.1) same) (ap (λ (taken : ServedTaken). (taken.0).requests)
+    same)

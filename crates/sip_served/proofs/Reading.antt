@@ -166,7 +166,8 @@ module _ {X : Type 0} (reading : Reading X) (invite : Id) where
       by_id true own =
           subst (λ o. FollowsAs reading (find (has_id invite) before) o (first ∷ outs))
           (sym (stays (same_found id invite own before ∙ fresh))) tt
-      by_id false other = by_found (find (has_id invite) before) (find (has_id invite) after) follows
+      by_id false other =
+          by_found (find (has_id invite) before) (find (has_id invite) after) follows
         where
           by_found : (o after : Option HeldRequest) → FollowsAs reading o after outs
               → FollowsAs reading o after (first ∷ outs)

@@ -170,7 +170,8 @@ module _ (r : Answer) (response : Message) (now : ℕ) (held : HeldRequest) wher
           → one_more b (held.ledger.waiting ++ more ∷ [])
           ≡ one_more b held.ledger.waiting ++ held.ledger.next ∷ []
       by_closed true closed =
-          let full : Some fault.Closed ≡ None = sym (closed_fault held.ledger closed) ∙ is in absurd cc
+          let full : Some fault.Closed ≡ None = sym (closed_fault held.ledger closed) ∙ is in
+          absurd cc
       by_closed false still =
           ap (λ ps. map (λ (p : Provisional). p.number) ps)
           (filter_more held.ledger.waiting more refl)

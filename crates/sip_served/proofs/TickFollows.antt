@@ -1,5 +1,5 @@
--- What is read of the request of an id after a tick of the server side is what its outputs say, where
--- they say so at each change of a request.
+-- What is read of the request of an id after a tick of the server side is what its outputs say,
+-- where they say so at each change of a request.
 use Rattle.std.proofs.Common.{◌≡◌, ℕ, Bool, true, false, cond, List, [], ◌∷◌, ◌++◌, map, refl, sym, ap, subst, ◌∙◌}
 use Rattle.std.specs.Prelude.{Option, None, Some, filter, find, fold}
 use Rattle.std.specs.List.{AllByRecursion, IsDistinct, flat_map}
@@ -78,7 +78,8 @@ module _ {X : Type 0} (reading : Reading X) (invite : Id) (told : IsTold X readi
         rest = flat_map told_of requests
 
         as_later : is_id held.id invite ≡ false → (before after : Option HeldRequest)
-            → TicksAs reading before after rest → TicksAs reading before after (told_of held ++ rest)
+            → TicksAs reading before after rest → TicksAs reading before after
+            (told_of held ++ rest)
         as_later other before None later = tt
         as_later other before (Some after) later =
             later ∙ sym (fold_on reading.ticks (read_of reading before) (told_of held) rest

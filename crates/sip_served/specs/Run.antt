@@ -21,7 +21,8 @@ event_taken state (Ticks now) = tick_taken state now
 
 -- what is held after all of them, where nothing was held before
 abbrev pub server_state_after : Addr → List Event → State
-server_state_after local events = fold (λ state event. (event_taken state event).0) (empty_at local) events
+server_state_after local events =
+    fold (λ state event. (event_taken state event).0) (empty_at local) events
 
 -- of each held request at most 8 reliable provisional responses wait for their PRACK, and none but
 -- the first until that one was acknowledged

@@ -32,7 +32,8 @@ pub fn ticks_when_due()
 /// provisional responses wait for their PRACK, and none but the first until that one was
 /// acknowledged (RFC 3262, section 3).
 pub fn few_provisionals_wait()
-    ensures held { (local : Addr) (events : List Event) → FewWaitEach (server_state_after local events) }
+    ensures held { (local : Addr) (events : List Event)
+        → FewWaitEach (server_state_after local events) }
 {}
 
 /// By an event the user is told of the request that comes up by it for the user, and of no other.

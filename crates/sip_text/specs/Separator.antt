@@ -1,5 +1,5 @@
--- A text cut at a separator, most of which count only outside quoted strings and brackets (RFC 3261,
--- sections 7.3.1 and 25.1).
+-- A text cut at a separator, most of which count only outside quoted strings and brackets (RFC
+-- 3261, sections 7.3.1 and 25.1).
 use Rattle.std.specs.Prelude.{◌≡◌, ℕ, Bool, false, List, [], ◌∷◌, ◌++◌, Option, Some, None, ◌==◌, ◌||◌, if◌then◌else◌, option_and_then}
 use Rattle.std.specs.Option.{option_map}
 use Rattle.std.specs.List.{onto_first}

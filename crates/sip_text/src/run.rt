@@ -29,8 +29,8 @@ pub fn run_len<C: ByteClass>(text: &[u8]) -> usize
     text.len()
 }
 
-/// The bytes of the class that the text begins with, of which there is one at least, where this byte
-/// follows them, and what stands behind it.
+/// The bytes of the class that the text begins with, of which there is one at least, where this
+/// byte follows them, and what stands behind it.
 #[tactic(auto, unfolding(crate::specs::Run::run_before))]
 pub fn run_before<C: ByteClass>(end: u8, text: &[u8]) -> Option<(&[u8], &[u8])>
     ensures { both_now result ≡ run_before C.holds end text.now }

@@ -30,7 +30,8 @@ equal_from_is_eq Equal e = refl
 equal_from_is_eq Greater e = absurd (false≢true e)
 
 -- two moments beside two keys are tied where the moments are and the keys are
-pub tied_pair : (a b : ℕ) (o : Ordering) → is_eq (ordering_then (nat_cmp a b) o) ≡ ((a == b) && is_eq o)
+pub tied_pair : (a b : ℕ) (o : Ordering) → is_eq (ordering_then (nat_cmp a b) o)
+    ≡ ((a == b) && is_eq o)
 tied_pair a b o =
     by_bool (nat_lt a b)
     (λ lt.
@@ -227,7 +228,8 @@ at_most a b o below =
 
 module _ {K : Type 0} {cmp : K → K → Ordering} (total : IsTotalOrder cmp) where
   -- the first of the index has the earliest moment
-  pub earliest : (entries : List (K × ℕ)) (dues : List (ℕ × K)) → IsIndexOf cmp (moment cmp entries) dues
+  pub earliest : (entries : List (K × ℕ)) (dues : List (ℕ × K))
+      → IsIndexOf cmp (moment cmp entries) dues
       → IsStrictlySortedBy cmp (keys_of entries) → (first : ℕ × K)
       → is_due_at cmp dues first.0 first.1 ≡ true
       → ((p : ℕ × K) → is_due_at cmp dues p.0 p.1 ≡ true → is_gt (due_cmp cmp first p) ≡ false)
@@ -240,7 +242,8 @@ module _ {K : Type 0} {cmp : K → K → Ordering} (total : IsTotalOrder cmp) wh
       let found : (q : K) × (moment cmp (e ∷ es) q ≡ Some lowest) =
       of_a_key total (e ∷ es) sorted in
       let low : first.0 ≤ lowest = at_most first.0 lowest (cmp first.1 found.0)
-      (least (lowest, found.0) (there_at total (moment cmp (e ∷ es)) dues index lowest found.0 found.1)) in
+      (least (lowest, found.0) (there_at total (moment cmp (e ∷ es)) dues index lowest found.0
+      found.1)) in
       let armed : moment cmp (e ∷ es) first.1 ≡ Some first.0 =
       armed_at total (moment cmp (e ∷ es)) dues index first.0 first.1 there in
       let high : lowest ≤ first.0 = subst
@@ -250,7 +253,8 @@ module _ {K : Type 0} {cmp : K → K → Ordering} (total : IsTotalOrder cmp) wh
       ap (λ (m : ℕ). Some m) same
 
   -- an empty index is that of no entries
-  pub none_earliest : (entries : List (K × ℕ)) (dues : List (ℕ × K)) → IsIndexOf cmp (moment cmp entries) dues
+  pub none_earliest : (entries : List (K × ℕ)) (dues : List (ℕ × K))
+      → IsIndexOf cmp (moment cmp entries) dues
       → length dues ≡ 0 → reduce min (values_of entries) ≡ None
   none_earliest [] dues index empty = refl
   none_earliest (e ∷ es) [] index empty =

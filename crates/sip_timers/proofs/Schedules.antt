@@ -275,7 +275,8 @@ module _ {K : Type 0} {cmp : K → K → Ordering} (total : IsTotalOrder cmp) wh
     unfolding IsDistinct
     distinct_in [] inside sorted = tt
     distinct_in (d ∷ ds) inside sorted =
-        let later : (at : ℕ) (q : K) → is_due_at cmp ds at q ≡ true → is_due_at cmp all at q ≡ true =
+        let later : (at : ℕ) (q : K) → is_due_at cmp ds at q ≡ true → is_due_at cmp all at q
+        ≡ true =
         λ at q more. inside at q (or_right (is_it at q d) (is_due_at cmp ds at q) more) in (
           apart_from d (inside d.0 d.1 (in_front d ds)) ds later
               (sorted_head (due_cmp cmp) d ds sorted),
@@ -332,7 +333,8 @@ module _ {K : Type 0} {cmp : K → K → Ordering} (total : IsTotalOrder cmp) (n
       (sym (split due q) ∙ there_at total moments all index due q is)) as (λ _.
       list_any (is_at (cmp q)) (map (λ d. d.1) popped.front) ≡ nat_le due now) [
         | inl front ↦ among_keys total popped.front due q front ∙ sym is_due
-        | inr rest ↦ let late : now < due = rest_later due q rest in absurd (omega (arith, low, late))
+        | inr rest ↦ let late : now < due =
+            rest_later due q rest in absurd (omega (arith, low, late))
       ])
       (λ is_later.
       let late : now < due = leb-false due now is_later in
@@ -379,7 +381,8 @@ module _ {K : Type 0} {cmp : K → K → Ordering} (total : IsTotalOrder cmp) (n
       let late : now < at = rest_later at q rest in
       let there : is_due_at cmp all at q ≡ true =
       split at q ∙ or_right (is_due_at cmp popped.front at q) (is_due_at cmp dues at q) rest in
-      let same : due ≡ at = same_Some due at (sym is ∙ armed_at total moments all index at q there) in
+      let same : due ≡ at = same_Some due at (sym is ∙ armed_at total moments all index at q there)
+      in
       absurd (omega (arith, low, late, same)))
       (λ none. none ∙ sym gone))
 

@@ -128,4 +128,5 @@ module _ {K : Type 0} {cmp : K → K → Ordering} (total : IsTotalOrder cmp) wh
       by_recursion (λ z. Among z sorted) all
       (All-permutation (λ z. Among z sorted) sorted all (IsPermutation-sym all sorted same)
       (from_recursion (λ z. Among z sorted) sorted (all_among sorted))) in
-      same_elements all sorted rises (rises_if_distinct all sorted (IsDistinct-from_sorted cmp all rises) same is_sorted) ys_in xs_in
+      same_elements all sorted rises (rises_if_distinct all sorted
+      (IsDistinct-from_sorted cmp all rises) same is_sorted) ys_in xs_in

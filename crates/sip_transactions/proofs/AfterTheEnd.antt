@@ -140,7 +140,8 @@ receive_other id key now i message reply_to
     (start.Response status reason) step context named is other passed =
     response_other id key now (Some (Receive i message reply_to)) context step passed
 
-begun_other : (id : Id) (key : Key) (now : ℕ) (input : Option Input) (step : Step) (trigger : Trigger)
+begun_other : (id : Id) (key : Key) (now : ℕ) (input : Option Input) (step : Step)
+    (trigger : Trigger)
     → trigger_of None now input ≡ Some trigger → response_needs_life None trigger step ≡ true
     → OtherName id (naming_id input)
     → Other id (acted_if key now input None (begun (role_of key) input) step)
@@ -216,7 +217,8 @@ receive_names : (key : Key) (now : ℕ) (i : Id) (message : Message) (reply_to :
     → IsSome (acted_if key now (Some (Receive i message reply_to)) None (Some context) step).0
     → arrival_id line i ≡ Some i
 receive_names key now i message reply_to (start.Request uri) step context passed goes_on = refl
-receive_names key now i message reply_to (start.Response status reason) step context passed goes_on =
+receive_names key now i message reply_to (start.Response status reason) step context passed
+    goes_on =
     absurd (false≢true (sym (ap is_some
     (life_after-ended None context step now _ (and-left (is_ended step.next) _ passed))) ∙ goes_on))
 
@@ -228,7 +230,8 @@ unfolding begun
 begun_names key now None step trigger triggered passed goes_on = refl
 begun_names key now (Some (Answer i message)) step trigger triggered passed goes_on =
     absurd (false≢true goes_on)
-begun_names key now (Some (Failed i)) step trigger triggered passed goes_on = absurd (false≢true goes_on)
+begun_names key now (Some (Failed i)) step trigger triggered passed goes_on =
+    absurd (false≢true goes_on)
 begun_names key now (Some (Start i call_id message to)) step trigger triggered passed goes_on = refl
 begun_names key now (Some (Receive i message reply_to)) step trigger triggered passed goes_on =
     let same : trigger ≡ arrival_of message.start message.cseq.method = cc in

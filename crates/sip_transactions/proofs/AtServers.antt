@@ -232,7 +232,8 @@ at_tick : (key : Key) → role_of key ≡ Server → (now moment : ℕ) (respons
     ≡ cond b None (Some (answered now response life))
 unfolding answered
 at_tick key server now moment response life true late =
-    ap (λ p. p.0) (by_row key (answered now response life) (tick_at moment) on.TimeoutDue (Some ends)
+    ap (λ p. p.0) (by_row key (answered now response life) (tick_at moment) on.TimeoutDue
+    (Some ends)
     (due_at now moment response life true late)
     (ap (λ r. row_of (rows_of r) (Some Completed) on.TimeoutDue) server ∙ ends_row))
     ∙ acted_end key (answered now response life) moment

@@ -138,7 +138,8 @@ abbrev sends : Key → Context → Sent → Option (List ℕ) → List Out
 sends key context sent made =
     option_to_list (option_map (send_out key context.to) (sent_bytes context.last sent made))
 
-pub sends-outputs : (text : List ℕ) (key : Key) (context : Context) (step : Step) (made : Option (List ℕ))
+pub sends-outputs : (text : List ℕ) (key : Key) (context : Context) (step : Step)
+    (made : Option (List ℕ))
     (arrived : Option (Message × Addr))
     → sends_of text (outputs_of key context step made arrived)
     ≡ sends_of text (sends key context step.sent made)
@@ -267,7 +268,8 @@ response_message life now None trigger is response =
 response_message life now (Some (Receive id message reply_to)) trigger is response = refl
 response_message life now (Some (Start id call_id message to)) trigger is response = refl
 response_message life now (Some (Answer id message)) trigger is response = refl
-response_message life now (Some (Failed id)) trigger is response = let same : on.Failed ≡ trigger = cc in
+response_message life now (Some (Failed id)) trigger is response =
+    let same : on.Failed ≡ trigger = cc in
     absurd (false≢true (ap comes_as_response same ∙ response))
 
 -- an ACK that is made isn't the INVITE

@@ -89,7 +89,8 @@ module _ (role : Role) (client : is_client role ≡ true) (key : Key) (text : Li
   row_few life now input trigger is fit next handed send.Trying due ok = absurd (false≢true ok)
   row_few life now input trigger is fit next handed send.Nothing due ok =
       let step : Step = record { next = next; handed = handed; sent = send.Nothing; due = due } in
-      let l = plain_left role due now life.context.timers (and-left (is_plain due) _ ok) fit.paced in
+      let l = plain_left role due now life.context.timers (and-left (is_plain due) _ ok) fit.paced
+      in
       subst (λ made. Few role text (room life) (
         option_map (life_in (armed due now (last_of made life.context)))
             (entered next (Some life.state)),
@@ -104,8 +105,10 @@ module _ (role : Role) (client : is_client role ≡ true) (key : Key) (text : Li
       let step : Step = record { next = next; handed = handed; sent = send.Ack; due = due } in
       let keeping = and-left (keeps_request role) _ ok in
       let rest = and-right (keeps_request role) _ ok in
-      let l = plain_left role due now life.context.timers (and-left (is_plain due) _ rest) fit.paced in
-      let m = ack_made text (invite keeping) life.context.request (message_in input) (fit.keeps keeping)
+      let l = plain_left role due now life.context.timers (and-left (is_plain due) _ rest) fit.paced
+      in
+      let m = ack_made text (invite keeping) life.context.request (message_in input)
+      (fit.keeps keeping)
       (response_message life now input trigger is (and-right (is_plain due) _ rest)) in
       let acked : Context = record life.context { last = Some m.bytes } in
       subst (λ made. Few role text (room life) (
@@ -216,7 +219,8 @@ module _ (role : Role) (client : is_client role ≡ true) (key : Key) (text : Li
   start_few now id call_id request to (Become state) handed send.Given (Again pace) ok =
       absurd (false≢true ok)
   start_few now id call_id request to (Become state) handed send.Given Both ok =
-      let context : Context = context_by id call_id to (cond (keeps_request role) (Some request) None) in
+      let context : Context = context_by id call_id to
+      (cond (keeps_request role) (Some request) None) in
       let said = sends-outputs text key context
       (record { next = Become state; handed = handed; sent = send.Given; due = Both })
       (Some (written request)) None in

@@ -217,7 +217,8 @@ arrived-order id (command.Start k call_id message to) now = refl
 arrived-order id (command.Answer k message) now = refl
 
 order_outputs : (key : Key) (context : Context) (step : Step) (made : Option (List ℕ))
-    → not (is_told step.handed) ≡ true → AllByRecursion IsSend (outputs_of key context step made None)
+    → not (is_told step.handed) ≡ true → AllByRecursion IsSend
+    (outputs_of key context step made None)
 unfolding outputs_of
 order_outputs key context step made quiet =
     subst (λ o. AllByRecursion IsSend
@@ -244,7 +245,8 @@ moment-order : (id : Id) (command : Command) (now : ℕ) → (order id command n
 moment-order id (command.Start k call_id message to) now = refl
 moment-order id (command.Answer k message) now = refl
 
-orders_send : (key : Key) (state : Option State) (context : Option Context) (step : Step) (id : Id) (command : Command)
+orders_send : (key : Key) (state : Option State) (context : Option Context) (step : Step) (id : Id)
+    (command : Command)
     (now moment : ℕ) → not (is_told step.handed) ≡ true
     → AllByRecursion IsSend (acted_if key moment (order id command now).input state context step).1
 orders_send key state None step id command now moment quiet = tt

@@ -55,7 +55,8 @@ up_request : (key : Key) (context : Context) (handed : Handed) (message : Messag
     → is_request (arrival_of line message.cseq.method) ≡ true
     → requests_in (option_to_list (handed_out key context handed (Some (message, reply_to)))) ≡ 1
 unfolding handed_out
-up_request key context up.Nothing message reply_to line is handed request = absurd (false≢true handed)
+up_request key context up.Nothing message reply_to line is handed request =
+    absurd (false≢true handed)
 up_request key context up.Message message reply_to (start.Request uri) is handed request =
     by_test (is_same_method message.cseq.method (codes "ACK"))
     (λ ack. absurd (not_both _ request (ap (λ b. is_request (cond b on.Ack on.Request)) ack)))
@@ -64,10 +65,13 @@ up_request key context up.Message message reply_to (start.Request uri) is handed
     ∙ ap (λ b. requests_in (option_to_list
     (Some (up_out key context (cond b (kind.Ack message) (kind.Request message reply_to))))))
     other)
-up_request key context up.Message message reply_to (start.Response status reason) is handed request =
+up_request key context up.Message message reply_to (start.Response status reason) is handed
+    request =
     absurd (false≢true request)
-up_request key context up.Timeout message reply_to line is handed request = absurd (false≢true handed)
-up_request key context up.Failed message reply_to line is handed request = absurd (false≢true handed)
+up_request key context up.Timeout message reply_to line is handed request =
+    absurd (false≢true handed)
+up_request key context up.Failed message reply_to line is handed request =
+    absurd (false≢true handed)
 up_request key context up.NoTransaction message reply_to line is handed request =
     absurd (false≢true handed)
 
@@ -78,7 +82,8 @@ begun_by_request : (context : Context) (step : Step) (now : ℕ) (bytes : Option
     → (is_message step.handed && is_request trigger) ≡ true
 begun_by_request context step now bytes trigger passed goes_on =
     elim (or_cases (is_ended step.next) (is_message step.handed && is_request trigger) passed) [
-      | inl ended ↦ absurd (none_is_none _ (life_after-ended None context step now bytes ended) goes_on)
+      | inl ended ↦ absurd (none_is_none _ (life_after-ended None context step now bytes ended)
+          goes_on)
       | inr request ↦ request
     ]
 
@@ -92,7 +97,8 @@ unfolding begun
 begins_once key now None step trigger triggered passed goes_on = absurd (false≢true goes_on)
 begins_once key now (Some (Answer id message)) step trigger triggered passed goes_on =
     absurd (false≢true goes_on)
-begins_once key now (Some (Failed id)) step trigger triggered passed goes_on = absurd (false≢true goes_on)
+begins_once key now (Some (Failed id)) step trigger triggered passed goes_on =
+    absurd (false≢true goes_on)
 begins_once key now (Some (Start id call_id message to)) step trigger triggered passed goes_on =
     let same : on.Start ≡ trigger = cc in
     let request : (is_message step.handed && is_request trigger) ≡ true =
@@ -119,14 +125,18 @@ first_once key server first =
     (server_tables key server) None row.trigger step row.row))
 
 -- a later input
-later_receive : (key : Key) (context : Context) (message : Message) (reply_to : Addr) (line : StartLine)
+later_receive : (key : Key) (context : Context) (message : Message) (reply_to : Addr)
+    (line : StartLine)
     → message.start ≡ line → not (is_request (arrival_of line message.cseq.method)) ≡ true
-    → requests_in (option_to_list (Some (up_out key context (kind_of message.start message reply_to))))
+    → requests_in (option_to_list (Some (up_out key context
+    (kind_of message.start message reply_to))))
     ≡ 0
 later_receive key context message reply_to (start.Response status reason) is other =
-    ap (λ l. requests_in (option_to_list (Some (up_out key context (kind_of l message reply_to))))) is
+    ap (λ l. requests_in (option_to_list (Some (up_out key context (kind_of l message reply_to)))))
+    is
 later_receive key context message reply_to (start.Request uri) is other =
-    ap (λ l. requests_in (option_to_list (Some (up_out key context (kind_of l message reply_to))))) is
+    ap (λ l. requests_in (option_to_list (Some (up_out key context (kind_of l message reply_to)))))
+    is
     ∙ by_test (is_same_method message.cseq.method (codes "ACK"))
     (λ ack. ap (λ b. requests_in (option_to_list
     (Some (up_out key context (cond b (kind.Ack message) (kind.Request message reply_to)))))) ack)
@@ -143,10 +153,13 @@ later_once key held context up.Timeout now input trigger triggered passed = refl
 later_once key held context up.Failed now input trigger triggered passed = refl
 later_once key held context up.NoTransaction now input trigger triggered passed = refl
 later_once key held context up.Message now None trigger triggered passed = refl
-later_once key held context up.Message now (Some (Start id call_id message to)) trigger triggered passed = refl
-later_once key held context up.Message now (Some (Answer id message)) trigger triggered passed = refl
+later_once key held context up.Message now (Some (Start id call_id message to)) trigger triggered
+    passed = refl
+later_once key held context up.Message now (Some (Answer id message)) trigger triggered passed =
+    refl
 later_once key held context up.Message now (Some (Failed id)) trigger triggered passed = refl
-later_once key held context up.Message now (Some (Receive id message reply_to)) trigger triggered passed =
+later_once key held context up.Message now (Some (Receive id message reply_to)) trigger triggered
+    passed =
     let same : arrival_of message.start message.cseq.method ≡ trigger = cc in
     later_receive key context message reply_to message.start refl
     (ap (λ t. not (is_request t)) same ∙ passed)

@@ -16,16 +16,19 @@ pub passed_next : (context : Context) (step : Step) (now : ℕ) (made : Option (
     → step.next ≡ next.Ended → life_after None context step now made ≡ None
 unfolding life_after
 passed_next context step now made ended =
-    ap (λ n. option_map (life_in (armed step.due now (last_of made context))) (entered n None)) ended
+    ap (λ n. option_map (life_in (armed step.due now (last_of made context))) (entered n None))
+    ended
 
 none_made : (request : Option Message) (message : Message)
     → made_bytes request send.Nothing (Some message) ≡ None
 unfolding made_of
 none_made request message = refl
 
-pub passed_adds : (key : Key) (context : Context) (step : Step) (message : Message) (reply_to : Addr)
+pub passed_adds : (key : Key) (context : Context) (step : Step) (message : Message)
+    (reply_to : Addr)
     → step.sent ≡ send.Nothing
-    → outputs_of key context step (made_bytes None step.sent (Some message)) (Some (message, reply_to))
+    → outputs_of key context step (made_bytes None step.sent (Some message))
+    (Some (message, reply_to))
     ≡ option_to_list (handed_out key context step.handed (Some (message, reply_to)))
 unfolding outputs_of
 passed_adds key context step message reply_to silent =

@@ -45,7 +45,8 @@ handed_out key context up.Nothing arrived = None
 handed_out key context up.Message arrived = option_map (arrived_out key context) arrived
 handed_out key context up.Timeout arrived = Some (up_out key context kind.Timeout)
 handed_out key context up.Failed arrived = Some (up_out key context kind.Failed)
-handed_out key context up.NoTransaction arrived = Some (out.Dropped context.id.place reason.NoTransaction)
+handed_out key context up.NoTransaction arrived =
+    Some (out.Dropped context.id.place reason.NoTransaction)
 
 -- ---- what a row sends
 
@@ -82,7 +83,9 @@ send_out key to bytes = out.Send key to bytes
 -- ---- both
 
 -- what a row gives: first what it hands up or drops, then what it sends
-unfoldable pub outputs_of : Key → Context → Step → Option (List ℕ) → Option (Message × Addr) → List Out
+unfoldable pub outputs_of : Key → Context → Step → Option (List ℕ) → Option (Message × Addr)
+    → List Out
 outputs_of key context step made arrived =
     option_to_list (handed_out key context step.handed arrived)
-    ++ option_to_list (option_map (send_out key context.to) (sent_bytes context.last step.sent made))
+    ++ option_to_list (option_map (send_out key context.to)
+    (sent_bytes context.last step.sent made))

@@ -21,8 +21,8 @@ SaysRead number text said =
     ((line : List ℕ) × (text ≡ line ++ 10 ∷ []) × Says number line said)
     ⊎ (((line : List ℕ) → ¬ (text ≡ line ++ 10 ∷ [])) × (said ≡ line.NoCommand number))
 
--- these are what the lines of a text say, from its front on, each once and in order, where the first
--- has this number, and this is left of the text
+-- these are what the lines of a text say, from its front on, each once and in order, where the
+-- first has this number, and this is left of the text
 abbrev pub SayLines : ℕ → List ℕ → List PipeLine → List ℕ → Type 0
 SayLines number text [] rest = rest ≡ text
 SayLines number text (said ∷ more) rest =

@@ -55,8 +55,8 @@ pub fn listen<R: Threads + Clock + Sync, W: Write>(
     listen_at(rt, alloc, endpoint, plan, turns, notices, &mut errors)
 }
 
-/// Does what [`listen`] does, at an endpoint, and answers INVITEs by a plan. That a record was given
-/// up is told on `errors`.
+/// Does what [`listen`] does, at an endpoint, and answers INVITEs by a plan. That a record was
+/// given up is told on `errors`.
 ///
 /// # Errors
 ///

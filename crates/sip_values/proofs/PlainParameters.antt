@@ -50,7 +50,8 @@ both_passes name value token word =
 pub name_ends : (name : List ℕ) → is_token name ≡ true
     → first (Byte 59) parameter_from name ≡ Some ((name, None), None)
 name_ends name token =
-    first_ends (Byte 59) parameter_from name (name, None) (name_passes name token) (alone name token)
+    first_ends (Byte 59) parameter_from name (name, None) (name_passes name token)
+    (alone name token)
 
 pub name_goes_on : (name after : List ℕ) → is_token name ≡ true
     → first (Byte 59) parameter_from (name ++ (59 ∷ after)) ≡ Some ((name, None), Some after)

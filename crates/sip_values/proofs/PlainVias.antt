@@ -133,7 +133,8 @@ unfolding is_uri_byte
 uri_first text p e =
     let run = run_found is_uri_byte 62 text p e in
     let uri = uri_is p.0 run.run_is in
-    let passes = class_passes is_uri_byte 62 refl refl refl p.0 (run_all is_uri_byte p.0 run.run_is) in
+    let passes = class_passes is_uri_byte 62 refl refl refl p.0 (run_all is_uri_byte p.0 run.run_is)
+    in
     ap uri_before_bracket run.parts
     ∙ rw (
       cut_here (Byte 62) p.0 62 p.1 passes refl,

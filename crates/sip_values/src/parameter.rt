@@ -172,8 +172,8 @@ fn plain_value<'a>(name: &'a [u8], text: &'a [u8]) -> Option<FirstParameter<'a>>
     Some((ParameterText { name, value }, after))
 }
 
-/// Nothing at the end of the text, or what stands behind a semicolon; None where the text begins with
-/// another byte.
+/// Nothing at the end of the text, or what stands behind a semicolon; None where the text begins
+/// with another byte.
 pub(crate) fn behind_semicolon(text: &[u8]) -> Option<Option<&[u8]>>
     ensures { option_map option_copied result ≡ behind 59 text.now }
 {

@@ -183,10 +183,11 @@ fn cut_sent_by(text: &[u8]) -> Option<(SentByText<'_>, Option<&[u8]>)>
     }
 }
 
-/// The same in one pass. None where white space stands in it, the host has brackets, or it is no host
-/// and port.
+/// The same in one pass. None where white space stands in it, the host has brackets, or it is no
+/// host and port.
 fn plain_sent_by(text: &[u8]) -> Option<(SentByText<'_>, Option<&[u8]>)>
-    ensures exact { IfSome result (λ found. first (separator.Anywhere 59) values.sent_by_from text.now
+    ensures exact { IfSome result (λ found. first (separator.Anywhere 59) values.sent_by_from
+        text.now
         ≡ Some (first_now values.sent_by_now found)) }
     ensures rule { IfSome result (λ found. IsTrue (is_host found.0.0.now)) }
 {

@@ -1,5 +1,5 @@
-//! A line of an output file that no event file gives, faults of event files that no stored case has,
-//! and a reader that counts.
+//! A line of an output file that no event file gives, faults of event files that no stored case
+//! has, and a reader that counts.
 
 use sip_files::{CountedRead, EventsFault, replay, write_outputs};
 use sip_message::{CallId, Spread};

@@ -4,7 +4,8 @@ use Rattle.sip_ladder.proofs.Places.{place_none, place_first, place_later}
 use Rattle.sip_ladder.proofs.columns.+place_in.Goals as goal
 
 pub returns-in_default-clause-place : goal.returns-in_default-clause-place
-returns-in_default-clause-place t c = place_none c.args.peers.now c.args.address (nil_from_length c.args.peers.now (search rules))
+returns-in_default-clause-place t c =
+    place_none c.args.peers.now c.args.address (nil_from_length c.args.peers.now (search rules))
 
 pub returns-then-is_same-clause-place : goal.returns-then-is_same-clause-place
 returns-then-is_same-clause-place t c =

@@ -7,7 +7,8 @@ pub unreachable-requires-in_default-remove_entry : goal.unreachable-requires-in_
 unreachable-requires-in_default-remove_entry g c =
     let armed : moment g.K.Ord.cmp c.args.moments.now.entries c.in-Some.first
     ≡ Some c.in-Some.field-0-0 =
-    armed_at g.met.K.Ord.total (moment g.K.Ord.cmp c.args.moments.now.entries) c.args.dues.now.keys c.requires.index
+    armed_at g.met.K.Ord.total (moment g.K.Ord.cmp c.args.moments.now.entries) c.args.dues.now.keys
+    c.requires.index
     c.in-Some.field-0-0 c.in-Some.first c.in-Some.ensures.member in
     let none : None ≡ moment g.K.Ord.cmp c.args.moments.now.entries c.in-Some.first =
     c.in_default-remove_entry.ensures.value in
@@ -18,7 +19,8 @@ returns-clause-first g c = (
   (c.in-Some.field-0-0, c.in-Some.first),
   c.in-Some.ensures.removal,
   sym c.in-Some-remove_entry.ensures.key,
-  armed_at g.met.K.Ord.total (moment g.K.Ord.cmp c.args.moments.now.entries) c.args.dues.now.keys c.requires.index
+  armed_at g.met.K.Ord.total (moment g.K.Ord.cmp c.args.moments.now.entries) c.args.dues.now.keys
+      c.requires.index
       c.in-Some.field-0-0 c.in-Some.first c.in-Some.ensures.member,
   c.in-Some-remove_entry.ensures.entries,
 )
@@ -29,6 +31,7 @@ returns-clause-index g c =
     (moment g.K.Ord.cmp c.remove_entry.new.self.entries)
     c.args.dues.now.keys c.pop_first.new.self.keys c.in-Some.first c.in-Some.field-0-0
     c.requires.index
-    (armed_at g.met.K.Ord.total (moment g.K.Ord.cmp c.args.moments.now.entries) c.args.dues.now.keys c.requires.index
+    (armed_at g.met.K.Ord.total (moment g.K.Ord.cmp c.args.moments.now.entries) c.args.dues.now.keys
+    c.requires.index
     c.in-Some.field-0-0 c.in-Some.first c.in-Some.ensures.member)
     c.in-Some.ensures.updates.0 c.in-Some-remove_entry.ensures.updates.0

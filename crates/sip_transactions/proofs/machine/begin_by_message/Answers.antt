@@ -5,7 +5,8 @@ use Rattle.sip_transactions.proofs.machine.begin_by_message.Goals as goal
 
 pub returns-clause-adds : goal.returns-clause-adds
 returns-clause-adds c =
-    let context : c.new-context.result ≡ context_by c.args.id c.args.message.call_id c.args.reply_to None =
+    let context : c.new-context.result ≡ context_by c.args.id c.args.message.call_id c.args.reply_to
+    None =
     c.new-context.ensures ∙ ap (λ call_id. context_by c.args.id call_id c.args.reply_to None)
     (c.in_ok-clone.ensures.cases ∙ ap (λ message. message.call_id) c.get-2.ensures) in
     let made = c.in_ok-made.ensures

@@ -24,7 +24,8 @@ loop-number-preserved g c =
 
 pub returns-then-not-post_in_time-clause-front : goal.returns-then-not-post_in_time-clause-front
 returns-then-not-post_in_time-clause-front g c =
-    subst (λ ls. IfSome (g.I.Read.remaining c.args.input.now) (PostsFront (posted c.args.line.now) ls))
+    subst (λ ls. IfSome (g.I.Read.remaining c.args.input.now)
+    (PostsFront (posted c.args.line.now) ls))
     (sym (c.post_in_time.ensures.unposted c.if-not-post_in_time.true))
     (fed_front (g.I.Read.remaining c.args.input.now) (g.I.Read.remaining c.loop-number.input)
     (posted c.args.line.now) (posted c.loop-number.line) c.loop-number.number

@@ -17,7 +17,8 @@ returns-clause-exact c =
     port_first c.args.text.now c.args.host.now port c.split_at.result.1.now
     (option_copied c.in_ok-after.after) front.parts c.requires (token_is port front.run)
     (sym c.in_ok-after.ensures)
-    ∙ ap (λ (n : Numeral). Some ((c.args.host.now, Some n), option_copied c.in_ok-after.after)) known
+    ∙ ap (λ (n : Numeral). Some ((c.args.host.now, Some n), option_copied c.in_ok-after.after))
+    known
 
 pub returns-clause-rule : goal.returns-clause-rule
 returns-clause-rule c = host_is c.args.host.now c.requires

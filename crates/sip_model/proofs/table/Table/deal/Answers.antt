@@ -15,7 +15,8 @@ returns-clause-step g c =
     let step : DealsPhase cmp machine tick_at (Some c.into_parts-states.result.0.entries)
     (Some c.deal_items.new.states.entries) phase (groups c.in_ok-ticks.ticks.items)
     (groups c.in_ok-items.items.items) =
-    deals_phase cmp machine tick_at c.into_parts-states.result.0.entries c.tick_if.new.states.entries
+    deals_phase cmp machine tick_at c.into_parts-states.result.0.entries
+    c.tick_if.new.states.entries
     c.deal_items.new.states.entries phase (groups c.in_ok-ticks.ticks.items)
     (groups c.in_ok-items.items.items)
     c.in_ok-ticks.ensures.states c.in_ok-items.ensures.states c.in_ok-ticks.ensures.told

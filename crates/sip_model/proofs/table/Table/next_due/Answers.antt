@@ -19,5 +19,6 @@ returns-in-Some-clause-before g c = λ some now ticks before.
     adds_phase g.met.M.Key.Ord.total g.met.M.StateMachine.exact machine due tick_at idle _ _ _ _ _
     (idle_phase cmp machine due tick_at idle entries now ticks
     (λ with_tick. c.next_due.ensures.before now (before with_tick))) in
-    subst (λ (held : Held _ _). AddsPhase cmp machine tick_at held held (phase_at now ticks []) [] [])
+    subst (λ (held : Held _ _). AddsPhase cmp machine tick_at held held (phase_at now ticks []) []
+    [])
     (sym same) adds

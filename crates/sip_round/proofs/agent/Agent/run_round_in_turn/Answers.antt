@@ -20,7 +20,8 @@ returns-in-Ok-deal_in_turn-clause-answers g c = λ config rounds stands.
     (led.0, ap (λ a. a.shards) c.self-2.view_is ∙ led.1, led.2))
     (ap (λ a. a.calls) c.self-2.view_is ∙ c.in-Ok-deal_in_turn.ensures.calls)
     (ap (λ a. a.cut) c.self-2.view_is ∙ c.in-Ok-deal_in_turn.ensures.cut)
-    (ap (λ a. a.next_round + 1) c.self-2.view_is ∙ ap (λ n. n + 1) c.in-Ok-deal_in_turn.ensures.number) refl
+    (ap (λ a. a.next_round + 1) c.self-2.view_is ∙ ap (λ n. n + 1)
+    c.in-Ok-deal_in_turn.ensures.number) refl
     stands
 
 pub returns-then-is_idle-clause-answers : goal.returns-then-is_idle-clause-answers

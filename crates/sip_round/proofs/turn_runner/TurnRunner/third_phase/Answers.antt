@@ -16,7 +16,8 @@ returns g c =
     c.in_ok-end_third.ensures owner tables c.in_ok-tables.tables.items
     c.args.now c.args.commands.items
     (c.in_ok-tables.ensures owner items
-    (λ key. g.met.C.Cut.within c.args.self.now.cut.now (branch_in key) (length tables) c.requires.shards)
+    (λ key. g.met.C.Cut.within c.args.self.now.cut.now (branch_in key) (length tables)
+    c.requires.shards)
     (subst (λ n. map (λ part. part.items) c.in_ok-parts.parts.items
     ≡ cut_by (owner_of shard_of branch_in n) 0 n items) as_many
     c.in_ok-parts.ensures.parts)

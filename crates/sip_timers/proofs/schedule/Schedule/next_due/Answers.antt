@@ -7,7 +7,8 @@ use Rattle.sip_timers.proofs.schedule.Schedule.next_due.Goals as goal
 
 pub returns-in_err-first-clause-none_due : goal.returns-in_err-first-clause-none_due
 returns-in_err-first-clause-none_due g c = λ moments index.
-    subst (λ (due : Option ℕ). IfNone due ((q : _) → moments q ≡ None)) (sym c.from_residual.ensures)
+    subst (λ (due : Option ℕ). IfNone due ((q : _) → moments q ≡ None))
+    (sym c.from_residual.ensures)
     (nothing_due g.met.K.Ord.total moments c.self.inside.dues.keys
     (subst (IsIndexOf g.K.Ord.cmp moments) (sym c.self.view_is) index)
     (empty_from_none (length c.self.inside.dues.keys) c.in_err-first.ensures.variant.1))
