@@ -1,9 +1,11 @@
 -- How the owner of a host is stored: an address beside a handle of the heap. What a walk has of the
--- two. pair, pair_fits      the machine value of the two, and its type owner_tells          an
--- owner is stored as the pair of its address handle_of, pair_of   what the fields own is what the
--- handle owns, and back only_result          the end of a walk that keeps nothing but its result
--- two_lifetimes, within_both     what a call of a function over a host and the heap is passed
--- beside its arguments
+-- two.
+--     pair, pair_fits      the machine value of the two, and its type
+--     owner_tells          an owner is stored as the pair of its address
+--     handle_of, pair_of   what the fields own is what the handle owns, and back
+--     only_result          the end of a walk that keeps nothing but its result
+--     two_lifetimes, within_both     what a call of a function over a host and the heap is passed
+--                          beside its arguments
 use Rattle.std.proofs.Common.{◌≡◌, ℕ, List, [], ◌∷◌, refl, lit<, T}
 use Rattle.std.specs.Prelude.{Option, Some, None, IsSome}
 use Rattle.std.proofs.lemmas.Bool.{false≢true}
