@@ -65,8 +65,8 @@ typedef struct sip_ua_address {
 } sip_ua_address;
 
 /* What an agent is started with: the address that it sends from; a secret of 32 random bytes, from
- * which tags, branches and Call-IDs are made, another one for each agent; and the number of its
- * first round, at most 2^62, mostly 0. */
+ * which tags and branches are made, another one for each agent; and the number of its first round,
+ * at most 2^62, mostly 0. */
 typedef struct sip_ua_configuration {
     sip_ua_address local;
     uint8_t seed[32];
