@@ -67,10 +67,6 @@ same_rise : (coming : List Id) (before after : List HeldRequest) → Rises befor
 same_rise coming before after rise same =
     subst (λ ids. IdsRise (ids ++ coming)) (sym same) rise
 
-none_rise : (o : Option Id) (coming : List Id) → IdsRise (cons_option o coming) → IdsRise coming
-none_rise None coming rise = rise
-none_rise (Some id) coming rise = rise_without [] id coming rise
-
 -- ---- a tick leaves some of them
 
 module _ (now : ℕ) (coming : List Id) where

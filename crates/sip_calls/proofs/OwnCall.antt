@@ -2,7 +2,7 @@
 use Rattle.std.proofs.Common.{◌≡◌, ℕ, Bool, true, false, List, [], ◌∷◌, subst}
 use Rattle.std.specs.Prelude.{Option, None, Some}
 use Rattle.std.specs.List.{AllByRecursion}
-use Rattle.sip_model.specs.Machine.{Timed, adds, next, outputs_from, state_after, state_from}
+use Rattle.sip_model.specs.Machine.{Timed, adds, next, outputs_from, state_from}
 use Rattle.sip_model.proofs.Ordered.{by_bool}
 use Rattle.sip_message.specs.declared.addr.Addr.{Addr}
 use Rattle.sip_message.specs.declared.id.Id.{Id}
@@ -235,15 +235,6 @@ module _ (call_id : List ℕ) where
       (outputs_from (call_machine calls) key later inputs)
       (adds_own calls key state timed own its.0)
       (outputs_from_own calls key later inputs (next_own calls key state timed own its.0) its.1)
-
-  -- over all inputs of a call, of which nothing was held before
-  pub call_own : (calls : Calls) (inputs : List (Timed CallItem)) → AreInputsOf inputs
-      → IsCallOf call_id (state_after (call_machine calls) call_id inputs)
-      × AreNoticesOf call_id (outputs_from (call_machine calls) call_id None inputs)
-  call_own calls inputs its = (
-    state_from_own calls call_id None inputs tt its,
-    outputs_from_own calls call_id None inputs tt its,
-  )
 
 pub each_notice_is_own : EachNoticeIsOwn
 each_notice_is_own calls call_id state input now own its =

@@ -5,11 +5,6 @@ pub on_ok : {T E : Type 0} (r : Result T E) (P Q : Type 0) → OnOk r P → (P �
 on_ok (Ok x) P Q p f = f p
 on_ok (Err e) P Q p f = tt
 
-pub on_if : {T E : Type 0} (r : Result T E) (P : T → Type 0) (Q : Type 0) → IfOk r P
-    → ((x : T) → P x → Q) → OnOk r Q
-on_if (Ok x) P Q p f = f x p
-on_if (Err e) P Q p f = tt
-
 pub if_ok : {T E : Type 0} (r : Result T E) (P Q : T → Type 0) → IfOk r P → ((x : T) → P x → Q x)
     → IfOk r Q
 if_ok (Ok x) P Q p f = f x p

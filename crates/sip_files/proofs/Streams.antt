@@ -1,6 +1,6 @@
 -- A replay in the middle of its reading, of its pairs of moments and answers, and of its writing.
 use Rattle.std.proofs.Common.{◌≡◌, ℕ, ◌+◌, ◌-◌, ◌<◌, ◌≤◌, ◌^◌, List, [], ◌∷◌, ◌++◌, map, length, take, drop, refl, sym, ap, ◌∙◌, append_assoc, append-nil, take-append-drop, arith, Result, Err, IfErr, IfSome, subst}
-use Rattle.std.proofs.lemmas.List.{take_rest, map-append}
+use Rattle.std.proofs.lemmas.List.{take_rest}
 use Rattle.std.proofs.KnownBytes.{Appends-trans}
 use Rattle.std.specs.Prelude.{Option, Some, None}
 use Rattle.std.specs.List.{zip}
@@ -70,27 +70,6 @@ module _ {R V A B : Type 0} (moment : R → A) (items : V → B) where
         ++ zip (map moment left_rounds) (map items left_answers)
         ≡ zip (map moment rounds) (map items answers)
 
-  pub beside_nothing : (rounds : List R) (answers left : List V) → left ≡ answers
-      → BesideSoFar rounds rounds answers left []
-  beside_nothing rounds answers left same =
-      record { whole = ap (λ l. zip (map moment rounds) (map items l)) same }
-
-  pub beside_more : (rounds : List R) (answers left : List V) (made newer : List (A × V))
-      (round : R) (rest : List R) (answer : V) (m : A)
-      → BesideSoFar rounds (round ∷ rest) answers (answer ∷ left) made → m ≡ moment round
-      → newer ≡ made ++ (m, answer) ∷ [] → BesideSoFar rounds rest answers left newer
-  beside_more rounds answers left made newer round rest answer m so_far same pushed = record {
-    whole =
-        ap (λ l. map (λ m. (m.0, items m.1)) l ++ zip (map moment rest) (map items left)) pushed
-        ∙ ap (λ l. l ++ zip (map moment rest) (map items left))
-        (map-append (λ m. (m.0, items m.1)) made ((m, answer) ∷ []))
-        ∙ append_assoc (map (λ m. (m.0, items m.1)) made) ((m, items answer) ∷ [])
-        (zip (map moment rest) (map items left))
-        ∙ ap (λ n. map (λ m. (m.0, items m.1)) made
-        ++ (n, items answer) ∷ zip (map moment rest) (map items left)) same
-        ∙ so_far.whole;
-  }
-
   nothing_beside : (ms : List A) (none : List B) → none ≡ [] → zip ms none ≡ []
   nothing_beside [] none e = refl
   nothing_beside (m ∷ ms) none e = ap (zip (m ∷ ms)) e
@@ -102,13 +81,6 @@ module _ {R V A B : Type 0} (moment : R → A) (items : V → B) where
       sym (append-nil _) ∙ ap (λ l. map (λ m. (m.0, items m.1)) made ++ l)
       (sym (nothing_beside (map moment left_rounds) (map items left) (ap (map items) none)))
       ∙ so_far.whole
-
-  pub no_more_rounds : (rounds left_rounds : List R) (answers left : List V) (made : List (A × V))
-      → BesideSoFar rounds left_rounds answers left made → left_rounds ≡ []
-      → map (λ m. (m.0, items m.1)) made ≡ zip (map moment rounds) (map items answers)
-  no_more_rounds rounds left_rounds answers left made so_far none =
-      sym (append-nil _) ∙ ap (λ l. map (λ m. (m.0, items m.1)) made
-      ++ zip (map moment l) (map items left)) (sym none) ∙ so_far.whole
 
 -- what was read, run, put beside its moments and written is what the input spells
 pub replays_read : (input : List ℕ) (config : Config) (rounds slice : List Round)

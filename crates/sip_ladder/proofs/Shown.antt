@@ -1,5 +1,5 @@
 -- Lines that show one item after another, and one round after another.
-use Rattle.std.proofs.Common.{◌≡◌, ℕ, ◌+◌, ◌<◌, List, [], ◌∷◌, ◌++◌, length, map, get_or, take, refl, ap, sym, ◌∙◌, append_assoc, append-nil}
+use Rattle.std.proofs.Common.{◌≡◌, ℕ, ◌+◌, ◌<◌, List, [], ◌∷◌, ◌++◌, length, map, get_or, take, ap, sym, ◌∙◌, append_assoc, append-nil}
 use Rattle.std.proofs.lemmas.List.{map-append, map_more}
 use Rattle.sip_round.specs.declared.round.Round.{Round}
 use Rattle.sip_round.specs.declared.output.Output.{Output}
@@ -36,11 +36,3 @@ pub no_rounds : (rounds rounds_left : List Round) (answers left : List (List Out
     → rounds_left ≡ [] → map shape lines ≡ shapes rounds answers
 no_rounds rounds rounds_left answers left lines so_far none =
     sym (so_far ∙ ap (λ rs. map shape lines ++ shapes rs left) none ∙ append-nil (map shape lines))
-
-pub no_answers : (rounds rounds_left after : List Round) (round : Round)
-    (answers left : List (List Output)) (lines : List Line)
-    → shapes rounds answers ≡ map shape lines ++ shapes rounds_left left
-    → rounds_left ≡ round ∷ after → left ≡ [] → map shape lines ≡ shapes rounds answers
-no_answers rounds rounds_left after round answers left lines so_far first none =
-    sym (so_far ∙ ap (λ rs. map shape lines ++ shapes rs left) first
-    ∙ ap (λ os. map shape lines ++ shapes (round ∷ after) os) none ∙ append-nil (map shape lines))

@@ -1,5 +1,5 @@
 -- Items, each given to its key in turn: what has been dealt, and what is left.
-use Rattle.std.proofs.Common.{◌≡◌, ℕ, List, [], ◌∷◌, ◌++◌, map, refl, ◌∙◌, ap, append_assoc}
+use Rattle.std.proofs.Common.{◌≡◌, ℕ, List, [], ◌∷◌, ◌++◌, map, ◌∙◌, ap, append_assoc}
 use Rattle.std.specs.Prelude.{Option, cond}
 use Rattle.std.specs.declared.cmp.Ordering.{Ordering}
 use Rattle.std.specs.BTreeMap.{is_at}
@@ -20,11 +20,6 @@ pub record ItemsLeft {K S I O : Type 0} (cmp : K → K → Ordering) (machine : 
 
 module _ {K S I O : Type 0} {cmp : K → K → Ordering} (machine : Machine K S I O)
     (due : S → Option ℕ) where
-  pub items_left_at_first : (old : K → Option S) (all : List (Item K I)) (dues : List (ℕ × K))
-      → AreDues cmp due old dues → ItemsLeft cmp machine due old all all old dues []
-  items_left_at_first old all dues armed =
-      record { stepped_so_far = λ q. refl; armed = armed; said = refl }
-
   pub items_left_more : (old : K → Option S) (all rest : List (Item K I)) (item : Item K I)
       (states newer : K → Option S) (dues later : List (ℕ × K)) (told : List (ℕ × List O))
       (outputs : List O)

@@ -7,6 +7,7 @@ use Rattle.sip_model.specs.declared.item.Item.{Item}
 use Rattle.sip_model.specs.Shards.{is_owned}
 use Rattle.sip_model.proofs.Ordered.{by_bool}
 use Rattle.sip_round.specs.Parts.{cut_by}
+use Rattle.sip_round.specs.Steps.Put.{with_item}
 
 -- the parts of so far, with what is left, are the parts of all
 pub record PartsLeft {K I : Type 0} (owner : K → ℕ) (shards : ℕ) (all rest : List (Item K I))
@@ -44,16 +45,22 @@ all_in_one owner (item ∷ items) one =
 
 module _ {K I : Type 0} (owner : K → ℕ) (shards : ℕ) (all : List (Item K I)) where
   -- before the first item every part is empty
-  pub parts_empty : (V : Type 0) (items : V → List (Item K I)) (d : V) (parts : List V)
-      → length parts ≡ shards → All (λ part. items part ≡ []) parts
-      → PartsLeft owner shards all all (map items parts)
-  parts_empty V items d parts count empty = record {
-    count = map_long items parts ∙ count;
-    each = λ k below.
-        let inside : k < length parts = omega (arith, count, below) in
-        ap (λ part. part ++ filter (λ item. is_owned owner k item.key) all)
-        (get_or-map items parts k d [] inside ∙ empty k d inside);
-  }
+  pub parts_empty : (V : Type 0) (items : V → List (Item K I)) (parts : List V)
+      (rest : List (Item K I)) → rest ≡ all → length parts ≡ shards
+      → All (λ part. items part ≡ []) parts → PartsLeft owner shards all rest (map items parts)
+  parts_empty V items parts rest begun count empty =
+      record { count = map_long items parts ∙ count; each = each parts count empty }
+    where
+      each : (parts : List V) → length parts ≡ shards → All (λ part. items part ≡ []) parts
+          → (k : ℕ) → k < shards
+          → get_or (map items parts) k [] ++ filter (λ item. is_owned owner k item.key) rest
+          ≡ filter (λ item. is_owned owner k item.key) all
+      each [] count empty k below = ap (filter (λ item. is_owned owner k item.key)) begun
+      each (part ∷ parts) count empty k below =
+          let inside : k < length (part ∷ parts) = omega (arith, count, below) in
+          ap (λ items. items ++ filter (λ item. is_owned owner k item.key) rest)
+          (get_or-map items (part ∷ parts) k part [] inside ∙ empty k part inside)
+          ∙ ap (filter (λ item. is_owned owner k item.key)) begun
 
   -- an item goes behind the part of its owner
   pushed_at : (item : Item K I) (rest : List (Item K I)) (parts : List (List (Item K I)))
@@ -87,15 +94,13 @@ module _ {K I : Type 0} (owner : K → ℕ) (shards : ℕ) (all : List (Item K I
         ∙ left.each k below);
   }
 
-  pub one_pushed : (item : Item K I) (rest : List (Item K I)) (parts : List (List (Item K I)))
-      (shard : ℕ) (newer : List (Item K I)) → shard ≡ owner item.key → owner item.key < shards
-      → newer ≡ get_or parts shard [] ++ item ∷ []
+  pub one_put : (item : Item K I) (rest : List (Item K I)) (parts newer : List (List (Item K I)))
+      → owner item.key < shards → newer ≡ with_item owner item parts
       → PartsLeft owner shards all (item ∷ rest) parts
-      → PartsLeft owner shards all rest (slice_set parts shard newer)
-  one_pushed item rest parts shard newer owned within pushed left =
-      subst (λ n. PartsLeft owner shards all rest (slice_set parts n newer)) (sym owned)
-      (pushed_at item rest parts newer within
-      (pushed ∙ ap (λ n. get_or parts n [] ++ item ∷ []) owned) left)
+      → PartsLeft owner shards all rest newer
+  one_put item rest parts newer within put left =
+      subst (PartsLeft owner shards all rest) (sym put) (pushed_at item rest parts
+      (get_or parts (owner item.key) [] ++ item ∷ []) within refl left)
 
   -- lists that are the parts at each index
   cut_from : (number : ℕ) (parts : List (List (Item K I)))

@@ -1,10 +1,9 @@
 -- What the tables of all shards hold, and the first moment at which something is due in them.
-use Rattle.std.proofs.Common.{◌≡◌, ◌⊎◌, inl, inr, ◌<◌, ◌≤◌, ℕ, zero, suc, ◌+◌, ◌-◌, Bool, true, false, cond, List, [], ◌∷◌, ◌++◌, length, min, nat_eq, nat_le, refl, sym, ap, subst, ◌∙◌, ◌||◌, arith}
+use Rattle.std.proofs.Common.{◌≡◌, ◌⊎◌, inl, inr, ◌<◌, ◌≤◌, ℕ, zero, suc, ◌+◌, ◌-◌, true, false, cond, List, [], ◌∷◌, ◌++◌, length, min, nat_eq, nat_le, refl, sym, ap, subst, ◌∙◌, arith}
 use Rattle.std.specs.Prelude.{IfSome, IsSome, None, Option, Some, drop, get_or, take, unwrap_or}
 use Rattle.std.specs.List.{AllByRecursion}
 use Rattle.std.specs.declared.cmp.Ordering.{Ordering}
 use Rattle.std.specs.Cmp.{IsTotalOrder}
-use Rattle.std.proofs.lemmas.Bool.{false≢true}
 use Rattle.std.proofs.lemmas.Cmp.{nat_list_cmp_total}
 use Rattle.std.proofs.lemmas.Grind.{common_steps}
 use Rattle.std.proofs.lemmas.List.{take_all}
@@ -41,10 +40,6 @@ use Rattle.sip_round.proofs.IdleRound.{idle_round}
 use Rattle.sip_round.proofs.Runs.{stands_longer}
 
 -- ---- the earlier of two moments
-
-either_false : (a b : Bool) → (a || b) ≡ false → (a ≡ false) × (b ≡ false)
-either_false true b none = absurd (false≢true (sym none))
-either_false false b none = (refl, none)
 
 le_min : (x y now : ℕ) → nat_le (min x y) now ≡ false
     → (nat_le x now ≡ false) × (nat_le y now ≡ false)

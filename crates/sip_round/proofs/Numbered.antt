@@ -1,8 +1,6 @@
--- Lists that are made with each element at the place of its number, items at a moment, and how many
--- parts there are.
-use Rattle.std.proofs.Common.{◌≡◌, ℕ, zero, suc, ◌+◌, Bool, List, [], ◌∷◌, ◌++◌, length, map, refl, sym, ◌∙◌, ap, arith, append_assoc}
+-- Items at the places of their numbers, items at a moment, and how many parts there are.
+use Rattle.std.proofs.Common.{◌≡◌, ℕ, zero, suc, Bool, List, [], ◌∷◌, length, map, refl, sym, ◌∙◌, ap, arith}
 use Rattle.std.specs.Prelude.{filter}
-use Rattle.std.proofs.lemmas.List.{length_push}
 use Rattle.sip_message.specs.declared.id.Id.{Id}
 use Rattle.sip_model.specs.declared.item.Item.{Item}
 use Rattle.sip_model.specs.Phase.{timed_item, timed_items}
@@ -14,19 +12,6 @@ use Rattle.sip_round.specs.Parts.{cut_by}
 use Rattle.sip_round.specs.Phases.{call_items, command_items}
 use Rattle.sip_round.proofs.Climbing.{Climbs}
 use Rattle.sip_round.proofs.Cutting.{map_long}
-
--- one more at the place that is its number
-pub piled : {X : Type 0} (made newer all : List X) (x y : X) (tail : ℕ → List X)
-    → newer ≡ made ++ x ∷ [] → x ≡ y → made ++ y ∷ tail (suc (length made)) ≡ all
-    → newer ++ tail (length newer) ≡ all
-piled made newer all x y tail pushed same so_far =
-    ap (λ m. m ++ tail (length m)) pushed
-    ∙ ap (λ n. (made ++ x ∷ []) ++ tail n) (length_push made x ∙ one_more (length made))
-    ∙ append_assoc made (x ∷ []) (tail (suc (length made)))
-    ∙ ap (λ z. made ++ z ∷ tail (suc (length made))) same ∙ so_far
-  where
-    one_more : (n : ℕ) → n + 1 ≡ suc n
-    one_more n = omega arith
 
 pub same_item : {K I : Type 0} (p q : ℕ) (k l : K) (i j : I) → p ≡ q → k ≡ l → i ≡ j
     → ◌≡◌ {A = Item K I} (record { place = p; key = k; input = i })

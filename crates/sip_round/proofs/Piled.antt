@@ -1,9 +1,9 @@
 -- Tables and parts, piled up as pieces of work, and taken apart again.
-use Rattle.std.proofs.Common.{◌≡◌, List, [], ◌∷◌, ◌++◌, length, map, refl, sym, ◌∙◌, ap, subst, arith, append_assoc, append-nil}
+use Rattle.std.proofs.Common.{◌≡◌, List, [], ◌∷◌, ◌++◌, length, map, sym, ◌∙◌, ap, subst, arith, append_assoc, append-nil}
 use Rattle.std.specs.Prelude.{Result, Ok}
 use Rattle.std.specs.List.{AllByRecursion, flat_map}
 use Rattle.std.proofs.lemmas.Grind.{flat_map-append}
-use Rattle.std.proofs.lemmas.List.{map-append, nil_from_length}
+use Rattle.std.proofs.lemmas.List.{map-append}
 use Rattle.sip_round.specs.Steps.AllShards.{IsApart}
 
 all_pushed : {P : Type 0} (Q : P → Type 0) (ps : List P) (p : P) → AllByRecursion Q ps → Q p
@@ -28,10 +28,6 @@ pub record PiecesLeft {P T X : Type 0} (table : P → T) (items : P → X) (Same
 
 module _ {P T X : Type 0} (table : P → T) (items : P → X) (Same : P → Type 0) (tables : List T)
     (parts : List X) where
-  pub no_pieces : length parts ≡ length tables
-      → PiecesLeft table items Same tables tables parts parts []
-  no_pieces even = record { tables_are = refl; parts_are = refl; shared = tt; even = even }
-
   pub one_piece : (t : T) (was_tables left_tables : List T) (x : X) (was_parts left_parts : List X)
       (pieces newer : List P) (p : P) → was_tables ≡ t ∷ left_tables → was_parts ≡ x ∷ left_parts
       → newer ≡ pieces ++ p ∷ []
@@ -50,18 +46,6 @@ module _ {P T X : Type 0} (table : P → T) (items : P → X) (Same : P → Type
             (all_pushed Same pieces p left.shared same);
         even = omega (arith, left.even, ap length were_tables, ap length were_parts);
       }
-
-  pub all_pieces : (left_tables : List T) (left_parts : List X) (pieces : List P) → left_tables ≡ []
-      → PiecesLeft table items Same tables left_tables parts left_parts pieces
-      → (map table pieces ≡ tables) × (map items pieces ≡ parts) × AllByRecursion Same pieces
-  all_pieces left_tables left_parts pieces none left =
-      let no_parts : left_parts ≡ [] = nil_from_length left_parts (left.even ∙ ap length none) in (
-        sym (append-nil (map table pieces)) ∙ ap (λ xs. map table pieces ++ xs) (sym none)
-            ∙ left.tables_are,
-        sym (append-nil (map items pieces)) ∙ ap (λ xs. map items pieces ++ xs) (sym no_parts)
-            ∙ left.parts_are,
-        left.shared,
-      )
 
 -- ---- dones
 

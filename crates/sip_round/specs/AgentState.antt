@@ -29,11 +29,6 @@ pub record AgentState (C : Type 0) : Type 0 where
   pub last_moment : ℕ
   pub shards : Option ShardTables
 
--- how many shards there are; a broken agent has none
-abbrev pub count_of : Option ShardTables → ℕ
-count_of None = 0
-count_of (Some shards) = length shards.transactions
-
 -- how many shards an agent has; a broken one has none
 abbrev pub shard_count : {C : Type 0} → AgentState C → ℕ
 shard_count agent = option_map_or (λ shards. length shards.transactions) agent.shards 0

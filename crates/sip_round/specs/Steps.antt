@@ -4,6 +4,7 @@ pub mod AllShards
 pub mod Dues
 pub mod EventRuns
 pub mod Led
+pub mod Put
 pub mod SetOut
 pub mod Transfer
 pub mod Waiting

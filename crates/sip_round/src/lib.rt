@@ -6,7 +6,6 @@ mod arrival;
 mod config;
 mod due;
 mod event_run;
-mod inputs;
 mod laws;
 mod output;
 mod outs;

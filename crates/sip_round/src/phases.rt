@@ -20,10 +20,9 @@ ghost use Rattle.sip_round.specs.Steps.Arrived.{ArePlaced};
 ghost use Rattle.sip_round.specs.Steps.Led.{LedFirst, LedSecond, LedThird};
 ghost use Rattle.sip_round.specs.Steps.Waiting.{all_waiting};
 
-use crate::inputs::{call_items, command_items};
 use crate::output::Output;
 use crate::outs::{part_calls, send_all};
-use crate::parts::parts_of;
+use crate::parts::{empty_parts, put};
 use crate::waiting::{Waiting, first_outputs};
 use sip_calls::{CallOut, Calls};
 use sip_message::{CallId, Cut, Id, Key};
@@ -68,8 +67,15 @@ pub(crate) fn begin_second<C: Cut>(
         ≡ cut_by (owner_of (C.shard_of cut.now) (λ call_id. call_id) shards) 0 shards
         (phase.call_items 0 items.items)) }
 {
-    let items = call_items(alloc, items)?;
-    parts_of(alloc, cut, items, shards)
+    let mut parts = empty_parts(alloc, shards, items.len())?;
+    let mut place = 0;
+    for (id, item) in items {
+        let key = item.call_id().clone()?;
+        let input = (id, item);
+        put(cut, shards, &mut parts, model::Item { place, key, input })?;
+        place += 1;
+    }
+    Ok(parts)
 }
 
 /// Ends the second phase: notices and direct sends go behind the outputs, and what is left are the
@@ -108,8 +114,14 @@ pub(crate) fn begin_third<C: Cut>(
         ≡ cut_by (owner_of (C.shard_of cut.now) branch_in shards) 0 shards
         (phase.command_items 0 commands.items)) }
 {
-    let items = command_items(alloc, commands)?;
-    parts_of(alloc, cut, items, shards)
+    let mut parts = empty_parts(alloc, shards, commands.len())?;
+    let mut place = 0;
+    for (id, command) in commands {
+        let (key, input) = command.addressed(id);
+        put(cut, shards, &mut parts, model::Item { place, key, input })?;
+        place += 1;
+    }
+    Ok(parts)
 }
 
 /// Ends the third phase: what the transactions send goes behind the outputs.

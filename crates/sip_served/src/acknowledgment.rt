@@ -35,7 +35,7 @@ fn is_awaited(held: &HeldRequest) -> bool
     ensures { result ≡ option_map_or (λ success. is_none success.over) held.now.success false }
 {
     match &held.success {
-        Some(success) => success.over.is_none(),
+        Some(success) => success.get().over.is_none(),
         None => false,
     }
 }
@@ -64,7 +64,7 @@ pub(crate) fn end_success(held: &mut HeldRequest, end: SuccessEnd)
     ensures { held.new ≡ spec.success_ended end held.old }
 {
     if let Some(success) = &mut held.success {
-        success.over = Some(end);
+        success.get_mut().over = Some(end);
     }
 }
 

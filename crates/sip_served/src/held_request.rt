@@ -31,7 +31,7 @@ pub struct HeldRequest {
     /// Those of them that wait for their PRACK.
     pub provisionals: Provisionals,
     /// The 2xx to an INVITE.
-    pub success: Option<Success>,
+    pub success: Option<Boxed<Success>>,
     /// After the final response: the moment in ms at which it is removed.
     pub removal: Option<u64>,
 }

@@ -227,7 +227,8 @@ pub(crate) fn finish(
 {
     held.ledger.close();
     if is_invite(held.request.get()) && is_success(status) {
-        held.success = Some(success_sent(Boxed::new(alloc, response.clone()?)?, now));
+        let success = success_sent(Boxed::new(alloc, response.clone()?)?, now);
+        held.success = Some(Boxed::new(alloc, success)?);
     }
     held.removal = Some(now + u64::from(LIFETIME));
     Ok(())

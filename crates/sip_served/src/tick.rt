@@ -77,10 +77,10 @@ fn tick_success(
     let Some(success) = &held.success else {
         return Ok(());
     };
-    match success_answer(success, now) {
+    match success_answer(success.get(), now) {
         SuccessDue::Nothing => Ok(()),
         SuccessDue::Again => {
-            outs.push(command_for(alloc, held, success.response.get().clone()?)?)?;
+            outs.push(command_for(alloc, held, success.get().response.get().clone()?)?)?;
             repeat_success(held, now);
             Ok(())
         }
@@ -111,6 +111,7 @@ fn repeat_success(held: &mut HeldRequest, now: u64)
     ensures { held.new ≡ life.request_happened held.old (life.RepeatsSuccess now) }
 {
     if let Some(success) = &mut held.success {
+        let success = success.get_mut();
         success.retransmission = next_retransmission(success.retransmission, now);
     }
 }
@@ -233,7 +234,7 @@ fn request_due(held: &HeldRequest) -> Option<u64>
 fn success_due(held: &HeldRequest) -> Option<u64>
     ensures { result ≡ option_and_then spec.success_moment held.now.success }
 {
-    let success = held.success.as_ref()?;
+    let success = held.success.as_ref()?.get();
     if success.over.is_some() {
         return None;
     }

@@ -1,4 +1,5 @@
 pub mod Character
+pub mod Lending
 pub mod Token
 pub mod Run
 pub mod Number

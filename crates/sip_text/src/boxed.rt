@@ -1,5 +1,6 @@
 //! A value on the heap.
 ghost use Rattle.std.specs.Prelude.{◌≡◌, IfOk};
+ghost use Rattle.std.specs.Borrow.{sem};
 
 use std::alloc::{AllocError, Global};
 use std::marker::Model;
@@ -18,6 +19,8 @@ impl<T> Model for Boxed<T> {
 }
 
 impl<T> Boxed<T> {
+    ghost use Rattle.sip_text.specs.Lending.{BoxedLends};
+
     /// Puts the value on the heap.
     pub fn new(alloc: Global, value: T) -> Result<Boxed<T>, AllocError>
     where
@@ -33,6 +36,14 @@ impl<T> Boxed<T> {
         ensures { result.now ≡ self.now }
     {
         &self.value
+    }
+
+    /// The value, for writing.
+    pub fn get_mut(&mut self) -> &mut T
+        ensures* writes_back { sem 𝓛 (BoxedLends T.row self.entry result) }
+        ensures value { result.now ≡ self.old }
+    {
+        self.value.as_mut()
     }
 
     /// The value, taken off the heap.

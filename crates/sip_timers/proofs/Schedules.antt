@@ -7,7 +7,7 @@ use Rattle.std.specs.Ordering.{is_eq, is_gt, ordering_then, nat_cmp, eq_by_cmp}
 use Rattle.std.specs.Cmp.{IsTotalOrder}
 use Rattle.std.specs.BTreeMap.{is_at}
 use Rattle.std.specs.declared.cmp.Ordering.{Ordering}
-use Rattle.std.specs.declared.cmp.Ordering.TheVariants.{Less, Equal}
+use Rattle.std.specs.declared.cmp.Ordering.TheVariants.{Less}
 use Rattle.std.proofs.lemmas.Bool.{false≢true, true≢false, ltb-true, ltb-false, leb-true, leb-false, lt-leb, eqb-true, eq-eqb, and_parts, or_cases, or_parts, or_left, or_right}
 use Rattle.std.proofs.lemmas.Cmp.{tied_itself}
 use Rattle.std.proofs.lemmas.List.Folds.{list_any-append}
@@ -16,7 +16,7 @@ use Rattle.std.proofs.lemmas.Option.{same_Some}
 use Rattle.std.proofs.lemmas.Map.Keys.{sorted_head, sorted_tail}
 use Rattle.sip_timers.specs.Queue.{is_due, if_later}
 use Rattle.sip_timers.specs.Index.{due_cmp, is_due_at, is_moment, IsIndexOf, with_moment}
-use Rattle.sip_timers.proofs.Dues.{by_bool, Puts, index_added, index_removed, moment_tied, armed_at, there_at, at_most, due_count, first_due, rest_due, none_due, tied_pair, equal_from_is_eq}
+use Rattle.sip_timers.proofs.Dues.{by_bool, Puts, index_added, index_removed, moment_tied, armed_at, there_at, at_most, due_count, first_due, rest_due, none_due, tied_pair}
 use Rattle.sip_timers.proofs.Sorts.{rises_if_distinct}
 
 -- ---- a change of one key
@@ -57,19 +57,6 @@ pub index_of_same : {K : Type 0} (cmp : K → K → Ordering) (moments others : 
     → IsIndexOf cmp others dues
 index_of_same cmp moments others dues same index = λ at q.
     index at q ∙ ap (is_moment at) (same q)
-
--- a key that keeps its moment
-pub index_kept : {K : Type 0} {cmp : K → K → Ordering} → IsTotalOrder cmp
-    → (moments : K → Option ℕ) (dues : List (ℕ × K)) (key : K) (moment : Option ℕ)
-    → moments key ≡ moment → IsIndexOf cmp moments dues
-    → IsIndexOf cmp (with_moment cmp moments key moment) dues
-index_kept {K} {cmp} total moments dues key moment is index =
-    index_of_same cmp moments (with_moment cmp moments key moment) dues
-    (λ q. by_bool (is_at (cmp key) q)
-    (λ hit. moment_tied total moments dues index key q hit ∙ is
-    ∙ sym (ap (λ b. cond b moment (moments q)) hit))
-    (λ miss. sym (ap (λ b. cond b moment (moments q)) miss)))
-    index
 
 -- ---- the first of it
 
@@ -138,17 +125,6 @@ map_more f [] x = refl
 map_more f (y ∷ ys) x = ap (λ rest. f y ∷ rest) (map_more f ys x)
 
 module _ {K : Type 0} {cmp : K → K → Ordering} (now : ℕ) (all : List (ℕ × K)) where
-  pub popping_at_first : IsStrictlySortedBy (due_cmp cmp) all → (count : ℕ)
-      → count ≡ due_count now all → Popping cmp now all 0 count [] all
-  popping_at_first sorted count counted = record {
-    front = [];
-    whole = refl;
-    keys_are = refl;
-    due = tt;
-    sorted = sorted;
-    left = omega arith;
-  }
-
   -- while fewer are taken out than are due, there is one
   pub one_left : (taken count : ℕ) (keys : List K) (dues : List (ℕ × K))
       → Popping cmp now all taken count keys dues → taken < count → 0 < length dues

@@ -91,18 +91,6 @@ pub record Taking {K : Type 0} (cmp : K → K → Ordering) (now : ℕ) (all : L
 
 module _ {K : Type 0} {cmp : K → K → Ordering} (total : IsTotalOrder cmp) (now : ℕ)
     (all : List (K × ℕ)) where
-  pub taking_at_first : (dues : List (ℕ × K)) → IsIndexOf cmp (moment cmp all) dues
-      → IsStrictlySortedBy cmp (keys_of all) → IsStrictlySortedBy (due_cmp cmp) dues → (count : ℕ)
-      → count ≡ due_count now dues → Taking cmp now all 0 count [] all dues
-  taking_at_first dues index ordered dues_ordered count counted = record {
-    index = index;
-    ordered = ordered;
-    dues_ordered = dues_ordered;
-    left = omega arith;
-    given = IsPermutation-refl (due_keys now all);
-    kept = refl;
-  }
-
   pub taking_next : (taken count : ℕ) (keys : List K) (entries : List (K × ℕ)) (dues : List (ℕ × K))
       → Taking cmp now all taken count keys entries dues → taken < count
       → (key : K) (fewer : List (K × ℕ)) (rest : List (ℕ × K))

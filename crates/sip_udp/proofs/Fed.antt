@@ -3,9 +3,8 @@ use Rattle.std.proofs.Common.{◌≡◌, ℕ, ◌+◌, ◌<◌, List, [], ◌∷
 use Rattle.std.proofs.lemmas.List.{length-append}
 use Rattle.std.specs.Prelude.{Option, Some, None}
 use Rattle.std.specs.Io.BufRead.{take_through, drop_through, DropsThrough}
-use Rattle.std.specs.Io.KnownBytes.{IsAtEnd}
 use Rattle.sip_udp.specs.declared.pipe.PipeLine.{PipeLine}
-use Rattle.sip_udp.specs.Piping.{SaysRead, SayLines, PostsFront, PostsAll}
+use Rattle.sip_udp.specs.Piping.{SaysRead, SayLines, PostsFront}
 
 -- what was read of the pipe was posted, and this number is that of its next line
 pub record FedSoFar (text : List ℕ) (left : Option (List ℕ)) (before now : List PipeLine)
@@ -61,14 +60,6 @@ pub fed_front : (known left : Option (List ℕ)) (before now : List PipeLine) (n
 fed_front None left before now number so_far = tt
 fed_front (Some text) left before now number so_far =
     (so_far.said, so_far.rest, so_far.appended, so_far.lines)
-
-pub fed_all : (known left : Option (List ℕ)) (before now : List PipeLine) (number : ℕ)
-    → IfSome known (λ text. FedSoFar text left before now number) → IsAtEnd left
-    → IfSome known (PostsAll before now)
-fed_all None left before now number so_far ended = tt
-fed_all (Some text) left before now number so_far ended =
-    let none_left : so_far.rest ≡ [] = subst IsAtEnd so_far.known ended in
-    (so_far.said, so_far.appended, subst (SayLines 1 text so_far.said) none_left so_far.lines)
 
 -- a line was read of what is left
 pub fed_more : (known left later : Option (List ℕ)) (before now next : List PipeLine) (number : ℕ)

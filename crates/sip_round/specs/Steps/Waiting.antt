@@ -1,5 +1,5 @@
 -- Steps of the first phase: what waits for the answers of the transactions, and how these are
--- by_event in.
+-- woven in.
 use Rattle.std.specs.Prelude.{ℕ, List, [], ◌∷◌, map}
 use Rattle.sip_message.specs.declared.id.Id.{Id}
 use Rattle.sip_transactions.specs.declared.output.Out.{Out}

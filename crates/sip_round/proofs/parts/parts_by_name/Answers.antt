@@ -1,47 +1,30 @@
-use Rattle.std.proofs.Common.{◌≡◌, ◌<◌, [], ◌∷◌, map, sym, ◌∙◌, ap, subst, arith, length, ◌++◌}
-use Rattle.std.proofs.lemmas.List.{nil_from_length, map-set, get_or-map}
+use Rattle.std.proofs.Common.{◌≡◌, [], map, sym, ◌∙◌, subst, arith}
+use Rattle.std.proofs.lemmas.List.{nil_from_length}
 use Rattle.std.specs.Vec.Iter.{into_iter_items}
 use Rattle.sip_round.specs.Parts.{owner_of}
-use Rattle.sip_round.proofs.Cutting.{PartsLeft, parts_empty, one_pushed, parts_whole, map_long}
+use Rattle.sip_round.proofs.Cutting.{PartsLeft, parts_empty, one_put, parts_whole}
 use Rattle.sip_round.proofs.parts.parts_by_name.Goals as goal
 
 pub loop-item-init : goal.loop-item-init
 loop-item-init g c =
-    let owner = owner_of (g.C.Cut.shard_of c.args.cut.now) g.K.Named.name c.args.shards in
-    let begun = parts_empty owner c.args.shards c.args.items.items _
-    (λ part. part.items) c.args.items c.in_ok-parts.parts.items
+    parts_empty (owner_of (g.C.Cut.shard_of c.args.cut.now) g.K.Named.name c.args.shards)
+    c.args.shards c.args.items.items _ (λ part. part.items) c.in_ok-parts.parts.items
+    _ c.into_iter-item-iterator.ensures.into_iter_gives.0
     (omega (arith, c.in_ok-parts.parts.ok, c.in_ok-parts.ensures.count))
-    c.in_ok-parts.ensures.empty in
-    subst (λ rest. PartsLeft owner c.args.shards c.args.items.items rest
-    (map (λ part. part.items) c.in_ok-parts.parts.items))
-    (sym c.into_iter-item-iterator.ensures.into_iter_gives.0) begun
+    c.in_ok-parts.ensures.empty
 
 pub loop-item-preserved : goal.loop-item-preserved
 loop-item-preserved g c =
     let shard_of = g.C.Cut.shard_of c.args.cut.now in
     let owner = owner_of shard_of g.K.Named.name c.args.shards in
-    let parts = c.loop-item.parts.items in
-    let lists = map (λ part. part.items) parts in
-    let left : PartsLeft owner c.args.shards c.args.items.items
-    (c.in-Some.item ∷ into_iter_items c.next.new.self) lists =
-    subst (λ rest. PartsLeft owner c.args.shards c.args.items.items rest lists)
-    c.in-Some.ensures.steps.0 c.loop-item.invariant in
-    let owned : c.shard-shard.result ≡ owner c.in-Some.item.key =
-    c.shard-shard.ensures ∙ ap (λ name. shard_of name c.args.shards) c.name.ensures in
-    let within : owner c.in-Some.item.key < c.args.shards =
-    g.met.C.Cut.within c.args.cut.now
-    (g.K.Named.name c.in-Some.item.key) c.args.shards c.requires.some in
-    let inside : c.shard-shard.result < length parts =
-    omega (arith, owned, within, left.count, map_long (λ part. part.items) parts) in
-    subst (PartsLeft owner c.args.shards c.args.items.items (into_iter_items c.next.new.self))
-    (sym (map-set (λ part. part.items) parts c.shard-shard.result c.push.new.self))
-    (one_pushed owner c.args.shards c.args.items.items c.in-Some.item
-    (into_iter_items c.next.new.self) lists c.shard-shard.result c.push.new.self.items owned
-    within
-    (c.in_ok-push.ensures.items ∙ ap (λ items. items ++ c.in-Some.item ∷ [])
-    (ap (λ part. part.items) c.index_mut.ensures.value
-    ∙ sym (get_or-map (λ part. part.items) parts c.shard-shard.result c.index_mut.result.now []
-    inside))) left)
+    let item = c.in-Some.item in
+    let lists = map (λ part. part.items) c.loop-item.parts.items in
+    one_put owner c.args.shards c.args.items.items item (into_iter_items c.next.new.self) lists
+    (map (λ part. part.items) c.put.new.parts.items)
+    (g.met.C.Cut.within c.args.cut.now (g.K.Named.name item.key) c.args.shards c.requires.some)
+    c.in_ok-put.ensures
+    (subst (λ rest. PartsLeft owner c.args.shards c.args.items.items rest lists)
+    c.in-Some.ensures.steps.0 c.loop-item.invariant)
 
 pub returns : goal.returns
 returns g c =

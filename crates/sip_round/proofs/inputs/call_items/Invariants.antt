@@ -1,9 +1,0 @@
-use Rattle.std.proofs.Common.{◌≡◌, ◌++◌, length}
-use Rattle.std.specs.Vec.Iter.{into_iter_items}
-use Rattle.sip_round.specs.Phases.{call_items}
-use Rattle.sip_round.proofs.inputs.call_items.Given as goal
-
-abbrev pub invariant-loop-id : goal.invariant-loop-id
-invariant-loop-id l = l.made.items
-    ++ call_items (length l.made.items) (into_iter_items l.id-iterator)
-    ≡ call_items 0 l.fn.items.items
