@@ -10,7 +10,7 @@ ghost use Rattle.std.proofs.lemmas.Map.Lookups.{exact_bytes};
 use crate::call::Call;
 use sip_clients::{Clients, Event, made_name};
 use sip_common::outputs;
-use sip_common::request::own_tag;
+use sip_common::request::{is_inside, own_tag};
 use sip_message::{Addr, CallId, Id, Message, Token};
 use sip_model::StateMachine;
 use sip_served::{CallOut, HeldRequest, Item, Notice, Refusal, Served, UserCommand};
@@ -54,6 +54,18 @@ impl StateMachine for Calls {
             state.next_due()
         } else {
             Some(0)
+        }
+    }
+
+    fn may_begin(&self, input: &(Id, Item)) -> bool {
+        match &input.1 {
+            Item::Up(up) => match &up.kind {
+                Kind::Request(request, _) => !is_inside(request.get()),
+                _ => false,
+            },
+            Item::User(command) => {
+                matches!(command, UserCommand::Invite(_) | UserCommand::Plain(_))
+            }
         }
     }
 

@@ -8,6 +8,7 @@ ghost use Rattle.sip_message.specs.Key as keys;
 
 use crate::sent_by::SentBy;
 use sip_parts::{LowerText, Token};
+use sip_text::byte_order;
 use std::alloc::{AllocError, Global};
 use std::cmp::Ordering;
 
@@ -180,13 +181,12 @@ impl Ord for Key {
         if side.is_ne() {
             return side;
         }
-        let branch = self.branch().cmp(&other.branch());
+        let branch = byte_order(self.branch(), other.branch());
         if branch.is_ne() {
             return branch;
         }
-        self.host()
-            .cmp(&other.host())
+        byte_order(self.host(), other.host())
             .then(self.port().cmp(&other.port()))
-            .then(self.method().cmp(&other.method()))
+            .then(byte_order(self.method(), other.method()))
     }
 }

@@ -26,6 +26,10 @@ pub trait StateMachine {
     fn due_of(&self, state: &Self::State) -> Option<u64>
         ensures { result ≡ due state.now };
 
+    /// Whether an input may give a state to a key without one. Either answer is right: it says how
+    /// a table looks for the key, not what becomes of it.
+    fn may_begin(&self, input: &Self::Input) -> bool;
+
     /// What an input at a moment in ms makes of a key without a state, and what it adds.
     fn begin(
         &self,

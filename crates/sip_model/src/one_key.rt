@@ -1,6 +1,6 @@
 //! One input of one key, among the states that are held and their due moments.
 
-ghost use Rattle.std.specs.Prelude.{◌≡◌, ◌≤◌, ◌^◌, ℕ, Option, None, Some, true, IfOk, OnOk, cond};
+ghost use Rattle.std.specs.Prelude.{◌≡◌, ◌≤◌, ◌^◌, ℕ, Option, None, Some, true, IfOk, OnOk, cond, if◌then◌else◌};
 ghost use Rattle.std.specs.Option.{option_copied};
 ghost use Rattle.std.specs.BTreeMap.{get, is_at};
 ghost use Rattle.sip_timers.specs.Index.{IsIndexOf, with_moment};
@@ -11,6 +11,7 @@ use crate::machine::StateMachine;
 use sip_timers::Schedule;
 use std::alloc::{AllocError, Global};
 use std::collections::BTreeMap;
+use std::collections::btree_map::Entry;
 
 /// Gives one key an input at a moment in ms, and answers what its machine says.
 pub(crate) fn step_key<M: StateMachine>(
@@ -32,21 +33,21 @@ pub(crate) fn step_key<M: StateMachine>(
     ensures added { IfOk result (λ outputs. outputs.items
         ≡ adds (M.machine machine.now) key (get M.Key.cmp states.old key) (given_at now input)) }
 {
+    if machine.may_begin(&input) {
+        return enter_key(alloc, machine, states, dues, key, now, input);
+    }
     let Some(state) = states.get_mut(&key) else {
-        return begin_key(alloc, machine, states, dues, key, now, input);
+        return enter_key(alloc, machine, states, dues, key, now, input);
     };
     let former = machine.due_of(state);
     let (stays, outputs) = machine.step(alloc, &key, state, now, input)?;
     let due = if stays { machine.due_of(state) } else { None };
-    if !stays {
-        states.remove(&key);
-    }
-    set_due(dues, key, former, due)?;
+    settle(states, dues, key, stays, former, due)?;
     Ok(outputs)
 }
 
-// Gives a key that isn't held an input at a moment in ms, and answers what its machine says.
-fn begin_key<M: StateMachine>(
+// The same, with one look-up for a key that isn't held; one that is held is copied.
+fn enter_key<M: StateMachine>(
     alloc: Global,
     machine: &M,
     states: &mut BTreeMap<M::Key, M::State>,
@@ -57,19 +58,60 @@ fn begin_key<M: StateMachine>(
 ) -> Result<Vec<M::Output>, AllocError>
     requires moment { now ≤ 2 ^ 62 }
     requires armed { AreDues M.Key.cmp M.due (get M.Key.cmp states.old) dues.old }
-    requires absent { (q : M.Key) → is_at (M.Key.cmp key) q ≡ true
-        → get M.Key.cmp states.old q ≡ None }
     ensures states { OnOk result ((q : M.Key) → get M.Key.cmp states.new q
         ≡ cond (is_at (M.Key.cmp key) q)
-        (next (M.machine machine.now) key None (given_at now input))
+        (next (M.machine machine.now) key (get M.Key.cmp states.old key) (given_at now input))
         (get M.Key.cmp states.old q)) }
     ensures armed { OnOk result (AreDues M.Key.cmp M.due (get M.Key.cmp states.new) dues.new) }
     ensures added { IfOk result (λ outputs. outputs.items
-        ≡ adds (M.machine machine.now) key None (given_at now input)) }
+        ≡ adds (M.machine machine.now) key (get M.Key.cmp states.old key) (given_at now input)) }
 {
-    let (after, outputs) = machine.begin(alloc, &key, now, input)?;
-    put_back(machine, states, dues, key, None, after)?;
-    Ok(outputs)
+    let entry = match states.entry(key)? {
+        Entry::Vacant(entry) => entry,
+        Entry::Occupied(entry) => {
+            let key = copy_of::<M>(entry.key())?;
+            let state = entry.into_mut();
+            let former = machine.due_of(state);
+            let (stays, outputs) = machine.step(alloc, &key, state, now, input)?;
+            let due = if stays { machine.due_of(state) } else { None };
+            settle(states, dues, key, stays, former, due)?;
+            return Ok(outputs);
+        }
+    };
+    let (after, outputs) = machine.begin(alloc, entry.key(), now, input)?;
+    arm_copy::<M>(dues, entry.key(), due_moment(machine, after.as_ref()))?;
+    // An entry that is let go tells nothing of its map, so what isn't held is refused to it.
+    match Entry::Vacant(entry).or_try_insert_with(|| after.ok_or(NotHeld)) {
+        Ok(_) => Ok(outputs),
+        Err(NotHeld) => Ok(outputs),
+    }
+}
+
+// A key isn't held after its first input.
+#[derive(Drop)]
+struct NotHeld;
+
+// A key's state was changed where it stands: it goes where it doesn't stay, and the key is due at
+// this moment, or at none, in place of the former.
+fn settle<K: Ord + Drop, S: Drop>(
+    states: &mut BTreeMap<K, S>,
+    dues: &mut Schedule<K>,
+    key: K,
+    stays: bool,
+    former: Option<u64>,
+    due: Option<u64>,
+) -> Result<(), AllocError>
+    ensures states { (q : K) → get K.cmp states.new q
+        ≡ (if stays then get K.cmp states.old q
+        else cond (is_at (K.cmp key) q) None (get K.cmp states.old q)) }
+    ensures dues { OnOk result ((moments : K → Option ℕ)
+        → IsIndexOf K.cmp moments dues.old → moments key ≡ former
+        → IsIndexOf K.cmp (with_moment K.cmp moments key due) dues.new) }
+{
+    if !stays {
+        states.remove(&key);
+    }
+    set_due(dues, key, former, due)
 }
 
 /// Gives one key, which isn't armed, a tick at a moment in ms, and answers what its machine says.
@@ -183,6 +225,22 @@ fn set_due<K: Ord + Drop>(
         (None, Some(due)) => dues.arm(key, due)?,
         (Some(former), Some(due)) if former == due => {}
         (Some(former), Some(due)) => dues.rearm(key, former, due)?,
+    }
+    Ok(())
+}
+
+// Makes a copy of a key that isn't armed due at this moment, if at any.
+fn arm_copy<M: StateMachine>(
+    dues: &mut Schedule<M::Key>,
+    key: &M::Key,
+    due: Option<u64>,
+) -> Result<(), AllocError>
+    ensures { OnOk result ((moments : M.Key → Option ℕ)
+        → IsIndexOf M.Key.cmp moments dues.old → moments key.now ≡ None
+        → IsIndexOf M.Key.cmp (with_moment M.Key.cmp moments key.now due) dues.new) }
+{
+    if let Some(due) = due {
+        dues.arm(copy_of::<M>(key)?, due)?;
     }
     Ok(())
 }

@@ -14,3 +14,4 @@ pub mod Runs
 pub mod Options
 pub mod Cuts
 pub mod Numerals
+pub mod WordOrder

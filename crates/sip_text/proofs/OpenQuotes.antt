@@ -1,5 +1,5 @@
 -- A text without a quote ends outside of quotes.
-use Rattle.std.proofs.Common.{◌≡◌, ℕ, suc, Bool, true, false, eqb, List, [], ◌∷◌, length, get_or, refl, ◌∙◌, ap, arith}
+use Rattle.std.proofs.Common.{◌≡◌, ℕ, suc, Bool, true, false, eqb, List, [], ◌∷◌, length, get_or, refl, arith}
 use Rattle.std.specs.Prelude.{fold, Option, None, Some, is_some}
 use Rattle.memchr.specs.Find.{IsFirstByte, Nowhere, is_byte}
 use Rattle.sip_text.specs.OpenQuote.{is_in_quotes, has_open_quote}

@@ -9,6 +9,7 @@ mod laws;
 mod line;
 mod number;
 mod open_quote;
+mod order;
 mod parameters;
 mod pieces;
 mod quoted;
@@ -28,6 +29,7 @@ pub use laws::{one_cut, one_list_of_parameters, one_split, quoted_strings};
 pub use line::next_line;
 pub use number::{decimal, number_u32, number_up_to};
 pub use open_quote::has_open_quote;
+pub use order::byte_order;
 pub use parameters::{
     ParameterText, ValueBytes, is_blanks, is_parameter_value, is_value_word, parameter_in, params,
 };

@@ -266,6 +266,14 @@ impl StateMachine for Transactions {
         state.context.timers.first_due()
     }
 
+    fn may_begin(&self, input: &Input) -> bool {
+        match input {
+            Input::Receive { message, .. } => message.get().is_request(),
+            Input::Start { .. } => true,
+            Input::Answer { .. } | Input::Failed { .. } => false,
+        }
+    }
+
     #[tactic(auto, unfolding(crate::specs::Life::stepped))]
     fn begin(
         &self,

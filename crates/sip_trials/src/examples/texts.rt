@@ -3,10 +3,11 @@
 use crate::examples::Examples;
 use crate::stop::{Stop, check};
 use sip_text::{
-    Boxed, Series, Text, TextFault, decimal, lines, number_u32, params, split_values, token_eq,
-    unfold,
+    Boxed, Series, Text, TextFault, byte_order, decimal, lines, number_u32, params, split_values,
+    token_eq, unfold,
 };
 use std::alloc::Global;
+use std::cmp::Ordering;
 
 pub fn of_texts(alloc: Global, examples: &mut Examples<'_>) {
     if examples.wants("unfold") {
@@ -26,6 +27,9 @@ pub fn of_texts(alloc: Global, examples: &mut Examples<'_>) {
     }
     if examples.wants("token_eq") {
         examples.note(tokens_without_case());
+    }
+    if examples.wants("byte_order") {
+        examples.note(texts_in_order());
     }
     if examples.wants("Text") {
         examples.note(a_text_grows(alloc));
@@ -78,6 +82,13 @@ fn tokens_without_case() -> Result<(), Stop> {
     check(token_eq(b"z9hG4bKab", b"Z9HG4BKAB"))?;
     check(!token_eq(b"ab", b"ac"))?;
     check(!token_eq(b"ab", b"abc"))
+}
+
+// A difference in the second word, a text that begins the other, and equal texts.
+fn texts_in_order() -> Result<(), Stop> {
+    check(byte_order(b"z9hG4bK-ay", b"z9hG4bK-bx") == Ordering::Less)?;
+    check(byte_order(b"z9hG4bK-ab", b"z9hG4bK-a") == Ordering::Greater)?;
+    check(byte_order(b"z9hG4bK-ab", b"z9hG4bK-ab") == Ordering::Equal)
 }
 
 // A text that is refused memory stays as it is.

@@ -5,6 +5,10 @@ use Rattle.sip_model.proofs.OneKey.{dues_after}
 use Rattle.sip_model.proofs.one_key.step_key.Goals as goal
 use Rattle.sip_model.proofs.one_key.step_key.Goals.{then-stays, else-stays}
 
+pub returns-clause-states : goal.returns-clause-states
+returns-clause-states g c =
+    λ q. elim c.if-stays.branch [ then-stays w ↦ search rules | else-stays w ↦ search rules ]
+
 pub returns-clause-armed : goal.returns-clause-armed
 returns-clause-armed g c =
     let cmp = g.M.Key.Ord.cmp in
@@ -17,6 +21,6 @@ returns-clause-armed g c =
     let same : c.if-stays.due ≡ due_of due after =
     elim c.if-stays.branch [ then-stays w ↦ search rules | else-stays w ↦ search rules ] in
     dues_after cmp due key after c.if-stays.due old
-    (get cmp c.if-not-stays.states) c.set_due.new.dues same
-    (λ q. search rules)
-    (c.in_ok-set_due.ensures (λ q. due_of due (old q)) c.requires.armed former)
+    (get cmp c.settle.new.states) c.settle.new.dues same
+    (returns-clause-states g c)
+    (c.in_ok-settle.ensures.dues (λ q. due_of due (old q)) c.requires.armed former)
