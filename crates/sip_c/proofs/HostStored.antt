@@ -144,8 +144,8 @@ alive κ ν = ‵ (flft κ full_share) ⊛ ‵ (flft ν full_share) ⊛ ‵ ftru
 module _ {M : Type 1} {𝓤 : Ura M} {𝓛 : Logic 𝓤} {K : Type 0} {Γ : List (Item 𝓤)} {G : Goal 𝓤 𝓛.H}
   where
     -- no token is held, nothing is left of the parameter, and the result is handed over
-    pub only_result : K → {owned : Fml} → Step K 𝓛 ((‵ ftrue ⊛ ‵ (fsep ftrue ftrue) ⊛ ‵ owned) ∷ Γ) G
-        (‵ owned ∷ Γ) G
+    pub only_result : K → {owned : Fml}
+        → Step K 𝓛 ((‵ ftrue ⊛ ‵ (fsep ftrue ftrue) ⊛ ‵ owned) ∷ Γ) G (‵ owned ∷ Γ) G
     only_result t = step (λ s. nothing t $ nothing t $ fjoin t $ join t $ nothing t $ join t $ s)
 
     -- two lifetimes that begin here, one for each type

@@ -10,5 +10,6 @@ abbrev pub invariant-loop-id : goal.invariant-loop-id
 invariant-loop-id g l =
     let left = into_iter_items l.id-iterator in
     PartsLeft (owner_of (g.C.Cut.shard_of l.cut) (λ call_id. call_id) l.shards) l.shards
-    (call_items 0 l.fn.items.items) (call_items l.place left) (map (λ part. part.items) l.parts.items)
+    (call_items 0 l.fn.items.items) (call_items l.place left)
+    (map (λ part. part.items) l.parts.items)
     × (l.place + length left ≡ length l.fn.items.items)

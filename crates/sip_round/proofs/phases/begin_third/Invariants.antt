@@ -11,5 +11,6 @@ abbrev pub invariant-loop-id : goal.invariant-loop-id
 invariant-loop-id g l =
     let left = into_iter_items l.id-iterator in
     PartsLeft (owner_of (g.C.Cut.shard_of l.cut) branch_in l.shards) l.shards
-    (command_items 0 l.fn.commands.items) (command_items l.place left) (map (λ part. part.items) l.parts.items)
+    (command_items 0 l.fn.commands.items) (command_items l.place left)
+    (map (λ part. part.items) l.parts.items)
     × (l.place + length left ≡ length l.fn.commands.items)
