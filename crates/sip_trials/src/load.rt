@@ -84,20 +84,39 @@ impl Load {
         moment: u64,
         requests: u64,
     ) -> Result<(), TrialFault> {
-        let workers = self.workers;
-        if workers == 0 || workers > MOST_WORKERS {
-            return Err(TrialFault::Words);
-        }
         let round = Round {
             moment,
             events: self.events(requests)?,
         };
-        let outputs = self.agent.run_round(rt, &round, workers, &Open)?;
-        self.rounds = self.rounds.saturating_add(1);
+        let outputs = self.run(rt, &round)?;
         for output in &outputs {
             self.take(output)?;
         }
         Ok(())
+    }
+
+    /// Runs a round without events at a moment, of which nothing comes.
+    ///
+    /// # Errors
+    ///
+    /// A round that is refused, want of memory, and `Count` where something comes.
+    pub fn idle_round<R: Threads + Sync>(&mut self, rt: &R, moment: u64) -> Result<(), TrialFault> {
+        let round = Round {
+            moment,
+            events: Series::from_vec(Vec::new(self.alloc)),
+        };
+        let outputs = self.run(rt, &round)?;
+        expect("outputs", 0, outputs.len() as u64)
+    }
+
+    fn run<R: Threads + Sync>(&mut self, rt: &R, round: &Round) -> Result<Vec<Output>, TrialFault> {
+        let workers = self.workers;
+        if workers == 0 || workers > MOST_WORKERS {
+            return Err(TrialFault::Words);
+        }
+        let outputs = self.agent.run_round(rt, round, workers, &Open)?;
+        self.rounds = self.rounds.saturating_add(1);
+        Ok(outputs)
     }
 
     /// Moves all that is held to so many shards.

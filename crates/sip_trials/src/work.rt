@@ -101,7 +101,7 @@ fn idle<R: Threads + Sync>(
     load.round(rt, 0, held % REQUESTS_AT_ONCE)?;
     load.round(rt, 0, 0)?;
     for number in 0..rounds {
-        load.round(rt, number % LIFE, 0)?;
+        load.idle_round(rt, number % LIFE)?;
     }
     Ok(Tally::Served(load.served(held)?))
 }
