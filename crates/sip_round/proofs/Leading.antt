@@ -1,11 +1,12 @@
 -- The three phases, and a round of all three.
-use Rattle.std.proofs.Common.{◌≡◌, ℕ, zero, List, [], ◌∷◌, ◌++◌, length, map, refl, sym, ◌∙◌, ap, subst}
+use Rattle.std.proofs.Common.{◌≡◌, ◌<◌, Bool, true, false, ℕ, zero, List, [], ◌∷◌, ◌++◌, length, map, refl, sym, ◌∙◌, ap, subst}
 use Rattle.std.specs.List.{flat_map}
 use Rattle.sip_model.specs.Machine.{Timed, tick_at}
 use Rattle.sip_message.specs.declared.id.Id.{Id}
 use Rattle.sip_message.specs.declared.key.Key.{Key}
 use Rattle.sip_message.specs.Key.{key_cmp, branch_in}
 use Rattle.sip_model.specs.Laws.{ToldInOrder}
+use Rattle.sip_model.specs.declared.item.Item.{Item as ShardItem}
 use Rattle.sip_model.specs.Phase.{Phase, PhaseOutputs, by_place}
 use Rattle.sip_model.specs.Shards.{HoldFrom}
 use Rattle.sip_model.specs.Table.{Held}
@@ -18,23 +19,26 @@ use Rattle.sip_common.specs.declared.item.Item.{Item}
 use Rattle.sip_common.specs.declared.item.CallOut.{CallOut}
 use Rattle.sip_calls.specs.declared.call.Call.{Call}
 use Rattle.sip_calls.specs.declared.calls.Calls.{Calls}
-use Rattle.sip_calls.specs.Call.{call_machine}
+use Rattle.sip_calls.specs.Call.{CallItem, call_machine}
 use Rattle.sip_calls.specs.CallShard.{call_cmp}
 use Rattle.sip_round.specs.declared.config.Config.{Config}
 use Rattle.sip_round.specs.declared.output.Output.{Output}
 use Rattle.sip_round.specs.declared.round.Round.{Round}
 use Rattle.sip_round.specs.declared.waiting.Waiting.{Waiting}
+use Rattle.sip_round.specs.AgentState.{ShardTables}
 use Rattle.sip_round.specs.Answers.{Past, answer, arrivals, calls_of, first, given_second, items_of_round, past_after, said_by_transactions, said_by_calls, second, third}
 use Rattle.sip_round.specs.Arrivals.{Arrival, arrivals_from}
-use Rattle.sip_round.specs.Steps.Arrived.{ArePlaced}
-use Rattle.sip_round.specs.Steps.AllShards.{DealsAll}
+use Rattle.sip_round.specs.Steps.Arrived.{ArePlaced, IsArrived}
+use Rattle.sip_round.specs.Steps.AllShards.{DealsAll, DealsParts}
 use Rattle.sip_round.specs.Steps.Led.{Deals, LedFirst, LedSecond, LedThird}
 use Rattle.sip_round.specs.Outputs.{all_said, command_of, joined, outs_of, raised_of, said_at, sent_of, shown_of, user_items}
-use Rattle.sip_round.specs.Parts.{owner_of}
-use Rattle.sip_round.specs.Phases.{first_phase, second_phase, third_phase, transaction_items}
+use Rattle.sip_round.specs.Parts.{cut_by, owner_of}
+use Rattle.sip_round.specs.Phases.{call_items, command_items, first_phase, second_phase, third_phase, transaction_items}
 use Rattle.sip_round.specs.Steps.Waiting.{all_waiting, by_event}
-use Rattle.sip_round.proofs.Numbered.{places_timed}
-use Rattle.sip_round.proofs.ByEvent.{behind, each, flat_map-map, woven_by_place}
+use Rattle.sip_round.proofs.Climbing.{climbs_in_order}
+use Rattle.sip_round.proofs.Pieces.{equal_phases}
+use Rattle.sip_round.proofs.Numbered.{calls_climb, commands_climb, places_timed}
+use Rattle.sip_round.proofs.ByEvent.{behind, each, flat_map-map, items_climb, woven_by_place}
 
 joined_by_place : {K O : Type 0} (told : List ((ℕ × K) × List O))
     → joined (map by_place told) ≡ joined told
@@ -156,6 +160,78 @@ led_third owner old new now commands ticks said before middle outputs deals send
           (whole (said_by_transactions past (third_phase now commands)) ticks said
           (deals.ticks_told past hold) (deals.items_told past hold));
     }
+
+-- ---- whoever ran the pieces of the phases
+
+module _ (shard_of : List ℕ → ℕ → ℕ)
+    (within : (name : List ℕ) (n : ℕ) → 0 < n → shard_of name n < n) (now : ℕ) where
+  module _ (lives : List (Held Key Life)) (tables : List (Held (List ℕ) Call)) (held : ShardTables)
+      (same : ◌≡◌ {A = ShardTables} (record { transactions = lives; calls = tables }) held)
+      (arrived : List (Id × Arrival)) (parts : List (List (ShardItem Key Input)))
+      (waiting : List (Id × Waiting))
+      (here : IsArrived (owner_of shard_of branch_in (length held.transactions))
+      (length held.transactions) arrived parts waiting) where
+    pub arrived_at : IsArrived (owner_of shard_of branch_in (length lives)) (length lives) arrived
+        parts waiting
+    arrived_at = subst (λ (held : ShardTables).
+        IsArrived (owner_of shard_of branch_in (length held.transactions))
+        (length held.transactions) arrived parts waiting) (sym same) here
+
+    pub dealt_first : (mid : List (Held Key Life)) (n : ℕ) (t : Bool)
+        (ps : List (List (ShardItem Key Input))) (old : List (Held Key Life))
+        (ticks : List (Key × List Out)) (said : List (ℕ × List Out)) → 0 < length lives
+        → n ≡ now → t ≡ true → ps ≡ parts → old ≡ lives
+        → DealsParts key_cmp transaction_machine tick_at n t ps old mid ticks said
+        → DealsAll key_cmp transaction_machine tick_at
+        (owner_of shard_of branch_in (length lives)) lives mid (first_phase now arrived) ticks said
+    dealt_first mid n t ps old ticks said some same_now with_tick same_parts same_lives deals =
+        equal_phases key_cmp transaction_machine transaction_machine n now t true ps parts old
+        lives mid ticks said refl same_now with_tick same_parts same_lives deals
+        (owner_of shard_of branch_in (length lives)) (transaction_items arrived)
+        (λ key. within (branch_in key) (length lives) some) arrived_at.parts_are
+        (climbs_in_order 1 _ (items_climb 1 arrived arrived_at.placed))
+
+  pub dealt_second : (shared calls : Calls) (tables new : List (Held (List ℕ) Call))
+      (items : List (Id × Item)) (parts : List (List (ShardItem (List ℕ) CallItem))) (count n : ℕ)
+      (t : Bool) (ps : List (List (ShardItem (List ℕ) CallItem)))
+      (old : List (Held (List ℕ) Call)) (ticks : List (List ℕ × List CallOut))
+      (said : List (ℕ × List CallOut)) → 0 < length tables
+      → calls ≡ shared → n ≡ now → t ≡ true → ps ≡ parts → old ≡ tables
+      → count ≡ length tables
+      → parts ≡ cut_by (owner_of shard_of (λ call_id. call_id) count) zero count
+      (call_items 0 items)
+      → DealsParts call_cmp (call_machine calls) tick_at n t ps old new ticks said
+      → DealsAll call_cmp (call_machine shared) tick_at
+      (owner_of shard_of (λ call_id. call_id) (length tables)) tables new
+      (second_phase now items) ticks said
+  dealt_second shared calls tables new items parts count n t ps old ticks said some same_calls
+      same_now with_tick same_parts same_tables as_many cut deals =
+      equal_phases call_cmp (call_machine calls) (call_machine shared) n now t true ps parts old
+      tables new ticks said (ap call_machine same_calls) same_now with_tick same_parts same_tables
+      deals (owner_of shard_of (λ call_id. call_id) (length tables)) (call_items 0 items)
+      (λ call_id. within call_id (length tables) some)
+      (subst (λ k. parts ≡ cut_by (owner_of shard_of (λ call_id. call_id) k) zero k
+      (call_items 0 items)) as_many cut)
+      (climbs_in_order 0 _ (calls_climb 0 items))
+
+  pub dealt_third : (lives new : List (Held Key Life)) (commands : List (Id × Command))
+      (parts : List (List (ShardItem Key Input))) (count n : ℕ) (t : Bool)
+      (ps : List (List (ShardItem Key Input))) (old : List (Held Key Life))
+      (ticks : List (Key × List Out)) (said : List (ℕ × List Out)) → 0 < length lives
+      → n ≡ now → t ≡ false → ps ≡ parts → old ≡ lives → count ≡ length lives
+      → parts ≡ cut_by (owner_of shard_of branch_in count) zero count (command_items 0 commands)
+      → DealsParts key_cmp transaction_machine tick_at n t ps old new ticks said
+      → DealsAll key_cmp transaction_machine tick_at (owner_of shard_of branch_in (length lives))
+      lives new (third_phase now commands) ticks said
+  dealt_third lives new commands parts count n t ps old ticks said some same_now with_tick
+      same_parts same_lives as_many cut deals =
+      equal_phases key_cmp transaction_machine transaction_machine n now t false ps parts old
+      lives new ticks said refl same_now with_tick same_parts same_lives deals
+      (owner_of shard_of branch_in (length lives)) (command_items 0 commands)
+      (λ key. within (branch_in key) (length lives) some)
+      (subst (λ k. parts ≡ cut_by (owner_of shard_of branch_in k) zero k
+      (command_items 0 commands)) as_many cut)
+      (climbs_in_order 0 _ (commands_climb 0 commands))
 
 -- ---- a round
 

@@ -62,3 +62,18 @@ module _ {P M K S I O D : Type 0} (cmp : K → K → Ordering) (spec : M → Mac
       (parts_timed items_of owner _ now items pieces (are_parts ∙ cut)) shared ended.gathered
       worked new ended.joined_ticks all_ticks ended.joined_items all_said ended.apart
       ended.sorts_ticks ended.sorts_items
+
+-- equal phases deal alike
+pub equal_phases : {K S I O : Type 0} (cmp : K → K → Ordering) (one other : Machine K S (Timed I) O)
+    (n m : ℕ) (t u : Bool) (ps qs : List (List (Item K I))) (old former new : List (Held K S))
+    (ticks : List (K × List O)) (said : List (ℕ × List O))
+    → one ≡ other → n ≡ m → t ≡ u → ps ≡ qs → old ≡ former
+    → DealsParts cmp one tick_at n t ps old new ticks said
+    → DealsParts cmp other tick_at m u qs former new ticks said
+equal_phases cmp one other n m t u ps qs old former new ticks said machine moment with_tick parts
+    tables deals =
+    subst (λ held. DealsParts cmp other tick_at m u qs held new ticks said) tables
+    (subst (λ cut. DealsParts cmp other tick_at m u cut old new ticks said) parts
+    (subst (λ b. DealsParts cmp other tick_at m b ps old new ticks said) with_tick
+    (subst (λ k. DealsParts cmp other tick_at k t ps old new ticks said) moment
+    (subst (λ it. DealsParts cmp it tick_at n t ps old new ticks said) machine deals))))

@@ -1,7 +1,9 @@
 -- One round more.
 use Rattle.std.proofs.Common.{◌≡◌, ℕ, suc, ◌+◌, List, [], ◌∷◌, ◌++◌, length, refl, sym, ◌∙◌, ap, subst, arith}
 use Rattle.std.proofs.lemmas.List.{length_push}
-use Rattle.std.specs.Prelude.{Option, None, Some}
+use Rattle.std.proofs.lemmas.Option.{same_Some}
+use Rattle.std.specs.Prelude.{IfSome, Option, None, Some}
+use Rattle.sip_calls.specs.declared.calls.Calls.{Calls}
 use Rattle.sip_round.specs.declared.config.Config.{Config}
 use Rattle.sip_round.specs.declared.output.Output.{Output}
 use Rattle.sip_round.specs.declared.round.Round.{Round}
@@ -99,6 +101,70 @@ stands_longer shard_of old new config rounds round outputs leads same_calls same
           ∙ ap (λ os. answers config rounds ++ os ∷ [])
           (sym (led.2.answered config past before.shared before.transactions before.calls)),
     )
+
+-- the same of an agent of which nothing happened in it
+pub passed_longer : {C : Type 0} (shard_of : C → List ℕ → ℕ → ℕ) (old new : AgentState C)
+    (config : Config) (rounds : List Round) (round : Round) (outputs : List Output)
+    → new ≡ record old { next_round = old.next_round + 1; last_moment = round.moment }
+    → IfSome old.shards (λ shards. Deals old.calls (shard_of old.cut) old.next_round round shards
+    shards []) → outputs ≡ [] → StandsFor shard_of old config rounds
+    → StandsFor shard_of new config (rounds ++ round ∷ [])
+    × (answers config (rounds ++ round ∷ []) ≡ answers config rounds ++ outputs ∷ [])
+passed_longer {C} shard_of old new config rounds round outputs same deals none stands =
+    stands_longer shard_of old new config rounds round outputs
+    (λ shards sound. (
+      shards,
+      ap (λ (agent : AgentState C). agent.shards) same ∙ sound,
+      subst (λ out. Deals old.calls (shard_of old.cut) old.next_round round shards shards out)
+          (sym none)
+          (subst (λ held. IfSome held (λ shards. Deals old.calls (shard_of old.cut) old.next_round
+          round shards shards [])) sound deals),
+    ))
+    (ap (λ (agent : AgentState C). agent.calls) same)
+    (ap (λ (agent : AgentState C). agent.cut) same)
+    (ap (λ (agent : AgentState C). agent.next_round) same)
+    (ap (λ (agent : AgentState C). agent.last_moment) same) stands
+
+-- the same of an agent whose shards went through its phases and came back
+pub ended_longer : {C : Type 0} (shard_of : C → List ℕ → ℕ → ℕ) (old mid new : AgentState C)
+    (config : Config) (rounds : List Round) (round : Round) (outputs : List Output)
+    (before led : ShardTables) (calls : Calls) (number : ℕ) → old.shards ≡ Some before
+    → calls ≡ old.calls → number ≡ old.next_round → mid ≡ record old { shards = None }
+    → new ≡ record mid {
+      next_round = mid.next_round + 1;
+      last_moment = round.moment;
+      shards = Some led;
+    } → Deals calls (shard_of mid.cut) number round before led outputs
+    → StandsFor shard_of old config rounds
+    → StandsFor shard_of new config (rounds ++ round ∷ [])
+    × (answers config (rounds ++ round ∷ []) ≡ answers config rounds ++ outputs ∷ [])
+ended_longer {C} shard_of old mid new config rounds round outputs before led calls number held
+    same_calls same_number mid_is new_is deals stands =
+    let same : new ≡ record old {
+      next_round = old.next_round + 1;
+      last_moment = round.moment;
+      shards = Some led;
+    } = new_is ∙ ap (λ (agent : AgentState C). record agent {
+      next_round = agent.next_round + 1;
+      last_moment = round.moment;
+      shards = Some led;
+    }) mid_is in
+    let dealt = subst (λ c. Deals c (shard_of old.cut) old.next_round round before led outputs)
+    same_calls
+    (subst (λ n. Deals calls (shard_of old.cut) n round before led outputs) same_number
+    (subst (λ (agent : AgentState C). Deals calls (shard_of agent.cut) number round before led
+    outputs) mid_is deals)) in
+    stands_longer shard_of old new config rounds round outputs
+    (λ shards sound. (
+      led,
+      ap (λ (agent : AgentState C). agent.shards) same,
+      subst (λ tables. Deals old.calls (shard_of old.cut) old.next_round round tables led outputs)
+          (same_Some before shards (sym held ∙ sound)) dealt,
+    ))
+    (ap (λ (agent : AgentState C). agent.calls) same)
+    (ap (λ (agent : AgentState C). agent.cut) same)
+    (ap (λ (agent : AgentState C). agent.next_round) same)
+    (ap (λ (agent : AgentState C). agent.last_moment) same) stands
 
 -- ---- the first round that is refused
 

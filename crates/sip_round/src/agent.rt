@@ -1,6 +1,6 @@
 //! An agent: its transactions and its calls, led through rounds.
 
-ghost use Rattle.std.specs.Prelude.{ℕ, ◌≡◌, ◌⊎◌, ◌+◌, ◌++◌, ◌∷◌, ◌<◌, ◌≤◌, ◌^◌, IfOk, IfSome, IsSome, IsTrue, OnErr, OnOk, Some, None, Err, List, [], false, true, length, map};
+ghost use Rattle.std.specs.Prelude.{ℕ, ◌≡◌, ◌⊎◌, ◌+◌, ◌++◌, ◌∷◌, ◌<◌, ◌≤◌, ◌^◌, IfOk, IfSome, IsSome, IsTrue, OnErr, OnOk, Some, None, Ok, Err, List, [], false, true, length, map};
 ghost use Rattle.sip_message.specs.Key.{branch_in};
 ghost use Rattle.sip_round.specs.Arrivals.{arrivals_from};
 ghost use Rattle.sip_round.specs.Steps.Arrived.{IsArrived};
@@ -8,16 +8,15 @@ ghost use Rattle.sip_round.specs.Steps.SetOut.{IsSetOut};
 ghost use Rattle.sip_round.specs.Parts.{owner_of};
 
 use crate::config::Config;
+use crate::lead::{lead, lead_in_turn};
 use crate::output::Output;
 use crate::parts::parts_of;
 use crate::phase::tell_of_each;
-use crate::phase_runner::PhaseRunner;
-use crate::phases::Arrived;
+use crate::phases::Begun;
 use crate::reading::set_out_by;
 use crate::round::Round;
 use crate::round_fault::RoundFault;
 use crate::shards::Shards;
-use crate::turn_runner::TurnRunner;
 use crate::waiting::{SetOut, set_out};
 use sip_calls::Calls;
 use sip_message::Cut;
@@ -183,21 +182,14 @@ impl<C: Cut + Drop> Agent<C> {
         }
         if self.is_idle(round) && self.is_in_turn(workers) {
             self.tell_of_phases(gate);
-            self.next_round += 1;
-            self.last_moment = round.moment;
-            return Ok(Vec::new(self.alloc));
+            return Ok(self.pass(round));
         }
-        let Ok(arrived) = self.arrived(rt, round, workers) else {
-            return Err(RoundFault::NoMemory { broken: false });
-        };
-        match self.deal(rt, round, arrived, workers, gate) {
-            Ok(outputs) => {
-                self.next_round += 1;
-                self.last_moment = round.moment;
-                Ok(outputs)
-            }
-            Err(_) => Err(RoundFault::NoMemory { broken: true }),
-        }
+        let events = round.events.as_slice();
+        let (local, number) = (self.calls.local, self.next_round);
+        let read = set_out_by(rt, self.alloc, local, number, events, workers).ok();
+        let begun = self.begin(round, read)?;
+        let led = lead(rt, &self.cut, round, begun, workers, gate);
+        self.end(round, led)
     }
 
     /// The same round on the thread that asks for it, shard after shard. It starts no thread, and
@@ -228,21 +220,14 @@ impl<C: Cut + Drop> Agent<C> {
             return Err(refused);
         }
         if self.is_idle(round) {
-            self.next_round += 1;
-            self.last_moment = round.moment;
-            return Ok(Vec::new(self.alloc));
+            return Ok(self.pass(round));
         }
-        let Ok(arrived) = self.arrived_in_turn(round) else {
-            return Err(RoundFault::NoMemory { broken: false });
-        };
-        match self.deal_in_turn(round, arrived) {
-            Ok(outputs) => {
-                self.next_round += 1;
-                self.last_moment = round.moment;
-                Ok(outputs)
-            }
-            Err(_) => Err(RoundFault::NoMemory { broken: true }),
-        }
+        let events = round.events.as_slice();
+        let (local, number) = (self.calls.local, self.next_round);
+        let read = set_out(self.alloc, local, number, 0, events).ok();
+        let begun = self.begin(round, read)?;
+        let led = lead_in_turn(&self.cut, round, begun);
+        self.end(round, led)
     }
 
     /// Moves all that is held to so many shards. The agent stands for the same rounds as before.
@@ -332,141 +317,80 @@ impl<C: Cut + Drop> Agent<C> {
         }
     }
 
-    // What arrived in the round, read and stamped by so many workers, and cut into the parts of the
-    // shards.
-    fn arrived<R: Threads + Sync>(
-        &self,
-        rt: &R,
-        round: &Round,
-        workers: usize,
-    ) -> Result<Arrived, NoMemory>
-        requires some { 0 < workers }
-        requires most { workers ≤ 64 }
-        requires places { length round.now.events ≤ 65536 }
-        ensures { IfOk result (λ arrived.
-            IfSome self.now.shards (λ shards.
-            IsArrived (owner_of (C.shard_of self.now.cut) branch_in (length shards.transactions))
-            (length shards.transactions)
-            (arrivals_from self.now.calls.local self.now.next_round 1 round.now.events)
-            (map (λ part. part.items) arrived.0.items) arrived.1.items)) }
+    // A round in which nothing happens goes by.
+    fn pass(&mut self, round: &Round) -> Vec<Output>
+        requires { self.old.next_round ≤ 2 ^ 62 }
+        ensures outputs { result.items ≡ [] }
+        ensures passed { self.new ≡ record self.old {
+          next_round = self.old.next_round + 1;
+          last_moment = round.now.moment;
+        } }
     {
-        let events = round.events.as_slice();
-        let (local, number) = (self.calls.local, self.next_round);
-        self.cut_up(
-            round,
-            set_out_by(rt, self.alloc, local, number, events, workers)?,
-        )
+        self.next_round += 1;
+        self.last_moment = round.moment;
+        Vec::new(self.alloc)
     }
 
-    // The same, read on this thread.
-    fn arrived_in_turn(&self, round: &Round) -> Result<Arrived, NoMemory>
-        requires { length round.now.events ≤ 65536 }
-        ensures { IfOk result (λ arrived.
-            IfSome self.now.shards (λ shards.
-            IsArrived (owner_of (C.shard_of self.now.cut) branch_in (length shards.transactions))
-            (length shards.transactions)
-            (arrivals_from self.now.calls.local self.now.next_round 1 round.now.events)
-            (map (λ part. part.items) arrived.0.items) arrived.1.items)) }
+    // A round whose events were read and stamped begins: it takes the shards, and what arrived is
+    // cut into their parts. Where memory was or is refused, nothing has changed.
+    fn begin(&mut self, round: &Round, read: Option<SetOut>) -> Result<Begun, RoundFault>
+        requires { IfSome read (IsSetOut (arrivals_from self.old.calls.local self.old.next_round 1
+            round.now.events)) }
+        ensures memory { OnErr result (result ≡ Err (round_fault.NoMemory false)) }
+        ensures err { OnErr result (self.new ≡ self.old) }
+        ensures taken { IfOk result (λ begun. (self.old.shards ≡ Some begun.shards)
+            × (self.new ≡ record self.old { shards = None })) }
+        ensures number { IfOk result (λ begun. begun.number ≡ self.old.next_round) }
+        ensures calls { IfOk result (λ begun. begun.calls ≡ self.old.calls) }
+        ensures arrived { IfOk result (λ begun.
+            IsArrived (owner_of (C.shard_of self.old.cut) branch_in
+            (length begun.shards.transactions)) (length begun.shards.transactions)
+            (arrivals_from self.old.calls.local self.old.next_round 1 round.now.events)
+            (map (λ part. part.items) begun.parts.items) begun.waiting.items) }
     {
-        let events = round.events.as_slice();
-        let (local, number) = (self.calls.local, self.next_round);
-        self.cut_up(round, set_out(self.alloc, local, number, 0, events)?)
-    }
-
-    // Events that were read and stamped, cut into the parts of the shards.
-    fn cut_up(&self, round: &Round, out: SetOut) -> Result<Arrived, NoMemory>
-        requires { IsSetOut (arrivals_from self.now.calls.local self.now.next_round 1
-            round.now.events) out }
-        ensures { IfOk result (λ arrived.
-            IfSome self.now.shards (λ shards.
-            IsArrived (owner_of (C.shard_of self.now.cut) branch_in (length shards.transactions))
-            (length shards.transactions)
-            (arrivals_from self.now.calls.local self.now.next_round 1 round.now.events)
-            (map (λ part. part.items) arrived.0.items) arrived.1.items)) }
-    {
-        let Some(shards) = &self.shards else {
-            return Err(NoMemory);
+        let Some(SetOut { items, waiting }) = read else {
+            return Err(RoundFault::NoMemory { broken: false });
         };
-        let SetOut { items, waiting } = out;
-        let parts = parts_of(self.alloc, &self.cut, items, shards.count())?;
-        Ok((parts, waiting))
+        let Some(shards) = self.shards.take() else {
+            return Err(RoundFault::NoMemory { broken: false });
+        };
+        let Ok(parts) = parts_of(self.alloc, &self.cut, items, shards.count()) else {
+            self.shards = Some(shards);
+            return Err(RoundFault::NoMemory { broken: false });
+        };
+        Ok(Begun {
+            alloc: self.alloc,
+            calls: self.calls,
+            number: self.next_round,
+            shards,
+            parts,
+            waiting,
+        })
     }
 
-    // Leads the shards through the three phases. Where memory is refused they are lost.
-    fn deal<R: Threads + Sync, G: Gate>(
+    // A round that was led through its phases ends: the shards come back. Where memory was refused
+    // they are lost.
+    fn end(
         &mut self,
-        rt: &R,
         round: &Round,
-        arrived: Arrived,
-        workers: usize,
-        gate: &G,
-    ) -> Result<Vec<Output>, NoMemory>
-        requires some { 0 < workers }
-        requires most { workers ≤ 64 }
-        requires moment { round.now.moment ≤ 2 ^ 62 }
-        requires arrived { IfSome self.old.shards
-            (λ shards. IsArrived (owner_of (C.shard_of self.old.cut) branch_in
-            (length shards.transactions)) (length shards.transactions)
-            (arrivals_from self.old.calls.local self.old.next_round 1 round.now.events)
-            (map (λ part. part.items) arrived.0.items) arrived.1.items) }
-        ensures calls { self.new.calls ≡ self.old.calls }
-        ensures cut { self.new.cut ≡ self.old.cut }
-        ensures number { self.new.next_round ≡ self.old.next_round }
-        ensures moment { self.new.last_moment ≡ self.old.last_moment }
-        ensures lost { OnErr result (self.new.shards ≡ None) }
-        ensures count { OnOk result (shard_count self.new ≡ shard_count self.old) }
-        ensures deals { IfOk result (λ outputs. (shards : ShardTables)
-            → self.old.shards ≡ Some shards
-            → (led : ShardTables) × (self.new.shards ≡ Some led)
-            × Deals self.old.calls (C.shard_of self.old.cut) self.old.next_round round.now shards
-            led outputs.items) }
+        led: Result<(Shards, Vec<Output>), NoMemory>,
+    ) -> Result<Vec<Output>, RoundFault>
+        requires { self.old.next_round ≤ 2 ^ 62 }
+        ensures memory { OnErr result (result ≡ Err (round_fault.NoMemory true)) }
+        ensures lost { OnErr result (self.new ≡ self.old) }
+        ensures ok { IfOk result (λ outputs. (shards : ShardTables) × (led ≡ Ok (shards, outputs))
+            × (self.new ≡ record self.old {
+              next_round = self.old.next_round + 1;
+              last_moment = round.now.moment;
+              shards = Some shards;
+            })) }
     {
-        let Some(shards) = self.shards.take() else {
-            return Err(NoMemory);
+        let Ok((shards, outputs)) = led else {
+            return Err(RoundFault::NoMemory { broken: true });
         };
-        let phases = PhaseRunner {
-            rt,
-            alloc: self.alloc,
-            cut: &self.cut,
-            workers,
-            gate,
-        };
-        let (number, calls) = (self.next_round, self.calls);
-        let (shards, outputs) = phases.lead(shards, calls, number, round, arrived)?;
         self.shards = Some(shards);
-        Ok(outputs)
-    }
-
-    // The same on this thread, shard after shard.
-    fn deal_in_turn(&mut self, round: &Round, arrived: Arrived) -> Result<Vec<Output>, NoMemory>
-        requires moment { round.now.moment ≤ 2 ^ 62 }
-        requires arrived { IfSome self.old.shards
-            (λ shards. IsArrived (owner_of (C.shard_of self.old.cut) branch_in
-            (length shards.transactions)) (length shards.transactions)
-            (arrivals_from self.old.calls.local self.old.next_round 1 round.now.events)
-            (map (λ part. part.items) arrived.0.items) arrived.1.items) }
-        ensures calls { self.new.calls ≡ self.old.calls }
-        ensures cut { self.new.cut ≡ self.old.cut }
-        ensures number { self.new.next_round ≡ self.old.next_round }
-        ensures moment { self.new.last_moment ≡ self.old.last_moment }
-        ensures lost { OnErr result (self.new.shards ≡ None) }
-        ensures count { OnOk result (shard_count self.new ≡ shard_count self.old) }
-        ensures deals { IfOk result (λ outputs. (shards : ShardTables)
-            → self.old.shards ≡ Some shards
-            → (led : ShardTables) × (self.new.shards ≡ Some led)
-            × Deals self.old.calls (C.shard_of self.old.cut) self.old.next_round round.now shards
-            led outputs.items) }
-    {
-        let Some(shards) = self.shards.take() else {
-            return Err(NoMemory);
-        };
-        let phases = TurnRunner {
-            alloc: self.alloc,
-            cut: &self.cut,
-        };
-        let (number, calls) = (self.next_round, self.calls);
-        let (shards, outputs) = phases.lead(shards, calls, number, round, arrived)?;
-        self.shards = Some(shards);
+        self.next_round += 1;
+        self.last_moment = round.moment;
         Ok(outputs)
     }
 }

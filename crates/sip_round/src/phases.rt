@@ -1,4 +1,4 @@
-//! What begins and what ends the three phases of a round.
+//! What begins a round, and what begins and ends its three phases.
 
 ghost use Rattle.std.specs.Prelude.{◌≡◌, ◌<◌, ◌≤◌, ℕ, List, IfOk, OnOk, map, vec_len};
 ghost use Rattle.sip_calls.specs.Call.{call_machine};
@@ -23,6 +23,7 @@ ghost use Rattle.sip_round.specs.Steps.Waiting.{all_waiting};
 use crate::output::Output;
 use crate::outs::{part_calls, send_all};
 use crate::parts::{empty_parts, put};
+use crate::shards::Shards;
 use crate::waiting::{Waiting, first_outputs};
 use sip_calls::{CallOut, Calls};
 use sip_message::{CallId, Cut, Id, Key};
@@ -32,8 +33,17 @@ use sip_transactions::{Command, Input, Out, Transactions};
 use sip_workers::NoMemory;
 use std::alloc::{AllocError, Global};
 
-/// What arrived in a round: the part of each shard, and what waits for what the transactions say.
-pub(crate) type Arrived = (Vec<Vec<model::Item<Key, Input>>>, Vec<(Id, Waiting)>);
+/// A round of this number that has begun: its shards, the part of each of what arrived, and what
+/// waits for what the transactions say.
+#[derive(Drop)]
+pub(crate) struct Begun {
+    pub(crate) alloc: Global,
+    pub(crate) calls: Calls,
+    pub(crate) number: u64,
+    pub(crate) shards: Shards,
+    pub(crate) parts: Vec<Vec<model::Item<Key, Input>>>,
+    pub(crate) waiting: Vec<(Id, Waiting)>,
+}
 
 /// Ends the first phase of the round of this number: the outputs, and the items of the calls.
 pub(crate) fn end_first(

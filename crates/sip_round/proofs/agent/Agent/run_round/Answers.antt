@@ -1,48 +1,29 @@
-use Rattle.std.proofs.Common.{◌+◌, ◌∙◌, [], ap, refl, sym, subst}
-use Rattle.std.specs.Prelude.{IfSome}
+use Rattle.std.proofs.Common.{subst}
+use Rattle.std.specs.Prelude.{IfOk}
+use Rattle.std.proofs.lemmas.Result.{IfOk-weaker}
+use Rattle.sip_round.specs.AgentState.{AgentState}
 use Rattle.sip_round.specs.Steps.Led.{Deals}
-use Rattle.sip_round.proofs.Runs.{stands_longer}
+use Rattle.sip_round.proofs.Runs.{ended_longer, passed_longer}
 use Rattle.sip_round.proofs.agent.Agent.run_round.Goals as goal
-
-pub returns-in-Ok-deal-clause-answers : goal.returns-in-Ok-deal-clause-answers
-returns-in-Ok-deal-clause-answers g c = λ config rounds stands.
-    let inside = c.self-2.inside in
-    stands_longer g.C.Cut.shard_of c.args.self.now
-    (record {
-      calls = inside.calls;
-      cut = inside.cut;
-      next_round = inside.next_round + 1;
-      last_moment = c.args.round.now.moment;
-      shards =
-          inside.shards;
-    }) config rounds c.args.round.now c.in-Ok-deal.outputs.items
-    (λ shards sound. let led = c.in-Ok-deal.ensures.deals shards sound in
-    (led.0, ap (λ a. a.shards) c.self-2.view_is ∙ led.1, led.2))
-    (ap (λ a. a.calls) c.self-2.view_is ∙ c.in-Ok-deal.ensures.calls)
-    (ap (λ a. a.cut) c.self-2.view_is ∙ c.in-Ok-deal.ensures.cut)
-    (ap (λ a. a.next_round + 1) c.self-2.view_is ∙ ap (λ n. n + 1) c.in-Ok-deal.ensures.number) refl
-    stands
 
 pub returns-then-is_in_turn-clause-answers : goal.returns-then-is_in_turn-clause-answers
 returns-then-is_in_turn-clause-answers g c = λ config rounds stands.
-    let inside = c.self.inside in
-    let old = c.args.self.now in
-    stands_longer g.C.Cut.shard_of old
-    (record {
-      calls = inside.calls;
-      cut = inside.cut;
-      next_round = inside.next_round + 1;
-      last_moment = c.args.round.now.moment;
-      shards = inside.shards;
-    }) config rounds c.args.round.now c.new.result.items
-    (λ shards sound. (
-      shards,
-      ap (λ a. a.shards) c.self.view_is ∙ sound,
-      subst (λ outputs. Deals old.calls (g.C.Cut.shard_of old.cut) old.next_round c.args.round.now
-          shards shards outputs) (sym c.new.ensures.items)
-          (subst (λ held. IfSome held (λ shards. Deals old.calls (g.C.Cut.shard_of old.cut)
-          old.next_round c.args.round.now shards shards [])) sound
-          (c.is_idle.ensures c.if-is_idle.true)),
-    ))
-    (ap (λ a. a.calls) c.self.view_is) (ap (λ a. a.cut) c.self.view_is)
-    (ap (λ a. a.next_round + 1) c.self.view_is) refl stands
+    passed_longer g.C.Cut.shard_of c.args.self.now c.pass.new.self config rounds c.args.round.now
+    c.pass.result.items c.pass.ensures.passed (c.is_idle.ensures c.if-is_idle.true)
+    c.pass.ensures.outputs stands
+
+pub returns-clause-answers : goal.returns-clause-answers
+returns-clause-answers g c = IfOk-weaker c.end.result _ _
+    (λ outputs ended config rounds stands.
+    let begun = c.in_ok-begun.begun in
+    let began = c.in_ok-begun.ensures in
+    let led = subst (λ led. IfOk led (λ both. Deals begun.calls
+    (g.C.Cut.shard_of c.self-2.inside.cut) begun.number c.args.round.now begun.shards both.0
+    both.1.items)) ended.1 c.lead-led.ensures in
+    ended_longer g.C.Cut.shard_of c.args.self.now c.begin.new.self c.end.new.self config rounds
+    c.args.round.now outputs.items begun.shards ended.0 begun.calls begun.number began.taken.0
+    began.calls began.number began.taken.1 ended.2
+    (subst (λ (agent : AgentState _). Deals begun.calls (g.C.Cut.shard_of agent.cut) begun.number
+    c.args.round.now begun.shards ended.0 outputs.items) c.self-2.view_is led)
+    stands)
+    c.end.ensures.ok

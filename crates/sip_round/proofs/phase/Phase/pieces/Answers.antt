@@ -3,14 +3,14 @@ use Rattle.std.specs.Vec.Iter.{into_iter_items}
 use Rattle.sip_workers.specs.Ran.{IsNumbered}
 use Rattle.sip_workers.proofs.Gathers.{numbered_more}
 use Rattle.sip_round.proofs.Piled.{one_piece}
-use Rattle.sip_round.proofs.phase.pieces_of.Goals as goal
+use Rattle.sip_round.proofs.phase.Phase.pieces.Goals as goal
 
 pub loop-table-preserved : goal.loop-table-preserved
 loop-table-preserved g c = (
   one_piece (λ piece. piece.job.table) (λ piece. piece.job.items.items)
-      (λ piece. (piece.job.machine ≡ c.args.machine) × (piece.job.now ≡ c.args.now)
-      × (piece.job.ticks ≡ c.args.ticks))
-      c.args.tables.items (map (λ part. part.items) c.args.parts.items)
+      (λ piece. (piece.job.machine ≡ c.args.self.machine) × (piece.job.now ≡ c.args.self.moment)
+      × (piece.job.ticks ≡ c.args.self.ticks))
+      c.args.self.tables.items (map (λ part. part.items) c.args.self.parts.items)
       c.in-Some.table _ (into_iter_items c.next.new.self) c.in-Some-next.items.items _
       (map (λ part. part.items) (into_iter_items c.next-in-loop-table.new.self))
       c.loop-table.pieces.items c.push.new.self.items _

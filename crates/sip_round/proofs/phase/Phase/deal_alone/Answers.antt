@@ -2,7 +2,7 @@ use Rattle.std.proofs.Common.{◌≡◌, [], ◌∷◌, map, length, ◌∙◌, 
 use Rattle.std.proofs.lemmas.List.{map-append, length-map}
 use Rattle.sip_model.specs.Groups.{groups}
 use Rattle.sip_round.proofs.Alone.{deals_last}
-use Rattle.sip_round.proofs.phase.deal_alone.Goals as goal
+use Rattle.sip_round.proofs.phase.Phase.deal_alone.Goals as goal
 use Rattle.sip_model.specs.Machine.{tick_at}
 
 pub returns : goal.returns
@@ -11,21 +11,24 @@ returns g c =
     let parts_left = c.pop-2.new.self in
     let took = c.in-Some-Some.ensures in
     let took_parts = c.in-Some-Some.ensures' in
-    let no_table : length left.items ≡ 0 = omega (arith, took.len, c.requires.one, left.ok) in
+    let all = c.args.self in
+    let no_table : length left.items ≡ 0 =
+    omega (arith, took.len, c.requires, left.ok, all.tables.ok) in
     let no_part : length (map (λ part. part.items) parts_left.items) ≡ 0 =
     omega (
       arith,
       took_parts.len,
-      c.requires.count,
-      c.requires.one,
+      all.a_part_each,
+      c.requires,
+      all.parts.ok,
       parts_left.ok,
       length-map parts_left.items (λ part. part.items),
     ) in
-    deals_last g.M.Key.Ord.cmp (g.M.StateMachine.machine c.args.machine)
-    tick_at c.args.now c.args.ticks c.in-Some-Some.table c.deal.new.self
+    deals_last g.M.Key.Ord.cmp (g.M.StateMachine.machine all.machine)
+    tick_at all.moment all.ticks c.in-Some-Some.table c.deal.new.self
     c.in-Some-Some.items.items (groups c.in-Ok.replies.ticks.items)
-    (groups c.in-Ok.replies.items.items) c.in-Ok.ensures.phases c.args.tables.items left.items
-    c.push.new.self.items (map (λ part. part.items) c.args.parts.items)
+    (groups c.in-Ok.replies.items.items) c.in-Ok.ensures.phases all.tables.items left.items
+    c.push.new.self.items (map (λ part. part.items) all.parts.items)
     (map (λ part. part.items) parts_left.items) took.items no_table
     (ap (map (λ part. part.items)) took_parts.items
     ∙ map-append (λ part. part.items) parts_left.items (c.in-Some-Some.items ∷ [])) no_part

@@ -1,0 +1,42 @@
+use Rattle.std.proofs.Common.{[], map, subst, sym}
+use Rattle.std.proofs.lemmas.Result.{IfOk-weaker}
+use Rattle.sip_model.specs.Groups.{groups}
+use Rattle.sip_model.specs.Machine.{tick_at}
+use Rattle.sip_round.specs.Steps.AllShards.{DealsParts}
+use Rattle.sip_round.proofs.Pieces.{pieces_dealt}
+use Rattle.sip_round.proofs.lead.deal_phase.Goals as goal
+
+pub end_phase-requires : goal.end_phase-requires
+end_phase-requires g c =
+    c.in_ok-dones.ensures.differ
+    (c.dones_in_order.ensures.differ c.in_ok-pieces.field-0.items c.in_ok-pieces.ensures.numbered)
+
+pub returns : goal.returns
+returns g c = IfOk-weaker c.end_phase.result _ _
+    (λ dealt ended.
+    pieces_dealt g.M.Key.Ord.cmp g.M.StateMachine.machine (λ piece. piece.job.machine)
+    (λ piece. piece.job.now) (λ piece. piece.job.ticks) (λ piece. piece.job.table)
+    (λ piece. piece.job.items.items) (λ dealt. dealt.table)
+    (λ dealt. groups dealt.replies.ticks.items) (λ dealt. groups dealt.replies.items.items)
+    c.args.phase.machine c.args.phase.moment c.args.phase.ticks
+    c.laws_of_phases.ensures.shards_tell_all c.in_ok-pieces.field-0.items
+    c.args.phase.tables.items (map (λ part. part.items) c.args.phase.parts.items)
+    c.in_ok-pieces.ensures.tables c.in_ok-pieces.ensures.parts c.in_ok-pieces.ensures.shared
+    c.in_ok-dones.dones.items dealt.0.items (groups dealt.1.ticks.items)
+    (groups dealt.1.items.items) ended
+    (c.dones_in_order.ensures.in_order c.in_ok-pieces.field-0.items c.in_ok-dones.dones.items
+    ended.gathered c.in_ok-pieces.ensures.numbered c.in_ok-dones.ensures.each_once
+    ended.is_gathered))
+    c.end_phase.ensures
+
+pub returns-then-is_idle : goal.returns-then-is_idle
+returns-then-is_idle g c =
+    let all = c.args.phase in
+    let Deals = DealsParts g.M.Key.Ord.cmp (g.M.StateMachine.machine all.machine) tick_at
+    all.moment all.ticks (map (λ part. part.items) all.parts.items) all.tables.items in
+    subst (λ after. Deals after (groups c.unchanged.result.1.ticks.items)
+    (groups c.unchanged.result.1.items.items)) (sym c.unchanged.ensures.tables)
+    (subst (λ ticks. Deals all.tables.items ticks (groups c.unchanged.result.1.items.items))
+    (sym c.unchanged.ensures.ticks)
+    (subst (Deals all.tables.items []) (sym c.unchanged.ensures.items)
+    (c.is_idle.ensures c.if-is_idle.true)))
