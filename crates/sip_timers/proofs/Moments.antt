@@ -1,18 +1,26 @@
 -- Lemmas on the entries of a queue: the earliest moment, and what `take_due` gives and leaves.
-use Rattle.std.proofs.Common.{◌≡◌, ℕ, suc, ◌≤◌, Bool, true, false, cond, List, [], ◌∷◌, ◌⊎◌, inl, inr, Option, Some, None, refl, sym, ap, ◌∙◌, arith, min, filter, nat_le, nat_lt, IfSome, is_some}
+use Rattle.std.proofs.Common.{◌≡◌, ℕ, suc, ◌≤◌, Bool, true, false, cond, List, [], ◌∷◌, ◌⊎◌, inl, inr, Option, Some, None, refl, sym, ap, subst, ◌∙◌, arith, min, filter, nat_le, nat_lt, IfSome, is_some}
 use Rattle.std.specs.Prelude.{IfNone}
 use Rattle.std.specs.List.{reduce, fold, list_any, slice_get, AllByRecursion}
 use Rattle.std.specs.List.Sorted.{IsStrictlySortedBy}
+use Rattle.std.specs.Ordering.{is_eq, match_ordering}
 use Rattle.std.specs.Cmp.{IsTotalOrder, eq_by_cmp_equiv}
-use Rattle.std.specs.BTreeMap.{is_at}
+use Rattle.std.specs.BTreeMap.{is_at, insert_entry}
 use Rattle.std.specs.Map.{lookup, keys_of, values_of}
 use Rattle.std.specs.declared.cmp.Ordering.{Ordering}
 use Rattle.std.specs.declared.cmp.Ordering.TheVariants.{Less}
 use Rattle.std.proofs.lemmas.Bool.{cases_lt}
-use Rattle.std.proofs.lemmas.Map.Keys.{IsDistinct-from_sorted}
-use Rattle.std.proofs.lemmas.Map.Entries.{option_filter, lookup-filter-values, lookup_from_place}
+use Rattle.std.proofs.lemmas.Cmp.{tied_itself}
+use Rattle.std.proofs.lemmas.Option.{same_Some}
+use Rattle.std.proofs.lemmas.Map.{lookup-none}
+use Rattle.std.proofs.lemmas.Map.Keys.{IsDistinct-from_sorted, sorted_tail}
+use Rattle.std.proofs.lemmas.Map.Entries.{option_filter, lookup-filter-values, lookup_from_place, none_below_head}
 use Rattle.std.proofs.lemmas.Map.Made.{is_some-lookup}
 use Rattle.sip_timers.specs.Queue.{moment, is_due, if_later, due_keys, later}
+use Rattle.sip_timers.proofs.Dues.{by_ordering}
+
+none_some : (n : ℕ) → None ≡ Some n → ⊥
+none_some n same = cc
 
 -- ---- the earliest moment
 
@@ -41,12 +49,6 @@ none_before cmp (e ∷ es) = λ q.
       | true ↦ fold_min-le_first e.1 (values_of es)
       | false ↦ fold_min-le_lookup (is_at (cmp q)) e.1 es
     ]
-
--- where there is no earliest moment, no key has one
-pub none_armed : {K : Type 0} (cmp : K → K → Ordering) (es : List (K × ℕ))
-    → IfNone (reduce min (values_of es)) ((q : K) → moment cmp es q ≡ None)
-none_armed cmp [] = λ q. refl
-none_armed cmp (e ∷ es) = tt
 
 min_cases : (a b : ℕ) → (min a b ≡ a) ⊎ (min a b ≡ b)
 min_cases a b = elim (cases_lt a b) as (λ _. (min a b ≡ a)
@@ -97,6 +99,55 @@ of_a_key {K} {cmp} o (e ∷ es) sorted =
       )
     ]
 
+-- so it is known by look-ups
+pub earliest : {K : Type 0} {cmp : K → K → Ordering} → IsTotalOrder cmp → (es : List (K × ℕ))
+    → IsStrictlySortedBy cmp (keys_of es) → (first : Option ℕ)
+    → IfSome first (λ due. (q : K) → IfSome (moment cmp es q) (λ other. due ≤ other))
+    → IfSome first (λ due. (q : K) × (moment cmp es q ≡ Some due))
+    → IfNone first ((q : K) → moment cmp es q ≡ None) → first ≡ reduce min (values_of es)
+earliest total [] sorted None before at none = refl
+earliest total [] sorted (Some due) before (q, at) none = absurd (none_some due at)
+earliest {K} {cmp} total (e ∷ es) sorted None before at none =
+    let armed : moment cmp (e ∷ es) e.0 ≡ Some e.1 =
+    ap (λ b. cond b (Some e.1) (moment cmp es e.0)) (ap is_eq (tied_itself total e.0)) in
+    absurd (none_some e.1 (sym (none e.0) ∙ armed))
+earliest {K} {cmp} total (e ∷ es) sorted (Some due) before (q, at) none =
+    let lowest : ℕ = fold min e.1 (values_of es) in
+    let found : (k : K) × (moment cmp (e ∷ es) k ≡ Some lowest) =
+    of_a_key total (e ∷ es) sorted in
+    let low : due ≤ lowest =
+    subst (λ (o : Option ℕ). IfSome o (λ other. due ≤ other)) found.1 (before found.0) in
+    let high : lowest ≤ due =
+    subst (λ (o : Option ℕ). IfSome o (λ other. lowest ≤ other)) at (none_before cmp (e ∷ es) q) in
+    let same : due ≡ lowest = omega arith in ap (λ (m : ℕ). Some m) same
+
+-- ---- an armed key gets the moment that it has
+
+pub insert_same : {K : Type 0} {cmp : K → K → Ordering} → IsTotalOrder cmp → (es : List (K × ℕ))
+    → IsStrictlySortedBy cmp (keys_of es) → (key : K) (due : ℕ) → moment cmp es key ≡ Some due
+    → es ≡ insert_entry cmp es key due
+insert_same total [] sorted key due armed = let none : None ≡ Some due = armed in cc
+insert_same {K} {cmp} total (e ∷ es) sorted key due armed =
+    by_ordering (cmp key e.0)
+    (λ less.
+    let none : moment cmp (e ∷ es) key ≡ None =
+    lookup-none (is_at (cmp key)) (e ∷ es) (none_below_head total key e es sorted less) in
+    let some : None ≡ Some due = sym none ∙ armed in
+    absurd (none_some due some))
+    (λ equal.
+    let here : Some e.1 ≡ Some due =
+    sym (ap (λ o. cond (is_eq o) (Some e.1) (moment cmp es key)) equal) ∙ armed in
+    let same : e.1 ≡ due = same_Some e.1 due here in
+    sym (ap (λ o. match_ordering o ((key, due) ∷ e ∷ es) ((e.0, due) ∷ es)
+    (e ∷ insert_entry cmp es key due)) equal ∙ ap (λ (m : ℕ). (e.0, m) ∷ es) (sym same)))
+    (λ greater.
+    let after : moment cmp es key ≡ Some due =
+    sym (ap (λ o. cond (is_eq o) (Some e.1) (moment cmp es key)) greater) ∙ armed in
+    ap (λ rest. e ∷ rest) (insert_same total es
+    (sorted_tail cmp e.0 (keys_of es) sorted) key due after)
+    ∙ sym (ap (λ o. match_ordering o ((key, due) ∷ e ∷ es) ((e.0, due) ∷ es)
+    (e ∷ insert_entry cmp es key due)) greater))
+
 -- ---- what `take_due` leaves and gives
 
 if_later-is : (now : ℕ) (o : Option ℕ) → option_filter (λ due. nat_lt now due) o ≡ if_later now o
@@ -137,7 +188,7 @@ kept_above P p (e ∷ es) all =
       | false ↦ kept_above P p es all.1
     ]
 
-kept_sorted : {K : Type 0} (cmp : K → K → Ordering) (p : K × ℕ → Bool) (es : List (K × ℕ))
+pub kept_sorted : {K : Type 0} (cmp : K → K → Ordering) (p : K × ℕ → Bool) (es : List (K × ℕ))
     → IsStrictlySortedBy cmp (keys_of es) → IsStrictlySortedBy cmp (keys_of (filter p es))
 unfolding IsStrictlySortedBy
 kept_sorted cmp p [] sorted = tt

@@ -8,46 +8,16 @@ use Rattle.std.specs.Cmp.{IsTotalOrder}
 use Rattle.std.specs.BTreeMap.{is_at}
 use Rattle.std.specs.declared.cmp.Ordering.{Ordering}
 use Rattle.std.specs.declared.cmp.Ordering.TheVariants.{Less}
-use Rattle.std.proofs.lemmas.Bool.{false≢true, true≢false, ltb-true, ltb-false, leb-true, leb-false, lt-leb, eqb-true, eq-eqb, and_parts, or_cases, or_parts, or_left, or_right}
-use Rattle.std.proofs.lemmas.Cmp.{tied_itself}
+use Rattle.std.proofs.lemmas.Bool.{false≢true, true≢false, ltb-true, ltb-false, leb-true, leb-false, lt-leb, eqb-true, eq-eqb, ne_eqb, and_parts, or_cases, or_parts, or_left, or_right}
+use Rattle.std.proofs.lemmas.Cmp.{tied_itself, nat_eq_equiv}
 use Rattle.std.proofs.lemmas.List.Folds.{list_any-append}
 use Rattle.std.proofs.lemmas.List.Sorted.{list_any-IsPermutation}
 use Rattle.std.proofs.lemmas.Option.{same_Some}
 use Rattle.std.proofs.lemmas.Map.Keys.{sorted_head, sorted_tail}
 use Rattle.sip_timers.specs.Queue.{is_due, if_later}
 use Rattle.sip_timers.specs.Index.{due_cmp, is_due_at, is_moment, IsIndexOf, with_moment}
-use Rattle.sip_timers.proofs.Dues.{by_bool, Puts, index_added, index_removed, moment_tied, armed_at, there_at, at_most, due_count, first_due, rest_due, none_due, tied_pair}
+use Rattle.sip_timers.proofs.Dues.{by_bool, Puts, put_changes, changes_twice, index_changed, moment_tied, armed_at, there_at, at_most, due_count, first_due, rest_due, none_due, tied_pair}
 use Rattle.sip_timers.proofs.Sorts.{rises_if_distinct}
-
--- ---- a change of one key
-
-module _ {K : Type 0} {cmp : K → K → Ordering} (total : IsTotalOrder cmp)
-    (moments : K → Option ℕ) (dues rest : List (ℕ × K)) (key : K) (due : ℕ)
-    (index : IsIndexOf cmp moments dues) where
-  pub armed : moments key ≡ None → Puts cmp dues rest due key true
-      → IsIndexOf cmp (with_moment cmp moments key (Some due)) rest
-  armed absent puts =
-      index_added total moments (with_moment cmp moments key (Some due)) dues rest key due index
-      absent puts (λ q. refl)
-
-  pub disarmed : moments key ≡ Some due → Puts cmp dues rest due key false
-      → IsIndexOf cmp (with_moment cmp moments key None) rest
-  disarmed there takes =
-      index_removed total moments (with_moment cmp moments key None) dues rest key due index there
-      takes (λ q. refl)
-
-module _ {K : Type 0} {cmp : K → K → Ordering} (total : IsTotalOrder cmp)
-    (moments : K → Option ℕ) (dues between rest : List (ℕ × K)) (key : K) (former due : ℕ)
-    (index : IsIndexOf cmp moments dues) where
-  pub rearmed : moments key ≡ Some former → Puts cmp dues between former key false
-      → Puts cmp between rest due key true
-      → IsIndexOf cmp (with_moment cmp moments key (Some due)) rest
-  rearmed there takes puts =
-      let none = with_moment cmp moments key None in
-      index_added total none (with_moment cmp moments key (Some due)) between rest key due
-      (disarmed total moments dues between key former index there takes)
-      (ap (λ b. cond b None (moments key)) (ap is_eq (tied_itself total key))) puts
-      (λ q. by_bool (is_at (cmp key) q) (λ hit. rw hit) (λ miss. rw miss))
 
 -- ---- moments that are the same
 
@@ -57,6 +27,84 @@ pub index_of_same : {K : Type 0} (cmp : K → K → Ordering) (moments others : 
     → IsIndexOf cmp others dues
 index_of_same cmp moments others dues same index = λ at q.
     index at q ∙ ap (is_moment at) (same q)
+
+-- ---- a change of one key
+
+-- the pair is put in where there was none
+come : (due at : ℕ) → cond (due == at) true false ≡ (at == due)
+come due at = by_bool (due == at) (λ b. rw b) (λ b. rw b) ∙ nat_eq_equiv.symm due at
+
+-- the pair is taken out
+gone : (former at : ℕ) → cond (former == at) false (at == former) ≡ false
+gone former at =
+    by_bool (former == at) (λ same. rw same) (λ apart. rw apart (nat_eq_equiv.symm at former ∙ apart))
+
+-- a pair is put in, and then the former taken out
+come_gone : (former due at : ℕ) → (former ≡ due → ⊥)
+    → cond (former == at) false (cond (due == at) true (at == former)) ≡ (at == due)
+come_gone former due at other =
+    by_bool (former == at)
+    (λ same.
+    ap (λ b. cond b false (cond (due == at) true (at == former))) same
+    ∙ sym (ne_eqb at due (λ e. other (eqb-true former at same ∙ e))))
+    (λ apart.
+    ap (λ b. cond b false (cond (due == at) true (at == former))) apart
+    ∙ ap (cond (due == at) true) (nat_eq_equiv.symm at former ∙ apart) ∙ come due at)
+
+module _ {K : Type 0} {cmp : K → K → Ordering} (total : IsTotalOrder cmp)
+    (moments : K → Option ℕ) (dues rest : List (ℕ × K)) (key : K) (due : ℕ)
+    (index : IsIndexOf cmp moments dues) where
+  pub armed : moments key ≡ None → Puts cmp dues rest due key true
+      → IsIndexOf cmp (with_moment cmp moments key (Some due)) rest
+  armed absent puts =
+      index_changed total moments dues rest key (λ at had. cond (due == at) true had) (Some due)
+      index (put_changes cmp key dues rest due true puts)
+      (λ at. ap (λ o. cond (due == at) true (is_moment at o)) absent ∙ come due at)
+
+  pub disarmed : moments key ≡ Some due → Puts cmp dues rest due key false
+      → IsIndexOf cmp (with_moment cmp moments key None) rest
+  disarmed there takes =
+      index_changed total moments dues rest key (λ at had. cond (due == at) false had) None
+      index (put_changes cmp key dues rest due false takes)
+      (λ at. ap (λ o. cond (due == at) false (is_moment at o)) there ∙ gone due at)
+
+  -- a key that was armed is disarmed again
+  pub undone : moments key ≡ None
+      → IsIndexOf cmp (with_moment cmp (with_moment cmp moments key (Some due)) key None) rest
+      → IsIndexOf cmp moments rest
+  undone absent again =
+      index_of_same cmp (with_moment cmp (with_moment cmp moments key (Some due)) key None) moments
+      rest
+      (λ q. by_bool (is_at (cmp key) q)
+      (λ here. rw here (sym (moment_tied total moments dues index key q here ∙ absent)))
+      (λ apart. rw apart))
+      again
+
+module _ {K : Type 0} {cmp : K → K → Ordering} (total : IsTotalOrder cmp)
+    (moments : K → Option ℕ) (dues between rest : List (ℕ × K)) (key : K) (former due : ℕ)
+    (index : IsIndexOf cmp moments dues) (there : moments key ≡ Some former) where
+  pub rearmed : Puts cmp dues between former key false → Puts cmp between rest due key true
+      → IsIndexOf cmp (with_moment cmp moments key (Some due)) rest
+  rearmed takes puts =
+      index_changed total moments dues rest key
+      (λ at had. cond (due == at) true (cond (former == at) false had)) (Some due) index
+      (changes_twice cmp key dues between rest (λ at had. cond (former == at) false had)
+      (λ at had. cond (due == at) true had) (put_changes cmp key dues between former false takes)
+      (put_changes cmp key between rest due true puts))
+      (λ at. ap (λ o. cond (due == at) true (cond (former == at) false (is_moment at o))) there
+      ∙ ap (cond (due == at) true) (gone former at) ∙ come due at)
+
+  pub replaced : (former ≡ due → ⊥) → Puts cmp dues between due key true
+      → Puts cmp between rest former key false
+      → IsIndexOf cmp (with_moment cmp moments key (Some due)) rest
+  replaced other puts takes =
+      index_changed total moments dues rest key
+      (λ at had. cond (former == at) false (cond (due == at) true had)) (Some due) index
+      (changes_twice cmp key dues between rest (λ at had. cond (due == at) true had)
+      (λ at had. cond (former == at) false had) (put_changes cmp key dues between due true puts)
+      (put_changes cmp key between rest former false takes))
+      (λ at. ap (λ o. cond (former == at) false (cond (due == at) true (is_moment at o))) there
+      ∙ come_gone former due at other)
 
 -- ---- the first of it
 
