@@ -1,5 +1,5 @@
 -- Lemmas on the index of a schedule: how each change looks at a key, and what stands in front.
-use Rattle.std.proofs.Common.{◌≡◌, ℕ, zero, suc, ◌≤◌, ◌<◌, Bool, true, false, cond, ◌&&◌, List, [], ◌∷◌, inl, inr, Option, Some, None, refl, sym, ap, ◌∙◌, arith, length}
+use Rattle.std.proofs.Common.{◌≡◌, ℕ, zero, suc, ◌≤◌, ◌<◌, Bool, true, false, cond, ◌&&◌, List, [], ◌∷◌, Option, Some, None, refl, sym, ap, ◌∙◌, arith, length, take, drop, filter}
 use Rattle.std.specs.Prelude.{nat_lt, nat_le, ◌==◌}
 use Rattle.std.specs.List.{list_any, take_while, AllByRecursion}
 use Rattle.std.specs.List.Sorted.{IsStrictlySortedBy}
@@ -8,9 +8,9 @@ use Rattle.std.specs.Cmp.{IsTotalOrder}
 use Rattle.std.specs.BTreeMap.{is_at}
 use Rattle.std.specs.declared.cmp.Ordering.{Ordering}
 use Rattle.std.specs.declared.cmp.Ordering.TheVariants.{Less, Equal, Greater}
-use Rattle.std.proofs.lemmas.Bool.{false≢true, ltb-true, leb-true, leb-false, eqb-true, eq-eqb, ne_eqb, or_cases, and_parts}
+use Rattle.std.proofs.lemmas.Bool.{false≢true, ltb-true, leb-true, leb-false, eqb-true, eq-eqb, ne_eqb, lt-leb, lt-ltb, le-ltb}
 use Rattle.std.proofs.lemmas.List.Sums.{take_while-cons}
-use Rattle.std.proofs.lemmas.Map.Keys.{sorted_head}
+use Rattle.std.proofs.lemmas.Map.Keys.{sorted_head, sorted_tail}
 use Rattle.sip_timers.specs.Index.{due_cmp, is_due_at, is_moment, IsIndexOf, with_moment}
 
 pub by_bool : {G : Type 0} (b : Bool) → (b ≡ true → G) → (b ≡ false → G) → G
@@ -84,7 +84,7 @@ module _ {K : Type 0} (cmp : K → K → Ordering) (key : K) where
       (is_due_at cmp between at q) (is_due_at cmp rest at q) (first at q) (second at q)
 
 -- two moments that are the same at each moment are one
-same_moment : (a b : Option ℕ) → ((at : ℕ) → is_moment at a ≡ is_moment at b) → a ≡ b
+pub same_moment : (a b : Option ℕ) → ((at : ℕ) → is_moment at a ≡ is_moment at b) → a ≡ b
 same_moment None None same = refl
 same_moment None (Some due) same = absurd (false≢true (same due ∙ eq-eqb due due refl))
 same_moment (Some due) None same = absurd (false≢true (sym (same due) ∙ eq-eqb due due refl))
@@ -148,75 +148,50 @@ at_most a b o below =
 abbrev pub due_count : {K : Type 0} → ℕ → List (ℕ × K) → ℕ
 due_count now dues = length (take_while (λ due. nat_le due.0 now) dues)
 
-module _ {K : Type 0} (now : ℕ) (d : ℕ × K) (ds : List (ℕ × K)) where
-  count_cons : due_count now (d ∷ ds)
+module _ {K : Type 0} (cmp : K → K → Ordering) (now : ℕ) where
+  count_cons : (d : ℕ × K) (ds : List (ℕ × K)) → due_count now (d ∷ ds)
       ≡ length (cond (nat_le d.0 now) (d ∷ take_while (λ due. nat_le due.0 now) ds) [])
-  count_cons = ap length (take_while-cons (λ due. nat_le due.0 now) d ds)
+  count_cons d ds = ap length (take_while-cons (λ due. nat_le due.0 now) d ds)
 
-  pub first_due : 0 < due_count now (d ∷ ds) → d.0 ≤ now
-  first_due some =
-      by_bool (nat_le d.0 now)
-      (λ due. leb-true d.0 now due)
-      (λ later.
-      let none : due_count now (d ∷ ds) ≡ 0 =
-      count_cons ∙ ap (λ b. length (cond b (d ∷ take_while (λ due. nat_le due.0 now) ds) []))
-      later in
-      absurd (omega arith))
+  above_first : (d : ℕ × K) → now < d.0 → (ds : List (ℕ × K))
+      → AllByRecursion (λ y. due_cmp cmp d y ≡ Less) ds → AllByRecursion (λ y. now < y.0) ds
+  above_first d after [] above = tt
+  above_first d after (y ∷ ys) above =
+      let more : d.0 ≤ y.0 = at_most d.0 y.0 (cmp d.1 y.1) (ap is_gt above.0) in
+      (omega arith, above_first d after ys above.1)
 
-  pub rest_due : 0 < due_count now (d ∷ ds) → due_count now (d ∷ ds) ≡ suc (due_count now ds)
-  rest_due some =
-      by_bool (nat_le d.0 now)
-      (λ due. count_cons ∙ ap (λ b. length
-      (cond b (d ∷ take_while (λ due. nat_le due.0 now) ds) [])) due)
-      (λ later.
-      let none : due_count now (d ∷ ds) ≡ 0 =
-      count_cons ∙ ap (λ b. length (cond b (d ∷ take_while (λ due. nat_le due.0 now) ds) []))
-      later in
-      absurd (omega arith))
+  all_wait : (ds : List (ℕ × K)) → AllByRecursion (λ d. now < d.0) ds
+      → (filter (λ d. nat_le d.0 now) ds ≡ []) × (filter (λ d. nat_lt now d.0) ds ≡ ds)
+  all_wait [] every = (refl, refl)
+  all_wait (d ∷ ds) every =
+      let rest = all_wait ds every.1 in (
+        rw (lt-leb d.0 now every.0) rest.0,
+        rw (lt-ltb now d.0 every.0) (ap (λ left. d ∷ left) rest.1),
+      )
 
-  none_at_first : due_count now (d ∷ ds) ≡ 0 → now < d.0
-  none_at_first none =
+  pub due_in_front : (ds : List (ℕ × K)) → IsStrictlySortedBy (due_cmp cmp) ds
+      → (take (due_count now ds) ds ≡ filter (λ d. nat_le d.0 now) ds)
+      × (drop (due_count now ds) ds ≡ filter (λ d. nat_lt now d.0) ds)
+  due_in_front [] sorted = (refl, refl)
+  due_in_front (d ∷ ds) sorted =
       by_bool (nat_le d.0 now)
       (λ due.
-      let some : due_count now (d ∷ ds) ≡ suc (due_count now ds) =
-      count_cons ∙ ap (λ b. length (cond b (d ∷ take_while (λ due. nat_le due.0 now) ds) []))
-      due in
-      absurd (omega arith))
-      (λ later. leb-false d.0 now later)
-
-module _ {K : Type 0} (cmp : K → K → Ordering) where
-  -- pairs that are all later have no earlier moment
-  all_later : (now : ℕ) (ds : List (ℕ × K)) → AllByRecursion (λ d. now < d.0) ds → (at : ℕ) (q : K)
-      → is_due_at cmp ds at q ≡ true → now < at
-  all_later now [] every at q there = absurd (false≢true there)
-  all_later now (d ∷ ds) every at q there =
-      elim (or_cases (is_eq (ordering_then (nat_cmp at d.0) (cmp q d.1)))
-      (is_due_at cmp ds at q) there) as (λ _. now < at) [
-        | inl here ↦
-            let same : at ≡ d.0 = eqb-true at d.0
-            (and_parts (at == d.0) (is_eq (cmp q d.1))
-            (sym (tied_pair at d.0 (cmp q d.1)) ∙ here)).0 in
-            let after : now < d.0 = every.0 in omega arith
-        | inr among ↦ all_later now ds every.1 at q among
-      ]
-
-  above_first : (now : ℕ) (d : ℕ × K) → now < d.0 → (ds : List (ℕ × K))
-      → AllByRecursion (λ y. due_cmp cmp d y ≡ Less) ds → AllByRecursion (λ y. now < y.0) ds
-  above_first now d after [] above = tt
-  above_first now d after (y ∷ ys) above =
-      let more : d.0 ≤ y.0 = at_most d.0 y.0 (cmp d.1 y.1) (ap is_gt above.0) in
-      (omega arith, above_first now d after ys above.1)
-
-  -- where nothing is due at the front, nothing is due
-  pub none_due : (now : ℕ) (dues : List (ℕ × K)) → IsStrictlySortedBy (due_cmp cmp) dues
-      → due_count now dues ≡ 0 → (at : ℕ) (q : K) → is_due_at cmp dues at q ≡ true → now < at
-  none_due now [] sorted none at q there = absurd (false≢true there)
-  none_due now (d ∷ ds) sorted none at q there =
-      let after : now < d.0 = none_at_first now d ds none in
-      all_later now (d ∷ ds) (
+      let rest = due_in_front ds (sorted_tail (due_cmp cmp) d ds sorted) in
+      let one_more : due_count now (d ∷ ds) ≡ suc (due_count now ds) =
+      count_cons d ds
+      ∙ ap (λ b. length (cond b (d ∷ take_while (λ due. nat_le due.0 now) ds) [])) due in
+      let past : nat_lt now d.0 ≡ false = le-ltb now d.0 (leb-true d.0 now due) in
+      (rw (one_more, due) (ap (λ front. d ∷ front) rest.0), rw (one_more, past) rest.1))
+      (λ waits.
+      let after : now < d.0 = leb-false d.0 now waits in
+      let none : due_count now (d ∷ ds) ≡ 0 =
+      count_cons d ds
+      ∙ ap (λ b. length (cond b (d ∷ take_while (λ due. nat_le due.0 now) ds) [])) waits in
+      let rest = all_wait (d ∷ ds) (
         after,
-        above_first now d after ds (sorted_head (due_cmp cmp) d ds sorted),
-      ) at q there
+        above_first d after ds (sorted_head (due_cmp cmp) d ds sorted),
+      ) in
+      (rw none (sym rest.0), rw none (sym rest.1)))
 
 pub empty_from_none : (count : ℕ) → (0 < count → false ≡ true) → count ≡ 0
 empty_from_none zero some = refl

@@ -1,9 +1,9 @@
 -- Lemmas on the entries of a queue: the earliest moment, and what `take_due` gives and leaves.
 use Rattle.std.proofs.Common.{◌≡◌, ℕ, suc, ◌≤◌, Bool, true, false, cond, List, [], ◌∷◌, ◌⊎◌, inl, inr, Option, Some, None, refl, sym, ap, subst, ◌∙◌, arith, min, filter, nat_le, nat_lt, IfSome, is_some}
 use Rattle.std.specs.Prelude.{IfNone}
-use Rattle.std.specs.List.{reduce, fold, list_any, slice_get, AllByRecursion}
+use Rattle.std.specs.List.{reduce, fold, list_any, slice_get, AllByRecursion, IsDistinct}
 use Rattle.std.specs.List.Sorted.{IsStrictlySortedBy}
-use Rattle.std.specs.Ordering.{is_eq, match_ordering}
+use Rattle.std.specs.Ordering.{is_eq, match_ordering, eq_by_cmp}
 use Rattle.std.specs.Cmp.{IsTotalOrder, eq_by_cmp_equiv}
 use Rattle.std.specs.BTreeMap.{is_at, insert_entry}
 use Rattle.std.specs.Map.{lookup, keys_of, values_of}
@@ -169,12 +169,12 @@ is_due-is now (Some due) = elim
     (nat_le due now) as (λ b. is_some (cond b (Some due) None) ≡ b) [ true ↦ refl | false ↦ refl ]
 
 pub given : {K : Type 0} {cmp : K → K → Ordering} → IsTotalOrder cmp → (now : ℕ) (es : List (K × ℕ))
-    → IsStrictlySortedBy cmp (keys_of es) → (q : K)
+    → IsDistinct (eq_by_cmp cmp) (keys_of es) → (q : K)
     → list_any (is_at (cmp q)) (due_keys now es) ≡ is_due now (moment cmp es q)
-given {K} {cmp} o now es sorted q =
+given {K} {cmp} o now es differ q =
     sym (is_some-lookup (is_at (cmp q)) (filter (λ e. nat_le e.1 now) es))
-    ∙ ap is_some (lookup-filter-values (eq_by_cmp_equiv o) (λ due. nat_le due now) q es
-    (IsDistinct-from_sorted cmp (keys_of es) sorted))
+    ∙ ap is_some
+    (lookup-filter-values (eq_by_cmp_equiv o) (λ due. nat_le due now) q es differ)
     ∙ is_due-is now (moment cmp es q)
 
 -- ---- the keys given are in order

@@ -5,6 +5,7 @@ use Rattle.std.specs.List.{list_any}
 use Rattle.std.specs.List.Sorted.{IsStrictlySortedBy}
 use Rattle.std.specs.Map.{keys_of}
 use Rattle.std.proofs.lemmas.List.{append-nil, drop_all, take_all}
+use Rattle.std.proofs.lemmas.Map.Keys.{IsDistinct-from_sorted}
 use Rattle.sip_timers.specs.Queue.{moment, due_keys, later, if_later}
 use Rattle.sip_timers.specs.Index.{IsIndexOf}
 use Rattle.sip_timers.proofs.Moments.{moment-later, given, due_keys-sorted, kept_sorted}
@@ -62,7 +63,8 @@ returns-clause-given g c =
     let sorted : IsStrictlySortedBy cmp (keys_of c.args.self.now) =
     rw (← c.self.view_is) c.self.invariant.0 in
     λ q. ap (list_any (is_at (cmp q))) (returns-clause-due g c)
-    ∙ given g.met.K.Ord.total c.args.now c.args.self.now sorted q
+    ∙ given g.met.K.Ord.total c.args.now c.args.self.now
+    (IsDistinct-from_sorted cmp (keys_of c.args.self.now) sorted) q
 
 pub returns-clause-moments : goal.returns-clause-moments
 returns-clause-moments g c =
