@@ -1,5 +1,5 @@
 -- The lines that are found in a text, and the text without its folds, are those that are read.
-use Rattle.std.proofs.Common.{◌≡◌, ℕ, suc, ◌-◌, Bool, true, false, cond, not, eqb, ◌&&◌, List, [], ◌∷◌, ◌++◌, length, take, drop, refl, sym, ap, subst, ◌∙◌, append_assoc, slice_index, arith}
+use Rattle.std.proofs.Common.{◌≡◌, ℕ, true, false, cond, not, eqb, ◌&&◌, List, [], ◌∷◌, ◌++◌, length, take, drop, refl, sym, ap, subst, ◌∙◌, append_assoc}
 use Rattle.std.specs.List.{list_all, slice_split}
 use Rattle.std.specs.Str.Lines.{strip_carriage_return}
 use Rattle.std.proofs.lemmas.Bool.{eqb-true, and_from, and_parts, false≢true}
@@ -14,8 +14,9 @@ use Rattle.sip_text.proofs.LineParts.{at_lf, split_at, slice_split-cut_at, kept_
 use Rattle.sip_headers.specs.Folding.{folded_onto}
 use Rattle.sip_reader.specs.Layout.{Lays}
 use Rattle.sip_reader.specs.SkippedEnds.{without_line_ends}
-use Rattle.sip_reader.proofs.Layouts.{line_again, skip_again}
+use Rattle.sip_reader.proofs.Layouts.{line_again, skip_again, strips_later}
 use Rattle.sip_values.proofs.Cuts.{at_again}
+use Rattle.sip_values.proofs.Pieces.{by_bool}
 
 -- ---- the lines that are found
 
@@ -49,15 +50,6 @@ found_first text (line ∷ lines) rest (after, is, more) (first ∷ found) all =
 
 -- ---- the carriage return at the end of a line
 
-strips_later : (b c : ℕ) (cs : List ℕ)
-    → strip_carriage_return (b ∷ c ∷ cs) ≡ b ∷ strip_carriage_return (c ∷ cs)
-strips_later b c cs =
-    let long : length (b ∷ c ∷ cs) - 1 ≡ suc (length cs) = omega arith in
-    let less : length (c ∷ cs) - 1 ≡ length cs = omega arith in
-    rw (long, less) (elim (eqb (slice_index (c ∷ cs) (length cs)) 13) as (λ r.
-    cond r (b ∷ take (length cs) (c ∷ cs)) (b ∷ c ∷ cs)
-    ≡ b ∷ cond r (take (length cs) (c ∷ cs)) (c ∷ cs)) [ true ↦ refl | false ↦ refl ])
-
 strips_behind : (front : List ℕ) (b : ℕ) (bs : List ℕ) → eqb b 13 ≡ false
     → strip_carriage_return (front ++ (b ∷ bs)) ≡ front ++ (b ∷ strip_carriage_return bs)
 strips_behind [] b [] other = rw other refl
@@ -71,40 +63,31 @@ strips_behind (f ∷ g ∷ front) b bs other =
 -- ---- blanks
 
 blank_not : (b : ℕ) → is_blank b ≡ true → eqb b 13 ≡ false
-blank_not b blank = by (eqb b 13) refl
-  where
-    by : (r : Bool) → eqb b 13 ≡ r → r ≡ false
-    by true e = absurd (false≢true (sym (ap is_blank (eqb-true b 13 e)) ∙ blank))
-    by false e = refl
+blank_not b blank =
+    by_bool (eqb b 13) (λ r. r ≡ false)
+    (λ e. absurd (false≢true (sym (ap is_blank (eqb-true b 13 e)) ∙ blank))) (λ e. refl)
 
 begins_same : (part : List ℕ) → begins_blank (strip_carriage_return part) ≡ begins_blank part
 begins_same [] = refl
+begins_same (b ∷ []) =
+    by_bool (eqb b 13) (λ r. begins_blank (cond r [] (b ∷ [])) ≡ is_blank b)
+    (λ e. sym (ap is_blank (eqb-true b 13 e))) (λ e. refl)
 begins_same (b ∷ c ∷ cs) = ap begins_blank (strips_later b c cs)
-begins_same (b ∷ []) = by (eqb b 13) refl
-  where
-    by : (r : Bool) → eqb b 13 ≡ r → begins_blank (cond r [] (b ∷ [])) ≡ is_blank b
-    by true e = sym (ap is_blank (eqb-true b 13 e))
-    by false e = refl
 
 start_kept : (text : List ℕ) → begins_blank text ≡ false → trimmed_start text ≡ text
 start_kept [] plain = refl
 start_kept (b ∷ bs) plain = rw plain refl
 
-strips_start_by : (b : ℕ) (bs : List ℕ) (r : Bool) → is_blank b ≡ r
-    → strip_carriage_return (trimmed_start bs) ≡ trimmed_start (strip_carriage_return bs)
-    → strip_carriage_return (cond r (trimmed_start bs) (b ∷ bs))
-    ≡ trimmed_start (strip_carriage_return (b ∷ bs))
-strips_start_by b bs true blank more =
-    more ∙ sym (ap trimmed_start (strips_behind [] b bs (blank_not b blank))
-    ∙ ap (λ r. cond r (trimmed_start (strip_carriage_return bs)) (b ∷ strip_carriage_return bs))
-    blank)
-strips_start_by b bs false plain more =
-    sym (start_kept (strip_carriage_return (b ∷ bs)) (begins_same (b ∷ bs) ∙ plain))
-
 strips_start : (part : List ℕ)
     → strip_carriage_return (trimmed_start part) ≡ trimmed_start (strip_carriage_return part)
 strips_start [] = refl
-strips_start (b ∷ bs) = strips_start_by b bs (is_blank b) refl (strips_start bs)
+strips_start (b ∷ bs) =
+    by_bool (is_blank b) (λ r. strip_carriage_return (cond r (trimmed_start bs) (b ∷ bs))
+    ≡ trimmed_start (strip_carriage_return (b ∷ bs)))
+    (λ blank.
+    strips_start bs ∙ sym (ap trimmed_start (strips_behind [] b bs (blank_not b blank))
+    ∙ rw blank refl))
+    (λ plain. sym (start_kept (strip_carriage_return (b ∷ bs)) (begins_same (b ∷ bs) ∙ plain)))
 
 not_all : (front : List ℕ) (b : ℕ) (bs : List ℕ) → is_blank b ≡ false
     → list_all is_blank (front ++ (b ∷ bs)) ≡ false
@@ -154,10 +137,8 @@ strips_joined line part =
 start_free : (text : List ℕ) → has_no 10 text ≡ true → has_no 10 (trimmed_start text) ≡ true
 start_free [] free = refl
 start_free (b ∷ bs) free =
-    elim (is_blank b) as (λ r. has_no 10 (cond r (trimmed_start bs) (b ∷ bs)) ≡ true) [
-      | true ↦ start_free bs (and_parts (not (eqb b 10)) (has_no 10 bs) free).1
-      | false ↦ free
-    ]
+    by_bool (is_blank b) (λ r. has_no 10 (cond r (trimmed_start bs) (b ∷ bs)) ≡ true)
+    (λ _. start_free bs (and_parts (not (eqb b 10)) (has_no 10 bs) free).1) (λ _. free)
 
 joined_free : (line part : List ℕ) → has_no 10 line ≡ true → has_no 10 part ≡ true
     → has_no 10 (joined (strip_carriage_return line) part) ≡ true
@@ -223,26 +204,24 @@ without_folds line free text [] (after, is, end) = (
 without_folds line free text (next ∷ lines) (after, is, more) =
     let own = strip_carriage_return line in
     let rest = slice_split at_lf after in
-    elim (begins_blank next) as (λ r. begins_blank next ≡ r
-    → IsLines (unfolded_from line (slice_split at_lf text))
-    (cond r (folded_onto (joined own next) lines) (own ∷ folded_onto next lines) ++ ([] ∷ [])) []) [
-      | true ↦ λ blank.
-          subst (λ t. IsLines t (folded_onto (joined own next) lines ++ ([] ∷ [])) [])
-          (sym (ap (unfolded_from line) (parts_of text next after is)
-          ∙ ap (λ r. cond r (unfolded_from (joined own is.part) rest)
-          (unfolded_from (line ++ (10 ∷ is.part)) rest)) (first_blank text next after is ∙ blank)))
-          (subst (λ l. IsLines (unfolded_from (joined own is.part) rest)
-          (folded_onto l lines ++ ([] ∷ [])) [])
-          (strips_joined own is.part ∙ ap (joined own) (sym is.stripped))
-          (without_folds (joined own is.part) (joined_free line is.part free is.one) after lines
-          more))
-      | false ↦ λ plain. (
-        unfolded_from is.part rest,
-        ends_line line free text next after is plain,
-        subst (λ l. IsLines (unfolded_from is.part rest) (folded_onto l lines ++ ([] ∷ [])) [])
-            (sym is.stripped) (without_folds is.part is.one after lines more),
-      )
-    ] refl
+    by_bool (begins_blank next) (λ r. IsLines (unfolded_from line (slice_split at_lf text))
+    (cond r (folded_onto (joined own next) lines) (own ∷ folded_onto next lines) ++ ([] ∷ [])) [])
+    (λ blank.
+    subst (λ t. IsLines t (folded_onto (joined own next) lines ++ ([] ∷ [])) [])
+    (sym (ap (unfolded_from line) (parts_of text next after is)
+    ∙ ap (λ r. cond r (unfolded_from (joined own is.part) rest)
+    (unfolded_from (line ++ (10 ∷ is.part)) rest)) (first_blank text next after is ∙ blank)))
+    (subst (λ l. IsLines (unfolded_from (joined own is.part) rest)
+    (folded_onto l lines ++ ([] ∷ [])) [])
+    (strips_joined own is.part ∙ ap (joined own) (sym is.stripped))
+    (without_folds (joined own is.part) (joined_free line is.part free is.one) after lines
+    more)))
+    (λ plain. (
+      unfolded_from is.part rest,
+      ends_line line free text next after is plain,
+      subst (λ l. IsLines (unfolded_from is.part rest) (folded_onto l lines ++ ([] ∷ [])) [])
+          (sym is.stripped) (without_folds is.part is.one after lines more),
+    ))
 
 -- the head of a message
 pub head_unfolds : (text start : List ℕ) (lines : List (List ℕ)) → Lays text start lines []

@@ -1,7 +1,7 @@
 -- Lemmas on the entries of a queue: the earliest moment, and what `take_due` gives and leaves.
-use Rattle.std.proofs.Common.{◌≡◌, ℕ, suc, ◌≤◌, Bool, true, false, cond, List, [], ◌∷◌, ◌⊎◌, inl, inr, Option, Some, None, refl, sym, ap, subst, ◌∙◌, arith, min, filter, nat_le, nat_lt, IfSome, is_some}
-use Rattle.std.specs.Prelude.{IfNone}
-use Rattle.std.specs.List.{reduce, fold, list_any, slice_get, AllByRecursion, IsDistinct}
+use Rattle.std.proofs.Common.{◌≡◌, ℕ, ◌≤◌, Bool, true, false, cond, List, [], ◌∷◌, ◌⊎◌, inl, inr, Option, Some, None, refl, sym, ap, subst, ◌∙◌, arith, min, filter, nat_le, nat_lt, IfSome, is_some}
+use Rattle.std.specs.Prelude.{IfNone, ◌==◌}
+use Rattle.std.specs.List.{reduce, fold, list_any, AllByRecursion, IsDistinct}
 use Rattle.std.specs.List.Sorted.{IsStrictlySortedBy}
 use Rattle.std.specs.Ordering.{is_eq, match_ordering, eq_by_cmp}
 use Rattle.std.specs.Cmp.{IsTotalOrder, eq_by_cmp_equiv}
@@ -9,117 +9,84 @@ use Rattle.std.specs.BTreeMap.{is_at, insert_entry}
 use Rattle.std.specs.Map.{lookup, keys_of, values_of}
 use Rattle.std.specs.declared.cmp.Ordering.{Ordering}
 use Rattle.std.specs.declared.cmp.Ordering.TheVariants.{Less}
-use Rattle.std.proofs.lemmas.Bool.{cases_lt}
+use Rattle.std.proofs.lemmas.Bool.{false≢true, eqb-true, eq-eqb, or_cases, or_left, or_right}
 use Rattle.std.proofs.lemmas.Cmp.{tied_itself}
 use Rattle.std.proofs.lemmas.Option.{same_Some}
 use Rattle.std.proofs.lemmas.Map.{lookup-none}
 use Rattle.std.proofs.lemmas.Map.Keys.{IsDistinct-from_sorted, sorted_tail}
-use Rattle.std.proofs.lemmas.Map.Entries.{option_filter, lookup-filter-values, lookup_from_place, none_below_head}
+use Rattle.std.proofs.lemmas.Map.Entries.{option_filter, lookup-filter-values, none_below_head, none_past_head}
 use Rattle.std.proofs.lemmas.Map.Made.{is_some-lookup}
 use Rattle.sip_timers.specs.Queue.{moment, is_due, if_later, due_keys, later}
-use Rattle.sip_timers.proofs.Dues.{by_ordering}
+use Rattle.sip_timers.proofs.Dues.{by_bool, by_ordering}
 
 none_some : (n : ℕ) → None ≡ Some n → ⊥
 none_some n same = cc
 
 -- ---- the earliest moment
 
-pub fold_min-le_first : (a : ℕ) (xs : List ℕ) → fold min a xs ≤ a
-fold_min-le_first a [] = omega arith
-fold_min-le_first a (x ∷ xs) = omega (arith, fold_min-le_first (min a x) xs)
+-- a number that none is below, and that is one of them
+fold_least : (due a : ℕ) (xs : List ℕ) → due ≤ a → AllByRecursion (λ x. due ≤ x) xs
+    → (a ≡ due) ⊎ (list_any (λ x. x == due) xs ≡ true) → fold min a xs ≡ due
+fold_least due a [] low every (inl same) = same
+fold_least due a [] low every (inr among) = absurd (false≢true among)
+fold_least due a (x ∷ xs) low every among =
+    let low_too : due ≤ x = every.0 in
+    fold_least due (min a x) xs (omega arith) every.1
+    (elim among as (λ _. (min a x ≡ due) ⊎ (list_any (λ y. y == due) xs ≡ true)) [
+      | inl same ↦ inl (omega arith)
+      | inr later ↦ elim (or_cases (x == due) (list_any (λ y. y == due) xs) later)
+          as (λ _. (min a x ≡ due) ⊎ (list_any (λ y. y == due) xs ≡ true)) [
+            | inl here ↦ let same : x ≡ due = eqb-true x due here in inl (omega arith)
+            | inr more ↦ inr more
+          ]
+    ])
 
-fold_min-le_lookup : {K : Type 0} (test : K → Bool) (a : ℕ) (es : List (K × ℕ))
-    → IfSome (lookup test es) (λ due. fold min a (values_of es) ≤ due)
-fold_min-le_lookup test a [] = tt
-fold_min-le_lookup test a (e ∷ es) =
-    elim (test e.0) as (λ b. IfSome (cond b (Some e.1) (lookup test es))
-    (λ due. fold min (min a e.1) (values_of es) ≤ due)) [
-      | true ↦ omega (arith, fold_min-le_first (min a e.1) (values_of es))
-      | false ↦ fold_min-le_lookup test (min a e.1) es
-    ]
+among_values : {K : Type 0} (test : K → Bool) (due : ℕ) (es : List (K × ℕ))
+    → lookup test es ≡ Some due → list_any (λ x. x == due) (values_of es) ≡ true
+among_values test due [] at = absurd (none_some due at)
+among_values test due (e ∷ es) at =
+    by_bool (test e.0)
+    (λ here. or_left (e.1 == due) (list_any (λ x. x == due) (values_of es)) (eq-eqb e.1 due
+    (same_Some e.1 due (sym (ap (λ b. cond b (Some e.1) (lookup test es)) here) ∙ at))))
+    (λ apart. or_right (e.1 == due) (list_any (λ x. x == due) (values_of es))
+    (among_values test due es (sym (ap (λ b. cond b (Some e.1) (lookup test es)) apart) ∙ at)))
 
--- no key is due before the earliest moment
-pub none_before : {K : Type 0} (cmp : K → K → Ordering) (es : List (K × ℕ))
-    → IfSome (reduce min (values_of es))
-    (λ due. (q : K) → IfSome (moment cmp es q) (λ other. due ≤ other))
-none_before cmp [] = tt
-none_before cmp (e ∷ es) = λ q.
-    elim (is_at (cmp q) e.0) as (λ b.
-    IfSome (cond b (Some e.1) (moment cmp es q)) (λ due. fold min e.1 (values_of es) ≤ due)) [
-      | true ↦ fold_min-le_first e.1 (values_of es)
-      | false ↦ fold_min-le_lookup (is_at (cmp q)) e.1 es
-    ]
+module _ {K : Type 0} {cmp : K → K → Ordering} (total : IsTotalOrder cmp) where
+  at_first : (e : K × ℕ) (es : List (K × ℕ)) → moment cmp (e ∷ es) e.0 ≡ Some e.1
+  at_first e es = ap (λ o. cond (is_eq o) (Some e.1) (moment cmp es e.0)) (tied_itself total e.0)
 
-min_cases : (a b : ℕ) → (min a b ≡ a) ⊎ (min a b ≡ b)
-min_cases a b = elim (cases_lt a b) as (λ _. (min a b ≡ a)
-    ⊎ (min a b ≡ b)) [ inl lt ↦ inl (omega arith) | inr ge ↦ inr (omega arith) ]
+  values_from : (due : ℕ) (es : List (K × ℕ)) → IsStrictlySortedBy cmp (keys_of es)
+      → ((q : K) → IfSome (moment cmp es q) (λ other. due ≤ other))
+      → AllByRecursion (λ x. due ≤ x) (values_of es)
+  values_from due [] sorted before = tt
+  values_from due (e ∷ es) sorted before = (
+    subst (λ (o : Option ℕ). IfSome o (λ other. due ≤ other)) (at_first e es) (before e.0),
+    values_from due es (sorted_tail cmp e.0 (keys_of es) sorted) (λ q. by_bool (is_at (cmp q) e.0)
+        (λ tied. subst (λ (o : Option ℕ). IfSome o (λ other. due ≤ other))
+        (sym (lookup-none (is_at (cmp q)) es (none_past_head (eq_by_cmp_equiv total) q e es
+        (IsDistinct-from_sorted cmp (keys_of (e ∷ es)) sorted) tied))) tt)
+        (λ apart. subst (λ (o : Option ℕ). IfSome o (λ other. due ≤ other))
+        (ap (λ b. cond b (Some e.1) (moment cmp es q)) apart) (before q))),
+  )
 
-fold_min-place : {K : Type 0} (a : ℕ) (es : List (K × ℕ))
-    → (fold min a (values_of es) ≡ a)
-    ⊎ ((i : ℕ) × (k : K) × (slice_get es i ≡ Some (k, fold min a (values_of es))))
-fold_min-place a [] = inl refl
-fold_min-place {K} a (e ∷ es) =
-    elim (fold_min-place (min a e.1) es) as (λ _. (fold min (min a e.1) (values_of es) ≡ a)
-    ⊎ ((i : ℕ) × (k : K) × (slice_get (e ∷ es) i
-    ≡ Some (k, fold min (min a e.1) (values_of es))))) [
-      | inl same ↦ first same
-      | inr (i, k, at) ↦ inr (suc i, k, at)
-    ]
-  where
-    first : fold min (min a e.1) (values_of es) ≡ min a e.1
-        → (fold min (min a e.1) (values_of es) ≡ a)
-        ⊎ ((i : ℕ) × (k : K) × (slice_get (e ∷ es) i
-        ≡ Some (k, fold min (min a e.1) (values_of es))))
-    first same =
-        elim (min_cases a e.1) as (λ _. (fold min (min a e.1) (values_of es) ≡ a)
-        ⊎ ((i : ℕ) × (k : K) × (slice_get (e ∷ es) i
-        ≡ Some (k, fold min (min a e.1) (values_of es))))) [
-          | inl old ↦ inl (same ∙ old)
-          | inr new ↦ inr (0, e.0, ap (λ v. Some (e.0, v)) (sym (same ∙ new)))
-        ]
-
--- the earliest moment is that of a key
-pub of_a_key : {K : Type 0} {cmp : K → K → Ordering} → IsTotalOrder cmp → (es : List (K × ℕ))
-    → IsStrictlySortedBy cmp (keys_of es)
-    → IfSome (reduce min (values_of es)) (λ due. (q : K) × (moment cmp es q ≡ Some due))
-of_a_key o [] sorted = tt
-of_a_key {K} {cmp} o (e ∷ es) sorted =
-    let d = IsDistinct-from_sorted cmp (keys_of (e ∷ es)) sorted in
-    elim (fold_min-place e.1 es) as (λ _. (q : K)
-    × (moment cmp (e ∷ es) q ≡ Some (fold min e.1 (values_of es)))) [
-      | inl same ↦ (
-        e.0,
-        lookup_from_place (eq_by_cmp_equiv o) (e ∷ es) 0 e.0
-            (fold min e.1 (values_of es)) d (ap (λ v. Some (e.0, v)) (sym same)),
-      )
-      | inr (i, k, at) ↦ (
-        k,
-        lookup_from_place (eq_by_cmp_equiv o) (e ∷ es) (suc i) k
-            (fold min e.1 (values_of es)) d at,
-      )
-    ]
-
--- so it is known by look-ups
-pub earliest : {K : Type 0} {cmp : K → K → Ordering} → IsTotalOrder cmp → (es : List (K × ℕ))
-    → IsStrictlySortedBy cmp (keys_of es) → (first : Option ℕ)
-    → IfSome first (λ due. (q : K) → IfSome (moment cmp es q) (λ other. due ≤ other))
-    → IfSome first (λ due. (q : K) × (moment cmp es q ≡ Some due))
-    → IfNone first ((q : K) → moment cmp es q ≡ None) → first ≡ reduce min (values_of es)
-earliest total [] sorted None before at none = refl
-earliest total [] sorted (Some due) before (q, at) none = absurd (none_some due at)
-earliest {K} {cmp} total (e ∷ es) sorted None before at none =
-    let armed : moment cmp (e ∷ es) e.0 ≡ Some e.1 =
-    ap (λ b. cond b (Some e.1) (moment cmp es e.0)) (ap is_eq (tied_itself total e.0)) in
-    absurd (none_some e.1 (sym (none e.0) ∙ armed))
-earliest {K} {cmp} total (e ∷ es) sorted (Some due) before (q, at) none =
-    let lowest : ℕ = fold min e.1 (values_of es) in
-    let found : (k : K) × (moment cmp (e ∷ es) k ≡ Some lowest) =
-    of_a_key total (e ∷ es) sorted in
-    let low : due ≤ lowest =
-    subst (λ (o : Option ℕ). IfSome o (λ other. due ≤ other)) found.1 (before found.0) in
-    let high : lowest ≤ due =
-    subst (λ (o : Option ℕ). IfSome o (λ other. lowest ≤ other)) at (none_before cmp (e ∷ es) q) in
-    let same : due ≡ lowest = omega arith in ap (λ (m : ℕ). Some m) same
+  -- it is known by look-ups
+  pub earliest : (es : List (K × ℕ)) → IsStrictlySortedBy cmp (keys_of es) → (first : Option ℕ)
+      → IfSome first (λ due. (q : K) → IfSome (moment cmp es q) (λ other. due ≤ other))
+      → IfSome first (λ due. (q : K) × (moment cmp es q ≡ Some due))
+      → IfNone first ((q : K) → moment cmp es q ≡ None) → first ≡ reduce min (values_of es)
+  earliest [] sorted None before at none = refl
+  earliest [] sorted (Some due) before (q, at) none = absurd (none_some due at)
+  earliest (e ∷ es) sorted None before at none =
+      absurd (none_some e.1 (sym (none e.0) ∙ at_first e es))
+  earliest (e ∷ es) sorted (Some due) before (q, at) none =
+      let every = values_from due (e ∷ es) sorted before in
+      ap (λ (m : ℕ). Some m) (sym (fold_least due e.1 (values_of es) every.0 every.1
+      (elim (or_cases (e.1 == due) (list_any (λ x. x == due) (values_of es))
+      (among_values (is_at (cmp q)) due (e ∷ es) at))
+      as (λ _. (e.1 ≡ due) ⊎ (list_any (λ x. x == due) (values_of es) ≡ true)) [
+        | inl here ↦ inl (eqb-true e.1 due here)
+        | inr more ↦ inr more
+      ])))
 
 -- ---- an armed key gets the moment that it has
 

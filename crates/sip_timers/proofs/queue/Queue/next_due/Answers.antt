@@ -1,30 +1,23 @@
 use Rattle.std.specs.List.Sorted.{IsStrictlySortedBy}
 use Rattle.std.specs.Map.{keys_of}
 use Rattle.sip_timers.specs.Queue.{moment}
-use Rattle.sip_timers.specs.Index.{IsIndexOf}
 use Rattle.sip_timers.proofs.Moments.{earliest}
 use Rattle.sip_timers.proofs.queue.Queue.next_due.Goals as goal
 
 pub returns-clause-none_before : goal.returns-clause-none_before
 returns-clause-none_before g c =
-    let cmp = g.K.Ord.cmp in
-    let index : IsIndexOf cmp (moment cmp c.args.self.now) c.self.inside.dues =
-    rw (← c.self.view_is) c.self.invariant.1 in
-    c.next_due.ensures.none_before (moment cmp c.args.self.now) index
+    c.next_due.ensures.none_before (moment g.K.Ord.cmp c.args.self.now)
+    (rw (← c.self.view_is) c.self.invariant.1)
 
 pub returns-clause-of_a_key : goal.returns-clause-of_a_key
 returns-clause-of_a_key g c =
-    let cmp = g.K.Ord.cmp in
-    let index : IsIndexOf cmp (moment cmp c.args.self.now) c.self.inside.dues =
-    rw (← c.self.view_is) c.self.invariant.1 in
-    c.next_due.ensures.of_a_key (moment cmp c.args.self.now) index
+    c.next_due.ensures.of_a_key (moment g.K.Ord.cmp c.args.self.now)
+    (rw (← c.self.view_is) c.self.invariant.1)
 
 pub returns-clause-none_armed : goal.returns-clause-none_armed
 returns-clause-none_armed g c =
-    let cmp = g.K.Ord.cmp in
-    let index : IsIndexOf cmp (moment cmp c.args.self.now) c.self.inside.dues =
-    rw (← c.self.view_is) c.self.invariant.1 in
-    c.next_due.ensures.none_due (moment cmp c.args.self.now) index
+    c.next_due.ensures.none_due (moment g.K.Ord.cmp c.args.self.now)
+    (rw (← c.self.view_is) c.self.invariant.1)
 
 pub returns-clause-earliest : goal.returns-clause-earliest
 returns-clause-earliest g c =
