@@ -33,7 +33,7 @@ use Rattle.sip_clients.proofs.OwnReplies.{lost_own, response_own, tick_own}
 use Rattle.sip_calls.specs.declared.call.Call.{Call}
 use Rattle.sip_calls.specs.declared.calls.Calls.{Calls}
 use Rattle.sip_calls.specs.Call.{CallItem}
-use Rattle.sip_calls.specs.Call.{Taken, call_machine, call_step, command_taken, event_of, first_command_taken, kept, lost_taken, new_call, tag_of_answers, up_taken}
+use Rattle.sip_calls.specs.Call.{Taken, call_machine, call_step, command_taken, event_of, first_command_taken, kept, lost_taken, made_tag, new_call, up_taken}
 use Rattle.sip_calls.specs.OwnCall.{AreSidesOf, EachNoticeIsOwn, IsCallOf, IsInputOf, IsNoticeOf}
 use Rattle.sip_calls.specs.Sides.{CallTaken, by_clients, by_server, one_after_other, holds_any, side_of, ticked}
 
@@ -93,13 +93,13 @@ module _ (call_id : List ℕ) where
   up_own : (call : Call) (event : Event) (up : AnUp) (k : Kind) → up.call_id ≡ call_id
       → IsKindOf call_id k → AreSidesOf call_id call → IsDoneOf (up_taken call event up k)
   up_own call event up (kind.Request request reply_to) its of_kind own =
-      let tag = tag_of_answers event request in
+      let tag = made_tag event in
       let k = kind.Request request reply_to in
-      server_own call (kind_taken (call.served).state tag up k event.moment) own
-      (server.kind_is call_id (call.served).state tag up k event.moment its of_kind own.state)
+      server_own call (kind_taken call.served tag up k event.moment) own
+      (server.kind_is call_id call.served tag up k event.moment its of_kind own.state)
   up_own call event up (kind.Ack ack) its of_kind own =
-      server_own call (kind_taken (call.served).state [] up (kind.Ack ack) event.moment) own
-      (server.kind_is call_id (call.served).state [] up (kind.Ack ack) event.moment its of_kind
+      server_own call (kind_taken call.served [] up (kind.Ack ack) event.moment) own
+      (server.kind_is call_id call.served [] up (kind.Ack ack) event.moment its of_kind
       own.state)
   up_own call event up (kind.Response response) its of_kind own =
       let step = response_taken event up.id up.call_id response in
@@ -140,7 +140,7 @@ module _ (call_id : List ℕ) where
       (keeps_same step request.call_id call_id its (dialog_request_own event request))
   command_own call event (Respond respond) its own =
       server_own call _ own
-      (server.respond_is call_id (call.served).state event.id respond event.moment its own.state)
+      (server.respond_is call_id call.served event.id respond event.moment its own.state)
   command_own call event (Ack ack) its own =
       let step = ack_by_user event ack in
       clients_own call step own (keeps_same step ack.call_id call_id its (ack_own event ack))
@@ -155,10 +155,10 @@ module _ (call_id : List ℕ) where
 
   ticked_own : (call : Call) (now : ℕ) → AreSidesOf call_id call → IsDoneOf (ticked call now)
   ticked_own call now own =
-      let first = served.tick_taken (call.served).state now in
+      let first = served.tick_taken call.served now in
       after (by_server call first)
       (λ call. by_clients call (clients.clients_ticked (side_of call) now))
-      (server_own call first own (server.tick_is call_id (call.served).state now own.state))
+      (server_own call first own (server.tick_is call_id call.served now own.state))
       (λ call own. clients_own call (λ side. clients.clients_ticked side now) own
       (tick_own call_id now))
 

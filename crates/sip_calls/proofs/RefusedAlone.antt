@@ -99,7 +99,7 @@ later_alone call event (Request request) =
     by_clients_alone call request.call_id event.id
     (request_by_user event request (side_of call)) (request_alone event (side_of call) request)
 later_alone call event (Respond respond) = λ some.
-    let m = respond_alone (call.served).state event.id respond event.moment some in
+    let m = respond_alone call.served event.id respond event.moment some in
     (m.0, ap (by_server call) m.1)
 later_alone call event (Ack ack) =
     by_clients_alone call ack.call_id event.id (ack_by_user event ack (side_of call))

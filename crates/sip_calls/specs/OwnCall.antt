@@ -12,7 +12,7 @@ use Rattle.sip_calls.specs.Call.{call_step}
 
 -- both sides of a call are of that Call-ID
 pub record AreSidesOf (call_id : List ℕ) (call : Call) : Type 0 where
-  pub state : IsStateOf call_id (call.served).state
+  pub state : IsStateOf call_id call.served
   pub clients : AreClientsOf call_id call.clients
 
 -- what is held of a call, if anything, is of that Call-ID

@@ -272,7 +272,7 @@ module _ (invite : Id) where
     ended = λ dialog awaits. refl;
     refusal = λ call_id place refusal awaits. refl;
     cancel = λ call_id id awaits. refl;
-    dialog = λ held dialog. refl;
+    new = λ arrival dialog. no_wait (is_invite arrival.request);
     prack = λ call_id id rseq body own held. refl;
     other_prack = λ call_id id rseq body other awaits. refl;
     ack = λ call_id id body own held.

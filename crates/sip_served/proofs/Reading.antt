@@ -16,10 +16,11 @@ use Rattle.sip_common.specs.declared.notice.Notice.TheVariants as notice
 use Rattle.sip_common.specs.declared.refusal.Refusal.{Refusal}
 use Rattle.sip_common.specs.Dialogs.{ended_notice}
 use Rattle.sip_common.specs.Ids.{is_id}
+use Rattle.sip_served.specs.declared.arrival.Arrival.{Arrival}
 use Rattle.sip_served.specs.declared.held_request.HeldRequest.{HeldRequest}
 use Rattle.sip_served.specs.declared.held_request.SuccessEnd.TheVariants.{Acknowledged}
 use Rattle.sip_served.specs.Acknowledgment.{success_ended}
-use Rattle.sip_served.specs.Arrival.{pracked}
+use Rattle.sip_served.specs.Arrival.{held_first, pracked}
 use Rattle.sip_served.specs.Cancel.{request_terminated}
 use Rattle.sip_served.specs.Respond.{answer_to, answered, finished, with_dialog}
 use Rattle.sip_served.specs.State.{changed_at, has_id}
@@ -51,8 +52,9 @@ pub record IsTold (X : Type 0) (reading : Reading X) (invite : Id) : Type 0 wher
       → reading.by x (out.Notice (notice.Refused call_id place refusal)) ≡ x
   pub cancel : (call_id : List ℕ) (id : Id) (x : X)
       → reading.by x (out.Notice (notice.Cancel call_id id)) ≡ x
-  pub dialog : (held : HeldRequest) (dialog : Option DialogLife)
-      → reading.read record held { dialog = dialog } ≡ reading.read held
+  -- of a request that comes up nothing is said yet
+  pub new : (arrival : Arrival) (dialog : Option DialogLife)
+      → reading.read (held_first dialog arrival) ≡ reading.none
   -- a PRACK and an ACK
   pub prack : (call_id : List ℕ) (id : Id) (rseq : ℕ) (body : List ℕ) → is_id id invite ≡ true
       → (held : HeldRequest) → reading.read (pracked rseq held)
