@@ -32,9 +32,6 @@ use Rattle.sip_calls.specs.Call.{CallItem, call_step, command_taken, event_of, f
 use Rattle.sip_calls.specs.Histories.{call_from}
 use Rattle.sip_calls.specs.Sides.{CallTaken, ticked}
 use Rattle.std.specs.Option.{option_map_or}
-use Rattle.sip_message.specs.declared.addr.Addr.{Addr}
-use Rattle.sip_message.specs.declared.key.Key.{Key}
-use Rattle.sip_message.specs.declared.message.Message.{Message}
 use Rattle.sip_served.specs.Unacknowledged.{at_tick}
 use Rattle.sip_served.proofs.ItemsFollow.{ack_follows, arrival_follows, respond_follows}
 use Rattle.sip_served.proofs.Reading.{Follows, IsTold, Quiet, Reading, fold_on, quiet_both}

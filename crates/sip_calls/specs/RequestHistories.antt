@@ -8,7 +8,6 @@ use Rattle.sip_served.specs.Run.{Event as ServedEvent, Takes, Ticks}
 use Rattle.sip_served.specs.State.{State, empty_at}
 use Rattle.sip_served.specs.Story.{ledger_of, request_of}
 use Rattle.sip_served.specs.Telling.{Stories, event_told}
-use Rattle.sip_clients.specs.declared.event.Event.{Event}
 use Rattle.sip_calls.specs.declared.call.Call.{Call}
 use Rattle.sip_calls.specs.declared.calls.Calls.{Calls}
 use Rattle.sip_calls.specs.Call.{CallItem, call_step, event_of, made_tag}

@@ -108,14 +108,15 @@ answer_as local held r =
     let plain = response_of held.request r.status r.reason held.tag in
     let routed = if_so (is_of_dialog held r.status) (with_routes local held.request) plain in
     let numbered = with_rseq (result_ok (send_answer held.ledger)) in
-    body_as (if_so (is_sent_reliably held r) numbered routed) r.body
-    ∙ so_as (is_sent_reliably held r) numbered (λ response. refl) routed
+    body_as (if_so (is_sent_reliably held r.status r.reliability) numbered routed) r.body
+    ∙ so_as (is_sent_reliably held r.status r.reliability) numbered (λ response. refl) routed
     ∙ so_as (is_of_dialog held r.status) (with_routes local held.request) (λ response. refl) plain
 
 never_both : (status : ℕ) → nat_lt status 200 ≡ true → nat_le 200 status ≡ false
 never_both status e = grind (arith, common_steps)
 
-pub reliable_not_final : (held : HeldRequest) (r : Answer) → is_sent_reliably held r ≡ true
+pub reliable_not_final : (held : HeldRequest) (r : Answer)
+    → is_sent_reliably held r.status r.reliability ≡ true
     → is_final r.status ≡ false
 reliable_not_final held r is =
     never_both r.status
@@ -165,7 +166,7 @@ module _ (r : Answer) (response : Message) (now : ℕ) (held : HeldRequest) wher
   by_final true is = finished_waits
   by_final false is = not_success false is refl
 
-  by_reliable : (b : Bool) → is_sent_reliably held r ≡ b
+  by_reliable : (b : Bool) → is_sent_reliably held r.status r.reliability ≡ b
       → awaits_ack (went_on (if b then sends_as (send_answer held.ledger) response now
       else (if is_final r.status then Finishes response r.status now ∷ [] else [])) held)
       ≡ waits_now (is_success r.status)
@@ -174,14 +175,16 @@ module _ (r : Answer) (response : Message) (now : ℕ) (held : HeldRequest) wher
       reliably_waits response now held
       ∙ not_success (is_final r.status) refl (reliable_not_final held r is)
 
-  answered_waits : awaits_ack (answered r response now held) ≡ waits_now (is_success r.status)
-  answered_waits = by_reliable (is_sent_reliably held r) refl
+  answered_waits : awaits_ack (answered r.status r.reliability response now held)
+      ≡ waits_now (is_success r.status)
+  answered_waits = by_reliable (is_sent_reliably held r.status r.reliability) refl
 
 given_waits : (response : Message) (event : Id) (r : Answer) (now : ℕ) (held : HeldRequest)
-    → awaits_ack (answered r response now (with_dialog event r held))
+    → awaits_ack (answered r.status r.reliability response now (with_dialog event r.status held))
     ≡ waits_now r response now held (is_success r.status)
 given_waits response event r now held =
-    elim (makes_dialog held r.status) as (λ b. awaits_ack (answered r response now (went_on (if b
+    elim (makes_dialog held r.status) as (λ b. awaits_ack
+    (answered r.status r.reliability response now (went_on (if b
     then MakesDialog record { name = dialog_name held.request held.tag; born = event } ∷ []
     else []) held)) ≡ waits_now r response now held (is_success r.status)) [
       | true ↦ answered_waits r response now record held {

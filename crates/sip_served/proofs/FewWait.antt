@@ -58,14 +58,14 @@ sent_keeps None response now held is kept =
 sent_keeps (Some fault) response now held is kept = kept
 
 answered_keeps : (r : Answer) (response : Message) (now : ℕ) (held : HeldRequest) → IsKept held
-    → IsKept (answered r response now held)
+    → IsKept (answered r.status r.reliability response now held)
 answered_keeps r response now held kept =
-    by_bool (is_sent_reliably held r)
+    by_bool (is_sent_reliably held r.status r.reliability)
     (λ e. rw e (sent_keeps (send_fault held.ledger) response now held refl kept))
     (λ e. by_bool (is_final r.status) (λ f. rw (e, f) kept) (λ f. rw (e, f) kept))
 
 dialog_keeps : (event : Id) (r : Answer) (held : HeldRequest) → IsKept held
-    → IsKept (with_dialog event r held)
+    → IsKept (with_dialog event r.status held)
 dialog_keeps event r held kept =
     by_bool (makes_dialog held r.status) (λ e. rw e kept) (λ e. rw e kept)
 
@@ -154,8 +154,10 @@ refusal_keeps : (state : State) (event : Id) (r : Answer) (now : ℕ) (held : He
     (o : Option Refusal) → IsKeptEach state → IsKeptEach (by_refusal state event r now held o).0
 refusal_keeps state event r now held (Some refusal) all = all
 refusal_keeps state event r now held None all =
-    first_changed IsKept (has_id r.id) (λ held. answered r _ now (with_dialog event r held))
-    (λ held one. answered_keeps r _ now (with_dialog event r held) (dialog_keeps event r held one))
+    first_changed IsKept (has_id r.id) (λ held. answered r.status r.reliability _ now
+    (with_dialog event r.status held))
+    (λ held one. answered_keeps r _ now (with_dialog event r.status held)
+    (dialog_keeps event r held one))
     state.requests all
 
 respond_keeps : (state : State) (event : Id) (r : Answer) (now : ℕ) (o : Option HeldRequest)

@@ -128,18 +128,19 @@ bye_requests true state dialogs outs = refl
 bye_requests false state dialogs outs = refl
 
 answered_id : (r : Answer) (response : Message) (now : ℕ) (held : HeldRequest)
-    → (answered r response now held).id ≡ held.id
-answered_id r response now held = lives_id (answers held r response now) held
+    → (answered r.status r.reliability response now held).id ≡ held.id
+answered_id r response now held = lives_id (answers held r.status r.reliability response now) held
 
 module _ (state : State) (event : Id) (r : Answer) (now : ℕ) (held : HeldRequest) where
   -- a request after the answer to this one
   abbrev pub change : HeldRequest → HeldRequest
-  change other = answered r (answer_to state.local held r) now (with_dialog event r other)
+  change other = answered r.status r.reliability (answer_to state.local held r) now
+      (with_dialog event r.status other)
 
   pub keeps : (other : HeldRequest) → (change other).id ≡ other.id
   keeps other =
-      answered_id r (answer_to state.local held r) now (with_dialog event r other)
-      ∙ lives_id (makes event other r) other
+      answered_id r (answer_to state.local held r) now (with_dialog event r.status other)
+      ∙ lives_id (makes event other r.status) other
 
 pub passed_id : (now : ℕ) (held : HeldRequest) → ((request_ticked now held).0).id ≡ held.id
 passed_id now held =

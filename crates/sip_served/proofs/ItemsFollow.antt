@@ -175,7 +175,8 @@ module _ {X : Type 0} (reading : Reading X) (invite : Id) (told : IsTold X readi
       (subst (λ requests. Follows reading invite state.requests
       (requests ++ held_first own arrival ∷ []) outs)
       (sym (noted_requests state name arrival.request))
-      (held_follows arrival state.requests fresh (held_first own arrival) (told.new arrival own) outs silent))
+      (held_follows arrival state.requests fresh (held_first own arrival)
+      (told.new arrival own) outs silent))
 
   -- ---- a CANCEL
 
@@ -264,7 +265,7 @@ module _ {X : Type 0} (reading : Reading X) (invite : Id) (told : IsTold X readi
         answer : CallOut
         answer = out.Command held.id (order.Answer held.key response)
 
-        ends : Silent reading (dialogs_answered event held r response state.dialogs).1
+        ends : Silent reading (dialogs_answered event held r.status response state.dialogs).1
         ends =
             let name = dialog_name held.request held.tag in
             dialogs_silent (makes_dialog held r.status) (confirms_dialog held r.status)

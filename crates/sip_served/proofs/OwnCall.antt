@@ -51,12 +51,13 @@ use Rattle.sip_served.proofs.RequestLives.{lives_request, success_alone}
 -- ---- one request, and one dialog, keeps its Call-ID
 
 answered_keeps : (r : Answer) (response : Message) (now : ℕ) (held : HeldRequest)
-    → (answered r response now held).request ≡ held.request
-answered_keeps r response now held = lives_request (answers held r response now) held
+    → (answered r.status r.reliability response now held).request ≡ held.request
+answered_keeps r response now held =
+    lives_request (answers held r.status r.reliability response now) held
 
 with_dialog_keeps : (event : Id) (r : Answer) (held : HeldRequest)
-    → (with_dialog event r held).request ≡ held.request
-with_dialog_keeps event r held = lives_request (makes event held r) held
+    → (with_dialog event r.status held).request ≡ held.request
+with_dialog_keeps event r held = lives_request (makes event held r.status) held
 
 success_keeps : (now : ℕ) (held : HeldRequest) (o : Option Success)
     → ((success_at_tick now held o).0).request ≡ held.request
@@ -126,7 +127,8 @@ module _ (call_id : List ℕ) where
   )
 
   case_is : (case : ArrivalCase) (state : State) (its_call : List ℕ) (name : DialogName)
-      (arrival : Arrival) → its_call ≡ call_id → arrival.request.call_id ≡ call_id → IsStateOf call_id state
+      (arrival : Arrival) → its_call ≡ call_id → arrival.request.call_id ≡ call_id
+      → IsStateOf call_id state
       → IsTakenOf (by_case case state its_call name arrival)
   case_is Merged state its_call name arrival of_call of_request its = (its, (tt, tt))
   case_is BadExtension state its_call name arrival of_call of_request its = (its, (tt, tt))
@@ -203,8 +205,8 @@ module _ (call_id : List ℕ) where
 
   dialogs_is : (event : Id) (held : HeldRequest) (r : Answer) (response : Message)
       (dialogs : Dialogs) → IsRequestOf held → AreDialogsOf call_id dialogs
-      → AreDialogsOf call_id (dialogs_answered event held r response dialogs).0
-      × AreNoticesOf call_id (dialogs_answered event held r response dialogs).1
+      → AreDialogsOf call_id (dialogs_answered event held r.status response dialogs).0
+      × AreNoticesOf call_id (dialogs_answered event held r.status response dialogs).1
   dialogs_is event held r response dialogs of_request all =
       let name = dialog_name held.request held.tag in
       by_bool (makes_dialog held r.status)
@@ -233,8 +235,8 @@ module _ (call_id : List ℕ) where
       let left = dialogs_is event held r response state.dialogs of_request its.dialogs in (
         record {
           requests = request_changed r.id
-              (λ one. answered r response now (with_dialog event r one))
-              (λ one. answered_keeps r response now (with_dialog event r one)
+              (λ one. answered r.status r.reliability response now (with_dialog event r.status one))
+              (λ one. answered_keeps r response now (with_dialog event r.status one)
               ∙ with_dialog_keeps event r one) state.requests its.requests;
           dialogs = left.0;
         },

@@ -73,7 +73,8 @@ pub record IsTold (X : Type 0) (reading : Reading X) (invite : Id) : Type 0 wher
       ≡ reading.by (reading.read held) (out.Command id (order.Answer key (request_terminated of)))
   pub given : (id : Id) → is_id id invite ≡ true → (local : Addr) (key : Key) (event : Id)
       (r : Answer) (now : ℕ) (held : HeldRequest)
-      → reading.read (answered r (answer_to local held r) now (with_dialog event r held))
+      → reading.read (answered r.status r.reliability (answer_to local held r) now
+      (with_dialog event r.status held))
       ≡ reading.by (reading.read held) (out.Command id (order.Answer key (answer_to local held r)))
   -- a tick
   pub ticked : (now : ℕ) (held : HeldRequest) → is_id held.id invite ≡ true

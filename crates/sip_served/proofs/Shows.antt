@@ -113,7 +113,7 @@ ack_shows state call_id ack None = refl
 ack_shows state call_id ack (Some invite) = refl
 
 answer_shows : (event : Id) (held : HeldRequest) (r : Answer) (response : Message)
-    (dialogs : Dialogs) → shown (dialogs_answered event held r response dialogs).1 ≡ []
+    (dialogs : Dialogs) → shown (dialogs_answered event held r.status response dialogs).1 ≡ []
 answer_shows event held r response dialogs =
     by_bool (makes_dialog held r.status) (λ e. rw e refl)
     (λ e. by_bool (confirms_dialog held r.status) (λ f. rw (e, f) refl)

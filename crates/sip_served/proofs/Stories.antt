@@ -124,7 +124,8 @@ module _ (state : State) (stories : Stories) (told : AreTold state.requests stor
     answer_on event r now held found unrefused =
         let response = answer_to state.local held r in
         let more = answer_happens event r response now held in
-        let change = λ (one : HeldRequest). answered r response now (with_dialog event r one) in
+        let change = λ (one : HeldRequest). answered r.status r.reliability response now
+        (with_dialog event r.status one) in
         let fits = answer_fits event r response now held
         (numbered_by state.dialogs r held unrefused) in
         ap (changed_at r.id change) told

@@ -30,7 +30,8 @@ dialogs_row =
 -- it holds the dialogs that were left behind the reference, and all else is as it was
 abbrev pub SideLends : MutBor State → MutBor dialogs_row.Denot → Fml
 SideLends s r =
-    Lends server_side.the_row dialogs_row s r (λ dialogs. record s.now { dialogs = dialogs.entries })
+    Lends server_side.the_row dialogs_row s r
+    (λ dialogs. record s.now { dialogs = dialogs.entries })
 
 abbrev pub ServedLends : MutBor ServedState → MutBor dialogs_row.Denot → Fml
 ServedLends s r =

@@ -74,8 +74,9 @@ kind_told state tag up _ now stories = stories
 abbrev pub answer_told : State → Id → Respond → ℕ → Stories → HeldRequest → Stories
 answer_told state event respond now stories held =
     if is_some (refusal_for state.dialogs respond held) then stories
-    else happens_to respond.id (makes event held respond
-    ++ answers held respond (answer_to state.local held respond) now) stories
+    else happens_to respond.id (makes event held respond.status
+    ++ answers held respond.status respond.reliability
+    (answer_to state.local held respond) now) stories
 
 -- an item of the event of this id
 abbrev pub item_told : State → List ℕ → Id → Item → ℕ → Stories → Stories

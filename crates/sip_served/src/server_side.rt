@@ -21,7 +21,7 @@ use crate::outputs::{
     bad_extension, loop_detected, no_such_dialog, notice_of_request, ok, out_of_order,
 };
 use crate::requests::place_of;
-use crate::respond::{answer_to, dialogs_answered, note_answer, note_dialog, refusal_for};
+use crate::respond::{answer_dialogs, answer_to, note_answer, refusal_for};
 use crate::tick::{is_kept, next_due, tick_requests};
 use indexmap::IndexMap;
 use sip_common::dialogs::{end, end_early, own_dialog, visit};
@@ -410,19 +410,13 @@ impl ServerSide {
             (λ change. slice_set self.old.requests index (change held)) self.old event respond
             now held) }
     {
+        let (status, reliability) = (respond.status, respond.reliability);
         let held = &mut self.requests[index];
-        let response = answer_to(self.alloc, self.local, held, &respond)?;
-        let ends = dialogs_answered(
-            self.alloc,
-            &mut self.dialogs,
-            event,
-            held,
-            &respond,
-            &response,
-        )?;
         let (id, key) = (held.id, held.key.clone()?);
-        note_dialog(self.alloc, held, event, &respond)?;
-        note_answer(self.alloc, held, &respond, &response, now)?;
+        let response = answer_to(self.alloc, self.local, held, respond)?;
+        let dialogs = &mut self.dialogs;
+        let ends = answer_dialogs(self.alloc, dialogs, event, held, status, &response)?;
+        note_answer(self.alloc, held, status, reliability, &response, now)?;
         let message = Boxed::new(self.alloc, response)?;
         let command = CallOut::Command(id, Command::Answer { key, message });
         joined(one(self.alloc, command)?, ends)
