@@ -17,6 +17,7 @@ use Rattle.sip_reliable.specs.declared.tick.Tick.TheVariants as tick
 use Rattle.sip_reliable.specs.Ledger.{send_answer, tick_answer}
 use Rattle.sip_transactions.specs.declared.input.Command.TheVariants as order
 use Rattle.sip_common.specs.declared.command.Respond.{Respond as Answer}
+use Rattle.sip_common.specs.declared.held_dialog.DialogLife.{DialogLife}
 use Rattle.sip_common.specs.declared.item.CallOut.{CallOut}
 use Rattle.sip_common.specs.declared.item.CallOut.TheVariants as out
 use Rattle.sip_common.specs.Ids.{is_id}
@@ -33,7 +34,7 @@ use Rattle.sip_served.specs.Awaiting.{awaits_by, has_success}
 use Rattle.sip_served.specs.Cancel.{request_terminated}
 use Rattle.sip_served.specs.Provisionals.{of_numbers}
 use Rattle.sip_served.specs.RequestLife.{Finishes, MakesDialog, RepeatsSuccess, request_happened, success_sent, went_on}
-use Rattle.sip_served.specs.Respond.{answer_to, answered, finished, if_so, is_of_dialog, is_reliable, is_sent_reliably, makes_dialog, may_be_reliable, sends_as, sent_as, sent_reliably, with_dialog, with_routes, with_rseq}
+use Rattle.sip_served.specs.Respond.{after_answer, answer_to, answered, finished, if_so, is_of_dialog, is_reliable, is_sent_reliably, makes_dialog, may_be_reliable, sends_as, sent_as, sent_reliably, with_routes, with_rseq}
 use Rattle.sip_served.specs.Tick.{provisionals_told, provisionals_ticked, request_ticked, success_answer, success_at_tick, success_goes, success_ticked, success_told}
 use Rattle.sip_served.specs.Unacknowledged.{at_tick}
 use Rattle.sip_served.proofs.Reading as reading
@@ -180,16 +181,14 @@ module _ (r : Answer) (response : Message) (now : ℕ) (held : HeldRequest) wher
   answered_waits = by_reliable (is_sent_reliably held r.status r.reliability) refl
 
 given_waits : (response : Message) (event : Id) (r : Answer) (now : ℕ) (held : HeldRequest)
-    → awaits_ack (answered r.status r.reliability response now (with_dialog event r.status held))
+    → awaits_ack (after_answer event r response now held)
     ≡ waits_now r response now held (is_success r.status)
 given_waits response event r now held =
-    elim (makes_dialog held r.status) as (λ b. awaits_ack
-    (answered r.status r.reliability response now (went_on (if b
-    then MakesDialog record { name = dialog_name held.request held.tag; born = event } ∷ []
-    else []) held)) ≡ waits_now r response now held (is_success r.status)) [
-      | true ↦ answered_waits r response now record held {
-        dialog = Some record { name = dialog_name held.request held.tag; born = event };
-      }
+    let made : DialogLife = record { name = dialog_name held.request held.tag; born = event } in
+    elim (makes_dialog held r.status) as (λ b. awaits_ack (answered r.status r.reliability response
+    now (went_on (if b then MakesDialog made ∷ [] else []) held))
+    ≡ waits_now r response now held (is_success r.status)) [
+      | true ↦ answered_waits r response now record held { dialog = Some made }
       | false ↦ answered_waits r response now held
     ]
 

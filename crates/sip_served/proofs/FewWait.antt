@@ -31,7 +31,7 @@ use Rattle.sip_served.specs.declared.held_request.SuccessEnd.TheVariants.{Acknow
 use Rattle.sip_served.specs.Arrival.{arrival_of, by_case, bye_taken, case_of, first_rseq, noted, pracked}
 use Rattle.sip_served.specs.Cancel.{by_cancelled, cancelled_request, is_unanswered_invite, request_terminated}
 use Rattle.sip_common.specs.Requests.{dialog_name, is_bye, is_cancel, is_inside, is_final}
-use Rattle.sip_served.specs.Respond.{answered, by_refusal, by_request, finished, makes_dialog, sent_as, refusal_for, with_dialog, is_sent_reliably}
+use Rattle.sip_served.specs.Respond.{after_answer, answered, by_refusal, by_request, finished, is_sent_reliably, makes_dialog, refusal_for, sent_as, with_dialog}
 use Rattle.sip_served.specs.Run.{Event, Takes, Ticks, FewWaitEach, event_taken, server_state_after}
 use Rattle.sip_served.specs.State.{State, empty_at, has_id}
 use Rattle.sip_served.specs.Step.{arrival_taken, server_command_taken, kind_taken}
@@ -154,11 +154,9 @@ refusal_keeps : (state : State) (event : Id) (r : Answer) (now : ℕ) (held : He
     (o : Option Refusal) → IsKeptEach state → IsKeptEach (by_refusal state event r now held o).0
 refusal_keeps state event r now held (Some refusal) all = all
 refusal_keeps state event r now held None all =
-    first_changed IsKept (has_id r.id) (λ held. answered r.status r.reliability _ now
-    (with_dialog event r.status held))
+    first_changed IsKept (has_id r.id) (after_answer event r _ now)
     (λ held one. answered_keeps r _ now (with_dialog event r.status held)
-    (dialog_keeps event r held one))
-    state.requests all
+    (dialog_keeps event r held one)) state.requests all
 
 respond_keeps : (state : State) (event : Id) (r : Answer) (now : ℕ) (o : Option HeldRequest)
     → IsKeptEach state → IsKeptEach (by_request state event r now o).0

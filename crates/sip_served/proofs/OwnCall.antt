@@ -38,7 +38,7 @@ use Rattle.sip_common.specs.OwnCall.{AreDialogsOf, AreNoticesOf, IsDialogOf, IsI
 use Rattle.sip_served.specs.OwnCall.{AreRequestsOf, IsEventOf, IsStateOf}
 use Rattle.sip_served.specs.Provisionals.{of_numbers}
 use Rattle.sip_common.specs.Requests.{dialog_name, is_bye, is_cancel, is_inside}
-use Rattle.sip_served.specs.Respond.{answer_to, answered, answers, by_refusal, by_request, confirms_dialog, dialogs_answered, finished, made_dialog, makes, makes_dialog, refusal_for, rejects, respond_taken, with_dialog}
+use Rattle.sip_served.specs.Respond.{after_answer, answer_to, answers, by_refusal, by_request, confirms_dialog, dialogs_answered, finished, made_dialog, makes, makes_dialog, refusal_for, rejects, respond_taken, with_dialog}
 use Rattle.sip_served.specs.Run.{Event, Takes, Ticks, event_taken}
 use Rattle.sip_served.specs.State.{State, ServedTaken, changed_at, empty_at, followed, has_id}
 use Rattle.sip_served.specs.Step.{arrival_taken, server_command_taken, server_item_taken, kind_taken}
@@ -50,14 +50,12 @@ use Rattle.sip_served.proofs.RequestLives.{lives_request, success_alone}
 
 -- ---- one request, and one dialog, keeps its Call-ID
 
-answered_keeps : (r : Answer) (response : Message) (now : ℕ) (held : HeldRequest)
-    → (answered r.status r.reliability response now held).request ≡ held.request
-answered_keeps r response now held =
-    lives_request (answers held r.status r.reliability response now) held
-
-with_dialog_keeps : (event : Id) (r : Answer) (held : HeldRequest)
-    → (with_dialog event r.status held).request ≡ held.request
-with_dialog_keeps event r held = lives_request (makes event held r.status) held
+answer_keeps : (event : Id) (r : Answer) (response : Message) (now : ℕ) (held : HeldRequest)
+    → (after_answer event r response now held).request ≡ held.request
+answer_keeps event r response now held =
+    let made = with_dialog event r.status held in
+    lives_request (answers made r.status r.reliability response now) made
+    ∙ lives_request (makes event held r.status) held
 
 success_keeps : (now : ℕ) (held : HeldRequest) (o : Option Success)
     → ((success_at_tick now held o).0).request ≡ held.request
@@ -234,10 +232,8 @@ module _ (call_id : List ℕ) where
       let response = answer_to state.local held r in
       let left = dialogs_is event held r response state.dialogs of_request its.dialogs in (
         record {
-          requests = request_changed r.id
-              (λ one. answered r.status r.reliability response now (with_dialog event r.status one))
-              (λ one. answered_keeps r response now (with_dialog event r.status one)
-              ∙ with_dialog_keeps event r one) state.requests its.requests;
+          requests = request_changed r.id (after_answer event r response now)
+              (answer_keeps event r response now) state.requests its.requests;
           dialogs = left.0;
         },
         (tt, left.1),

@@ -22,7 +22,7 @@ use Rattle.sip_served.specs.declared.held_request.SuccessEnd.TheVariants.{Acknow
 use Rattle.sip_served.specs.Acknowledgment.{success_ended}
 use Rattle.sip_served.specs.Arrival.{held_first, pracked}
 use Rattle.sip_served.specs.Cancel.{request_terminated}
-use Rattle.sip_served.specs.Respond.{answer_to, answered, finished, with_dialog}
+use Rattle.sip_served.specs.Respond.{after_answer, answer_to, finished}
 use Rattle.sip_served.specs.State.{changed_at, has_id}
 use Rattle.sip_served.specs.Tick.{request_ticked}
 use Rattle.sip_served.proofs.Found.{found_changed, same_found}
@@ -73,8 +73,7 @@ pub record IsTold (X : Type 0) (reading : Reading X) (invite : Id) : Type 0 wher
       ≡ reading.by (reading.read held) (out.Command id (order.Answer key (request_terminated of)))
   pub given : (id : Id) → is_id id invite ≡ true → (local : Addr) (key : Key) (event : Id)
       (r : Answer) (now : ℕ) (held : HeldRequest)
-      → reading.read (answered r.status r.reliability (answer_to local held r) now
-      (with_dialog event r.status held))
+      → reading.read (after_answer event r (answer_to local held r) now held)
       ≡ reading.by (reading.read held) (out.Command id (order.Answer key (answer_to local held r)))
   -- a tick
   pub ticked : (now : ℕ) (held : HeldRequest) → is_id held.id invite ≡ true

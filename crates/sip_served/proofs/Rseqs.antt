@@ -29,7 +29,7 @@ use Rattle.sip_served.specs.declared.tick.SuccessDue.{SuccessDue}
 use Rattle.sip_served.specs.declared.tick.SuccessDue.TheVariants as repeat
 use Rattle.sip_served.specs.Arrival.{pracked}
 use Rattle.sip_served.specs.RequestLife.{Finishes, MakesDialog, went_on}
-use Rattle.sip_served.specs.Respond.{answer_to, answered, if_so, is_of_dialog, is_sent_reliably, makes_dialog, sends_as, sent_as, with_dialog, with_routes, with_rseq}
+use Rattle.sip_served.specs.Respond.{after_answer, answer_to, answered, if_so, is_of_dialog, is_sent_reliably, makes_dialog, sends_as, sent_as, with_routes, with_rseq}
 use Rattle.sip_served.specs.Tick.{provisionals_by, provisionals_ticked, provisionals_told, request_ticked, success_answer, success_at_tick, success_ticked, success_told}
 use Rattle.sip_served.specs.Unacknowledged.{awaited_rseqs, kept_rseqs, repeated_rseqs, with_number}
 use Rattle.sip_served.proofs.Awaiting.{reliable_not_final}
@@ -209,13 +209,11 @@ pub given_as : (read : HeldRequest → List ℕ) (by : HeldRequest → List ℕ 
     → ((held : HeldRequest) → read (answered r.status r.reliability response now held)
     ≡ by held (read held))
     → (held : HeldRequest)
-    → read (answered r.status r.reliability response now (with_dialog event r.status held))
-    ≡ by held (read held)
+    → read (after_answer event r response now held) ≡ by held (read held)
 given_as read by same response event r now answers held =
     let made : DialogLife = record { name = dialog_name held.request held.tag; born = event } in
     elim (makes_dialog held r.status) as (λ b. read (answered r.status r.reliability response now
-    (went_on (if b
-    then MakesDialog made ∷ [] else []) held)) ≡ by held (read held)) [
+    (went_on (if b then MakesDialog made ∷ [] else []) held)) ≡ by held (read held)) [
       | true ↦ answers record held { dialog = Some made } ∙ same held (Some made)
       | false ↦ answers held
     ]

@@ -27,7 +27,7 @@ use Rattle.sip_served.specs.Acknowledgment.{ack_noted, acknowledged_invite}
 use Rattle.sip_served.specs.Arrival.{arrival_of, by_case, case_of, in_its_dialog, noted, request_held}
 use Rattle.sip_served.specs.Cancel.{by_cancelled, cancelled_request, is_unanswered_invite, request_terminated, terminates}
 use Rattle.sip_served.specs.RequestLife.{RequestHappening, EndsSuccess, TakesPrack, went_on}
-use Rattle.sip_served.specs.Respond.{answer_given, answer_to, answered, by_refusal, by_request, refusal_for, with_dialog}
+use Rattle.sip_served.specs.Respond.{after_answer, answer_given, answer_to, by_refusal, by_request, refusal_for}
 use Rattle.sip_served.specs.Run.{Event, Takes, Ticks, event_taken}
 use Rattle.sip_served.specs.State.{State, changed_at, has_id}
 use Rattle.sip_served.specs.Step.{arrival_taken, kind_taken, server_command_taken}
@@ -124,8 +124,7 @@ module _ (state : State) (stories : Stories) (told : AreTold state.requests stor
     answer_on event r now held found unrefused =
         let response = answer_to state.local held r in
         let more = answer_happens event r response now held in
-        let change = λ (one : HeldRequest). answered r.status r.reliability response now
-        (with_dialog event r.status one) in
+        let change = after_answer event r response now in
         let fits = answer_fits event r response now held
         (numbered_by state.dialogs r held unrefused) in
         ap (changed_at r.id change) told

@@ -36,7 +36,7 @@ use Rattle.sip_served.specs.declared.tick.SuccessDue.TheVariants as repeat
 use Rattle.sip_served.specs.Arrival.{first_rseq}
 use Rattle.sip_served.specs.Provisionals.{without_rseq}
 use Rattle.sip_served.specs.RequestLife.{RequestHappening, EndsSuccess, Finishes, GivesUpProvisionals, MakesDialog, RepeatsProvisionals, RepeatsSuccess, SendsReliably, TakesPrack, next_retransmission, request_happened, success_sent, went_on}
-use Rattle.sip_served.specs.Respond.{answered, answers, has_ended, is_of_dialog, is_reliable, is_sent_reliably, is_user_status, makes, makes_dialog, may_be_reliable, refusal_for, refusal_of_fault, sends_as, with_dialog}
+use Rattle.sip_served.specs.Respond.{after_answer, answers, has_ended, is_of_dialog, is_reliable, is_sent_reliably, is_user_status, makes, makes_dialog, may_be_reliable, refusal_for, refusal_of_fault, sends_as, with_dialog}
 use Rattle.sip_served.specs.Story.{RequestStory, SuccessStory, dialog_by, goes_on, is_prack_of, next_sending, removal_by, request_of, success_by, success_of, to_provisionals, unacknowledged}
 use Rattle.sip_served.specs.Tick.{provisionals_go, provisionals_ticked, request_passes, request_ticked, success_answer, success_at_tick, success_goes, success_passes}
 use Rattle.sip_served.proofs.FewWait.{IsKept}
@@ -300,21 +300,19 @@ module _ (event : Id) (r : Answer) (response : Message) (now : ℕ) (held : Held
   answers_fit : (one : HeldRequest) → one.ledger ≡ held.ledger → Numbered r held
       → AllFit one (answers held r.status r.reliability response now)
   answers_fit one same has_number =
-      by_bool (is_sent_reliably held r.status r.reliability) (λ e. rw e (sends_fit one same
-      (has_number e)))
+      by_bool (is_sent_reliably held r.status r.reliability)
+      (λ e. rw e (sends_fit one same (has_number e)))
       (λ e. by_bool (is_final r.status) (λ f. rw (e, f) (tt, tt)) (λ f. rw (e, f) tt))
+
+  abbrev made : DialogLife
+  made = record { name = dialog_name held.request held.tag; born = event }
 
   pub answer_fits : Numbered r held → AllFit held answer_happens
   answer_fits has_number =
-      elim (makes_dialog held r.status) as (λ b. AllFit held ((if b
-      then MakesDialog record { name = dialog_name held.request held.tag; born = event } ∷ []
-      else []) ++ answers held r.status r.reliability response now)) [
-        | true ↦ (
-          tt,
-          answers_fit record held {
-            dialog = Some record { name = dialog_name held.request held.tag; born = event };
-          } refl has_number,
-        )
+      elim (makes_dialog held r.status) as (λ b. AllFit held
+      ((if b then MakesDialog made ∷ [] else [])
+      ++ answers held r.status r.reliability response now)) [
+        | true ↦ (tt, answers_fit record held { dialog = Some made } refl has_number)
         | false ↦ answers_fit held refl has_number
       ]
 
@@ -322,13 +320,11 @@ module _ (event : Id) (r : Answer) (response : Message) (now : ℕ) (held : Held
   answers_same : answers (with_dialog event r.status held) r.status r.reliability response now
       ≡ answers held r.status r.reliability response now
   answers_same =
-      elim (makes_dialog held r.status) as (λ b. answers (went_on (if b
-      then MakesDialog record { name = dialog_name held.request held.tag; born = event } ∷ []
-      else []) held) r.status r.reliability response now
+      elim (makes_dialog held r.status) as (λ b. answers
+      (went_on (if b then MakesDialog made ∷ [] else []) held) r.status r.reliability response now
       ≡ answers held r.status r.reliability response now) [ true ↦ refl | false ↦ refl ]
 
-  pub answer_whole : went_on answer_happens held
-      ≡ answered r.status r.reliability response now (with_dialog event r.status held)
+  pub answer_whole : went_on answer_happens held ≡ after_answer event r response now held
   answer_whole =
       fold_on request_happened held (makes event held r.status)
       (answers held r.status r.reliability response now)

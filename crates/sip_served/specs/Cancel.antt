@@ -43,8 +43,7 @@ is_unanswered_invite held = is_invite held.request && is_none held.removal
 -- the 200 to the CANCEL has the To tag of the answers to that request
 abbrev pub cancel_accepted : Arrival → HeldRequest → CallOut
 cancel_accepted arrival held =
-    command_for arrival
-    (response_of arrival.request 200 (codes "OK") held.tag)
+    command_for arrival (response_of arrival.request 200 (codes "OK") held.tag)
 
 -- the final response to the INVITE
 abbrev pub request_terminated : HeldRequest → Message

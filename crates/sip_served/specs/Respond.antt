@@ -196,6 +196,11 @@ makes event held status =
 abbrev pub with_dialog : Id → ℕ → HeldRequest → HeldRequest
 with_dialog event status held = went_on (makes event held status) held
 
+-- the held request after an answer
+abbrev pub after_answer : Id → Respond → Message → ℕ → HeldRequest → HeldRequest
+after_answer event respond response now held =
+    answered respond.status respond.reliability response now (with_dialog event respond.status held)
+
 -- ---- all of it
 
 -- An answer goes to the transaction of its request. `changed` are the held requests with this one
@@ -206,8 +211,7 @@ answer_given_at changed state event respond now held =
     let response = answer_to state.local held respond in
     let dialogs = dialogs_answered event held respond.status response state.dialogs in (
       record state {
-        requests = changed (λ held. answered respond.status respond.reliability response now
-            (with_dialog event respond.status held));
+        requests = changed (after_answer event respond response now);
         dialogs = dialogs.0;
       },
       Command held.id (Answer held.key response) ∷ dialogs.1,
