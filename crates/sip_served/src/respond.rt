@@ -132,23 +132,15 @@ pub(crate) fn answer_to(
     requires high { respond.status ≤ 699 }
     ensures { IfOk result (λ response. response ≡ spec.answer_to local held.now respond) }
 {
-    let Respond {
-        call_id: _,
-        id: _,
-        status,
-        reliability,
-        body,
-        reason,
-    } = respond;
-    let code = StatusCode::from_code(status);
-    let mut response = response_to(alloc, held.request.get(), code, reason, &held.tag)?;
-    if is_of_dialog(held, status) {
+    let status = StatusCode::from_code(respond.status);
+    let mut response = response_to(alloc, held.request.get(), status, respond.reason, &held.tag)?;
+    if is_of_dialog(held, respond.status) {
         set_routes(alloc, local, held.request.get(), &mut response)?;
     }
-    if is_sent_reliably(held, status, reliability) {
+    if is_sent_reliably(held, respond.status, respond.reliability) {
         set_rseq(alloc, held.ledger.next_number().ok(), &mut response)?;
     }
-    response.with_body(alloc, body)
+    response.with_body(alloc, respond.body)
 }
 
 fn set_routes(
