@@ -6,7 +6,7 @@ use crate::examples::worked::{
 };
 use crate::stop::{Stop, check};
 use sip_message::key_of;
-use sip_served::{CallOut, Item, Served};
+use sip_served::{CallOut, Item, Served, UserCommand};
 use sip_text::Boxed;
 use sip_transactions::{Kind, ShardFault, Up};
 use std::alloc::Global;
@@ -59,8 +59,8 @@ fn a_request_is_told_and_answered(alloc: Global) -> Result<(), Stop> {
     let outs = served.item(tag, ID, item, 0);
     let told = only(said(&mut served, outs)?)?;
     check(line_of(alloc, told)?.as_slice() == TOLD)?;
-    let answer = respond(alloc)?;
-    let outs = served.respond(ID, answer, 10);
+    let answer = Item::User(UserCommand::Respond(respond(alloc)?));
+    let outs = served.item(token(alloc, NAME)?, ID, answer, 10);
     check(matches!(only(said(&mut served, outs)?)?, CallOut::Command(ID, _)))?;
     check(served.holds() && served.next_due() == Some(32_010))?;
     let outs = served.tick(LATE);
