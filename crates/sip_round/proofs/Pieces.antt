@@ -1,6 +1,8 @@
 -- A phase of all shards from its pieces of work, whoever did them.
-use Rattle.std.proofs.Common.{◌≡◌, ℕ, List, map, sym, ◌∙◌, subst}
-use Rattle.std.specs.Prelude.{Bool, IfOk, Result}
+use Rattle.std.proofs.Common.{◌≡◌, ℕ, List, length, map, sym, ◌∙◌, ap, subst}
+use Rattle.std.proofs.lemmas.List.{length-map}
+use Rattle.std.proofs.lemmas.Slice.Zip.{AllZip-long}
+use Rattle.std.specs.Prelude.{Bool, IfOk, Ok, Result}
 use Rattle.std.specs.List.{AllByRecursion, AllZip}
 use Rattle.std.specs.List.Sorted.{IsStrictlySortedBy}
 use Rattle.std.specs.Ordering.{nat_cmp}
@@ -10,7 +12,7 @@ use Rattle.sip_model.specs.Phase.{AddsPhase, phase_at, timed_items}
 use Rattle.sip_model.specs.Shards.{ShardsTellAll}
 use Rattle.sip_model.specs.Table.{Held}
 use Rattle.sip_model.specs.declared.item.Item.{Item}
-use Rattle.sip_round.specs.Steps.AllShards.{DealsParts, IsEnded}
+use Rattle.sip_round.specs.Steps.AllShards.{DealsParts, IsApart, IsEnded}
 use Rattle.sip_round.proofs.Numbered.{parts_timed, places_timed}
 use Rattle.sip_round.proofs.Together.{deals_all}
 
@@ -77,3 +79,15 @@ equal_phases cmp one other n m t u ps qs old former new ticks said machine momen
     (subst (λ b. DealsParts cmp other tick_at m b ps old new ticks said) with_tick
     (subst (λ k. DealsParts cmp other tick_at k t ps old new ticks said) moment
     (subst (λ it. DealsParts cmp it tick_at n t ps old new ticks said) machine deals))))
+
+-- as many tables come back as there were
+pub tables_back : {P T D E X Y : Type 0} (R : P → Result D E → Type 0) (table_of : P → T)
+    (after : D → T) (ticks : D → List X) (said : D → List Y) (pieces : List P) (tables new : List T)
+    (gathered : List (Result D E)) (all_ticks : List X) (all_said : List Y)
+    → map table_of pieces ≡ tables → AllZip R pieces gathered
+    → IsApart after ticks said gathered new all_ticks all_said → length new ≡ length tables
+tables_back R table_of after ticks said pieces tables new gathered all_ticks all_said are_tables
+    worked apart =
+    ap length apart.tables_are ∙ length-map apart.dealt after ∙ sym (length-map apart.dealt Ok)
+    ∙ sym (ap length apart.all_ok) ∙ AllZip-long R pieces gathered worked
+    ∙ sym (length-map pieces table_of) ∙ ap length are_tables

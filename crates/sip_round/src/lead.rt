@@ -132,7 +132,8 @@ where
     M::Output: Send,
     requires some { 0 < workers }
     requires most { workers ≤ 64 }
-    ensures { IfOk result (λ dealt. DealsParts M.Key.cmp (M.machine phase.machine) tick_at
+    ensures count { IfOk result (λ dealt. length dealt.0.items ≡ length phase.tables.items) }
+    ensures dealt { IfOk result (λ dealt. DealsParts M.Key.cmp (M.machine phase.machine) tick_at
         phase.moment phase.ticks (map (λ part. part.items) phase.parts.items) phase.tables.items
         dealt.0.items (groups dealt.1.ticks.items) (groups dealt.1.items.items)) }
 {
@@ -154,7 +155,8 @@ fn deal_in_turn<M: StateMachine + Copy>(
     alloc: Global,
     phase: Phase<M>,
 ) -> Result<(Vec<Table<M>>, PhaseOutputs<M::Key, M::Output>), NoMemory>
-    ensures { IfOk result (λ dealt. DealsParts M.Key.cmp (M.machine phase.machine) tick_at
+    ensures count { IfOk result (λ dealt. length dealt.0.items ≡ length phase.tables.items) }
+    ensures dealt { IfOk result (λ dealt. DealsParts M.Key.cmp (M.machine phase.machine) tick_at
         phase.moment phase.ticks (map (λ part. part.items) phase.parts.items) phase.tables.items
         dealt.0.items (groups dealt.1.ticks.items) (groups dealt.1.items.items)) }
 {

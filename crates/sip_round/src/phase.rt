@@ -60,7 +60,8 @@ impl<M: StateMachine + Copy> Phase<M> {
         gate: &G,
     ) -> Result<(Vec<Table<M>>, PhaseOutputs<M::Key, M::Output>), NoMemory>
         requires { length self.tables.items ≡ 1 }
-        ensures { IfOk result (λ dealt. DealsParts M.Key.cmp (M.machine self.machine) tick_at
+        ensures count { IfOk result (λ dealt. length dealt.0.items ≡ 1) }
+        ensures dealt { IfOk result (λ dealt. DealsParts M.Key.cmp (M.machine self.machine) tick_at
             self.moment self.ticks (map (λ part. part.items) self.parts.items) self.tables.items
             dealt.0.items (groups dealt.1.ticks.items) (groups dealt.1.items.items)) }
     {

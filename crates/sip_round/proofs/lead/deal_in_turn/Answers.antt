@@ -3,7 +3,7 @@ use Rattle.std.proofs.lemmas.Result.{IfOk-weaker}
 use Rattle.sip_model.specs.Groups.{groups}
 use Rattle.sip_model.specs.Machine.{tick_at}
 use Rattle.sip_round.specs.Steps.AllShards.{DealsParts}
-use Rattle.sip_round.proofs.Pieces.{pieces_dealt}
+use Rattle.sip_round.proofs.Pieces.{pieces_dealt, tables_back}
 use Rattle.sip_round.proofs.lead.deal_in_turn.Goals as goal
 
 pub end_phase-requires : goal.end_phase-requires
@@ -11,8 +11,19 @@ end_phase-requires g c =
     c.in_ok-dones.ensures.differ
     (c.dones_in_order.ensures.differ c.in_ok-pieces.field-0.items c.in_ok-pieces.ensures.numbered)
 
-pub returns : goal.returns
-returns g c = IfOk-weaker c.end_phase.result _ _
+pub returns-clause-count : goal.returns-clause-count
+returns-clause-count g c = IfOk-weaker c.end_phase.result _ _
+    (λ dealt ended. tables_back _ (λ piece. piece.job.table) (λ dealt. dealt.table)
+    (λ dealt. groups dealt.replies.ticks.items) (λ dealt. groups dealt.replies.items.items)
+    c.in_ok-pieces.field-0.items c.args.phase.tables.items dealt.0.items ended.gathered
+    ended.joined_ticks ended.joined_items c.in_ok-pieces.ensures.tables
+    (c.dones_in_order.ensures.in_order c.in_ok-pieces.field-0.items c.in_ok-dones.dones.items
+    ended.gathered c.in_ok-pieces.ensures.numbered c.in_ok-dones.ensures.each_once
+    ended.is_gathered) ended.apart)
+    c.end_phase.ensures
+
+pub returns-clause-dealt : goal.returns-clause-dealt
+returns-clause-dealt g c = IfOk-weaker c.end_phase.result _ _
     (λ dealt ended.
     pieces_dealt g.M.Key.Ord.cmp g.M.StateMachine.machine (λ piece. piece.job.machine)
     (λ piece. piece.job.now) (λ piece. piece.job.ticks) (λ piece. piece.job.table)
@@ -29,8 +40,8 @@ returns g c = IfOk-weaker c.end_phase.result _ _
     ended.is_gathered))
     c.end_phase.ensures
 
-pub returns-then-is_idle : goal.returns-then-is_idle
-returns-then-is_idle g c =
+pub returns-then-is_idle-clause-dealt : goal.returns-then-is_idle-clause-dealt
+returns-then-is_idle-clause-dealt g c =
     let all = c.args.phase in
     let Deals = DealsParts g.M.Key.Ord.cmp (g.M.StateMachine.machine all.machine) tick_at
     all.moment all.ticks (map (λ part. part.items) all.parts.items) all.tables.items in

@@ -30,97 +30,6 @@ new-phase-requires-clause-count g c =
     (arrived_at shard_of within now lives tables begun.shards same arrivals parts waiting
     here).parts_are
 
-pub begin_third-requires-clause-some : goal.begin_third-requires-clause-some
-begin_third-requires-clause-some g c =
-    let shard_of = g.C.Cut.shard_of c.args.cut.now in
-    let within : (name : List ℕ) (n : ℕ) → 0 < n → shard_of name n < n =
-    λ name n some. g.met.C.Cut.within c.args.cut.now name n some in
-    let begun = c.args.begun in
-    let now = c.args.round.now.moment in
-    let arrivals = arrivals_from begun.calls.local begun.number 1 c.args.round.now.events in
-    let lives = c.into_parts-lives.result.0.items in
-    let tables = c.into_parts-lives.result.1.items in
-    let are = c.into_parts-lives.ensures.shards in
-    let same = c.into_parts-lives.ensures.tables in
-    let parts = map (λ part. part.items) begun.parts.items in
-    let waiting = begun.waiting.items in
-    let here = c.requires.arrived in
-    let p = c.new-phase.ensures in
-    let first = dealt_first shard_of within now lives tables begun.shards same arrivals parts waiting
-    here c.in_ok-lives.lives.items _ _ _ _ (groups c.in_ok-lives.said.ticks.items)
-    (groups c.in_ok-lives.said.items.items) are.0 p.moment p.ticks
-    (ap (λ ps. map (λ part. part.items) ps.items) p.parts) (ap (λ held. held.items) p.tables)
-    c.in_ok-lives.ensures in
-    omega (arith, first.count, are.0, c.len-2.ensures, c.in_ok-lives.lives.ok)
-
-pub begin_third-requires-clause-most : goal.begin_third-requires-clause-most
-begin_third-requires-clause-most g c =
-    let shard_of = g.C.Cut.shard_of c.args.cut.now in
-    let within : (name : List ℕ) (n : ℕ) → 0 < n → shard_of name n < n =
-    λ name n some. g.met.C.Cut.within c.args.cut.now name n some in
-    let begun = c.args.begun in
-    let now = c.args.round.now.moment in
-    let arrivals = arrivals_from begun.calls.local begun.number 1 c.args.round.now.events in
-    let lives = c.into_parts-lives.result.0.items in
-    let tables = c.into_parts-lives.result.1.items in
-    let are = c.into_parts-lives.ensures.shards in
-    let same = c.into_parts-lives.ensures.tables in
-    let parts = map (λ part. part.items) begun.parts.items in
-    let waiting = begun.waiting.items in
-    let here = c.requires.arrived in
-    let p = c.new-phase.ensures in
-    let first = dealt_first shard_of within now lives tables begun.shards same arrivals parts waiting
-    here c.in_ok-lives.lives.items _ _ _ _ (groups c.in_ok-lives.said.ticks.items)
-    (groups c.in_ok-lives.said.items.items) are.0 p.moment p.ticks
-    (ap (λ ps. map (λ part. part.items) ps.items) p.parts) (ap (λ held. held.items) p.tables)
-    c.in_ok-lives.ensures in
-    omega (arith, first.count, are.1, c.len-2.ensures, c.in_ok-lives.lives.ok)
-
-pub of-requires : goal.of-requires
-of-requires g c =
-    let shard_of = g.C.Cut.shard_of c.args.cut.now in
-    let within : (name : List ℕ) (n : ℕ) → 0 < n → shard_of name n < n =
-    λ name n some. g.met.C.Cut.within c.args.cut.now name n some in
-    let begun = c.args.begun in
-    let now = c.args.round.now.moment in
-    let arrivals = arrivals_from begun.calls.local begun.number 1 c.args.round.now.events in
-    let lives = c.into_parts-lives.result.0.items in
-    let tables = c.into_parts-lives.result.1.items in
-    let are = c.into_parts-lives.ensures.shards in
-    let same = c.into_parts-lives.ensures.tables in
-    let parts = map (λ part. part.items) begun.parts.items in
-    let waiting = begun.waiting.items in
-    let here = c.requires.arrived in
-    let p = c.new-phase.ensures in
-    let first = dealt_first shard_of within now lives tables begun.shards same arrivals parts waiting
-    here c.in_ok-lives.lives.items _ _ _ _ (groups c.in_ok-lives.said.ticks.items)
-    (groups c.in_ok-lives.said.items.items) are.0 p.moment p.ticks
-    (ap (λ ps. map (λ part. part.items) ps.items) p.parts) (ap (λ held. held.items) p.tables)
-    c.in_ok-lives.ensures in
-    let r = c.new-phase-2.ensures in
-    let some_call : 0 < length tables = omega (arith, are.0, are.2) in
-    let second = dealt_second shard_of within now begun.calls _ tables c.in_ok-tables.tables.items
-    c.in_ok-outputs.items.items (map (λ part. part.items) c.in_ok-parts.parts.items) c.len.result
-    _ _ _ _ (groups c.in_ok-tables.said.ticks.items) (groups c.in_ok-tables.said.items.items)
-    some_call r.machine r.moment r.ticks (ap (λ ps. map (λ part. part.items) ps.items) r.parts)
-    (ap (λ held. held.items) r.tables)
-    (omega (arith, c.len.ensures, c.into_parts-lives.result.1.ok)) c.in_ok-parts.ensures.parts
-    c.in_ok-tables.ensures in
-    let q = c.new-phase-3.ensures in
-    let mid = c.in_ok-lives.lives.items in
-    let some : 0 < length mid = omega (arith, first.count, are.0) in
-    let third = dealt_third shard_of within now mid c.in_ok-lives-2.lives.items
-    c.in_ok-commands.commands.items (map (λ part. part.items) c.in_ok-parts-2.parts.items)
-    c.len-2.result _ _ _ _ (groups c.in_ok-lives-2.said.ticks.items)
-    (groups c.in_ok-lives-2.said.items.items) some q.moment q.ticks
-    (ap (λ ps. map (λ part. part.items) ps.items) q.parts) (ap (λ held. held.items) q.tables)
-    (omega (arith, c.len-2.ensures, c.in_ok-lives.lives.ok)) c.in_ok-parts-2.ensures.parts
-    c.in_ok-lives-2.ensures in (
-      omega (arith, third.count, first.count, are.0),
-      omega (arith, third.count, first.count, are.1),
-      second.count ∙ are.2 ∙ sym first.count ∙ sym third.count,
-    )
-
 pub returns : goal.returns
 returns g c =
     let shard_of = g.C.Cut.shard_of c.args.cut.now in
@@ -141,7 +50,7 @@ returns g c =
     here c.in_ok-lives.lives.items _ _ _ _ (groups c.in_ok-lives.said.ticks.items)
     (groups c.in_ok-lives.said.items.items) are.0 p.moment p.ticks
     (ap (λ ps. map (λ part. part.items) ps.items) p.parts) (ap (λ held. held.items) p.tables)
-    c.in_ok-lives.ensures in
+    c.in_ok-lives.ensures.dealt in
     let r = c.new-phase-2.ensures in
     let some_call : 0 < length tables = omega (arith, are.0, are.2) in
     let second = dealt_second shard_of within now begun.calls _ tables c.in_ok-tables.tables.items
@@ -150,17 +59,17 @@ returns g c =
     some_call r.machine r.moment r.ticks (ap (λ ps. map (λ part. part.items) ps.items) r.parts)
     (ap (λ held. held.items) r.tables)
     (omega (arith, c.len.ensures, c.into_parts-lives.result.1.ok)) c.in_ok-parts.ensures.parts
-    c.in_ok-tables.ensures in
+    c.in_ok-tables.ensures.dealt in
     let q = c.new-phase-3.ensures in
     let mid = c.in_ok-lives.lives.items in
-    let some : 0 < length mid = omega (arith, first.count, are.0) in
+    let some : 0 < length mid = omega (arith, c.in_ok-lives.ensures.count, are.0) in
     let third = dealt_third shard_of within now mid c.in_ok-lives-2.lives.items
     c.in_ok-commands.commands.items (map (λ part. part.items) c.in_ok-parts-2.parts.items)
     c.len-2.result _ _ _ _ (groups c.in_ok-lives-2.said.ticks.items)
     (groups c.in_ok-lives-2.said.items.items) some q.moment q.ticks
     (ap (λ ps. map (λ part. part.items) ps.items) q.parts) (ap (λ held. held.items) q.tables)
     (omega (arith, c.len-2.ensures, c.in_ok-lives.lives.ok)) c.in_ok-parts-2.ensures.parts
-    c.in_ok-lives-2.ensures in
+    c.in_ok-lives-2.ensures.dealt in
     let mid_lives = c.in_ok-lives.lives.items in
     let arrived = arrived_at shard_of within now lives tables begun.shards same arrivals parts
     waiting here in

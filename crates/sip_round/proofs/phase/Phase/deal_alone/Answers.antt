@@ -5,8 +5,8 @@ use Rattle.sip_round.proofs.Alone.{deals_last}
 use Rattle.sip_round.proofs.phase.Phase.deal_alone.Goals as goal
 use Rattle.sip_model.specs.Machine.{tick_at}
 
-pub returns : goal.returns
-returns g c =
+pub returns-clause-dealt : goal.returns-clause-dealt
+returns-clause-dealt g c =
     let left = c.pop.new.self in
     let parts_left = c.pop-2.new.self in
     let took = c.in-Some-Some.ensures in
