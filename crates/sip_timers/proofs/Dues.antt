@@ -4,7 +4,7 @@ use Rattle.std.specs.Prelude.{nat_lt, nat_le, ◌==◌}
 use Rattle.std.specs.List.{list_any, take_while, AllByRecursion}
 use Rattle.std.specs.List.Sorted.{IsStrictlySortedBy}
 use Rattle.std.specs.Ordering.{is_eq, is_gt, ordering_then, nat_cmp}
-use Rattle.std.specs.Cmp.{IsTotalOrder}
+use Rattle.std.specs.Cmp.{IsTotalOrder, Equal-is}
 use Rattle.std.specs.BTreeMap.{is_at}
 use Rattle.std.specs.declared.cmp.Ordering.{Ordering}
 use Rattle.std.specs.declared.cmp.Ordering.TheVariants.{Less, Equal, Greater}
@@ -16,11 +16,6 @@ use Rattle.sip_timers.specs.Index.{due_cmp, is_due_at, is_moment, IsIndexOf, wit
 pub by_bool : {G : Type 0} (b : Bool) → (b ≡ true → G) → (b ≡ false → G) → G
 by_bool true on_true on_false = on_true refl
 by_bool false on_true on_false = on_false refl
-
-pub equal_from_is_eq : (o : Ordering) → is_eq o ≡ true → o ≡ Equal
-equal_from_is_eq Less e = absurd (false≢true e)
-equal_from_is_eq Equal e = refl
-equal_from_is_eq Greater e = absurd (false≢true e)
 
 -- two moments beside two keys are tied where the moments are and the keys are
 pub tied_pair : (a b : ℕ) (o : Ordering) → is_eq (ordering_then (nat_cmp a b) o)
@@ -96,7 +91,7 @@ module _ {K : Type 0} {cmp : K → K → Ordering} (total : IsTotalOrder cmp) wh
   pub moment_tied : (moments : K → Option ℕ) (dues : List (ℕ × K)) → IsIndexOf cmp moments dues
       → (key q : K) → is_at (cmp key) q ≡ true → moments q ≡ moments key
   moment_tied moments dues index key q tied =
-      let equal : cmp key q ≡ Equal = equal_from_is_eq (cmp key q) tied in
+      let equal : cmp key q ≡ Equal = (Equal-is (cmp key q)).0 tied in
       same_moment (moments q) (moments key) (λ at.
       let there : is_due_at cmp dues at key ≡ is_due_at cmp dues at q =
       λ i. list_any (λ due. is_eq (ordering_then (nat_cmp at due.0)

@@ -128,18 +128,13 @@ module _ {K : Type 0} {cmp : K → K → Ordering} (total : IsTotalOrder cmp)
       → (q : K) → IfSome (moments q) (λ other. first.0 ≤ other)
   earliest_due first least q = before_none first least q (moments q) refl
 
-  none_at : length dues ≡ 0 → (q : K) (o : Option ℕ) → moments q ≡ o → o ≡ None
-  none_at empty q None is = refl
-  none_at empty q (Some other) is =
-      absurd (nothing_in dues empty other q (there_at total moments dues index other q is))
-    where
-      nothing_in : (ds : List (ℕ × K)) → length ds ≡ 0 → (at : ℕ) (q : K)
-          → is_due_at cmp ds at q ≡ true → ⊥
-      nothing_in [] empty at q there = false≢true there
-      nothing_in (d ∷ ds) empty at q there = omega arith
-
   pub nothing_due : length dues ≡ 0 → (q : K) → moments q ≡ None
-  nothing_due empty q = none_at empty q (moments q) refl
+  nothing_due empty q =
+      same_moment (moments q) None (λ at. sym (index at q) ∙ nothing_in dues empty at)
+    where
+      nothing_in : (ds : List (ℕ × K)) → length ds ≡ 0 → (at : ℕ) → is_due_at cmp ds at q ≡ false
+      nothing_in [] empty at = refl
+      nothing_in (d ∷ ds) empty at = absurd (omega arith)
 
 -- where the earliest moment isn't due, none is
 pub calm_before : {K : Type 0} (now : ℕ) (moments : K → Option ℕ) (first : Option ℕ)

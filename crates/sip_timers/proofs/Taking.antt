@@ -5,7 +5,7 @@ use Rattle.std.specs.List.{list_any, AllByRecursion}
 use Rattle.std.specs.List.Sorted.{IsStrictlySortedBy}
 use Rattle.std.specs.Option.{unwrap_or}
 use Rattle.std.specs.Ordering.{is_eq, ordering_reverse}
-use Rattle.std.specs.Cmp.{IsTotalOrder, eq_by_cmp_equiv}
+use Rattle.std.specs.Cmp.{IsTotalOrder, eq_by_cmp_equiv, Equal-is}
 use Rattle.std.specs.BTreeMap.{is_at}
 use Rattle.std.specs.Map.{lookup_key, remove_entry, keys_of}
 use Rattle.std.specs.declared.cmp.Ordering.{Ordering}
@@ -17,7 +17,7 @@ use Rattle.std.proofs.lemmas.Map.{lookup-none}
 use Rattle.std.proofs.lemmas.Map.Keys.{sorted_head, sorted_tail, IsDistinct-from_sorted}
 use Rattle.std.proofs.lemmas.Map.Entries.{none_below_head, none_past_head}
 use Rattle.sip_timers.specs.Queue.{moment, is_due, due_keys, later}
-use Rattle.sip_timers.proofs.Dues.{by_bool, by_ordering, equal_from_is_eq}
+use Rattle.sip_timers.proofs.Dues.{by_bool, by_ordering}
 use Rattle.sip_timers.proofs.Sorts.{weaker}
 
 -- the map's own keys in place of those that are taken out, one after another
@@ -121,7 +121,7 @@ module _ {K : Type 0} {cmp : K → K → Ordering} (total : IsTotalOrder cmp) wh
           let alike : cmp q k ≡ cmp q e.0 = alike_right total k e.0 q first_tied in
           by_bool (is_at (cmp q) e.0)
           (λ here.
-          past_tied q k ks rises (alike ∙ equal_from_is_eq (cmp q e.0) here)
+          past_tied q k ks rises (alike ∙ (Equal-is (cmp q e.0)).0 here)
           ∙ sym (not_further q here))
           (λ apart.
           sym (ap (λ b. b || list_any (is_at (cmp q)) ks) (ap is_eq alike ∙ apart)) ∙ same q
@@ -158,17 +158,13 @@ module _ {K : Type 0} {cmp : K → K → Ordering} (total : IsTotalOrder cmp) wh
       (takes_due now es (k ∷ ks) rises (sorted_tail cmp e.0 (keys_of es) in_order)
       (due_further now e es in_order (k ∷ ks) same waits)))
 
-  -- so when no key is left
-  pub all_taken : (now : ℕ) (all : List (K × ℕ)) (ks : List K) → IsStrictlySortedBy cmp ks
-      → IsStrictlySortedBy cmp (keys_of all) → AreDue now ks all
-      → (keys : List K) (i : ℕ) → length keys ≤ i → (entries : List (K × ℕ))
-      → take i keys ++ own_keys cmp (drop i keys) entries ≡ own_keys cmp ks all
-      → without cmp (drop i keys) entries ≡ without cmp ks all
-      → (keys ≡ due_keys now all) × (entries ≡ later now all)
-  all_taken now all ks rises in_order same keys i end entries given left =
-      let takes = takes_due now all ks rises in_order same in
-      let none : drop i keys ≡ [] = drop_all i keys end in (
-        sym (ap (λ more. take i keys ++ own_keys cmp more entries) none
-            ∙ append-nil (take i keys) ∙ take_all i keys end) ∙ given ∙ takes.0,
-        sym (ap (λ more. without cmp more entries) none) ∙ left ∙ takes.1,
-      )
+-- when no key is left
+pub all_taken : {K : Type 0} (cmp : K → K → Ordering) (keys : List K) (i : ℕ) → length keys ≤ i
+    → (entries : List (K × ℕ)) → (keys ≡ take i keys ++ own_keys cmp (drop i keys) entries)
+    × (entries ≡ without cmp (drop i keys) entries)
+all_taken cmp keys i end entries =
+    let none = sym (drop_all i keys end) in (
+      sym (append-nil (take i keys) ∙ take_all i keys end)
+          ∙ ap (λ more. take i keys ++ own_keys cmp more entries) none,
+      ap (λ more. without cmp more entries) none,
+    )

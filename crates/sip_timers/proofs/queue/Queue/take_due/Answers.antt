@@ -1,4 +1,4 @@
-use Rattle.std.proofs.Common.{◌≤◌, ◌++◌, length, take, sym, ap, subst, ◌∙◌, arith}
+use Rattle.std.proofs.Common.{◌++◌, length, take, refl, sym, ap, subst, ◌∙◌, arith}
 use Rattle.std.specs.Prelude.{nat_lt}
 use Rattle.std.specs.BTreeMap.{is_at}
 use Rattle.std.specs.List.{list_any}
@@ -10,28 +10,34 @@ use Rattle.sip_timers.specs.Queue.{moment, due_keys, later, if_later}
 use Rattle.sip_timers.specs.Index.{IsIndexOf}
 use Rattle.sip_timers.proofs.Moments.{moment-later, given, due_keys-sorted, kept_sorted}
 use Rattle.sip_timers.proofs.Schedules.{index_of_same}
-use Rattle.sip_timers.proofs.Taking.{own_keys, without, all_taken}
+use Rattle.sip_timers.proofs.Taking.{own_keys, without, takes_due, all_taken}
 use Rattle.sip_timers.proofs.queue.Queue.take_due.Goals as goal
+
+pub loop-key-init : goal.loop-key-init
+loop-key-init g c =
+    let cmp = g.K.Ord.cmp in
+    let all = c.self.inside.moments.entries in
+    let index = c.self.invariant.1 in
+    let same = c.deref_mut-key-items.ensures.value in
+    let takes = takes_due g.met.K.Ord.total c.args.now all c.in_ok-keys.keys.items
+    (c.in_ok-keys.ensures.in_order (moment cmp all) index) c.self.invariant.0
+    (c.in_ok-keys.ensures.given (moment cmp all) index) in
+    record {
+      given = ap (λ ks. own_keys cmp ks all) same ∙ takes.0
+          ∙ ap (due_keys c.args.now) c.self.view_is;
+      left = ap (λ ks. without cmp ks all) same ∙ takes.1 ∙ ap (later c.args.now) c.self.view_is;
+      dues = refl;
+    }
 
 pub returns-clause-due : goal.returns-clause-due
 returns-clause-due g c =
-    let cmp = g.K.Ord.cmp in
-    let all = c.self.inside.moments.entries in
-    let keys = c.in_ok-keys.keys.items in
     let items = c.loop-key.key-items in
-    let same = c.deref_mut-key-items.ensures.value in
-    let end : length items ≤ c.loop-key.key-index = omega arith in
-    ap (λ rest. take c.in_ok-keys.keys.len (items ++ rest))
-    (drop_all (length items) keys (omega arith))
-    ∙ ap (take c.in_ok-keys.keys.len) (append-nil items)
-    ∙ take_all c.in_ok-keys.keys.len items (omega (arith, c.in_ok-keys.keys.ok))
-    ∙ (all_taken g.met.K.Ord.total c.args.now all keys
-    (c.in_ok-keys.ensures.in_order (moment cmp all) c.self.invariant.1) c.self.invariant.0
-    (c.in_ok-keys.ensures.given (moment cmp all) c.self.invariant.1) items c.loop-key.key-index end
-    c.loop-key.self-inside.moments.entries
-    (c.loop-key.invariant.given ∙ ap (λ ks. own_keys cmp ks all) same)
-    (c.loop-key.invariant.left ∙ ap (λ ks. without cmp ks all) same)).0
-    ∙ ap (due_keys c.args.now) c.self.view_is
+    let len = c.in_ok-keys.keys.len in
+    ap (λ rest. take len (items ++ rest))
+    (drop_all (length items) c.in_ok-keys.keys.items (omega arith))
+    ∙ ap (take len) (append-nil items) ∙ take_all len items (omega (arith, c.in_ok-keys.keys.ok))
+    ∙ (all_taken g.K.Ord.cmp items c.loop-key.key-index (omega arith)
+    c.loop-key.self-inside.moments.entries).0 ∙ c.loop-key.invariant.given
 
 pub returns-clause-in_order : goal.returns-clause-in_order
 returns-clause-in_order g c =
@@ -43,19 +49,8 @@ returns-clause-in_order g c =
 
 pub returns-clause-ok : goal.returns-clause-ok
 returns-clause-ok g c =
-    let cmp = g.K.Ord.cmp in
-    let all = c.self.inside.moments.entries in
-    let keys = c.in_ok-keys.keys.items in
-    let items = c.loop-key.key-items in
-    let same = c.deref_mut-key-items.ensures.value in
-    let end : length items ≤ c.loop-key.key-index = omega arith in
-    (all_taken g.met.K.Ord.total c.args.now all keys
-    (c.in_ok-keys.ensures.in_order (moment cmp all) c.self.invariant.1) c.self.invariant.0
-    (c.in_ok-keys.ensures.given (moment cmp all) c.self.invariant.1) items c.loop-key.key-index end
-    c.loop-key.self-inside.moments.entries
-    (c.loop-key.invariant.given ∙ ap (λ ks. own_keys cmp ks all) same)
-    (c.loop-key.invariant.left ∙ ap (λ ks. without cmp ks all) same)).1
-    ∙ ap (later c.args.now) c.self.view_is
+    (all_taken g.K.Ord.cmp c.loop-key.key-items c.loop-key.key-index (omega arith)
+    c.loop-key.self-inside.moments.entries).1 ∙ c.loop-key.invariant.left
 
 pub returns-clause-given : goal.returns-clause-given
 returns-clause-given g c =

@@ -1,4 +1,5 @@
 use Rattle.std.proofs.Common.{◌≡◌, ◌++◌, take, drop}
+use Rattle.sip_timers.specs.Queue.{due_keys, later}
 use Rattle.sip_timers.proofs.Taking.{own_keys, without}
 use Rattle.sip_timers.proofs.queue.Queue.take_due.Given as goal
 
@@ -6,8 +7,8 @@ abbrev pub invariant-loop-key : goal.invariant-loop-key
 invariant-loop-key g l = record {
   given : take l.key-index l.key-items
       ++ own_keys g.K.Ord.cmp (drop l.key-index l.key-items) l.self-inside.moments.entries
-      ≡ own_keys g.K.Ord.cmp l.initial.key-items l.initial.self-inside.moments.entries;
+      ≡ due_keys l.now l.fn.self;
   left : without g.K.Ord.cmp (drop l.key-index l.key-items) l.self-inside.moments.entries
-      ≡ without g.K.Ord.cmp l.initial.key-items l.initial.self-inside.moments.entries;
+      ≡ later l.now l.fn.self;
   dues : l.self-inside.dues ≡ l.initial.self-inside.dues;
 }
