@@ -1,9 +1,0 @@
--- A step of the cut of items among the shards.
-use Rattle.std.specs.Prelude.{ℕ, List, [], ◌∷◌, ◌++◌, get_or, slice_set}
-use Rattle.sip_model.specs.declared.item.Item.{Item}
-
--- an item goes behind the part of its owner
-abbrev pub with_item : {K I : Type 0} → (K → ℕ) → Item K I → List (List (Item K I))
-    → List (List (Item K I))
-with_item owner item parts =
-    slice_set parts (owner item.key) (get_or parts (owner item.key) [] ++ item ∷ [])
