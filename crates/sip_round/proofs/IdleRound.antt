@@ -6,10 +6,7 @@ use Rattle.sip_message.specs.declared.key.Key.{Key}
 use Rattle.sip_message.specs.Key.{key_cmp, branch_in}
 use Rattle.sip_model.specs.Laws.{ToldInOrder}
 use Rattle.sip_model.specs.Shards.{ShardsTellAll}
-use Rattle.sip_model.specs.Table.{Held}
-use Rattle.sip_transactions.specs.declared.life.Life.{Life}
 use Rattle.sip_transactions.specs.Machine.{transaction_machine}
-use Rattle.sip_calls.specs.declared.call.Call.{Call}
 use Rattle.sip_calls.specs.declared.calls.Calls.{Calls}
 use Rattle.sip_calls.specs.Call.{call_machine}
 use Rattle.sip_calls.specs.CallShard.{call_cmp}

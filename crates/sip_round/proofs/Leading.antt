@@ -1,5 +1,5 @@
 -- The three phases, and a round of all three.
-use Rattle.std.proofs.Common.{◌≡◌, ◌<◌, Bool, true, false, ℕ, zero, List, [], ◌∷◌, ◌++◌, length, map, refl, sym, ◌∙◌, ap, subst}
+use Rattle.std.proofs.Common.{◌≡◌, ◌<◌, Bool, ℕ, zero, List, [], ◌∷◌, ◌++◌, length, map, refl, sym, ◌∙◌, ap, subst}
 use Rattle.std.specs.List.{flat_map}
 use Rattle.std.specs.List.Sorted.{IsStrictlySortedBy}
 use Rattle.std.specs.Ordering.{nat_cmp}
@@ -22,7 +22,7 @@ use Rattle.sip_common.specs.declared.item.Item.{Item}
 use Rattle.sip_common.specs.declared.item.CallOut.{CallOut}
 use Rattle.sip_calls.specs.declared.call.Call.{Call}
 use Rattle.sip_calls.specs.declared.calls.Calls.{Calls}
-use Rattle.sip_calls.specs.Call.{CallItem, call_machine}
+use Rattle.sip_calls.specs.Call.{call_machine}
 use Rattle.sip_calls.specs.CallShard.{call_cmp}
 use Rattle.sip_round.specs.declared.config.Config.{Config}
 use Rattle.sip_round.specs.declared.output.Output.{Output}
@@ -31,16 +31,16 @@ use Rattle.sip_round.specs.declared.waiting.Waiting.{Waiting}
 use Rattle.sip_round.specs.AgentState.{ShardTables, calls_held, lives_held}
 use Rattle.sip_round.specs.Answers.{Past, answer, arrivals, calls_of, first, given_second, items_of_round, past_after, said_by_transactions, said_by_calls, second, third}
 use Rattle.sip_round.specs.Arrivals.{Arrival, arrivals_from}
-use Rattle.sip_round.specs.Steps.Arrived.{ArePlaced, IsArrived}
+use Rattle.sip_round.specs.Steps.Arrived.{ArePlaced}
 use Rattle.sip_shards.specs.AllShards.{DealsAll, DealsParts}
 use Rattle.sip_round.specs.Steps.Led.{Deals, LedFirst, LedSecond, LedThird}
 use Rattle.sip_round.specs.Outputs.{all_said, command_of, joined, outs_of, raised_of, said_at, sent_of, shown_of, user_items}
 use Rattle.sip_shards.specs.Parts.{cut_by, owner_of}
-use Rattle.sip_round.specs.Phases.{call_items, command_items, first_phase, second_phase, third_phase, transaction_items}
+use Rattle.sip_round.specs.Phases.{first_phase, second_phase, third_phase, transaction_items}
 use Rattle.sip_round.specs.Steps.Waiting.{all_waiting, by_event}
 use Rattle.sip_shards.proofs.Cutting.{map_long}
 use Rattle.sip_shards.proofs.Numbered.{places_timed}
-use Rattle.sip_round.proofs.ByEvent.{behind, each, flat_map-map, items_climb, woven_by_place}
+use Rattle.sip_round.proofs.ByEvent.{behind, each, flat_map-map, woven_by_place}
 
 joined_by_place : {K O : Type 0} (told : List ((ℕ × K) × List O))
     → joined (map by_place told) ≡ joined told

@@ -30,7 +30,6 @@ use Rattle.sip_transactions.specs.declared.input.Command.{Command}
 use Rattle.sip_transactions.specs.declared.input.Command.TheVariants as command
 use Rattle.sip_transactions.specs.declared.input.Input.{Input}
 use Rattle.sip_transactions.specs.declared.input.Input.TheVariants.{Receive}
-use Rattle.sip_transactions.specs.declared.output.DropReason.TheVariants.{NotOurs}
 use Rattle.sip_transactions.specs.Ids.{is_id}
 use Rattle.sip_transactions.specs.Laws.{IsServer, arrival_id, naming_id}
 use Rattle.sip_transactions.specs.Shard.{is_stray, order, received}

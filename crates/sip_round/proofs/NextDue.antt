@@ -1,12 +1,11 @@
 -- What the tables of all shards hold, and the first moment at which something is due in them.
-use Rattle.std.proofs.Common.{◌≡◌, ◌⊎◌, inl, inr, ◌<◌, ◌≤◌, ℕ, zero, suc, ◌+◌, ◌-◌, true, false, cond, List, [], ◌∷◌, ◌++◌, length, min, nat_eq, nat_le, refl, sym, ap, subst, ◌∙◌, arith}
-use Rattle.std.specs.Prelude.{IfSome, IsSome, None, Option, Some, drop, get_or, take, unwrap_or}
+use Rattle.std.proofs.Common.{◌≡◌, ◌⊎◌, inl, inr, ◌<◌, ◌≤◌, ℕ, zero, suc, ◌+◌, true, false, cond, List, [], ◌∷◌, ◌++◌, length, nat_eq, refl, sym, ap, subst, ◌∙◌, arith}
+use Rattle.std.specs.Prelude.{IsSome, None, Option, Some, unwrap_or}
 use Rattle.std.specs.List.{AllByRecursion}
 use Rattle.std.specs.declared.cmp.Ordering.{Ordering}
 use Rattle.std.specs.Cmp.{IsTotalOrder}
 use Rattle.std.proofs.lemmas.Cmp.{nat_list_cmp_total}
 use Rattle.std.proofs.lemmas.Grind.{common_steps}
-use Rattle.std.proofs.lemmas.List.{take_all}
 use Rattle.std.proofs.lemmas.Map.Lookups.{CmpEqualImpliesEq, exact_bytes}
 use Rattle.sip_message.specs.Key.{branch_in, key_cmp, keys_total}
 use Rattle.sip_message.specs.declared.key.Key.{Key}
@@ -18,8 +17,6 @@ use Rattle.sip_model.specs.Shards.{HoldFrom, ShardsTellAll, is_owned}
 use Rattle.sip_model.specs.Table.{Held, state_at}
 use Rattle.sip_model.proofs.Apart.{owned_states}
 use Rattle.sip_model.proofs.Ordered.{by_bool}
-use Rattle.sip_timers.specs.Earlier.{earlier}
-use Rattle.sip_timers.specs.Queue.{is_due}
 use Rattle.sip_transactions.specs.Idle as transactions
 use Rattle.sip_transactions.specs.Keys.{exact_keys}
 use Rattle.sip_transactions.specs.Machine.{life_due, transaction_machine}
