@@ -10,9 +10,10 @@ ghost use Rattle.sip_calls.specs.Call.{call_machine};
 use crate::call::Call;
 use crate::calls::Calls;
 use sip_message::{Addr, CallId, Id};
-use sip_model::{ShardFault, Table};
+use sip_model::{Item as ShardItem, KeyShard, PhaseOutputs, ShardFault, Table};
 use sip_served::{CallOut, Item};
 use std::alloc::Global;
+use std::collections::BTreeMap;
 use std::marker::Model;
 
 /// Calls by Call-ID. A Call-ID under which nothing is held has no call.
@@ -95,5 +96,54 @@ impl CallShard {
     {
         let call_id = self.table.check(item.call_id().clone())?;
         self.table.handle(&self.calls, call_id, now, (id, item))
+    }
+}
+
+impl KeyShard for CallShard {
+    ghost use Rattle.sip_model.specs.Groups.{groups};
+    ghost use Rattle.sip_model.specs.Phase.{AddsPhase, phase_at};
+    ghost use Rattle.sip_calls.specs.CallShard.{call_cmp};
+
+    type Machine = Calls;
+
+    ghost machine = { λ shard. shard.calls };
+
+    ghost held = { λ shard. shard.held };
+
+    fn live(&self) -> usize {
+        self.table.live()
+    }
+
+    fn next_due(&self) -> Option<u64> {
+        self.table.next_due(&self.calls)
+    }
+
+    fn is_idle(&self, now: u64, ticks: bool) -> bool {
+        self.table.is_idle(&self.calls, now, ticks)
+    }
+
+    fn deal(
+        &mut self,
+        now: u64,
+        ticks: bool,
+        items: Vec<ShardItem<CallId, (Id, Item)>>,
+    ) -> Result<PhaseOutputs<CallId, CallOut>, ShardFault>
+        requires { now ≤ 2 ^ 62 }
+        ensures shared { self.new.calls ≡ self.old.calls }
+        ensures phases { IfOk result (λ replies.
+            AddsPhase call_cmp (call_machine self.old.calls) tick_at
+            self.old.held self.new.held (phase_at now ticks items.items)
+            (groups replies.ticks.items) (groups replies.items.items)) }
+    {
+        self.table.deal(&self.calls, now, ticks, items)
+    }
+
+    fn put(&mut self, key: CallId, state: Call) -> Result<(), ShardFault> {
+        self.table.put(&self.calls, key, state)
+    }
+
+    fn into_states(self) -> Option<BTreeMap<CallId, Call>> {
+        let CallShard { calls: _, table } = self;
+        table.into_states()
     }
 }

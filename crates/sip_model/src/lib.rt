@@ -5,6 +5,7 @@
 mod fault;
 mod item;
 mod items;
+mod key_shard;
 mod laws;
 mod machine;
 mod merge;
@@ -15,6 +16,7 @@ mod ticks;
 
 pub use fault::ShardFault;
 pub use item::Item;
+pub use key_shard::KeyShard;
 pub use laws::laws_of_phases;
 pub use machine::StateMachine;
 pub use merge::by_label;

@@ -9,7 +9,7 @@ use Rattle.sip_round.specs.declared.round.Event.{Event}
 use Rattle.sip_round.specs.declared.waiting.Waiting.{Waiting}
 use Rattle.sip_round.specs.Arrivals.{arrivals_from}
 use Rattle.sip_round.specs.Steps.Arrived.{ArePlaced, IsArrived}
-use Rattle.sip_round.specs.Parts.{cut_by}
+use Rattle.sip_shards.specs.Parts.{cut_by}
 use Rattle.sip_round.specs.Phases.{transaction_items}
 use Rattle.sip_round.specs.Steps.Waiting.{all_waiting}
 

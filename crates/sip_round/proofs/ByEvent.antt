@@ -16,8 +16,8 @@ use Rattle.sip_round.specs.Steps.Arrived.{ArePlaced}
 use Rattle.sip_round.specs.Outputs.{joined, outs_of, user_items}
 use Rattle.sip_round.specs.Phases.{transaction_items}
 use Rattle.sip_round.specs.Steps.Waiting.{all_waiting, by_event}
-use Rattle.sip_round.proofs.Climbing.{Climbs, climbs_from_less}
-use Rattle.sip_round.proofs.Together.{first_of, rest_of}
+use Rattle.sip_shards.proofs.Climbing.{Climbs, climbs_from_less}
+use Rattle.sip_shards.proofs.Together.{first_of, rest_of}
 
 pub flat_map-map : {X Y Z : Type 0} (f : Y → List Z) (g : X → Y) (xs : List X)
     → flat_map f (map g xs) ≡ flat_map (λ x. f (g x)) xs

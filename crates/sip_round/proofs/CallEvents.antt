@@ -31,7 +31,7 @@ use Rattle.sip_round.specs.Answers.{Past, arrivals, first, items_of_round, no_pa
 use Rattle.sip_round.specs.Arrivals.{Arrival, arrival_of, arrivals_from}
 use Rattle.sip_round.specs.Outputs.{joined, outs_of, raised_of, said_at, user_items}
 use Rattle.sip_round.specs.Phases.{call_items, transaction_item, transaction_items}
-use Rattle.sip_round.proofs.Climbing.{Climbs, climbs_from_less}
+use Rattle.sip_shards.proofs.Climbing.{Climbs, climbs_from_less}
 use Rattle.sip_round.proofs.EventsRise.{Places, Rise, places_from, rise_after, rise_apart}
 use Rattle.sip_round.proofs.FewUps.{Few, events_of, few_ups, no_ups, raised}
 

@@ -31,7 +31,7 @@ use Rattle.sip_round.specs.Given.{AnswersGiveOwnSends, all_given, send_in, sends
 use Rattle.sip_round.specs.Outputs.{all_said, joined, outs_of, said_at, sent_of, shown_of}
 use Rattle.sip_round.specs.Phases.{transaction_item, transaction_items}
 use Rattle.sip_round.proofs.CallEvents.{TellsAt, arrivals_climb, none_later}
-use Rattle.sip_round.proofs.Climbing.{Climbs}
+use Rattle.sip_shards.proofs.Climbing.{Climbs}
 use Rattle.sip_round.proofs.NamesRise.{Later, one_round_more}
 use Rattle.sip_round.proofs.OwnSends.{AnyHeld, AnyInput, own_sends, picked}
 

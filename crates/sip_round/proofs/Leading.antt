@@ -1,13 +1,16 @@
 -- The three phases, and a round of all three.
-use Rattle.std.proofs.Common.{◌≡◌, ◌<◌, Bool, true, false, ℕ, zero, List, [], ◌∷◌, ◌++◌, length, map, refl, sym, ◌∙◌, ap, subst}
+use Rattle.std.proofs.Common.{◌≡◌, ◌<◌, Bool, ℕ, zero, List, [], ◌∷◌, ◌++◌, length, map, refl, sym, ◌∙◌, ap, subst}
 use Rattle.std.specs.List.{flat_map}
-use Rattle.sip_model.specs.Machine.{Timed, tick_at}
+use Rattle.std.specs.List.Sorted.{IsStrictlySortedBy}
+use Rattle.std.specs.Ordering.{nat_cmp}
+use Rattle.std.specs.declared.cmp.Ordering.{Ordering}
+use Rattle.sip_model.specs.Machine.{Machine, Timed, tick_at}
 use Rattle.sip_message.specs.declared.id.Id.{Id}
 use Rattle.sip_message.specs.declared.key.Key.{Key}
 use Rattle.sip_message.specs.Key.{key_cmp, branch_in}
 use Rattle.sip_model.specs.Laws.{ToldInOrder}
 use Rattle.sip_model.specs.declared.item.Item.{Item as ShardItem}
-use Rattle.sip_model.specs.Phase.{Phase, PhaseOutputs, by_place}
+use Rattle.sip_model.specs.Phase.{Phase, PhaseOutputs, by_place, phase_at}
 use Rattle.sip_model.specs.Shards.{HoldFrom}
 use Rattle.sip_model.specs.Table.{Held}
 use Rattle.sip_transactions.specs.declared.input.Command.{Command}
@@ -19,26 +22,25 @@ use Rattle.sip_common.specs.declared.item.Item.{Item}
 use Rattle.sip_common.specs.declared.item.CallOut.{CallOut}
 use Rattle.sip_calls.specs.declared.call.Call.{Call}
 use Rattle.sip_calls.specs.declared.calls.Calls.{Calls}
-use Rattle.sip_calls.specs.Call.{CallItem, call_machine}
+use Rattle.sip_calls.specs.Call.{call_machine}
 use Rattle.sip_calls.specs.CallShard.{call_cmp}
 use Rattle.sip_round.specs.declared.config.Config.{Config}
 use Rattle.sip_round.specs.declared.output.Output.{Output}
 use Rattle.sip_round.specs.declared.round.Round.{Round}
 use Rattle.sip_round.specs.declared.waiting.Waiting.{Waiting}
-use Rattle.sip_round.specs.AgentState.{ShardTables}
+use Rattle.sip_round.specs.AgentState.{ShardTables, calls_held, lives_held}
 use Rattle.sip_round.specs.Answers.{Past, answer, arrivals, calls_of, first, given_second, items_of_round, past_after, said_by_transactions, said_by_calls, second, third}
 use Rattle.sip_round.specs.Arrivals.{Arrival, arrivals_from}
-use Rattle.sip_round.specs.Steps.Arrived.{ArePlaced, IsArrived}
-use Rattle.sip_round.specs.Steps.AllShards.{DealsAll, DealsParts}
+use Rattle.sip_round.specs.Steps.Arrived.{ArePlaced}
+use Rattle.sip_shards.specs.AllShards.{DealsAll, DealsParts}
 use Rattle.sip_round.specs.Steps.Led.{Deals, LedFirst, LedSecond, LedThird}
 use Rattle.sip_round.specs.Outputs.{all_said, command_of, joined, outs_of, raised_of, said_at, sent_of, shown_of, user_items}
-use Rattle.sip_round.specs.Parts.{cut_by, owner_of}
-use Rattle.sip_round.specs.Phases.{call_items, command_items, first_phase, second_phase, third_phase, transaction_items}
+use Rattle.sip_shards.specs.Parts.{cut_by, owner_of}
+use Rattle.sip_round.specs.Phases.{first_phase, second_phase, third_phase, transaction_items}
 use Rattle.sip_round.specs.Steps.Waiting.{all_waiting, by_event}
-use Rattle.sip_round.proofs.Climbing.{climbs_in_order}
-use Rattle.sip_round.proofs.Pieces.{equal_phases}
-use Rattle.sip_round.proofs.Numbered.{calls_climb, commands_climb, places_timed}
-use Rattle.sip_round.proofs.ByEvent.{behind, each, flat_map-map, items_climb, woven_by_place}
+use Rattle.sip_shards.proofs.Cutting.{map_long}
+use Rattle.sip_shards.proofs.Numbered.{places_timed}
+use Rattle.sip_round.proofs.ByEvent.{behind, each, flat_map-map, woven_by_place}
 
 joined_by_place : {K O : Type 0} (told : List ((ℕ × K) × List O))
     → joined (map by_place told) ≡ joined told
@@ -165,82 +167,44 @@ led_third owner old new now commands ticks said before middle outputs deals send
 
 module _ (shard_of : List ℕ → ℕ → ℕ)
     (within : (name : List ℕ) (n : ℕ) → 0 < n → shard_of name n < n) (now : ℕ) where
-  module _ (lives : List (Held Key Life)) (tables : List (Held (List ℕ) Call)) (held : ShardTables)
-      (same : ◌≡◌ {A = ShardTables} (record { transactions = lives; calls = tables }) held)
-      (arrived : List (Id × Arrival)) (parts : List (List (ShardItem Key Input)))
-      (waiting : List (Id × Waiting))
-      (here : IsArrived (owner_of shard_of branch_in (length held.transactions))
-      (length held.transactions) arrived parts waiting) where
-    pub arrived_at : IsArrived (owner_of shard_of branch_in (length lives)) (length lives) arrived
-        parts waiting
-    arrived_at = subst (λ (held : ShardTables).
-        IsArrived (owner_of shard_of branch_in (length held.transactions))
-        (length held.transactions) arrived parts waiting) (sym same) here
-
-    pub dealt_first : (mid : List (Held Key Life)) (n : ℕ) (t : Bool)
-        (ps : List (List (ShardItem Key Input))) (old : List (Held Key Life))
-        (ticks : List (Key × List Out)) (said : List (ℕ × List Out)) → 0 < length lives
-        → n ≡ now → t ≡ true → ps ≡ parts → old ≡ lives
-        → DealsParts key_cmp transaction_machine tick_at n t ps old mid ticks said
-        → DealsAll key_cmp transaction_machine tick_at
-        (owner_of shard_of branch_in (length lives)) lives mid (first_phase now arrived) ticks said
-    dealt_first mid n t ps old ticks said some same_now with_tick same_parts same_lives deals =
-        equal_phases key_cmp transaction_machine transaction_machine n now t true ps parts old
-        lives mid ticks said refl same_now with_tick same_parts same_lives deals
-        (owner_of shard_of branch_in (length lives)) (transaction_items arrived)
-        (λ key. within (branch_in key) (length lives) some) arrived_at.parts_are
-        (climbs_in_order 1 _ (items_climb 1 arrived arrived_at.placed))
-
-  pub dealt_second : (shared calls : Calls) (tables new : List (Held (List ℕ) Call))
-      (items : List (Id × Item)) (parts : List (List (ShardItem (List ℕ) CallItem))) (count n : ℕ)
-      (t : Bool) (ps : List (List (ShardItem (List ℕ) CallItem)))
-      (old : List (Held (List ℕ) Call)) (ticks : List (List ℕ × List CallOut))
-      (said : List (ℕ × List CallOut)) → 0 < length tables
-      → calls ≡ shared → n ≡ now → t ≡ true → ps ≡ parts → old ≡ tables
-      → count ≡ length tables
-      → parts ≡ cut_by (owner_of shard_of (λ call_id. call_id) count) zero count
-      (call_items 0 items)
-      → DealsParts call_cmp (call_machine calls) tick_at n t ps old new ticks said
-      → DealsAll call_cmp (call_machine shared) tick_at
-      (owner_of shard_of (λ call_id. call_id) (length tables)) tables new
-      (second_phase now items) ticks said
-  dealt_second shared calls tables new items parts count n t ps old ticks said some same_calls
-      same_now with_tick same_parts same_tables as_many cut deals =
-      equal_phases call_cmp (call_machine calls) (call_machine shared) n now t true ps parts old
-      tables new ticks said (ap call_machine same_calls) same_now with_tick same_parts same_tables
-      deals (owner_of shard_of (λ call_id. call_id) (length tables)) (call_items 0 items)
-      (λ call_id. within call_id (length tables) some)
-      (subst (λ k. parts ≡ cut_by (owner_of shard_of (λ call_id. call_id) k) zero k
-      (call_items 0 items)) as_many cut)
-      (climbs_in_order 0 _ (calls_climb 0 items))
-
-  pub dealt_third : (lives new : List (Held Key Life)) (commands : List (Id × Command))
-      (parts : List (List (ShardItem Key Input))) (count n : ℕ) (t : Bool)
-      (ps : List (List (ShardItem Key Input))) (old : List (Held Key Life))
-      (ticks : List (Key × List Out)) (said : List (ℕ × List Out)) → 0 < length lives
-      → n ≡ now → t ≡ false → ps ≡ parts → old ≡ lives → count ≡ length lives
-      → parts ≡ cut_by (owner_of shard_of branch_in count) zero count (command_items 0 commands)
-      → DealsParts key_cmp transaction_machine tick_at n t ps old new ticks said
-      → DealsAll key_cmp transaction_machine tick_at (owner_of shard_of branch_in (length lives))
-      lives new (third_phase now commands) ticks said
-  dealt_third lives new commands parts count n t ps old ticks said some same_now with_tick
-      same_parts same_lives as_many cut deals =
-      equal_phases key_cmp transaction_machine transaction_machine n now t false ps parts old
-      lives new ticks said refl same_now with_tick same_parts same_lives deals
-      (owner_of shard_of branch_in (length lives)) (command_items 0 commands)
-      (λ key. within (branch_in key) (length lives) some)
-      (subst (λ k. parts ≡ cut_by (owner_of shard_of branch_in k) zero k
-      (command_items 0 commands)) as_many cut)
-      (climbs_in_order 0 _ (commands_climb 0 commands))
+  -- a phase of shards, each with its part of the items
+  pub dealt : {X K S I O : Type 0} (cmp : K → K → Ordering) (machine : Machine K S (Timed I) O)
+      (name : K → List ℕ) (held : X → Held K S) (shards new : List X) (count : ℕ) (tick : Bool)
+      (items : List (ShardItem K I)) (parts : List (List (ShardItem K I)))
+      (ticks : List (K × List O)) (said : List (ℕ × List O)) → 0 < length shards
+      → count ≡ length shards
+      → parts ≡ cut_by (owner_of shard_of name count) zero count items
+      → IsStrictlySortedBy nat_cmp (map (λ item. item.place) items)
+      → DealsParts cmp machine tick_at now tick parts (map held shards) (map held new) ticks said
+      → DealsAll cmp machine tick_at (owner_of shard_of name (length (map held shards)))
+      (map held shards) (map held new) (phase_at now tick items) ticks said
+  dealt cmp machine name held shards new count tick items parts ticks said some as_many cut climbs
+      deals =
+      let long : length shards ≡ length (map held shards) = sym (map_long held shards) in
+      deals (owner_of shard_of name (length (map held shards))) items
+      (λ key. within (name key) (length (map held shards)) (subst (λ n. 0 < n) long some))
+      (subst (λ n. parts ≡ cut_by (owner_of shard_of name n) zero n items) (as_many ∙ long) cut)
+      climbs
 
 -- ---- a round
 
-module _ (shard_of : List ℕ → ℕ → ℕ) (number : ℕ) (round : Round)
-    (old_lives mid_lives new_lives : List (Held Key Life))
-    (old_calls new_calls : List (Held (List ℕ) Call)) (items : List (Id × Item))
+module _ (shard_of : List ℕ → ℕ → ℕ) (number : ℕ) (round : Round) (old new : ShardTables)
+    (mid_lives : List (Held Key Life)) (items : List (Id × Item))
     (commands : List (Id × Command)) (sent shown outputs : List Output)
-    (after_third : LedThird (owner_of shard_of branch_in (length mid_lives)) mid_lives new_lives
-    round.moment commands shown outputs) where
+    (after_third : LedThird (owner_of shard_of branch_in (length mid_lives)) mid_lives
+    (lives_held new) round.moment commands shown outputs) where
+  abbrev old_lives : List (Held Key Life)
+  old_lives = lives_held old
+
+  abbrev new_lives : List (Held Key Life)
+  new_lives = lives_held new
+
+  abbrev old_calls : List (Held (List ℕ) Call)
+  old_calls = calls_held old
+
+  abbrev new_calls : List (Held (List ℕ) Call)
+  new_calls = calls_held new
+
   module _ (config : Config)
       (after_first : LedFirst (owner_of shard_of branch_in (length old_lives)) old_lives mid_lives
       number round.moment (arrivals_from config.local number 1 round.events) sent items)
@@ -327,8 +291,7 @@ module _ (shard_of : List ℕ → ℕ → ℕ) (number : ℕ) (round : Round)
       (arrivals_from shared.local number 1 round.events) sent items
       → LedSecond shared (owner_of shard_of (λ call_id. call_id) (length old_calls)) old_calls
       new_calls round.moment items sent shown commands
-      → Deals shared shard_of number round (record { transactions = old_lives; calls = old_calls })
-      (record { transactions = new_lives; calls = new_calls }) outputs
+      → Deals shared shard_of number round old new outputs
   deals shared after_first after_second =
       let one : (config : Config) → shared ≡ calls_of config
       → LedFirst (owner_of shard_of branch_in (length old_lives)) old_lives mid_lives number
@@ -353,7 +316,9 @@ module _ (shard_of : List ℕ → ℕ → ℕ) (number : ℕ) (round : Round)
       (owner_of shard_of (λ call_id. call_id) (length old_calls)) zero old_calls past.calls)
       same in
       record {
-        count = after_third.count ∙ after_first.count;
+        count = sym (map_long (λ shard. shard.held) new.transactions)
+            ∙ after_third.count ∙ after_first.count
+            ∙ map_long (λ shard. shard.held) old.transactions;
         transactions = λ config past same lives calls.
             new_held config (one config same) (two config same) past lives
             (held config past same calls);

@@ -1,18 +1,15 @@
 pub mod AfterEnds
-pub mod Alone
 pub mod ArrivedHere
 pub mod Beginning
 pub mod CallEvents
 pub mod CallsHeld
-pub mod Climbing
-pub mod Cutting
 pub mod EventRuns
 pub mod EventsRise
 pub mod FewUps
 pub mod GivenNotices
 pub mod GivenSends
+pub mod HeldInShards
 pub mod Leading
-pub mod IdleShards
 pub mod IdleRound
 pub mod LiveShards
 pub mod Lives
@@ -25,8 +22,6 @@ pub mod OwnItems
 pub mod OwnNotices
 pub mod OwnRequests
 pub mod OwnSends
-pub mod Pieces
-pub mod Piled
 pub mod Placed
 pub mod RequestsDiffer
 pub mod RequestsOnce
@@ -36,6 +31,4 @@ pub mod SoFar
 pub mod SaidInDialogs
 pub mod StartedOnce
 pub mod StartedRequests
-pub mod Together
-pub mod Transferred
 pub mod ByEvent

@@ -30,10 +30,9 @@ use Rattle.sip_transactions.specs.declared.input.Command.{Command}
 use Rattle.sip_transactions.specs.declared.input.Command.TheVariants as command
 use Rattle.sip_transactions.specs.declared.input.Input.{Input}
 use Rattle.sip_transactions.specs.declared.input.Input.TheVariants.{Receive}
-use Rattle.sip_transactions.specs.declared.output.DropReason.TheVariants.{NotOurs}
 use Rattle.sip_transactions.specs.Ids.{is_id}
 use Rattle.sip_transactions.specs.Laws.{IsServer, arrival_id, naming_id}
-use Rattle.sip_transactions.specs.Shard.{is_stray, order}
+use Rattle.sip_transactions.specs.Shard.{is_stray, order, received}
 use Rattle.sip_common.specs.Command.{call_of_item}
 use Rattle.sip_common.specs.declared.item.CallOut.{CallOut}
 use Rattle.sip_common.specs.declared.item.CallOut.TheVariants as call_out
@@ -50,7 +49,7 @@ use Rattle.sip_round.specs.declared.round.Event.{Event}
 use Rattle.sip_round.specs.declared.round.Event.TheVariants as event
 use Rattle.sip_round.specs.declared.round.Round.{Round}
 use Rattle.sip_round.specs.Answers.{Past, calls_of, first, given_second, items_of_round, no_past, past_after, past_from, past_of, said_by_calls, second, third}
-use Rattle.sip_round.specs.Arrivals.{Arrival, arrival_of, arrivals_from, datagram_arrival, message_arrival}
+use Rattle.sip_round.specs.Arrivals.{Arrival, arrival_for, arrival_of, arrivals_from, datagram_arrival, message_arrival}
 use Rattle.sip_round.specs.Outputs.{command_of, joined}
 use Rattle.sip_round.specs.Phases.{call_items, command_items, transaction_item, transaction_items}
 use Rattle.sip_round.proofs.EventsRise.{Places, Rise, places_from, rise_after, rise_apart}
@@ -84,24 +83,25 @@ message_named : (id : Id) (message : Message) (to : Addr)
 unfolding key_of_message
 message_named id message to = start_named id message.start _ _ _ _
 
+for_named : (local : Addr) (id : Id) (message : Message) (to : Addr)
+    → ArrivalNamed id (arrival_for (received local id message to))
+for_named local id message to =
+    elim (is_stray local message) as (λ b. ArrivalNamed id (arrival_for (if b then None
+    else Some (key_of_message message, Receive id message to)))) [
+      | true ↦ tt
+      | false ↦ message_named id message to
+    ]
+
 read_named : (local : Addr) (id : Id) (from : Addr) (read : Result Message ReadFault)
     → ArrivalNamed id (datagram_arrival local id from read)
 unfolding message_arrival
 read_named local id from (Err fault) = tt
 read_named local id from (Ok message) =
-    elim (is_stray local message) as (λ b. ArrivalNamed id (if b then arrival.Dropped NotOurs
-    else if is_request_message message
-    then arrival.Transaction (key_of_message (stamped message from))
-    (Receive id (stamped message from) (answer_address message from))
-    else arrival.Transaction (key_of_message message) (Receive id message from))) [
-      | true ↦ tt
-      | false ↦ elim (is_request_message message) as (λ b.
-          ArrivalNamed id (if b then arrival.Transaction (key_of_message (stamped message from))
-          (Receive id (stamped message from) (answer_address message from))
-          else arrival.Transaction (key_of_message message) (Receive id message from))) [
-            | true ↦ message_named id (stamped message from) (answer_address message from)
-            | false ↦ message_named id message from
-          ]
+    elim (is_request_message message) as (λ b. ArrivalNamed id (if b
+    then arrival_for (received local id (stamped message from) (answer_address message from))
+    else arrival_for (received local id message from))) [
+      | true ↦ for_named local id (stamped message from) (answer_address message from)
+      | false ↦ for_named local id message from
     ]
 
 pub arrival_named : (local : Addr) (id : Id) (e : Event) → ArrivalNamed id (arrival_of local id e)

@@ -1,12 +1,11 @@
 -- What the tables of all shards hold, and the first moment at which something is due in them.
-use Rattle.std.proofs.Common.{◌≡◌, ◌⊎◌, inl, inr, ◌<◌, ◌≤◌, ℕ, zero, suc, ◌+◌, ◌-◌, true, false, cond, List, [], ◌∷◌, ◌++◌, length, min, nat_eq, nat_le, refl, sym, ap, subst, ◌∙◌, arith}
-use Rattle.std.specs.Prelude.{IfSome, IsSome, None, Option, Some, drop, get_or, take, unwrap_or}
+use Rattle.std.proofs.Common.{◌≡◌, ◌⊎◌, inl, inr, ◌<◌, ◌≤◌, ℕ, zero, suc, ◌+◌, true, false, cond, List, [], ◌∷◌, ◌++◌, length, nat_eq, refl, sym, ap, subst, ◌∙◌, arith}
+use Rattle.std.specs.Prelude.{IsSome, None, Option, Some, unwrap_or}
 use Rattle.std.specs.List.{AllByRecursion}
 use Rattle.std.specs.declared.cmp.Ordering.{Ordering}
 use Rattle.std.specs.Cmp.{IsTotalOrder}
 use Rattle.std.proofs.lemmas.Cmp.{nat_list_cmp_total}
 use Rattle.std.proofs.lemmas.Grind.{common_steps}
-use Rattle.std.proofs.lemmas.List.{take_all}
 use Rattle.std.proofs.lemmas.Map.Lookups.{CmpEqualImpliesEq, exact_bytes}
 use Rattle.sip_message.specs.Key.{branch_in, key_cmp, keys_total}
 use Rattle.sip_message.specs.declared.key.Key.{Key}
@@ -18,8 +17,6 @@ use Rattle.sip_model.specs.Shards.{HoldFrom, ShardsTellAll, is_owned}
 use Rattle.sip_model.specs.Table.{Held, state_at}
 use Rattle.sip_model.proofs.Apart.{owned_states}
 use Rattle.sip_model.proofs.Ordered.{by_bool}
-use Rattle.sip_timers.specs.Earlier.{earlier}
-use Rattle.sip_timers.specs.Queue.{is_due}
 use Rattle.sip_transactions.specs.Idle as transactions
 use Rattle.sip_transactions.specs.Keys.{exact_keys}
 use Rattle.sip_transactions.specs.Machine.{life_due, transaction_machine}
@@ -29,94 +26,16 @@ use Rattle.sip_calls.specs.Idle as calls
 use Rattle.sip_round.specs.declared.config.Config.{Config}
 use Rattle.sip_round.specs.declared.output.Output.{Output}
 use Rattle.sip_round.specs.declared.round.Round.{Round}
-use Rattle.sip_round.specs.AgentState.{AgentState, AreShards, ShardTables}
+use Rattle.sip_round.specs.AgentState.{AgentState, AreShards, ShardTables, calls_held, lives_held}
 use Rattle.sip_round.specs.Answers.{HoldCalls, HoldTransactions, StandsFor, calls_of, past_of}
 use Rattle.sip_round.specs.NextDue.{IsDueAfter, IsQuietAfter, without_events}
-use Rattle.sip_round.specs.Parts.{owner_of}
-use Rattle.sip_round.specs.Steps.AllShards.{IsIdle}
-use Rattle.sip_round.specs.Steps.Dues.{IsDueIn}
+use Rattle.sip_shards.specs.Parts.{owner_of}
+use Rattle.sip_shards.specs.AllShards.{IsIdle}
+use Rattle.sip_shards.specs.Steps.Dues.{IsDueIn}
 use Rattle.sip_round.specs.Steps.Led.{Deals}
 use Rattle.sip_round.proofs.IdleRound.{idle_round}
 use Rattle.sip_round.proofs.Runs.{stands_longer}
-
--- ---- the earlier of two moments
-
-le_min : (x y now : ℕ) → nat_le (min x y) now ≡ false
-    → (nat_le x now ≡ false) × (nat_le y now ≡ false)
-le_min x y now before =
-    (grind (arith, common_steps, before), grind (arith, common_steps, before))
-
--- where neither is due, the earlier one isn't, and the other way round
-pub neither_due : (now : ℕ) (a b : Option ℕ) → is_due now (earlier a b) ≡ false
-    → (is_due now a ≡ false) × (is_due now b ≡ false)
-neither_due now None b before = (refl, before)
-neither_due now (Some x) None before = (before, refl)
-neither_due now (Some x) (Some y) before = le_min x y now before
-
-min_of : (P : ℕ → Type 0) (x y : ℕ) → P x → P y → P (min x y)
-min_of P x y here there =
-    by_bool (nat_le x y)
-    (λ is. subst P (left x y is) here) (λ isnt. subst P (right x y isnt) there)
-  where
-    left : (x y : ℕ) → nat_le x y ≡ true → x ≡ min x y
-    left x y is = grind (arith, common_steps, is)
-
-    right : (x y : ℕ) → nat_le x y ≡ false → y ≡ min x y
-    right x y isnt = grind (arith, common_steps, isnt)
-
-pub of_either : (P : ℕ → Type 0) (a b : Option ℕ) → IfSome a P → IfSome b P
-    → IfSome (earlier a b) P
-of_either P None b here there = there
-of_either P (Some x) None here there = here
-of_either P (Some x) (Some y) here there = min_of P x y here there
-
-pub in_any : (P Q : ℕ → Type 0) (a : Option ℕ) → ((n : ℕ) → P n → Q n) → IfSome a P → IfSome a Q
-in_any P Q None gives some = tt
-in_any P Q (Some x) gives some = gives x some
-
--- ---- the first table, and the others
-
-pub rest_is : {X : Type 0} (xs : List X) → take (length xs - 1) (drop 1 xs) ≡ drop 1 xs
-rest_is {X} [] = take_all (length {A = X} [] - 1) [] (omega arith)
-rest_is (x ∷ xs) = take_all (length (x ∷ xs) - 1) xs (omega arith)
-
-module _ {X : Type 0} (P : X → Type 0) (xs : List X) (x d : X) (some : 1 ≤ length xs)
-    (is : x ≡ get_or xs 0 d) where
-  pub first_and_rest : AllByRecursion P xs → P x × AllByRecursion P (drop 1 xs)
-  first_and_rest = by_list xs some is
-    where
-      by_list : (ys : List X) → 1 ≤ length ys → x ≡ get_or ys 0 d → AllByRecursion P ys
-          → P x × AllByRecursion P (drop 1 ys)
-      by_list [] some is all = absurd (omega (arith, some))
-      by_list (y ∷ ys) some is all = (subst P (sym is) all.0, all.1)
-
-  pub with_first : P x → AllByRecursion P (drop 1 xs) → AllByRecursion P xs
-  with_first = by_list xs some is
-    where
-      by_list : (ys : List X) → 1 ≤ length ys → x ≡ get_or ys 0 d → P x
-          → AllByRecursion P (drop 1 ys) → AllByRecursion P ys
-      by_list [] some is here later = tt
-      by_list (y ∷ ys) some is here later = (subst P is here, later)
-
-module _ {K S : Type 0} (cmp : K → K → Ordering) (due : S → Option ℕ) (tables : List (Held K S))
-    (table d : Held K S) (some : 1 ≤ length tables) (is : table ≡ get_or tables 0 d) where
-  pub due_in_first : (at : ℕ) → ((key : K) × (due_of due (state_at cmp table key) ≡ Some at))
-      → IsDueIn cmp due at tables
-  due_in_first = by_list tables some is
-    where
-      by_list : (ts : List (Held K S)) → 1 ≤ length ts → table ≡ get_or ts 0 d → (at : ℕ)
-          → ((key : K) × (due_of due (state_at cmp table key) ≡ Some at)) → IsDueIn cmp due at ts
-      by_list [] some is at here = absurd (omega (arith, some))
-      by_list (t ∷ ts) some is at here =
-          inl (subst (λ one. (key : K) × (due_of due (state_at cmp one key) ≡ Some at)) is here)
-
-  pub due_in_rest : (at : ℕ) → IsDueIn cmp due at (drop 1 tables) → IsDueIn cmp due at tables
-  due_in_rest = by_list tables
-    where
-      by_list : (ts : List (Held K S)) (at : ℕ) → IsDueIn cmp due at (drop 1 ts)
-          → IsDueIn cmp due at ts
-      by_list [] at later = later
-      by_list (t ∷ ts) at later = inr later
+use Rattle.sip_round.proofs.HeldInShards.{some_calls, some_lives}
 
 -- ---- tables that hold what phases left
 
@@ -203,19 +122,18 @@ module _ {C : Type 0} (shard_of : C → List ℕ → ℕ → ℕ)
   same = ap (λ held. unwrap_or held stands.shards) (sym stands.sound ∙ sound)
 
   abbrev of_lives : Key → ℕ
-  of_lives = owner_of (shard_of agent.cut) branch_in (length shards.transactions)
+  of_lives = owner_of (shard_of agent.cut) branch_in (length (lives_held shards))
 
   abbrev of_calls : List ℕ → ℕ
-  of_calls = owner_of (shard_of agent.cut) (λ call_id. call_id) (length shards.calls)
+  of_calls = owner_of (shard_of agent.cut) (λ call_id. call_id) (length (calls_held shards))
 
-  some_calls : 0 < length shards.calls
-  some_calls = subst (λ n. 0 < n) (sym are.2) are.0
+  lives_within : (key : Key) → of_lives key < length (lives_held shards)
+  lives_within key =
+      within (branch_in key) (length (lives_held shards)) agent.cut (some_lives shards are)
 
-  lives_within : (key : Key) → of_lives key < length shards.transactions
-  lives_within key = within (branch_in key) (length shards.transactions) agent.cut are.0
-
-  calls_within : (call_id : List ℕ) → of_calls call_id < length shards.calls
-  calls_within call_id = within call_id (length shards.calls) agent.cut some_calls
+  calls_within : (call_id : List ℕ) → of_calls call_id < length (calls_held shards)
+  calls_within call_id =
+      within call_id (length (calls_held shards)) agent.cut (some_calls shards are)
 
   abbrev HoldLives : List Round → Type 0
   HoldLives rounds = HoldTransactions (shard_of agent.cut) shards
@@ -234,32 +152,31 @@ module _ {C : Type 0} (shard_of : C → List ℕ → ℕ → ℕ)
       stands.shared (subst (λ s. HoldCalls agent.calls (shard_of agent.cut) s
       (past_of config rounds).calls) same stands.calls)
 
-  pub lives_sound : AllByRecursion (λ table. IsSome table) shards.transactions
+  pub lives_sound : AllByRecursion (λ table. IsSome table) (lives_held shards)
   lives_sound = sound_all keys_total exact_keys transaction_machine life_due tick_at
       transactions.ticks_are_idle of_lives (past_of config rounds).transactions zero
-      shards.transactions held_lives
+      (lives_held shards) held_lives
 
-  pub calls_sound : AllByRecursion (λ table. IsSome table) shards.calls
+  pub calls_sound : AllByRecursion (λ table. IsSome table) (calls_held shards)
   calls_sound = sound_all nat_list_cmp_total exact_bytes (call_machine (calls_of config)) call_due
       tick_at (calls.call_ticks_are_idle (calls_of config)) of_calls (past_of config rounds).calls
-      zero shards.calls held_calls
+      zero (calls_held shards) held_calls
 
   -- where nothing is due in the tables, a round without events is quiet
   pub quiet : ToldInOrder key_cmp transaction_machine tick_at
       → ShardsTellAll key_cmp transaction_machine tick_at
       → ShardsTellAll call_cmp (call_machine agent.calls) tick_at → (moment : ℕ)
       → AllByRecursion (IsIdle key_cmp transaction_machine tick_at moment true)
-      shards.transactions
+      (lives_held shards)
       → AllByRecursion (IsIdle key_cmp transaction_machine tick_at moment false)
-      shards.transactions
+      (lives_held shards)
       → AllByRecursion (IsIdle call_cmp (call_machine agent.calls) tick_at moment true)
-      shards.calls
+      (calls_held shards)
       → IsQuietAfter config rounds moment
   quiet in_order lives_law calls_law moment first third second =
       let round = without_events moment in
       let led = idle_round agent.calls (shard_of agent.cut) agent.next_round round
-      shards.transactions shards.calls refl in_order lives_law calls_law lives_within
-      calls_within first third second in
+      shards refl in_order lives_law calls_law lives_within calls_within first third second in
       let after : AgentState C =
       record agent { next_round = agent.next_round + 1; last_moment = moment } in
       let none : List Output = [] in
@@ -287,22 +204,22 @@ module _ {C : Type 0} (shard_of : C → List ℕ → ℕ → ℕ)
           transactions = left_alike keys_total exact_keys transaction_machine life_due tick_at
               transactions.ticks_are_idle of_lives
               (past_of config (rounds ++ round ∷ [])).transactions
-              (past_of config rounds).transactions shards.transactions lives_within lives_after
+              (past_of config rounds).transactions (lives_held shards) lives_within lives_after
               held_lives;
           calls = left_alike nat_list_cmp_total exact_bytes (call_machine (calls_of config))
               call_due tick_at (calls.call_ticks_are_idle (calls_of config)) of_calls
               (past_of config (rounds ++ round ∷ [])).calls (past_of config rounds).calls
-              shards.calls calls_within calls_after held_calls;
+              (calls_held shards) calls_within calls_after held_calls;
         };
       }
 
-  pub due_of_either : (at : ℕ) → IsDueIn key_cmp life_due at shards.transactions
-      ⊎ IsDueIn call_cmp call_due at shards.calls → IsDueAfter config rounds at
+  pub due_of_either : (at : ℕ) → IsDueIn key_cmp life_due at (lives_held shards)
+      ⊎ IsDueIn call_cmp call_due at (calls_held shards) → IsDueAfter config rounds at
   due_of_either at (inl is) =
       inl (due_after keys_total exact_keys transaction_machine life_due tick_at
       transactions.ticks_are_idle of_lives (past_of config rounds).transactions zero
-      shards.transactions at held_lives is)
+      (lives_held shards) at held_lives is)
   due_of_either at (inr is) =
       inr (due_after nat_list_cmp_total exact_bytes (call_machine (calls_of config)) call_due
       tick_at (calls.call_ticks_are_idle (calls_of config)) of_calls (past_of config rounds).calls
-      zero shards.calls at held_calls is)
+      zero (calls_held shards) at held_calls is)

@@ -1,24 +1,33 @@
 -- What an agent shows between its rounds, and when it refuses one before anything is done.
-use Rattle.std.specs.Prelude.{◌≡◌, ℕ, ◌<◌, ◌≤◌, ◌^◌, nat_lt, List, Option, None, Some, length, is_some, if◌then◌else◌}
+use Rattle.std.specs.Prelude.{◌≡◌, ℕ, ◌<◌, ◌≤◌, ◌^◌, nat_lt, List, Option, None, Some, length, map, is_some, if◌then◌else◌}
 use Rattle.std.specs.Option.{option_map_or}
+use Rattle.sip_calls.specs.CallShard.{HeldCalls}
 use Rattle.sip_calls.specs.declared.call.Call.{Call}
 use Rattle.sip_calls.specs.declared.calls.Calls.{Calls}
 use Rattle.sip_message.specs.declared.key.Key.{Key}
 use Rattle.sip_model.specs.Table.{Held}
+use Rattle.sip_transactions.specs.Shard.{Lives}
 use Rattle.sip_transactions.specs.declared.life.Life.{Life}
 use Rattle.sip_round.specs.declared.round_fault.RoundFault.{RoundFault}
 use Rattle.sip_round.specs.declared.round_fault.RoundFault.TheVariants.{Broken, MomentBackwards, MomentTooLarge, TooManyEvents, RoundsUsedUp}
 use Rattle.sip_round.specs.declared.round.Round.{Round}
 
--- the tables of the shards, in order
+-- the shards of the transactions and those of the calls, in order
 pub record ShardTables : Type 0 where
-  pub transactions : List (Held Key Life)
-  pub calls : List (Held (List ℕ) Call)
+  pub transactions : List Lives
+  pub calls : List HeldCalls
 
--- at least one shard, and at most 256; each has a table of both kinds
+-- at least one shard, and at most 256; as many of the one kind as of the other
 abbrev pub AreShards : ShardTables → Type 0
 AreShards shards = (0 < length shards.transactions) × (length shards.transactions ≤ 256)
     × (length shards.calls ≡ length shards.transactions)
+
+-- what the shards of the transactions hold, and what those of the calls
+abbrev pub lives_held : ShardTables → List (Held Key Life)
+lives_held shards = map (λ shard. shard.held) shards.transactions
+
+abbrev pub calls_held : ShardTables → List (Held (List ℕ) Call)
+calls_held shards = map (λ shard. shard.held) shards.calls
 
 -- what the calls share, how names are cut, the number of the next round, the moment of the last
 -- one, and the shards; a broken agent has none

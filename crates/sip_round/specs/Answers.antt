@@ -20,10 +20,10 @@ use Rattle.sip_round.specs.declared.config.Config.{Config}
 use Rattle.sip_round.specs.declared.output.Output.{Output}
 use Rattle.sip_round.specs.declared.round.Round.{Round}
 use Rattle.sip_round.specs.declared.round_fault.RoundFault.{RoundFault}
-use Rattle.sip_round.specs.AgentState.{AgentState, ShardTables, round_fault}
+use Rattle.sip_round.specs.AgentState.{AgentState, ShardTables, calls_held, lives_held, round_fault}
 use Rattle.sip_round.specs.Arrivals.{Arrival, arrivals_from}
 use Rattle.sip_round.specs.Outputs.{sent_of, raised_of, shown_of, command_of, joined, all_said, said_at, outs_of, user_items}
-use Rattle.sip_round.specs.Parts.{owner_of}
+use Rattle.sip_shards.specs.Parts.{owner_of}
 use Rattle.sip_round.specs.Phases.{first_phase, second_phase, third_phase}
 
 -- what all calls of an agent share
@@ -161,19 +161,20 @@ EndsWithoutMemory config rounds index broken =
 
 -- ---- what an agent is after rounds
 
--- each shard's tables hold the states that the past leaves of the keys that the cut names for it,
+-- each shard holds the states that the past leaves of the keys that the cut names for it,
 -- and nothing else: transactions are cut by their branch, calls by their Call-ID
 abbrev pub HoldTransactions : (List ℕ → ℕ → ℕ) → ShardTables → List (Phase Key (Timed Input))
     → Type 0
 HoldTransactions shard_of shards past =
     HoldFrom key_cmp transaction_machine tick_at
-    (owner_of shard_of branch_in (length shards.transactions)) zero shards.transactions past
+    (owner_of shard_of branch_in (length (lives_held shards))) zero (lives_held shards) past
 
 abbrev pub HoldCalls : Calls → (List ℕ → ℕ → ℕ) → ShardTables
     → List (Phase (List ℕ) (Timed CallItem)) → Type 0
 HoldCalls calls shard_of shards past =
     HoldFrom call_cmp (call_machine calls) tick_at
-    (owner_of shard_of (λ call_id. call_id) (length shards.calls)) zero shards.calls past
+    (owner_of shard_of (λ call_id. call_id) (length (calls_held shards))) zero (calls_held shards)
+    past
 
 -- the agent isn't broken, is at the round and the moment after these rounds, and holds just what
 -- their past leaves

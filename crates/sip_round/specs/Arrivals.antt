@@ -1,20 +1,19 @@
 -- What the events of a round are for the transactions and the calls (RFC 3261, sections 17, 18.1.2
 -- and 18.2.1).
-use Rattle.std.specs.Prelude.{suc, ℕ, List, [], ◌∷◌, Result, Ok, Err, if◌then◌else◌}
+use Rattle.std.specs.Prelude.{suc, ℕ, List, [], ◌∷◌, Option, None, Some, Result, Ok, Err, if◌then◌else◌}
 use Rattle.sip_message.specs.declared.addr.Addr.{Addr}
 use Rattle.sip_message.specs.declared.id.Id.{Id}
 use Rattle.sip_message.specs.declared.key.Key.{Key}
 use Rattle.sip_message.specs.declared.message.Message.{Message}
 use Rattle.sip_message.specs.declared.fault.ReadFault.{ReadFault}
 use Rattle.sip_message.specs.Message.{is_request_message}
-use Rattle.sip_message.specs.MessageKey.{key_of_message}
 use Rattle.sip_message.specs.Source.{stamped, answer_address}
 use Rattle.sip_reader.specs.ReadMessage.{message_at}
 use Rattle.sip_transactions.specs.declared.input.Input.{Input}
-use Rattle.sip_transactions.specs.declared.input.Input.TheVariants.{Receive, Failed}
+use Rattle.sip_transactions.specs.declared.input.Input.TheVariants.{Failed}
 use Rattle.sip_transactions.specs.declared.output.DropReason.{DropReason}
 use Rattle.sip_transactions.specs.declared.output.DropReason.TheVariants.{NotOurs, Unreadable}
-use Rattle.sip_transactions.specs.Shard.{is_stray}
+use Rattle.sip_transactions.specs.Shard.{received}
 use Rattle.sip_common.specs.declared.command.UserCommand.{UserCommand}
 use Rattle.sip_round.specs.declared.round.Event.{Event}
 use Rattle.sip_round.specs.declared.round.Event.TheVariants as event
@@ -28,15 +27,17 @@ pub data Arrival : Type 0 where
   -- a command of the user, for its call
   User : UserCommand → Arrival
 
--- a request is stamped with its source, and answered at an address that follows from it; a response
--- to another sender is dropped
+-- what was received is for the transaction of its key; a response to another sender is dropped
+abbrev pub arrival_for : Option (Key × Input) → Arrival
+arrival_for None = Dropped NotOurs
+arrival_for (Some input) = Transaction input.0 input.1
+
+-- a request is stamped with its source, and answered at an address that follows from it
 unfoldable pub message_arrival : Addr → Id → Addr → Message → Arrival
 message_arrival local id from message =
-    if is_stray local message then Dropped NotOurs
-    else if is_request_message message
-    then Transaction (key_of_message (stamped message from))
-    (Receive id (stamped message from) (answer_address message from))
-    else Transaction (key_of_message message) (Receive id message from)
+    if is_request_message message
+    then arrival_for (received local id (stamped message from) (answer_address message from))
+    else arrival_for (received local id message from)
 
 -- a datagram is the message that it spells, or is dropped
 abbrev pub datagram_arrival : Addr → Id → Addr → Result Message ReadFault → Arrival

@@ -7,6 +7,5 @@ pub mod Laws
 pub mod Live
 pub mod NextDue
 pub mod Outputs
-pub mod Parts
 pub mod Phases
 pub mod Steps

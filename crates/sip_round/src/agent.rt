@@ -1,17 +1,16 @@
 //! An agent: its transactions and its calls, led through rounds.
 
+ghost use Rattle.std.specs.List.{AllByRecursion};
 ghost use Rattle.std.specs.Prelude.{ℕ, ◌≡◌, ◌⊎◌, ◌+◌, ◌++◌, ◌∷◌, ◌<◌, ◌≤◌, ◌^◌, IfOk, IfSome, IsSome, IsTrue, OnErr, OnOk, Some, None, Ok, Err, List, [], false, true, length, map};
 ghost use Rattle.sip_message.specs.Key.{branch_in};
 ghost use Rattle.sip_round.specs.Arrivals.{arrivals_from};
 ghost use Rattle.sip_round.specs.Steps.Arrived.{IsArrived};
 ghost use Rattle.sip_round.specs.Steps.SetOut.{IsSetOut};
-ghost use Rattle.sip_round.specs.Parts.{owner_of};
+ghost use Rattle.sip_shards.specs.Parts.{owner_of};
 
 use crate::config::Config;
 use crate::lead::{lead, lead_in_turn};
 use crate::output::Output;
-use crate::parts::parts_of;
-use crate::phase::tell_of_each;
 use crate::phases::Begun;
 use crate::reading::set_out_by;
 use crate::round::Round;
@@ -21,6 +20,7 @@ use crate::waiting::{SetOut, set_out};
 use sip_calls::Calls;
 use sip_message::Cut;
 use sip_model::laws_of_phases;
+use sip_shards::{parts_of, tell_of_each};
 use sip_transactions::Transactions;
 use sip_workers::{Gate, NoMemory};
 use std::alloc::Global;
@@ -51,6 +51,7 @@ pub struct Agent<C: Cut> {
 
 impl<C: Cut> Model for Agent<C> {
     ghost use Rattle.sip_round.specs.AgentState.{AgentState};
+    ghost use Rattle.sip_round.specs.Steps.Alike.{AreAlike};
 
     ghost Value = { AgentState C };
 
@@ -61,6 +62,9 @@ impl<C: Cut> Model for Agent<C> {
       last_moment = a.last_moment;
       shards = a.shards;
     } };
+
+    // All calls share the same.
+    ghost invariant = { λ a. AreAlike a.calls a.shards };
 }
 
 impl<C: Cut + Drop> Drop for Agent<C> {
@@ -98,12 +102,13 @@ impl<C: Cut + Drop> Agent<C> {
         ensures stands { IfOk result (λ agent. StandsFor C.shard_of agent config []) }
         ensures count { IfOk result (λ agent. shard_count agent ≡ shards) }
     {
-        let shards = Shards::new(alloc, shards)?;
         let Config { local, seed, first } = config;
+        let calls = Calls { local, seed };
+        let shards = Shards::new(alloc, calls, shards)?;
         Ok(Agent {
             alloc,
             cut,
-            calls: Calls { local, seed },
+            calls,
             next_round: first,
             last_moment: 0,
             shards: Some(shards),
@@ -140,7 +145,7 @@ impl<C: Cut + Drop> Agent<C> {
         laws_of_phases(&self.calls);
         match &self.shards {
             None => None,
-            Some(shards) => shards.next_due(&self.calls),
+            Some(shards) => shards.next_due(),
         }
     }
 
@@ -254,7 +259,7 @@ impl<C: Cut + Drop> Agent<C> {
         let Some(held) = self.shards.take() else {
             return Err(RoundFault::Broken);
         };
-        let Ok(others) = Shards::new(self.alloc, shards) else {
+        let Ok(others) = Shards::new(self.alloc, self.calls, shards) else {
             self.shards = Some(held);
             return Err(RoundFault::NoMemory { broken: false });
         };
@@ -294,9 +299,7 @@ impl<C: Cut + Drop> Agent<C> {
         laws_of_phases(&self.calls);
         match &self.shards {
             None => false,
-            Some(shards) => {
-                round.events.is_empty() && shards.are_idle(&self.calls, round.moment)
-            }
+            Some(shards) => round.events.is_empty() && shards.are_idle(round.moment),
         }
     }
 
@@ -342,6 +345,8 @@ impl<C: Cut + Drop> Agent<C> {
             × (self.new ≡ record self.old { shards = None })) }
         ensures number { IfOk result (λ begun. begun.number ≡ self.old.next_round) }
         ensures calls { IfOk result (λ begun. begun.calls ≡ self.old.calls) }
+        ensures alike { IfOk result
+            (λ begun. AllByRecursion (λ shard. shard.calls ≡ begun.calls) begun.shards.calls) }
         ensures arrived { IfOk result (λ begun.
             IsArrived (owner_of (C.shard_of self.old.cut) branch_in
             (length begun.shards.transactions)) (length begun.shards.transactions)
@@ -375,7 +380,9 @@ impl<C: Cut + Drop> Agent<C> {
         round: &Round,
         led: Result<(Shards, Vec<Output>), NoMemory>,
     ) -> Result<Vec<Output>, RoundFault>
-        requires { self.old.next_round ≤ 2 ^ 62 }
+        requires number { self.old.next_round ≤ 2 ^ 62 }
+        requires alike { IfOk led
+            (λ led. AllByRecursion (λ shard. shard.calls ≡ self.old.calls) led.0.calls) }
         ensures memory { OnErr result (result ≡ Err (round_fault.NoMemory true)) }
         ensures lost { OnErr result (self.new ≡ self.old) }
         ensures ok { IfOk result (λ outputs. (shards : ShardTables) × (led ≡ Ok (shards, outputs))

@@ -9,11 +9,10 @@ ghost use Rattle.sip_round.specs.Steps.Waiting.{waiting_of};
 
 use crate::round::Event;
 use crate::waiting::Waiting;
-use sip_message::{Addr, Id, Key, Message, ReadFault, key_of, stamp_source};
+use sip_message::{Addr, Id, Key, Message, ReadFault, stamp_source};
 use sip_model::Item;
 use sip_reader::read;
-use sip_text::Boxed;
-use sip_transactions::{DropReason, Input, is_stray};
+use sip_transactions::{DropReason, Input, received};
 use std::alloc::{AllocError, Global};
 
 /// Sets out the event of this id, its datagram read and stamped: the input of a transaction goes
@@ -74,21 +73,15 @@ fn set_out_message(
     ensures left { IfOk result (λ left. left
         ≡ waiting_of (message_arrival local id from message)) }
 {
-    if is_stray(local, &message) {
-        return Ok(Waiting::Dropped(DropReason::NotOurs));
-    }
-    let mut reply_to = from;
-    if message.is_request() {
-        reply_to = stamp_source(alloc, &mut message, from)?;
-    }
-    let key = key_of(alloc, &message)?;
-    let message = Boxed::new(alloc, message)?;
-    let input = Input::Receive {
-        id,
-        message,
-        reply_to,
+    let reply_to = if message.is_request() {
+        stamp_source(alloc, &mut message, from)?
+    } else {
+        from
     };
-    set_out(id, key, input, items)
+    match received(alloc, local, id, message, reply_to)? {
+        None => Ok(Waiting::Dropped(DropReason::NotOurs)),
+        Some((key, input)) => set_out(id, key, input, items),
+    }
 }
 
 // An input goes to the transaction of its key, at the place of its event.

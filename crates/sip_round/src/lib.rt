@@ -4,21 +4,16 @@
 mod agent;
 mod arrival;
 mod config;
-mod due;
 mod event_run;
 mod laws;
 mod lead;
 mod output;
 mod outs;
-mod parts;
-mod phase;
 mod phases;
 mod reading;
 mod round;
 mod round_fault;
-mod shard_work;
 mod shards;
-mod transfer;
 mod waiting;
 mod whole_run;
 

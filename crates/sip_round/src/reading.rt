@@ -12,7 +12,8 @@ use crate::event_run::EventRun;
 use crate::round::Event;
 use crate::waiting::{SetOut, set_out};
 use sip_message::Addr;
-use sip_workers::{Gate, Job, NoMemory, Piece, dones_in_order, gather, run_pieces};
+use sip_shards::Unwatched;
+use sip_workers::{Job, NoMemory, Piece, dones_in_order, gather, run_pieces};
 use std::alloc::{AllocError, Global};
 use std::thread::Threads;
 
@@ -34,13 +35,6 @@ impl<'a> Job for EventRun<'a> {
         } = self;
         set_out(alloc, local, round, before, events)
     }
-}
-
-/// The gate of work that no one watches.
-pub(crate) struct Unwatched;
-
-impl Gate for Unwatched {
-    fn begin(&self, _: usize) {}
 }
 
 /// The events of the round of this number, read and stamped on up to so many workers, in their

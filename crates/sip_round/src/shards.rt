@@ -1,34 +1,32 @@
-//! The tables of all shards.
+//! The shards of an agent.
 
-ghost use Rattle.std.specs.Prelude.{◌≡◌, ◌⊎◌, ◌<◌, ◌≤◌, ℕ, Bool, List, Some, [], IfOk, IfSome, IsSome, IsTrue, All, count_by, is_some, length, sum_by, true, false, vec_len};
+ghost use Rattle.std.specs.Prelude.{◌≡◌, ◌⊎◌, ◌<◌, ◌≤◌, ℕ, Bool, List, Some, [], IfOk, IfSome, IsSome, IsTrue, All, count_by, is_some, length, map, sum_by, true, false, vec_len};
 ghost use Rattle.std.specs.List.{AllByRecursion};
 ghost use Rattle.sip_calls.specs.Call.{call_due, call_machine, CallItem};
 ghost use Rattle.sip_calls.specs.CallShard.{call_cmp};
 ghost use Rattle.sip_message.specs.Key.{key_cmp};
 ghost use Rattle.sip_message.specs.declared.key.Key.{Key};
 ghost use Rattle.sip_model.specs.Table.{Covers, state_at};
-ghost use Rattle.sip_round.specs.Steps.AllShards.{IsIdle};
-ghost use Rattle.sip_round.specs.Steps.Dues.{IsDueIn};
+ghost use Rattle.sip_shards.specs.AllShards.{IsIdle};
+ghost use Rattle.sip_shards.specs.Steps.Dues.{IsDueIn};
 ghost use Rattle.sip_timers.specs.Queue.{is_due};
 ghost use Rattle.sip_transactions.specs.Machine.{life_due, transaction_machine};
 
-use crate::due::next_due_in;
-use crate::phase::are_idle;
-use crate::transfer::transfer;
-use sip_calls::Calls;
-use sip_message::Cut;
-use sip_model::{StateMachine, Table};
+use sip_calls::{CallShard, Calls};
+use sip_message::{Addr, Cut};
+use sip_model::KeyShard;
+use sip_shards::{are_idle, next_due_in, transfer};
 use sip_timers::earlier;
-use sip_transactions::Transactions;
+use sip_transactions::{Shard, Transactions};
 use sip_workers::NoMemory;
 use std::alloc::{AllocError, Global};
 use std::marker::Model;
 
-/// The tables of the transactions and of the calls: as many of these as of those, at least one and
-/// at most 256.
+/// The shards of the transactions and those of the calls: as many of these as of those, at least
+/// one and at most 256.
 pub(crate) struct Shards {
-    transactions: Vec<Table<Transactions>>,
-    calls: Vec<Table<Calls>>,
+    transactions: Vec<Shard>,
+    calls: Vec<CallShard>,
 }
 
 impl Model for Shards {
@@ -53,30 +51,32 @@ impl Drop for Shards {
 
 impl Shards {
     ghost use Rattle.sip_model.specs.Phase.{Phase};
-    ghost use Rattle.sip_round.specs.AgentState.{ShardTables, AreShards};
+    ghost use Rattle.sip_round.specs.AgentState.{ShardTables, AreShards, calls_held, lives_held};
     ghost use Rattle.sip_round.specs.Answers.{HoldCalls, HoldTransactions};
     ghost use Rattle.sip_model.specs.Machine.{Timed, tick_at};
     ghost use Rattle.sip_transactions.specs.declared.input.Input.{Input};
 
-    /// So many shards that hold nothing.
-    pub(crate) fn new(alloc: Global, shards: usize) -> Result<Shards, AllocError>
+    /// So many shards that hold nothing, of calls that share this.
+    pub(crate) fn new(alloc: Global, calls: Calls, shards: usize) -> Result<Shards, AllocError>
         requires some { 0 < shards }
         requires most { shards ≤ 256 }
         ensures count { IfOk result (λ made. length made.transactions ≡ shards) }
         ensures transactions { IfOk result
-            (λ made. All (λ table. table ≡ Some []) made.transactions) }
-        ensures calls { IfOk result (λ made. All (λ table. table ≡ Some []) made.calls) }
+            (λ made. All (λ shard. shard.held ≡ Some []) made.transactions) }
+        ensures calls { IfOk result (λ made. All (λ shard. shard.held ≡ Some []) made.calls) }
+        ensures alike { IfOk result
+            (λ made. AllByRecursion (λ shard. shard.calls ≡ calls) made.calls) }
     {
-        let transactions = empty_tables(alloc, shards)?;
-        let calls = empty_tables(alloc, shards)?;
+        let transactions = empty_transactions(alloc, calls.local, shards)?;
+        let calls = empty_calls(alloc, calls, shards)?;
         Ok(Shards {
             transactions,
             calls,
         })
     }
 
-    /// The shards of these tables.
-    pub(crate) fn of(transactions: Vec<Table<Transactions>>, calls: Vec<Table<Calls>>) -> Shards
+    /// These shards.
+    pub(crate) fn of(transactions: Vec<Shard>, calls: Vec<CallShard>) -> Shards
         requires { AreShards (record { transactions = transactions.items; calls = calls.items }) }
         ensures { result ≡ record { transactions = transactions.items; calls = calls.items } }
     {
@@ -86,10 +86,10 @@ impl Shards {
         }
     }
 
-    /// The tables.
-    pub(crate) fn into_parts(self) -> (Vec<Table<Transactions>>, Vec<Table<Calls>>)
-        ensures tables { record { transactions = result.0.items; calls = result.1.items } ≡ self }
-        ensures shards { AreShards (record {
+    /// The shards of both kinds.
+    pub(crate) fn into_parts(self) -> (Vec<Shard>, Vec<CallShard>)
+        ensures shards { record { transactions = result.0.items; calls = result.1.items } ≡ self }
+        ensures are { AreShards (record {
           transactions = result.0.items;
           calls = result.1.items;
         }) }
@@ -113,10 +113,13 @@ impl Shards {
         calls: &Calls,
         others: Shards,
     ) -> Result<Shards, NoMemory>
-        requires transactions { All (λ table. table ≡ Some []) others.transactions }
-        requires calls { All (λ table. table ≡ Some []) others.calls }
+        requires transactions { All (λ shard. shard.held ≡ Some []) others.transactions }
+        requires calls { All (λ shard. shard.held ≡ Some []) others.calls }
+        requires alike { AllByRecursion (λ shard. shard.calls ≡ calls.now) others.calls }
         ensures count { IfOk result (λ moved. length moved.transactions
             ≡ length others.transactions) }
+        ensures alike { IfOk result
+            (λ moved. AllByRecursion (λ shard. shard.calls ≡ calls.now) moved.calls) }
         ensures transactions { IfOk result (λ moved. (past : List (Phase Key (Timed Input)))
             → HoldTransactions (C.shard_of cut.now) self past
             → HoldTransactions (C.shard_of cut.now) moved past) }
@@ -124,14 +127,14 @@ impl Shards {
             → HoldCalls calls.now (C.shard_of cut.now) self past
             → HoldCalls calls.now (C.shard_of cut.now) moved past) }
     {
-        let (transactions, tables) = self.into_parts();
-        let (other_transactions, other_tables) = others.into_parts();
+        let (transactions, held) = self.into_parts();
+        let (other_transactions, others) = others.into_parts();
         let transactions = transfer(cut, &Transactions, transactions, other_transactions)?;
-        let tables = transfer(cut, calls, tables, other_tables)?;
-        Ok(Shards::of(transactions, tables))
+        let calls = transfer(cut, calls, held, others)?;
+        Ok(Shards::of(transactions, calls))
     }
 
-    /// How many shards there are.
+    /// How many shards there are of either kind.
     pub(crate) fn count(&self) -> usize
         ensures count { result ≡ length self.now.transactions }
         ensures some { 0 < result }
@@ -141,51 +144,51 @@ impl Shards {
     }
 
     /// Whether nothing is due in any of them at the moment in ms. Takes no memory.
-    pub(crate) fn are_idle(&self, calls: &Calls, moment: u64) -> bool
+    pub(crate) fn are_idle(&self, moment: u64) -> bool
         ensures shards { AreShards self.now }
         ensures first { IsTrue result → AllByRecursion
-            (IsIdle key_cmp transaction_machine tick_at moment true) self.now.transactions }
-        ensures second { IsTrue result → AllByRecursion
-            (IsIdle call_cmp (call_machine calls.now) tick_at moment true) self.now.calls }
+            (IsIdle key_cmp transaction_machine tick_at moment true) (lives_held self.now) }
+        ensures second { IsTrue result → AllByRecursion (λ shard.
+            IsIdle call_cmp (call_machine shard.calls) tick_at moment true shard.held)
+            self.now.calls }
         ensures third { IsTrue result → AllByRecursion
-            (IsIdle key_cmp transaction_machine tick_at moment false) self.now.transactions }
+            (IsIdle key_cmp transaction_machine tick_at moment false) (lives_held self.now) }
     {
-        are_idle(&Transactions, moment, true, &self.transactions)
-            && are_idle(&Transactions, moment, false, &self.transactions)
-            && are_idle(calls, moment, true, &self.calls)
+        are_idle(moment, true, &self.transactions)
+            && are_idle(moment, false, &self.transactions)
+            && are_idle(moment, true, &self.calls)
     }
 
     /// The first moment, in ms, at which something is due in any of them. Takes no memory.
-    pub(crate) fn next_due(&self, calls: &Calls) -> Option<u64>
+    pub(crate) fn next_due(&self) -> Option<u64>
         ensures shards { AreShards self.now }
-        ensures transactions { AllByRecursion (λ table. IsSome table) self.now.transactions
+        ensures transactions { AllByRecursion (λ held. IsSome held) (lives_held self.now)
             → (now : ℕ) (ticks : Bool) → (ticks ≡ true → is_due now result ≡ false)
             → AllByRecursion (IsIdle key_cmp transaction_machine tick_at now ticks)
-            self.now.transactions }
-        ensures calls { AllByRecursion (λ table. IsSome table) self.now.calls
+            (lives_held self.now) }
+        ensures calls { AllByRecursion (λ held. IsSome held) (calls_held self.now)
             → (now : ℕ) (ticks : Bool) → (ticks ≡ true → is_due now result ≡ false)
-            → AllByRecursion (IsIdle call_cmp (call_machine calls.now) tick_at now ticks)
+            → AllByRecursion (λ shard.
+            IsIdle call_cmp (call_machine shard.calls) tick_at now ticks shard.held)
             self.now.calls }
-        ensures due { IfSome result (λ due. IsDueIn key_cmp life_due due self.now.transactions
-            ⊎ IsDueIn call_cmp call_due due self.now.calls) }
+        ensures due { IfSome result (λ due.
+            IsDueIn key_cmp life_due due (lives_held self.now)
+            ⊎ IsDueIn call_cmp call_due due (calls_held self.now)) }
     {
-        earlier(
-            next_due_in(&Transactions, &self.transactions),
-            next_due_in(calls, &self.calls),
-        )
+        earlier(next_due_in(&self.transactions), next_due_in(&self.calls))
     }
 
     /// How many transactions and how many calls are held.
     pub(crate) fn live(&self) -> (u128, u128)
         ensures shards { AreShards self.now }
         ensures transactions { (keys : List Key)
-            → All (λ table. Covers key_cmp keys (state_at key_cmp table)) self.now.transactions
-            → result.0 ≡ sum_by (λ table. count_by
-            (λ key. is_some (state_at key_cmp table key)) keys) self.now.transactions }
+            → All (λ held. Covers key_cmp keys (state_at key_cmp held)) (lives_held self.now)
+            → result.0 ≡ sum_by (λ held. count_by
+            (λ key. is_some (state_at key_cmp held key)) keys) (lives_held self.now) }
         ensures calls { (keys : List (List ℕ))
-            → All (λ table. Covers call_cmp keys (state_at call_cmp table)) self.now.calls
-            → result.1 ≡ sum_by (λ table. count_by
-            (λ key. is_some (state_at call_cmp table key)) keys) self.now.calls }
+            → All (λ held. Covers call_cmp keys (state_at call_cmp held)) (calls_held self.now)
+            → result.1 ≡ sum_by (λ held. count_by
+            (λ key. is_some (state_at call_cmp held key)) keys) (calls_held self.now) }
     {
         (
             live_in(self.transactions.as_slice()),
@@ -194,27 +197,40 @@ impl Shards {
     }
 }
 
-fn empty_tables<M: StateMachine>(alloc: Global, shards: usize) -> Result<Vec<Table<M>>, AllocError>
-    ensures count { IfOk result (λ tables. vec_len tables ≡ shards) }
-    ensures empty { IfOk result (λ tables. All (λ table. table ≡ Some []) tables.items) }
+fn empty_transactions(alloc: Global, local: Addr, shards: usize) -> Result<Vec<Shard>, AllocError>
+    ensures count { IfOk result (λ made. vec_len made ≡ shards) }
+    ensures empty { IfOk result (λ made. All (λ shard. shard.held ≡ Some []) made.items) }
 {
-    let mut tables = Vec::with_capacity(alloc, shards)?;
+    let mut made = Vec::with_capacity(alloc, shards)?;
     for _ in 0..shards {
-        tables.push(Table::new(alloc))?;
+        made.push(Shard::new(alloc, local))?;
     }
-    Ok(tables)
+    Ok(made)
 }
 
-fn live_in<M: StateMachine>(tables: &[Table<M>]) -> u128
-    requires { length tables.now ≤ 256 }
-    ensures { (keys : List M.Key) → All
-        (λ table. Covers M.Key.cmp keys (state_at M.Key.cmp table)) tables.now
-        → result ≡ sum_by (λ table. count_by (λ key. is_some (state_at M.Key.cmp table key)) keys)
-        tables.now }
+fn empty_calls(alloc: Global, calls: Calls, shards: usize) -> Result<Vec<CallShard>, AllocError>
+    ensures count { IfOk result (λ made. vec_len made ≡ shards) }
+    ensures empty { IfOk result (λ made. All (λ shard. shard.held ≡ Some []) made.items) }
+    ensures alike { IfOk result (λ made. All (λ shard. shard.calls ≡ calls) made.items) }
+{
+    let mut made = Vec::with_capacity(alloc, shards)?;
+    for _ in 0..shards {
+        made.push(CallShard::new(alloc, calls.local, calls.seed))?;
+    }
+    Ok(made)
+}
+
+fn live_in<S: KeyShard>(shards: &[S]) -> u128
+    requires { length shards.now ≤ 256 }
+    ensures { (keys : List S.Machine.Key) → All
+        (λ shard. Covers S.Machine.Key.cmp keys (state_at S.Machine.Key.cmp (S.held shard)))
+        shards.now
+        → result ≡ sum_by (λ shard. count_by
+        (λ key. is_some (state_at S.Machine.Key.cmp (S.held shard) key)) keys) shards.now }
 {
     let mut live = 0u128;
-    for table in tables {
-        live += table.live() as u128;
+    for shard in shards {
+        live += shard.live() as u128;
     }
     live
 }

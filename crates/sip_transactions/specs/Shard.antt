@@ -1,10 +1,11 @@
 -- What a shard of transactions shows, and what its calls are to one transaction.
-use Rattle.std.specs.Prelude.{ℕ, Bool, not, ◌&&◌, Option}
+use Rattle.std.specs.Prelude.{ℕ, Bool, not, ◌&&◌, Option, None, Some, if◌then◌else◌}
 use Rattle.sip_message.specs.declared.addr.Addr.{Addr}
 use Rattle.sip_message.specs.declared.id.Id.{Id}
 use Rattle.sip_message.specs.declared.key.Key.{Key}
 use Rattle.sip_message.specs.declared.message.Message.{Message}
 use Rattle.sip_message.specs.Key.{key_cmp}
+use Rattle.sip_message.specs.MessageKey.{key_of_message}
 use Rattle.sip_message.specs.TopVia.{is_sent_by_of}
 use Rattle.sip_message.specs.Message.{is_request_message}
 use Rattle.sip_transactions.specs.declared.input.Command.{Command}
@@ -27,6 +28,12 @@ life_at shard key = state_at key_cmp shard.held key
 -- a response whose top Via names another sender than the agent
 abbrev pub is_stray : Addr → Message → Bool
 is_stray local message = not (is_request_message message) && not (is_sent_by_of message local)
+
+-- a message that came is for the transaction of its key; a response to another sender is for none
+abbrev pub received : Addr → Id → Message → Addr → Option (Key × Input)
+received local id message reply_to =
+    if is_stray local message then None
+    else Some (key_of_message message, Receive id message reply_to)
 
 -- a message that came, a command and a failure, as inputs of one transaction
 abbrev pub receipt : Id → Message → Addr → ℕ → Timed Input

@@ -22,5 +22,5 @@ pub use output::{DropReason, Kind, Out, Up};
 pub use shard::Shard;
 pub use sip_model::ShardFault;
 pub use state::State;
-pub use stray::is_stray;
+pub use stray::{is_stray, received};
 pub use timers::T2;

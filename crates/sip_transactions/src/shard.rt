@@ -13,11 +13,11 @@ use crate::life::Life;
 use crate::machine::Transactions;
 use crate::output::{DropReason, Out};
 use crate::state::State;
-use crate::stray::is_stray;
-use sip_message::{Addr, Id, Key, Message, key_of};
-use sip_model::{ShardFault, Table};
-use sip_text::Boxed;
+use crate::stray::received;
+use sip_message::{Addr, Id, Key, Message};
+use sip_model::{Item, KeyShard, PhaseOutputs, ShardFault, Table};
 use std::alloc::{AllocError, Global};
+use std::collections::BTreeMap;
 use std::marker::Model;
 
 /// The transactions of some keys.
@@ -114,17 +114,11 @@ impl Shard {
             → IfOk result (λ outs. AddsInput key_cmp transaction_machine self.old.held self.new.held
             (key_of_message message) (receipt id message reply_to now) outs.items) }
     {
-        if is_stray(self.local, &message) {
-            return self.table.check(not_ours(self.alloc, id));
+        let input = received(self.alloc, self.local, id, message, reply_to);
+        match self.table.check(input)? {
+            None => self.table.check(not_ours(self.alloc, id)),
+            Some((key, input)) => self.table.handle(&Transactions, key, now, input),
         }
-        let key = self.table.check(key_of(self.alloc, &message))?;
-        let message = self.table.check(Boxed::new(self.alloc, message))?;
-        let input = Input::Receive {
-            id,
-            message,
-            reply_to,
-        };
-        self.table.handle(&Transactions, key, now, input)
     }
 
     /// Does what the user asks of a transaction. The id is that of the request that is started or
@@ -163,6 +157,56 @@ impl Shard {
         let key = self.table.check(key.clone())?;
         self.table
             .handle(&Transactions, key, now, Input::Failed { id })
+    }
+}
+
+impl KeyShard for Shard {
+    ghost use Rattle.sip_model.specs.Groups.{groups};
+    ghost use Rattle.sip_model.specs.Phase.{AddsPhase, phase_at};
+
+    type Machine = Transactions;
+
+    ghost machine = { λ _. record {} };
+
+    ghost held = { λ shard. shard.held };
+
+    fn live(&self) -> usize {
+        self.table.live()
+    }
+
+    fn next_due(&self) -> Option<u64> {
+        self.table.next_due(&Transactions)
+    }
+
+    fn is_idle(&self, now: u64, ticks: bool) -> bool {
+        self.table.is_idle(&Transactions, now, ticks)
+    }
+
+    fn deal(
+        &mut self,
+        now: u64,
+        ticks: bool,
+        items: Vec<Item<Key, Input>>,
+    ) -> Result<PhaseOutputs<Key, Out>, ShardFault>
+        requires { now ≤ 2 ^ 62 }
+        ensures { IfOk result (λ replies. AddsPhase key_cmp transaction_machine tick_at
+            self.old.held self.new.held (phase_at now ticks items.items)
+            (groups replies.ticks.items) (groups replies.items.items)) }
+    {
+        self.table.deal(&Transactions, now, ticks, items)
+    }
+
+    fn put(&mut self, key: Key, state: Life) -> Result<(), ShardFault> {
+        self.table.put(&Transactions, key, state)
+    }
+
+    fn into_states(self) -> Option<BTreeMap<Key, Life>> {
+        let Shard {
+            alloc: _,
+            local: _,
+            table,
+        } = self;
+        table.into_states()
     }
 }
 

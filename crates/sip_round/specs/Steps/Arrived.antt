@@ -6,7 +6,7 @@ use Rattle.sip_model.specs.declared.item.Item.{Item}
 use Rattle.sip_transactions.specs.declared.input.Input.{Input}
 use Rattle.sip_round.specs.Arrivals.{Arrival}
 use Rattle.sip_round.specs.declared.waiting.Waiting.{Waiting}
-use Rattle.sip_round.specs.Parts.{cut_by}
+use Rattle.sip_shards.specs.Parts.{cut_by}
 use Rattle.sip_round.specs.Phases.{transaction_items}
 use Rattle.sip_round.specs.Steps.Waiting.{all_waiting}
 

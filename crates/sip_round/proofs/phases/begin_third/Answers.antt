@@ -3,10 +3,10 @@ use Rattle.std.proofs.lemmas.List.{nil_from_length}
 use Rattle.std.specs.Vec.Iter.{into_iter_items}
 use Rattle.sip_message.specs.Key.{branch_in}
 use Rattle.sip_transactions.specs.Shard.{asked_by, command_key}
-use Rattle.sip_round.specs.Parts.{owner_of}
-use Rattle.sip_round.specs.Steps.Put.{with_item}
+use Rattle.sip_shards.specs.Parts.{owner_of}
+use Rattle.sip_shards.specs.Steps.Put.{with_item}
 use Rattle.sip_round.specs.Phases.{command_items}
-use Rattle.sip_round.proofs.Cutting.{PartsLeft, parts_empty, one_put, parts_whole}
+use Rattle.sip_shards.proofs.Cutting.{PartsLeft, parts_empty, one_put, parts_whole}
 use Rattle.sip_round.proofs.Numbered.{same_item}
 use Rattle.sip_round.proofs.phases.begin_third.Goals as goal
 

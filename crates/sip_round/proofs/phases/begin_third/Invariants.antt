@@ -1,9 +1,9 @@
 use Rattle.std.proofs.Common.{◌≡◌, ◌+◌, length, map}
 use Rattle.std.specs.Vec.Iter.{into_iter_items}
 use Rattle.sip_message.specs.Key.{branch_in}
-use Rattle.sip_round.specs.Parts.{owner_of}
+use Rattle.sip_shards.specs.Parts.{owner_of}
 use Rattle.sip_round.specs.Phases.{command_items}
-use Rattle.sip_round.proofs.Cutting.{PartsLeft}
+use Rattle.sip_shards.proofs.Cutting.{PartsLeft}
 use Rattle.sip_round.proofs.phases.begin_third.Given as goal
 
 -- the parts of the commands so far, and the place of the next

@@ -5,25 +5,28 @@ use Rattle.sip_model.specs.Table.{Covers, state_at}
 use Rattle.sip_round.proofs.Living.{summed}
 use Rattle.sip_round.proofs.shards.live_in.Goals as goal
 
-pub loop-table-preserved : goal.loop-table-preserved
-loop-table-preserved g c =
-    let cmp = g.M.Key.Ord.cmp in
+pub loop-shard-preserved : goal.loop-shard-preserved
+loop-shard-preserved g c =
+    let cmp = g.S.Machine.Key.Ord.cmp in
+    let held = g.S.KeyShard.held in
     let bound = c.live.type_inv in (
       λ keys covers.
-          let here : Covers cmp keys (state_at cmp c.table-item.result) =
-          subst (λ table. Covers cmp keys (state_at cmp table)) (sym c.table-item.is)
-          (covers c.loop-table.table-index c.table-item.result c.loop-table-test.true) in
-          summed (λ table. count_by (λ key. is_some (state_at cmp table key)) keys)
-          c.args.tables.now c.loop-table.table-index c.table-item.result c.loop-table.live
-          c.live.result (c.loop-table.live + c.live.result)
-          c.loop-table-test.true c.table-item.is (c.loop-table.invariant.0 keys covers)
-          (c.live.ensures.counts keys here) refl,
-      omega (arith, c.loop-table.invariant.1, bound),
+          let here : Covers cmp keys (state_at cmp (held c.shard-item.result)) =
+          subst (λ shard. Covers cmp keys (state_at cmp (held shard))) (sym c.shard-item.is)
+          (covers c.loop-shard.shard-index c.shard-item.result c.loop-shard-test.true) in
+          summed (λ shard. count_by (λ key. is_some (state_at cmp (held shard) key)) keys)
+          c.args.shards.now c.loop-shard.shard-index c.shard-item.result c.loop-shard.live
+          c.live.result (c.loop-shard.live + c.live.result)
+          c.loop-shard-test.true c.shard-item.is (c.loop-shard.invariant.0 keys covers)
+          (c.live.ensures keys here) refl,
+      omega (arith, c.loop-shard.invariant.1, bound),
     )
 
 pub returns : goal.returns
 returns g c = λ keys covers.
-    let over : length c.args.tables.now ≤ c.loop-table.table-index = c.loop-table-test.false in
-    c.loop-table.invariant.0 keys covers
-    ∙ ap (sum_by (λ table. count_by (λ key. is_some (state_at g.M.Key.Ord.cmp table key)) keys))
-    (take_all c.loop-table.table-index c.args.tables.now over)
+    let cmp = g.S.Machine.Key.Ord.cmp in
+    let held = g.S.KeyShard.held in
+    let over : length c.args.shards.now ≤ c.loop-shard.shard-index = c.loop-shard-test.false in
+    c.loop-shard.invariant.0 keys covers
+    ∙ ap (sum_by (λ shard. count_by (λ key. is_some (state_at cmp (held shard) key)) keys))
+    (take_all c.loop-shard.shard-index c.args.shards.now over)

@@ -3,8 +3,7 @@ use Rattle.std.specs.Prelude.{IfSome}
 use Rattle.sip_message.specs.Key.{branch_in}
 use Rattle.sip_round.specs.AgentState.{AgentState}
 use Rattle.sip_round.specs.Arrivals.{arrivals_from}
-use Rattle.sip_round.specs.Parts.{cut_by, owner_of}
-use Rattle.sip_round.specs.Steps.Arrived.{IsArrived}
+use Rattle.sip_shards.specs.Parts.{cut_by, owner_of}
 use Rattle.sip_round.specs.Steps.SetOut.{IsSetOut}
 use Rattle.sip_round.proofs.ArrivedHere.{arrived_here}
 use Rattle.sip_round.proofs.agent.Agent.begin.Goals as goal

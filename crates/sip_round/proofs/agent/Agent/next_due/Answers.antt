@@ -5,8 +5,10 @@ use Rattle.std.specs.List.{AllByRecursion}
 use Rattle.sip_calls.specs.Call.{call_machine}
 use Rattle.sip_calls.specs.CallShard.{call_cmp}
 use Rattle.sip_model.specs.Shards.{ShardsTellAll}
-use Rattle.sip_round.specs.Steps.AllShards.{IsIdle}
-use Rattle.sip_round.proofs.NextDue.{calls_sound, due_of_either, in_any, lives_sound, quiet}
+use Rattle.sip_round.specs.Steps.Alike.{AreAlike}
+use Rattle.sip_shards.proofs.FirstDue.{in_any}
+use Rattle.sip_shards.proofs.IdleShards.{idle_held}
+use Rattle.sip_round.proofs.NextDue.{calls_sound, due_of_either, lives_sound, quiet}
 use Rattle.sip_round.proofs.agent.Agent.next_due.Goals as goal
 use Rattle.sip_model.specs.Machine.{tick_at}
 
@@ -25,6 +27,8 @@ returns-in-Some-clause-before g c = λ config rounds stands moment before.
     (λ name n cut some. g.met.C.Cut.within cut name n some) agent shards sound are
     config rounds stands in
     let same = ap (λ a. a.calls) c.self.view_is in
+    let alike = subst (λ shared. AllByRecursion (λ shard. shard.calls ≡ shared) shards.calls) same
+    (subst (AreAlike c.self.inside.calls) c.in-Some.is c.self.invariant) in
     quiet shard_of (λ name n cut some. g.met.C.Cut.within cut name n some) agent shards sound
     are config rounds stands
     c.laws_of_phases.ensures.told_in_order c.laws_of_phases.ensures.shards_tell_all
@@ -33,8 +37,9 @@ returns-in-Some-clause-before g c = λ config rounds stands moment before.
     (c.next_due.ensures.transactions lives moment true (λ with_tick. before))
     (c.next_due.ensures.transactions lives moment false
     (λ without. absurd (false≢true without)))
-    (subst (λ shared. AllByRecursion (IsIdle call_cmp (call_machine shared) tick_at moment true)
-    shards.calls) same (c.next_due.ensures.calls calls moment true (λ with_tick. before)))
+    (idle_held call_cmp call_machine tick_at moment true (λ shard. shard.calls)
+    (λ shard. shard.held) agent.calls shards.calls alike
+    (c.next_due.ensures.calls calls moment true (λ with_tick. before)))
 
 pub returns-in-Some-clause-due : goal.returns-in-Some-clause-due
 returns-in-Some-clause-due g c =

@@ -19,7 +19,7 @@ returns-clause-answers g c = IfOk-weaker c.end.result _ _
     let began = c.in_ok-begun.ensures in
     let led = subst (λ led. IfOk led (λ both. Deals begun.calls
     (g.C.Cut.shard_of c.self-2.inside.cut) begun.number c.args.round.now begun.shards both.0
-    both.1.items)) ended.1 c.lead-led.ensures in
+    both.1.items)) ended.1 c.lead-led.ensures.deals in
     ended_longer g.C.Cut.shard_of c.args.self.now c.begin.new.self c.end.new.self config rounds
     c.args.round.now outputs.items begun.shards ended.0 begun.calls begun.number began.taken.0
     began.calls began.number began.taken.1 ended.2

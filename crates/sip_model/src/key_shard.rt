@@ -1,0 +1,96 @@
+//! A shard of a machine's keys, as the phases of a round see it.
+
+ghost use Rattle.std.specs.Prelude.{◌≡◌, ◌≤◌, ◌^◌, ℕ, Bool, List, Some, [], IfOk, IfSome, IsSome, IsTrue, OnOk, cond, count_by, is_some, true, false};
+ghost use Rattle.std.specs.Option.{option_map};
+ghost use Rattle.std.specs.BTreeMap.{is_at};
+ghost use Rattle.sip_timers.specs.Queue.{is_due};
+ghost use Rattle.sip_model.specs.Groups.{groups};
+ghost use Rattle.sip_model.specs.Machine.{due_of, tick_at};
+ghost use Rattle.sip_model.specs.Phase.{AddsPhase, phase_at};
+ghost use Rattle.sip_model.specs.Table.{Covers, Held, state_at};
+
+use crate::fault::ShardFault;
+use crate::item::Item;
+use crate::machine::StateMachine;
+use crate::phase_outputs::PhaseOutputs;
+use std::collections::BTreeMap;
+
+/// Some keys of a machine, held together: what a phase over many shards asks of each.
+///
+/// After a call answered [`ShardFault::NoMemory`] it holds nothing.
+pub trait KeyShard {
+    type Machine: StateMachine;
+
+    /// The machine of its keys.
+    ghost machine: { Self → Self.Machine };
+
+    /// What it holds.
+    ghost held: { Self → Held Self.Machine.Key Self.Machine.State };
+
+    /// How many keys are held.
+    fn live(&self) -> usize
+        ensures { (keys : List Self.Machine.Key)
+            → Covers Self.Machine.Key.cmp keys (state_at Self.Machine.Key.cmp (held self.now))
+            → result ≡ count_by
+            (λ key. is_some (state_at Self.Machine.Key.cmp (held self.now) key)) keys };
+
+    /// The first moment, in ms, at which something is due of a held key, if there is one. A phase
+    /// without items before it, or without a tick, changes nothing and says nothing. Takes no
+    /// memory.
+    fn next_due(&self) -> Option<u64>
+        ensures before { IsSome (held self.now) → (now : ℕ) (ticks : Bool)
+            → (ticks ≡ true → is_due now result ≡ false)
+            → AddsPhase Self.Machine.Key.cmp (Self.Machine.machine (machine self.now)) tick_at
+            (held self.now) (held self.now) (phase_at now ticks []) [] [] }
+        ensures due { IfSome result (λ due. (key : Self.Machine.Key)
+            × (due_of Self.Machine.due (state_at Self.Machine.Key.cmp (held self.now) key)
+            ≡ Some due)) };
+
+    /// Whether a phase without items at a moment in ms, with a tick or without, changes nothing and
+    /// says nothing. Takes no memory.
+    fn is_idle(&self, now: u64, ticks: bool) -> bool
+        ensures { IsTrue result
+            → AddsPhase Self.Machine.Key.cmp (Self.Machine.machine (machine self.now)) tick_at
+            (held self.now) (held self.now) (phase_at now ticks []) [] [] };
+
+    /// Gives every key a tick at a moment in ms, where the phase has one, and then each item to its
+    /// key, in their order.
+    fn deal(
+        &mut self,
+        now: u64,
+        ticks: bool,
+        items: Vec<
+            Item<<Self::Machine as StateMachine>::Key, <Self::Machine as StateMachine>::Input>,
+        >,
+    ) -> Result<
+        PhaseOutputs<<Self::Machine as StateMachine>::Key, <Self::Machine as StateMachine>::Output>,
+        ShardFault,
+    >
+        requires { now ≤ 2 ^ 62 }
+        ensures machine { machine self.new ≡ machine self.old }
+        ensures phases { IfOk result (λ replies. AddsPhase Self.Machine.Key.cmp
+            (Self.Machine.machine (machine self.old)) tick_at (held self.old) (held self.new)
+            (phase_at now ticks items.items) (groups replies.ticks.items)
+            (groups replies.items.items)) };
+
+    /// Holds a key with this state, in place of any other of it.
+    fn put(
+        &mut self,
+        key: <Self::Machine as StateMachine>::Key,
+        state: <Self::Machine as StateMachine>::State,
+    ) -> Result<(), ShardFault>
+        ensures machine { machine self.new ≡ machine self.old }
+        ensures sound { OnOk result (IsSome (held self.new)) }
+        ensures states { OnOk result ((q : Self.Machine.Key)
+            → state_at Self.Machine.Key.cmp (held self.new) q
+            ≡ cond (is_at (Self.Machine.Key.cmp key) q) (Some state)
+            (state_at Self.Machine.Key.cmp (held self.old) q)) };
+
+    /// The held keys with their states; a broken shard has none to give.
+    fn into_states(
+        self,
+    ) -> Option<
+        BTreeMap<<Self::Machine as StateMachine>::Key, <Self::Machine as StateMachine>::State>,
+    >
+        ensures { option_map (λ states. states.entries) result ≡ held self };
+}

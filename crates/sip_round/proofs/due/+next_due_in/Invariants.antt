@@ -1,5 +1,0 @@
-use Rattle.std.proofs.Common.{length}
-use Rattle.sip_round.proofs.due.+next_due_in.Given as goal
-
-abbrev pub decreases-next_due_in : goal.decreases-next_due_in
-decreases-next_due_in g l = length l.tables.now

@@ -1,5 +1,0 @@
-use Rattle.std.proofs.Common.{length}
-use Rattle.sip_round.proofs.phase.+are_idle.Given as goal
-
-abbrev pub decreases-are_idle : goal.decreases-are_idle
-decreases-are_idle g l = length l.tables.now

@@ -1,0 +1,5 @@
+use Rattle.std.proofs.Common.{◌≡◌, Some, [], vec_len, All}
+use Rattle.sip_round.proofs.shards.empty_transactions.Given as goal
+
+abbrev pub invariant-loop : goal.invariant-loop
+invariant-loop l = (vec_len l.made ≡ l.counter) × All (λ shard. shard.held ≡ Some []) l.made.items

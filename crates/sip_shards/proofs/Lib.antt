@@ -1,0 +1,10 @@
+pub mod Alone
+pub mod Climbing
+pub mod Cutting
+pub mod IdleShards
+pub mod Numbered
+pub mod Pieces
+pub mod Piled
+pub mod Together
+pub mod Transferred
+pub mod FirstDue

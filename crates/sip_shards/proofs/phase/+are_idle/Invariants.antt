@@ -1,0 +1,5 @@
+use Rattle.std.proofs.Common.{length}
+use Rattle.sip_shards.proofs.phase.+are_idle.Given as goal
+
+abbrev pub decreases-are_idle : goal.decreases-are_idle
+decreases-are_idle g l = length l.shards.now

@@ -1,0 +1,18 @@
+use Rattle.std.proofs.Common.{◌≡◌, length, map}
+use Rattle.std.specs.BTreeMap.{get}
+use Rattle.sip_model.specs.Table.{state_at}
+use Rattle.sip_shards.specs.Parts.{owner_of}
+use Rattle.sip_shards.proofs.Transferred.{TableLeft}
+use Rattle.sip_shards.proofs.transfers.transfer_shard.Given as goal
+
+abbrev pub invariant-loop-key : goal.invariant-loop-key
+invariant-loop-key g l =
+    TableLeft g.met.S.Machine.Key.Ord.total g.met.S.Machine.StateMachine.exact
+    (owner_of (g.C.Cut.shard_of l.cut) g.S.Machine.Key.Named.name l.count) l.count
+    (state_at g.S.Machine.Key.Ord.cmp (g.S.KeyShard.held l.fn.shard))
+    (get g.S.Machine.Key.Ord.cmp l.states) (map g.S.KeyShard.held l.initial.moved.items)
+    (map g.S.KeyShard.held l.moved.items)
+    × (map g.S.KeyShard.machine l.moved.items ≡ map g.S.KeyShard.machine l.initial.moved.items)
+
+abbrev pub decreases-loop-key : goal.decreases-loop-key
+decreases-loop-key g l = length l.states.entries

@@ -1,0 +1,3 @@
+pub mod AllShards
+pub mod Parts
+pub mod Steps

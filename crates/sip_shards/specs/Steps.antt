@@ -1,0 +1,3 @@
+pub mod Dues
+pub mod Put
+pub mod Transfer

@@ -1,0 +1,14 @@
+//! Shards of a machine's keys: a phase over all of them, on workers or in turn, and what is held
+//! moved to others.
+#![tactic(auto)]
+
+mod due;
+mod parts;
+mod phase;
+mod shard_work;
+mod transfers;
+
+pub use due::next_due_in;
+pub use parts::{Named, empty_parts, parts_of, put};
+pub use phase::{Phase, Unwatched, are_idle, deal_phase, tell_of_each};
+pub use transfers::transfer;
