@@ -34,7 +34,7 @@ use Rattle.sip_clients.specs.declared.outputs.ClientChange.{ClientChange}
 use Rattle.sip_clients.specs.declared.outputs.ClientChange.TheVariants.{Stays, Over, Starts}
 use Rattle.sip_clients.specs.declared.service.Service.{Service}
 use Rattle.sip_clients.specs.declared.service.Service.TheVariants.{Sent, Waits, Refused}
-use Rattle.sip_clients.specs.Cancel.{asked, cancel_case, cancel_client, cancel_by_user, cancellation, cancelled_as, cancelled_of, sent_beside}
+use Rattle.sip_clients.specs.Cancel.{asked, cancel_case, cancel_client, cancel_by_user, cancelled_as, cancelled_of, sent_beside}
 use Rattle.sip_clients.specs.Client.{Clients, Side, client_at, client_changed, client_for, with_client, without_client}
 use Rattle.sip_clients.specs.Clients.{ack_kept, ack_paid, ack_by_user, acked_with, invite_taken, lost_of, paid_or_refused, plain_taken, prack_paid, prack_by_user, request_by_user, settled}
 use Rattle.sip_clients.specs.Commands.{ack_asked, debt_for, is_bad_outside, name_in, requested_at}
@@ -139,14 +139,14 @@ module _ (life : DialogLife) (invite : Id) where
 
   pub sent_apart : (id : Option Id) (cancelled : Client) (done : Clients × List CallOut)
       → AreApart done.0
-      → AreApart (sent_beside (option_map (λ id. cancellation id cancelled) id) done).0
+      → AreApart (sent_beside (option_map (λ id. cancel_client id cancelled) id) done).0
   sent_apart None cancelled done apart = apart
   sent_apart (Some id) cancelled done apart =
       entries.apart_inserted id_laws id (cancel_client id cancelled) done.0 apart
 
   pub sent_stays : (id : Option Id) (cancelled : Client) (done : Clients × List CallOut)
       → EndsOrStays (ear_of life invite done.0) (ear_of life invite
-      (sent_beside (option_map (λ id. cancellation id cancelled) id) done).0)
+      (sent_beside (option_map (λ id. cancel_client id cancelled) id) done).0)
   sent_stays None cancelled done = inr refl
   sent_stays (Some id) cancelled done =
       entries.by_insertion id_laws EarStays stays_same stays_none id invite
@@ -269,7 +269,7 @@ module _ (life : DialogLife) (invite : Id) (event : Option Id) where
   keeps_plain of command made clients apart =
       let client = client_for of.id Plain (plain_of of command) command.address in
       keeps_either (is_bad_outside command.method)
-      (refused of.id command.call_id BadMethod) (start_command of client ∷ []) clients
+      (refused of.id command.call_id BadMethod) (start_command of.id client ∷ []) clients
       (with_client of.id client clients)
       (keeps_same clients apart) (keeps_started of.id client made refl clients apart)
 

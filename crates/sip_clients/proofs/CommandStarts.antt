@@ -28,7 +28,7 @@ use Rattle.sip_clients.specs.declared.debts.DebtKind.TheVariants as kind
 use Rattle.sip_clients.specs.declared.event.Event.{Event}
 use Rattle.sip_clients.specs.declared.service.Service.{Service}
 use Rattle.sip_clients.specs.declared.service.Service.TheVariants.{Sent, Waits, Refused}
-use Rattle.sip_clients.specs.Cancel.{asked as with_cancel, cancel_case, cancel_by_user, cancellation, cancelled_as, cancelled_of, sent_beside}
+use Rattle.sip_clients.specs.Cancel.{asked as with_cancel, cancel_case, cancel_by_user, cancel_client, cancelled_as, cancelled_of, sent_beside}
 use Rattle.sip_clients.specs.Client.{Clients, Side, ClientTaken, client_at, client_changed, client_for, with_client}
 use Rattle.sip_clients.specs.Clients.{ack_kept, ack_paid, ack_by_user, acked_with, invite_taken, paid_or_refused, plain_taken, prack_paid, prack_by_user, request_by_user, settled, started}
 use Rattle.sip_clients.specs.Commands.{ack_asked, bye_ended, debt_for, is_bad_outside, name_in, requested_at}
@@ -52,7 +52,7 @@ module _ (event : Event) where
   started_fits : (client : Client) (clients : Clients) → client.cancel ≡ cancel.NotAsked
       → OwnOf clients (started event client clients)
   started_fits client clients fresh =
-      fits (Some event.id) clients (start_command event client ∷ [])
+      fits (Some event.id) clients (start_command event.id client ∷ [])
       (with_client event.id client clients)
       (started_within event client clients fresh)
 
@@ -200,7 +200,7 @@ module _ (event : Event) where
       }
   cancel_by asked.Starts command invite clients =
       let after = client_changed command.id (with_cancel cancel.Sent) clients in
-      let sent = sent_beside (Some (cancellation event.id invite)) (after, []) in
+      let sent = sent_beside (Some (cancel_client event.id invite)) (after, []) in
       fits (Some event.id) clients sent.1 sent.0
       (sent_within (Some event.id) invite (λ id. how_many id (waiting clients)) (after, [])
       (nothing clients after (λ id. no_weight (how_many id (waiting after))

@@ -26,13 +26,14 @@ use Rattle.sip_clients.specs.declared.event.Event.{Event}
 use Rattle.sip_clients.specs.declared.reply.Reply.{Reply as Answer}
 use Rattle.sip_clients.specs.declared.reply.ReplyCase.{ReplyCase}
 use Rattle.sip_clients.specs.declared.reply.ReplyCase.TheVariants as reply
-use Rattle.sip_clients.specs.Cancel.{cancel_command, cancellation, freed_by, after_response}
+use Rattle.sip_clients.specs.Cancel.{cancel_client, freed_by, after_response}
 use Rattle.sip_clients.specs.Client.{Clients, Side, ClientTaken, client_at}
 use Rattle.sip_clients.specs.Clients.{ack_paid, ack_by_user, found_taken, lost_of, paid_or_refused, prack_paid, prack_by_user, reply_name, reply_of, reply_settled, request_by_user, settled, side_after, response_taken, status_of}
 use Rattle.sip_clients.specs.declared.debts.DebtKind.TheVariants as kind
 use Rattle.sip_clients.specs.Commands.{bye_ended, debt_for, name_in, request_in_held, requested_at}
 use Rattle.sip_clients.specs.Debts.{paid}
 use Rattle.sip_clients.specs.Dialogs.{paid_at}
+use Rattle.sip_clients.specs.Outputs.{start_command}
 use Rattle.sip_clients.specs.Replied.{Replied, reply_taken}
 use Rattle.sip_clients.specs.Provisionals.{OfTheCall, in_life, is_for, number_for, provisional_number, told_of}
 use Rattle.sip_clients.proofs.CommandDialogs.{bye_leads, ended_leads, paid_keeps, request_keeps, served_leads}
@@ -117,8 +118,8 @@ module _ (life : DialogLife) where
     freed : (number : Option ℕ) (command : Option Id) (cancelled : Client) (done : Replied)
         → SideResult number (side_after event id side None done)
         → SideResult number (side_after event id side
-        (option_map (λ id. cancellation id cancelled) command) done)
-    unfolding cancel_command
+        (option_map (λ id. cancel_client id cancelled) command) done)
+    unfolding start_command
     freed number None cancelled done so = so
     freed number (Some command) cancelled done so =
         let clients = set_value (is_id id) side.clients done.0 in
@@ -126,7 +127,7 @@ module _ (life : DialogLife) where
         let came = in_life (lives done.1 life) number in (
           so.0,
           subst (λ shown. Listens (call ≡ Some life.born) (ear side.dialogs) (ear done.1) came
-              shown) (sym (told_more came told (cancel_command command cancelled) refl)) so.1,
+              shown) (sym (told_more came told (start_command command (cancel_client command cancelled)) refl)) so.1,
         )
 
     abbrev done_of : ℕ → Client → Replied

@@ -39,7 +39,7 @@ use Rattle.sip_clients.specs.declared.reply.ReplyCase.TheVariants as reply
 use Rattle.sip_clients.specs.declared.service.Service.{Service}
 use Rattle.sip_clients.specs.declared.service.Service.TheVariants.{Sent, Waits, Refused}
 use Rattle.sip_clients.specs.Answers.{ack_of}
-use Rattle.sip_clients.specs.Cancel.{asked, cancel_case, cancel_command, cancel_by_user, cancellation, cancelled_as, cancelled_of, freed_by, after_response, sent_beside}
+use Rattle.sip_clients.specs.Cancel.{asked, cancel_case, cancel_by_user, cancel_client, cancelled_as, cancelled_of, freed_by, after_response, sent_beside}
 use Rattle.sip_clients.specs.Client.{Clients, Side, ClientTaken, client_at, client_changed, client_for}
 use Rattle.sip_clients.specs.Clients.{ack_paid, ack_by_user, found_taken, invite_taken, request_lost, lost_of, paid_or_refused, plain_taken, prack_paid, prack_by_user, reply_name, reply_of, reply_settled, request_by_user, response_taken, settled, started, status_of}
 use Rattle.sip_clients.specs.Commands.{bye_ended, debt_for, is_bad_outside, name_in, requested_at}
@@ -103,11 +103,11 @@ settled_asks event id (Starts client) clients = start_asks event client clients
 
 beside_asks : (freed : Option Id) (invite : Client) (done : Clients × List CallOut)
     → shown done.1 ≡ []
-    → shown (sent_beside (option_map (λ id. cancellation id invite) freed) done).1 ≡ []
-unfolding cancel_command
+    → shown (sent_beside (option_map (λ id. cancel_client id invite) freed) done).1 ≡ []
+unfolding start_command
 beside_asks None invite done none = none
 beside_asks (Some id) invite done none =
-    none_of_both done.1 (cancel_command id invite ∷ []) none refl
+    none_of_both done.1 (start_command id (cancel_client id invite) ∷ []) none refl
 
 -- ---- a response
 

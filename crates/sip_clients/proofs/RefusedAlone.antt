@@ -21,7 +21,7 @@ use Rattle.sip_common.specs.declared.held_dialog.HeldDialog.{HeldDialog}
 use Rattle.sip_common.specs.declared.item.CallOut.{CallOut}
 use Rattle.sip_common.specs.declared.refusal.Refusal.{Refusal}
 use Rattle.sip_common.specs.declared.refusal.Refusal.TheVariants.{NoSuchDialog, NoSuchRequest}
-use Rattle.sip_clients.specs.Cancel.{cancel_case, cancel_command, cancel_by_user, cancelled_as, cancelled_of}
+use Rattle.sip_clients.specs.Cancel.{cancel_case, cancel_by_user, cancelled_as, cancelled_of}
 use Rattle.sip_clients.specs.Client.{Clients, Side, client_at, ClientTaken}
 use Rattle.sip_clients.specs.Clients.{ack_kept, ack_paid, ack_by_user, paid_or_refused, prack_paid, prack_by_user, request_settled, request_by_user, settled}
 use Rattle.sip_clients.specs.Commands.{bye_ended, name_in, request_in_held, request_refusals, requested_at, sent_unless}
@@ -249,7 +249,7 @@ module _ (event : Event) (side : Side) where
   cancel_by : (way : CancelCase) (command : Cancel) (invite : Client)
       → IsRefusedAlone side.clients command.call_id event.id
       (cancelled_as way event command invite side.clients)
-  unfolding cancel_command
+  unfolding start_command
   cancel_by (cancel.Refused refusal) command invite =
       told_alone side.clients command.call_id event.id refusal
   cancel_by cancel.Repeated command invite =

@@ -148,30 +148,13 @@ pub(crate) fn direct(ack: &SentAck) -> Result<CallOut, AllocError>
     })
 }
 
-/// The command that starts the transaction of a client request.
+/// The command of this id that starts the transaction of a client request.
 #[tactic(auto, unfolding(crate::specs::Outputs::start_command))]
-pub(crate) fn start_command(
-    alloc: Global,
-    event: Event,
-    client: &Client,
-) -> Result<CallOut, AllocError>
-    ensures { IfOk result (λ out. out ≡ spec.start_command event client.now) }
-{
-    let branch = event.branch(alloc)?;
-    start_under(alloc, event.id, branch.as_slice(), client)
-}
-
-/// The same, under this id and with this branch.
-pub(crate) fn start_under(
-    alloc: Global,
-    id: Id,
-    branch: &[u8],
-    client: &Client,
-) -> Result<CallOut, AllocError>
-    ensures { IfOk result (λ out. out ≡ spec.start_under id branch.now client.now) }
+pub(crate) fn start_command(alloc: Global, id: Id, client: &Client) -> Result<CallOut, AllocError>
+    ensures { IfOk result (λ out. out ≡ spec.start_command id client.now) }
 {
     let method = client.request.method().clone()?;
-    let key = Key::client(alloc, branch, method)?;
+    let key = Key::client(alloc, client.request.vias.top().branch(), method)?;
     let call_id = client.request.call_id.clone()?;
     let message = Boxed::new(alloc, client.request.clone()?)?;
     Ok(CallOut::Command(
