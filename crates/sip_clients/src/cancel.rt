@@ -7,8 +7,9 @@ ghost use Rattle.sip_clients.specs.Client.{client_changed};
 use crate::client::{Cancelling, Client, RequestKind, client_for};
 use crate::event::Event;
 use crate::held::{ClientMap, hold};
-use crate::outputs::{refused, start_command};
+use crate::outputs::start_command;
 use crate::reply::is_inviting;
+use sip_common::outputs::refused;
 use sip_common::{CallOut, Cancel, Refusal};
 use sip_message::{Id, cancel_for};
 use std::alloc::{AllocError, Global};
@@ -67,10 +68,15 @@ pub(crate) fn take_cancel(
         ≡ spec.cancelled event command.now clients.old.entries) }
 {
     let Some(invite) = clients.get(&command.id) else {
-        return refused(alloc, event, &command.call_id, Refusal::NoSuchRequest);
+        return refused(
+            alloc,
+            event.id,
+            command.call_id.clone()?,
+            Refusal::NoSuchRequest,
+        );
     };
     match cancel_case(invite) {
-        CancelCase::Refused(refusal) => refused(alloc, event, &command.call_id, refusal),
+        CancelCase::Refused(refusal) => refused(alloc, event.id, command.call_id.clone()?, refusal),
         CancelCase::Repeated => Ok(Vec::new(alloc)),
         CancelCase::Waits => {
             ask(clients, command.id, Cancelling::Waits(event.id));
