@@ -32,7 +32,6 @@ use Rattle.sip_clients.specs.declared.debts.DebtKind.TheVariants as kind
 use Rattle.sip_clients.specs.declared.event.Event.{Event}
 use Rattle.sip_clients.specs.declared.outputs.ClientChange.{ClientChange}
 use Rattle.sip_clients.specs.declared.outputs.ClientChange.TheVariants.{Stays, Over, Starts}
-use Rattle.sip_clients.specs.declared.service.Service.{Service}
 use Rattle.sip_clients.specs.declared.service.Service.TheVariants.{Sent, Waits, Refused}
 use Rattle.sip_clients.specs.Cancel.{asked, cancel_case, cancel_client, cancel_by_user, cancelled_as, cancelled_of, sent_beside}
 use Rattle.sip_clients.specs.Client.{Clients, Side, client_at, client_changed, client_for, with_client, without_client}
@@ -46,6 +45,7 @@ use Rattle.sip_clients.specs.Provisionals.{in_life, told_of}
 use Rattle.sip_clients.specs.Tick.{clients_left, is_over}
 use Rattle.sip_clients.proofs.FirstInvite.{id_exact, no_number}
 use Rattle.sip_clients.proofs.Hearing.{Listens, Silent}
+use Rattle.sip_clients.proofs.StartBounds.{StartsFresh, said_fresh}
 
 abbrev pub AreApart : Clients → Type 0
 AreApart clients = entries.Apart id_laws clients
@@ -110,18 +110,6 @@ listens_then Begins before middle after (Some number) shown hears (inr same) = r
         ⊎ (after ≡ Some (latest_after (offered hears.last number) hears.last number))
     by_now (inl gone) = inl (same ∙ gone)
     by_now (inr is) = inr (same ∙ is)
-
--- a request that was just sent has heard nothing
-abbrev pub StartsUnheard : ClientChange → Type 0
-StartsUnheard Stays = Unit {0}
-StartsUnheard Over = Unit {0}
-StartsUnheard (Starts client) = client.heard ≡ None
-
-pub said_unheard : (event : Event) (call_id : List ℕ) (name : DialogName) (service : Service)
-    → StartsUnheard (request_said event call_id name service).1
-said_unheard event call_id name (Sent sending) = refl
-said_unheard event call_id name Waits = tt
-said_unheard event call_id name (Refused refusal) = tt
 
 abbrev pub ear_of : DialogLife → Id → Clients → Option (Option ℕ)
 ear_of life invite clients = client_ear life (client_at invite clients)
@@ -238,12 +226,12 @@ module _ (life : DialogLife) (invite : Id) (event : Option Id) where
   }
 
   pub keeps_settled : (of : Event) (id : Id) (change : ClientChange) → event ≡ Some of.id
-      → StartsUnheard change
+      → StartsFresh change
       → (clients : Clients) → AreApart clients → Keeps clients (settled of id change clients).0
-  keeps_settled of id Stays made unheard clients apart = keeps_same clients apart
-  keeps_settled of id Over made unheard clients apart = keeps_removed id clients apart
-  keeps_settled of id (Starts client) made unheard clients apart =
-      keeps_started of.id client made unheard clients apart
+  keeps_settled of id Stays made fresh clients apart = keeps_same clients apart
+  keeps_settled of id Over made fresh clients apart = keeps_removed id clients apart
+  keeps_settled of id (Starts client) made fresh clients apart =
+      keeps_started of.id client made fresh.1 clients apart
 
   -- ---- a request that is lost, commands of the user, and a tick
 
@@ -279,7 +267,7 @@ module _ (life : DialogLife) (invite : Id) (event : Option Id) where
       let name = name_in command.local_tag command.remote_tag in
       let service = (requested_at name of command side.dialogs).1 in
       keeps_settled of of.id (request_said of command.call_id name service).1 made
-      (said_unheard of command.call_id name service) side.clients apart
+      (said_fresh of command.call_id name service) side.clients apart
 
   keeps_noted : (debt : Debt) (name : DialogName) (ack : Option SentAck) (clients : Clients)
       → AreApart clients → Keeps clients (ack_kept debt name ack clients)
@@ -312,7 +300,7 @@ module _ (life : DialogLife) (invite : Id) (event : Option Id) where
       let name = name_in command.local_tag command.remote_tag in
       let service = (paid_at name of debt command.body side.dialogs).1 in
       keeps_settled of of.id (request_said of command.call_id name service).1 made
-      (said_unheard of command.call_id name service) side.clients apart
+      (said_fresh of command.call_id name service) side.clients apart
 
   pub keeps_prack : (of : Event) (command : DialogBody) → event ≡ Some of.id → (side : Side)
       → AreApart side.clients → Keeps side.clients ((prack_by_user of command side).0).clients

@@ -36,12 +36,11 @@ use Rattle.sip_clients.specs.Commands.{bye_ended, debt_for, debt_or_refusal, nam
 use Rattle.sip_clients.specs.Debts.{is_of, paid}
 use Rattle.sip_clients.specs.Dialogs.{paid_at, served_at}
 use Rattle.sip_clients.specs.Happenings.{reply_brings}
-use Rattle.sip_clients.specs.Outputs.{request_said}
+use Rattle.sip_clients.specs.Outputs.{ack_said, request_said}
 use Rattle.sip_clients.specs.Replied.{reply_taken}
 use Rattle.sip_clients.proofs.DialogSends.{AreNamed, AreNumbered, Sends, sends_none, silent_outs, sends_one, after_silent, between_silent, change_cseqs, change_sent, settled_cseqs}
-use Rattle.sip_clients.proofs.CommandStarts.{bye_none}
 use Rattle.sip_clients.proofs.ReplyStarts.{replies}
-use Rattle.sip_clients.proofs.WithoutStarts.{ack_said_none, lost_none, request_said_none}
+use Rattle.sip_clients.proofs.WithoutStarts.{none_started, ack_said_quiet, bye_quiet, lost_quiet, request_said_quiet}
 use Rattle.sip_clients.proofs.FirstSides.{ack_leads, lost_leads, paid_in, pay_leads, request_leads}
 use Rattle.sip_clients.proofs.ReplyLives.{replied_so}
 use Rattle.sip_clients.proofs.SentIn.{beside_sent, discharge_cseqs, discharge_numbered, paid_sent, request_cseqs, request_numbered, request_sent_in, said_sent, served_sent}
@@ -53,7 +52,8 @@ pub lost_lives : (id : Id) (timed_out : Bool) (o : Option Client) (side : Side)
     → Sends (lost_of id timed_out o side).1 side.dialogs
     ((lost_of id timed_out o side).0).dialogs
 lost_lives id timed_out o side apart =
-    silent_outs (lost_of id timed_out o side).1 (lost_none id timed_out o side) side.dialogs
+    silent_outs (lost_of id timed_out o side).1 (none_started (lost_of id timed_out o side).1
+    (lost_quiet id timed_out o side)) side.dialogs
     ((lost_of id timed_out o side).0).dialogs (lost_leads id timed_out o side apart)
 
 module _ (event : Event) (side : Side) (apart : AreApart side.dialogs)
@@ -80,8 +80,8 @@ module _ (event : Event) (side : Side) (apart : AreApart side.dialogs)
       command.body) refl held at
       ∙ sym (said_sent other event event.id command.call_id name done.1 side.clients)
       ∙ sym (between_silent other said.0 after.1 bye.1
-      (request_said_none event command.call_id name done.1)
-      (bye_none event name command.method done.1 done.0)))
+      (none_started said.0 (request_said_quiet event command.call_id name done.1))
+      (none_started bye.1 (bye_quiet name command.method done.1 done.0))))
       (request_leads event command side apart)
 
   found_passes : {X : Type 0} (p : X → Bool) (xs : List X) (x : X) → find p xs ≡ Some x
@@ -118,7 +118,9 @@ module _ (event : Event) (side : Side) (apart : AreApart side.dialogs)
   ack_starts command (Err refusal) = refl
   ack_starts command (Ok debt) =
       let name = name_in command.local_tag command.remote_tag in
-      ack_said_none event command.call_id (paid_at name event debt command.body side.dialogs).1
+      let service = (paid_at name event debt command.body side.dialogs).1 in
+      none_started (ack_said event command.call_id service).0
+      (ack_said_quiet event command.call_id service)
 
   pub ack_lives : (command : DialogBody) → ByOuts (ack_by_user event command side)
   ack_lives command =
@@ -150,7 +152,7 @@ module _ (event : Event) (side : Side) (apart : AreApart side.dialogs)
       held at
       ∙ sym (said_sent other event event.id command.call_id name done.1 side.clients)
       ∙ sym (after_silent other said.0 after.1
-      (request_said_none event command.call_id name done.1)))
+      (none_started said.0 (request_said_quiet event command.call_id name done.1))))
       (pay_leads event command debt side.dialogs apart)
 
   pub prack_lives : (command : DialogBody) → ByOuts (prack_by_user event command side)
@@ -220,7 +222,8 @@ module _ (event : Event) (id : Id) (call_id : List ℕ) (response : Message) (si
       let same : (name : DialogName) → change_cseqs name done.3 ≡ cseqs_in name taken.1 =
       λ name. sym (beside_sent name (freed_by final client.cancel) client
       (after.0, done.2 ++ after.1)
-      ∙ after_silent name done.2 after.1 (replies with_note side.dialogs answer).silent
+      ∙ after_silent name done.2 after.1
+      (none_started done.2 (replies with_note side.dialogs answer).quiet)
       ∙ settled_cseqs name event id done.3 clients) in (
         so.0,
         moves_as (Some event.id) (Some (ByResponse client.request response)) so.0

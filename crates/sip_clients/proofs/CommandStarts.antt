@@ -1,7 +1,6 @@
 -- A command of the user starts at most one transaction, of a client, under the id of its event.
 use Rattle.std.proofs.Common.{◌≡◌, ℕ, ◌+◌, ◌≤◌, Bool, true, false, cond, List, [], ◌∷◌, ◌++◌, refl, sym, subst}
-use Rattle.std.specs.Prelude.{Option, None, Some, Result, Ok, Err, codes}
-use Rattle.std.specs.Str.{bytes_eq}
+use Rattle.std.specs.Prelude.{Option, None, Some, Result, Ok, Err}
 use Rattle.sip_message.specs.declared.id.Id.{Id}
 use Rattle.sip_common.specs.declared.command.Cancel.{Cancel}
 use Rattle.sip_common.specs.declared.command.DialogBody.{DialogBody}
@@ -14,7 +13,6 @@ use Rattle.sip_common.specs.declared.held_dialog.DialogName.{DialogName}
 use Rattle.sip_common.specs.declared.item.CallOut.{CallOut}
 use Rattle.sip_common.specs.declared.refusal.Refusal.{Refusal}
 use Rattle.sip_common.specs.declared.refusal.Refusal.TheVariants.{BadMethod, NoSuchRequest}
-use Rattle.sip_common.specs.Dialogs.{Dialogs}
 use Rattle.sip_common.specs.Ids.{is_id}
 use Rattle.sip_common.proofs.Starts.{starts}
 use Rattle.sip_clients.specs.declared.answers.SentAck.{SentAck}
@@ -38,7 +36,7 @@ use Rattle.sip_clients.specs.Outputs.{request_said, start_command}
 use Rattle.sip_clients.specs.Outside.{invite_of, plain_of}
 use Rattle.sip_clients.proofs.StartBounds.{waits_in, waits_for, waiting, AllClients, how_many, ids_of, Fits, Within, fits, none_more, no_weight, same_weight, more_weight, swapped, none_of, of_none, nothing, at_most_same, started_within, settled_within, said_fresh, sent_within}
 use Rattle.sip_clients.proofs.Tally.{tally_changed, weight}
-use Rattle.sip_clients.proofs.WithoutStarts.{request_said_none, ack_said_none, at_or_none, silent_fits}
+use Rattle.sip_clients.proofs.WithoutStarts.{none_started, request_said_quiet, ack_said_quiet, bye_quiet, silent_fits}
 
 module _ (event : Event) where
   abbrev OwnOf : Clients → Clients × List CallOut → Type 0
@@ -89,15 +87,9 @@ module _ (event : Event) where
       fits (Some event.id) clients (said.0 ++ after.1) after.0
       (subst (λ started. Within (λ id. weight (is_id id) (Some event.id)
       + how_many id (waiting clients)) started after.0)
-      (sym (none_of said.0 after.1 (request_said_none event call_id name service)))
+      (sym (none_of said.0 after.1
+      (none_started said.0 (request_said_quiet event call_id name service))))
       (settled_within event event.id said.1 clients (said_fresh event call_id name service)))
-
-  pub bye_none : (name : DialogName) (method : List ℕ) (service : Service) (dialogs : Dialogs)
-      → starts (bye_ended name method service dialogs).1 ≡ []
-  bye_none name method (Sent sending) dialogs =
-      at_or_none (bytes_eq method (codes "BYE")) name dialogs
-  bye_none name method Waits dialogs = refl
-  bye_none name method (Refused refusal) dialogs = refl
 
   then_silent : (clients after : Clients) (outs ends : List CallOut)
       → starts ends ≡ [] → Fits (Some event.id) clients outs after
@@ -123,7 +115,7 @@ module _ (event : Event) where
       let ends = bye_ended name command.method done.1 done.0 in
       let after = settled event event.id said.1 side.clients in
       then_silent side.clients after.0 (said.0 ++ after.1) ends.1
-      (bye_none name command.method done.1 done.0)
+      (none_started ends.1 (bye_quiet name command.method done.1 done.0))
       (said_fits command.call_id name done.1 side.clients)
 
   noted_fewer : (debt : Debt) (name : DialogName) (ack : Option SentAck) (clients : Clients)
@@ -146,8 +138,8 @@ module _ (event : Event) where
       let name = name_in command.local_tag command.remote_tag in
       let told = ack_asked event name debt command side.dialogs in
       silent_fits (Some event.id) side.clients told.1 (ack_kept debt name told.2 side.clients)
-      (ack_said_none event command.call_id
-      (paid_at name event debt command.body side.dialogs).1)
+      (none_started told.1 (ack_said_quiet event command.call_id
+      (paid_at name event debt command.body side.dialogs).1))
       (noted_fewer debt name told.2 side.clients)
 
   pub ack_fits : (command : DialogBody) (side : Side)

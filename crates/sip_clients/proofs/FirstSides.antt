@@ -124,10 +124,11 @@ module _ (life : DialogLife) where
     freed number (Some command) cancelled done so =
         let clients = set_value (is_id id) side.clients done.0 in
         let told = done.2 ++ (settled event id done.3 clients).1 in
-        let came = in_life (lives done.1 life) number in (
+        let came = in_life (lives done.1 life) number in
+        let sent = start_command command (cancel_client command cancelled) in (
           so.0,
           subst (λ shown. Listens (call ≡ Some life.born) (ear side.dialogs) (ear done.1) came
-              shown) (sym (told_more came told (start_command command (cancel_client command cancelled)) refl)) so.1,
+              shown) (sym (told_more came told sent refl)) so.1,
         )
 
     abbrev done_of : ℕ → Client → Replied
@@ -221,33 +222,29 @@ pay_leads event command debt dialogs apart =
     (λ held. discharge_life debt (Some command.body) held.dialog)
     (paid_keeps event debt command.body) dialogs apart
 
-by_ack : (event : Event) (command : DialogBody) (side : Side) (o : Result Debt Refusal)
-    → AreApart side.dialogs
-    → Leads (paid_in command o) side.dialogs ((paid_or_refused event command
-    (ack_paid event command (name_in command.local_tag command.remote_tag)) o side).0).dialogs
-by_ack event command side (Err refusal) apart = leads_same side.dialogs apart
-by_ack event command side (Ok debt) apart = pay_leads event command debt side.dialogs apart
+by_pay : (event : Event) (command : DialogBody) (pay : Debt → Side → ClientTaken) (side : Side)
+    (o : Result Debt Refusal) → AreApart side.dialogs
+    → ((debt : Debt) → Leads (paid_in command (Ok debt)) side.dialogs ((pay debt side).0).dialogs)
+    → Leads (paid_in command o) side.dialogs
+    ((paid_or_refused event command pay o side).0).dialogs
+by_pay event command pay side (Err refusal) apart pays = leads_same side.dialogs apart
+by_pay event command pay side (Ok debt) apart pays = pays debt
 
 pub ack_leads : (event : Event) (command : DialogBody) (side : Side) → AreApart side.dialogs
     → Leads (paid_in command (debt_for kind.Ack
     (name_in command.local_tag command.remote_tag) side.dialogs)) side.dialogs
     ((ack_by_user event command side).0).dialogs
 ack_leads event command side apart =
-    by_ack event command side (debt_for kind.Ack
-    (name_in command.local_tag command.remote_tag) side.dialogs) apart
-
-by_prack : (event : Event) (command : DialogBody) (side : Side) (o : Result Debt Refusal)
-    → AreApart side.dialogs
-    → Leads (paid_in command o) side.dialogs ((paid_or_refused event command
-    (prack_paid event command (name_in command.local_tag command.remote_tag)) o
-    side).0).dialogs
-by_prack event command side (Err refusal) apart = leads_same side.dialogs apart
-by_prack event command side (Ok debt) apart = pay_leads event command debt side.dialogs apart
+    let name = name_in command.local_tag command.remote_tag in
+    by_pay event command (ack_paid event command name) side (debt_for kind.Ack name side.dialogs)
+    apart (λ debt. pay_leads event command debt side.dialogs apart)
 
 pub prack_leads : (event : Event) (command : DialogBody) (side : Side) → AreApart side.dialogs
     → Leads (paid_in command (debt_for kind.Prack
     (name_in command.local_tag command.remote_tag) side.dialogs)) side.dialogs
     ((prack_by_user event command side).0).dialogs
 prack_leads event command side apart =
-    by_prack event command side (debt_for kind.Prack
-    (name_in command.local_tag command.remote_tag) side.dialogs) apart
+    let name = name_in command.local_tag command.remote_tag in
+    by_pay event command (prack_paid event command name) side
+    (debt_for kind.Prack name side.dialogs) apart
+    (λ debt. pay_leads event command debt side.dialogs apart)

@@ -107,7 +107,8 @@ module _ (call_id : List ℕ) where
   beside_own None invite its done own = own
   beside_own (Some id) invite its done own = (
     each_inserted (IsRequestOf call_id) is_id id (cancel_client id invite) its done.0 own.0,
-    both (IsNoticeOf call_id) done.1 (start_command id (cancel_client id invite) ∷ []) own.1 (tt, tt),
+    both (IsNoticeOf call_id) done.1 (start_command id (cancel_client id invite) ∷ []) own.1
+        (tt, tt),
   )
 
   -- ---- a response

@@ -247,4 +247,5 @@ pub beside_sent : (name : DialogName) (freed : Option Id) (invite : Client)
 unfolding start_command
 beside_sent name None invite done = refl
 beside_sent name (Some id) invite done =
-    cseqs_both name done.1 (start_command id (cancel_client id invite) ∷ []) ∙ append-nil (cseqs_in name done.1)
+    cseqs_both name done.1 (start_command id (cancel_client id invite) ∷ [])
+    ∙ append-nil (cseqs_in name done.1)

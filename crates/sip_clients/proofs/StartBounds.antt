@@ -200,10 +200,11 @@ started_within event client clients fresh =
     (str_to_ascii_lowercase (top_branch client.request)) ((client.request).cseq).method clients
     fresh (nothing clients clients (at_most_same clients))
 
+-- a request that was just sent waits for no CANCEL, and has heard nothing
 abbrev pub StartsFresh : ClientChange → Type 0
 StartsFresh Stays = Unit {0}
 StartsFresh Over = Unit {0}
-StartsFresh (Starts client) = client.cancel ≡ cancel.NotAsked
+StartsFresh (Starts client) = (client.cancel ≡ cancel.NotAsked) × (client.heard ≡ None)
 
 pub settled_within : (event : Event) (id : Id) (change : ClientChange) (clients : Clients)
     → StartsFresh change
@@ -214,11 +215,12 @@ settled_within event id Stays clients fresh =
 settled_within event id Over clients fresh =
     own_nothing (Some event.id) clients (without_client id clients)
     (λ of. tally_removed waits_for (is_id of) (is_id id) clients)
-settled_within event id (Starts client) clients fresh = started_within event client clients fresh
+settled_within event id (Starts client) clients fresh =
+    started_within event client clients fresh.0
 
 pub said_fresh : (event : Event) (call_id : List ℕ) (name : DialogName) (service : Service)
     → StartsFresh (request_said event call_id name service).1
-said_fresh event call_id name (Sent sending) = refl
+said_fresh event call_id name (Sent sending) = (refl, refl)
 said_fresh event call_id name Waits = tt
 said_fresh event call_id name (Refused refusal) = tt
 
