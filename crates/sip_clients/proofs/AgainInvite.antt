@@ -1,6 +1,6 @@
 -- What the client side makes of what was heard for an INVITE in a life of a dialog.
 use Rattle.std.proofs.Common.{◌≡◌, ◌⊎◌, inl, inr, ℕ, Bool, true, false, not, ◌&&◌, cond, List, [], ◌∷◌, refl, ap, ◌∙◌}
-use Rattle.std.specs.Prelude.{Option, None, Some, Result, Ok, Err, if◌then◌else◌}
+use Rattle.std.specs.Prelude.{Option, None, Some, if◌then◌else◌}
 use Rattle.std.specs.Option.{option_map}
 use Rattle.sip_message.specs.declared.id.Id.{Id}
 use Rattle.sip_reliable.specs.Inbound.{latest_after, offered}
@@ -14,7 +14,6 @@ use Rattle.sip_common.specs.declared.command.Plain.{Plain as PlainCommand}
 use Rattle.sip_common.specs.declared.held_dialog.DialogLife.{DialogLife}
 use Rattle.sip_common.specs.declared.held_dialog.DialogName.{DialogName}
 use Rattle.sip_common.specs.declared.item.CallOut.{CallOut}
-use Rattle.sip_common.specs.declared.refusal.Refusal.{Refusal}
 use Rattle.sip_common.specs.declared.refusal.Refusal.TheVariants.{BadMethod}
 use Rattle.sip_common.specs.Dialogs.{is_named, lives, Dialogs}
 use Rattle.sip_common.specs.Ids.{is_id}
@@ -35,7 +34,7 @@ use Rattle.sip_clients.specs.declared.outputs.ClientChange.TheVariants.{Stays, O
 use Rattle.sip_clients.specs.declared.service.Service.TheVariants.{Sent, Waits, Refused}
 use Rattle.sip_clients.specs.Cancel.{asked, cancel_case, cancel_client, cancel_by_user, cancelled_as, cancelled_of, sent_beside}
 use Rattle.sip_clients.specs.Client.{Clients, Side, client_at, client_changed, client_for, with_client, without_client}
-use Rattle.sip_clients.specs.Clients.{ack_kept, ack_paid, ack_by_user, acked_with, invite_taken, lost_of, paid_or_refused, plain_taken, prack_paid, prack_by_user, request_by_user, settled}
+use Rattle.sip_clients.specs.Clients.{ack_kept, ack_paid, ack_by_user, acked_with, invite_taken, lost_of, plain_taken, prack_paid, prack_by_user, request_by_user, settled}
 use Rattle.sip_clients.specs.Commands.{ack_asked, debt_for, is_bad_outside, name_in, requested_at}
 use Rattle.sip_clients.specs.Dialogs.{paid_at}
 use Rattle.sip_common.specs.Notices.{refused}
@@ -46,6 +45,7 @@ use Rattle.sip_clients.specs.Tick.{clients_left, is_over}
 use Rattle.sip_clients.proofs.FirstInvite.{id_exact, no_number}
 use Rattle.sip_clients.proofs.Hearing.{Listens, Silent}
 use Rattle.sip_clients.proofs.StartBounds.{StartsFresh, said_fresh}
+use Rattle.sip_clients.proofs.Served.{paid_either}
 
 abbrev pub AreApart : Clients → Type 0
 AreApart clients = entries.Apart id_laws clients
@@ -276,37 +276,26 @@ module _ (life : DialogLife) (invite : Id) (event : Option Id) where
       keeps_changed of (acked_with name ack) (λ client. refl) clients apart
   keeps_noted (Prack rseq number) name ack clients apart = keeps_same clients apart
 
-  by_ack : (of : Event) (command : DialogBody) (side : Side) (o : Result Debt Refusal)
-      → AreApart side.clients
-      → Keeps side.clients ((paid_or_refused of command
-      (ack_paid of command (name_in command.local_tag command.remote_tag)) o side).0).clients
-  by_ack of command side (Err refusal) apart = keeps_same side.clients apart
-  by_ack of command side (Ok debt) apart =
-      let name = name_in command.local_tag command.remote_tag in
-      keeps_noted debt name (ack_asked of name debt command side.dialogs).2 side.clients apart
-
   pub keeps_ack : (of : Event) (command : DialogBody) (side : Side) → AreApart side.clients
       → Keeps side.clients ((ack_by_user of command side).0).clients
   keeps_ack of command side apart =
-      by_ack of command side (debt_for kind.Ack
-      (name_in command.local_tag command.remote_tag) side.dialogs) apart
-
-  by_prack : (of : Event) (command : DialogBody) → event ≡ Some of.id
-      → (side : Side) (o : Result Debt Refusal) → AreApart side.clients
-      → Keeps side.clients ((paid_or_refused of command
-      (prack_paid of command (name_in command.local_tag command.remote_tag)) o side).0).clients
-  by_prack of command made side (Err refusal) apart = keeps_same side.clients apart
-  by_prack of command made side (Ok debt) apart =
       let name = name_in command.local_tag command.remote_tag in
-      let service = (paid_at name of debt command.body side.dialogs).1 in
-      keeps_settled of of.id (request_said of command.call_id name service).1 made
-      (said_fresh of command.call_id name service) side.clients apart
+      paid_either (λ taken. Keeps side.clients (taken.0).clients) of command
+      (ack_paid of command name) side (debt_for kind.Ack name side.dialogs)
+      (λ refusal. keeps_same side.clients apart)
+      (λ debt. keeps_noted debt name (ack_asked of name debt command side.dialogs).2 side.clients
+      apart)
 
   pub keeps_prack : (of : Event) (command : DialogBody) → event ≡ Some of.id → (side : Side)
       → AreApart side.clients → Keeps side.clients ((prack_by_user of command side).0).clients
   keeps_prack of command made side apart =
-      by_prack of command made side (debt_for kind.Prack
-      (name_in command.local_tag command.remote_tag) side.dialogs) apart
+      let name = name_in command.local_tag command.remote_tag in
+      paid_either (λ taken. Keeps side.clients (taken.0).clients) of command
+      (prack_paid of command name) side (debt_for kind.Prack name side.dialogs)
+      (λ refusal. keeps_same side.clients apart)
+      (λ debt. let service = (paid_at name of debt command.body side.dialogs).1 in
+      keeps_settled of of.id (request_said of command.call_id name service).1 made
+      (said_fresh of command.call_id name service) side.clients apart)
 
   -- ---- CANCEL
 

@@ -1,6 +1,6 @@
 -- What commands of the user leave owed in the dialog of each name is what was owed before them,
 -- changed as they pay.
-use Rattle.std.proofs.Common.{◌≡◌, ℕ, Bool, true, false, ◌&&◌, cond, List, [], ◌∷◌, ◌++◌, refl, sym, ap, subst, ◌∙◌}
+use Rattle.std.proofs.Common.{◌≡◌, ℕ, Bool, true, false, ◌&&◌, cond, List, ◌++◌, refl, sym, ap, subst, ◌∙◌}
 use Rattle.std.specs.Prelude.{Option, None, Some, Err, find, if◌then◌else◌}
 use Rattle.std.specs.List.{list_any}
 use Rattle.std.specs.Option.{option_map, option_map_or}
@@ -36,7 +36,7 @@ use Rattle.sip_clients.proofs.DialogSends.{AreNamed, after_silent}
 use Rattle.sip_clients.proofs.DialogDebts.{neither_way, bye_same, goes, all_but, paid_drops, ack_goes, prack_pays}
 use Rattle.sip_clients.proofs.WithoutStarts.{none_started, request_said_quiet}
 use Rattle.sip_clients.proofs.SentIn.{request_life, said_sent, service_cseqs}
-use Rattle.sip_clients.proofs.Served.{served_dialogs, served_in}
+use Rattle.sip_clients.proofs.Served.{served_dialogs, served_in, found_passes}
 
 -- ---- a request in a dialog
 
@@ -69,17 +69,6 @@ request_owes event command side apart =
     (bye_same name command.method done.1 done.0 leads.apart)
 
 -- ---- the commands Ack and Prack
-
-found_kind : (p : Debt → Bool) (debts : List Debt) (debt : Debt) → find p debts ≡ Some debt
-    → p debt ≡ true
-found_kind p [] debt is = absurd cc
-found_kind p (first ∷ debts) debt is =
-    by_first (p first) refl is (λ later. found_kind p debts debt later)
-  where
-    by_first : (b : Bool) → p first ≡ b → cond b (Some first) (find p debts) ≡ Some debt
-        → (find p debts ≡ Some debt → p debt ≡ true) → p debt ≡ true
-    by_first true passes is rest = let same : first ≡ debt = cc in ap p (sym same) ∙ passes
-    by_first false fails is rest = rest is
 
 module _ (event : Event) (command : DialogBody) (side : Side) where
   abbrev asked_name : DialogName
@@ -216,7 +205,7 @@ module _ (event : Event) (command : DialogBody) (side : Side) where
         let said = request_said event command.call_id asked_name done.1 in
         debt_paid kind.Prack debt held
         (said.0 ++ (settled event event.id said.1 side.clients).1) at is
-        (prack_out debt held at (found_kind (is_of kind.Prack) held.owed debt is))
+        (prack_out debt held at (found_passes (is_of kind.Prack) held.owed debt is))
 
     pub prack_pays_off : Pays kind.Prack (prack_by_user event command side).1
         ((prack_by_user event command side).0).dialogs

@@ -1,6 +1,6 @@
 -- A command of the user starts at most one transaction, of a client, under the id of its event.
 use Rattle.std.proofs.Common.{◌≡◌, ℕ, ◌+◌, ◌≤◌, Bool, true, false, cond, List, [], ◌∷◌, ◌++◌, refl, sym, subst}
-use Rattle.std.specs.Prelude.{Option, None, Some, Result, Ok, Err}
+use Rattle.std.specs.Prelude.{Option, None, Some}
 use Rattle.sip_message.specs.declared.id.Id.{Id}
 use Rattle.sip_common.specs.declared.command.Cancel.{Cancel}
 use Rattle.sip_common.specs.declared.command.DialogBody.{DialogBody}
@@ -11,7 +11,6 @@ use Rattle.sip_common.specs.declared.debt.Debt.{Debt}
 use Rattle.sip_common.specs.declared.debt.Debt.TheVariants.{Ack, Prack}
 use Rattle.sip_common.specs.declared.held_dialog.DialogName.{DialogName}
 use Rattle.sip_common.specs.declared.item.CallOut.{CallOut}
-use Rattle.sip_common.specs.declared.refusal.Refusal.{Refusal}
 use Rattle.sip_common.specs.declared.refusal.Refusal.TheVariants.{BadMethod, NoSuchRequest}
 use Rattle.sip_common.specs.Ids.{is_id}
 use Rattle.sip_common.proofs.Starts.{starts}
@@ -28,7 +27,7 @@ use Rattle.sip_clients.specs.declared.service.Service.{Service}
 use Rattle.sip_clients.specs.declared.service.Service.TheVariants.{Sent, Waits, Refused}
 use Rattle.sip_clients.specs.Cancel.{asked as with_cancel, cancel_case, cancel_by_user, cancel_client, cancelled_as, cancelled_of, sent_beside}
 use Rattle.sip_clients.specs.Client.{Clients, Side, ClientTaken, client_at, client_changed, client_for, with_client}
-use Rattle.sip_clients.specs.Clients.{ack_kept, ack_paid, ack_by_user, acked_with, invite_taken, paid_or_refused, plain_taken, prack_paid, prack_by_user, request_by_user, settled, started}
+use Rattle.sip_clients.specs.Clients.{ack_kept, ack_paid, ack_by_user, acked_with, invite_taken, plain_taken, prack_paid, prack_by_user, request_by_user, settled, started}
 use Rattle.sip_clients.specs.Commands.{ack_asked, bye_ended, debt_for, is_bad_outside, name_in, requested_at}
 use Rattle.sip_clients.specs.Dialogs.{paid_at}
 use Rattle.sip_common.specs.Notices.{refused}
@@ -37,6 +36,7 @@ use Rattle.sip_clients.specs.Outside.{invite_of, plain_of}
 use Rattle.sip_clients.proofs.StartBounds.{waits_in, waits_for, waiting, AllClients, how_many, ids_of, Fits, Within, fits, none_more, no_weight, same_weight, more_weight, swapped, none_of, of_none, nothing, at_most_same, started_within, settled_within, said_fresh, sent_within}
 use Rattle.sip_clients.proofs.Tally.{tally_changed, weight}
 use Rattle.sip_clients.proofs.WithoutStarts.{none_started, request_said_quiet, ack_said_quiet, bye_quiet, silent_fits}
+use Rattle.sip_clients.proofs.Served.{paid_either}
 
 module _ (event : Event) where
   abbrev OwnOf : Clients → Clients × List CallOut → Type 0
@@ -129,40 +129,28 @@ module _ (event : Event) where
       (λ client. same_weight (weight (is_id id) (waits_in client.cancel))) clients)
   noted_fewer (Prack rseq number) name ack clients id = at_most_same clients id
 
-  ack_by : (command : DialogBody) (side : Side) (o : Result Debt Refusal)
-      → OnSide side (paid_or_refused event command
-      (ack_paid event command (name_in command.local_tag command.remote_tag)) o side)
-  ack_by command side (Err refusal) =
-      quiet_fits side.clients (refused event.id command.call_id refusal) refl
-  ack_by command side (Ok debt) =
-      let name = name_in command.local_tag command.remote_tag in
-      let told = ack_asked event name debt command side.dialogs in
-      silent_fits (Some event.id) side.clients told.1 (ack_kept debt name told.2 side.clients)
-      (none_started told.1 (ack_said_quiet event command.call_id
-      (paid_at name event debt command.body side.dialogs).1))
-      (noted_fewer debt name told.2 side.clients)
-
   pub ack_fits : (command : DialogBody) (side : Side)
       → OnSide side (ack_by_user event command side)
   ack_fits command side =
-      ack_by command side (debt_for kind.Ack
-      (name_in command.local_tag command.remote_tag) side.dialogs)
-
-  prack_by : (command : DialogBody) (side : Side) (o : Result Debt Refusal)
-      → OnSide side (paid_or_refused event command
-      (prack_paid event command (name_in command.local_tag command.remote_tag)) o side)
-  prack_by command side (Err refusal) =
-      quiet_fits side.clients (refused event.id command.call_id refusal) refl
-  prack_by command side (Ok debt) =
       let name = name_in command.local_tag command.remote_tag in
-      said_fits command.call_id name
-      (paid_at name event debt command.body side.dialogs).1 side.clients
+      paid_either (OnSide side) event command (ack_paid event command name) side
+      (debt_for kind.Ack name side.dialogs)
+      (λ refusal. quiet_fits side.clients (refused event.id command.call_id refusal) refl)
+      (λ debt. let told = ack_asked event name debt command side.dialogs in
+      silent_fits (Some event.id) side.clients told.1 (ack_kept debt name told.2 side.clients)
+      (none_started told.1 (ack_said_quiet event command.call_id
+      (paid_at name event debt command.body side.dialogs).1))
+      (noted_fewer debt name told.2 side.clients))
 
   pub prack_fits : (command : DialogBody) (side : Side)
       → OnSide side (prack_by_user event command side)
   prack_fits command side =
-      prack_by command side (debt_for kind.Prack
-      (name_in command.local_tag command.remote_tag) side.dialogs)
+      let name = name_in command.local_tag command.remote_tag in
+      paid_either (OnSide side) event command (prack_paid event command name) side
+      (debt_for kind.Prack name side.dialogs)
+      (λ refusal. quiet_fits side.clients (refused event.id command.call_id refusal) refl)
+      (λ debt. said_fits command.call_id name
+      (paid_at name event debt command.body side.dialogs).1 side.clients)
 
   -- ---- CANCEL
 

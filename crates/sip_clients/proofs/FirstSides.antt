@@ -33,12 +33,11 @@ use Rattle.sip_clients.specs.declared.debts.DebtKind.TheVariants as kind
 use Rattle.sip_clients.specs.Commands.{bye_ended, debt_for, name_in, request_in_held, requested_at}
 use Rattle.sip_clients.specs.Debts.{paid}
 use Rattle.sip_clients.specs.Dialogs.{paid_at}
-use Rattle.sip_clients.specs.Outputs.{start_command}
 use Rattle.sip_clients.specs.Replied.{Replied, reply_taken}
 use Rattle.sip_clients.specs.Provisionals.{OfTheCall, in_life, is_for, number_for, provisional_number, told_of}
 use Rattle.sip_clients.proofs.CommandDialogs.{bye_leads, ended_leads, paid_keeps, request_keeps, served_leads}
 use Rattle.sip_clients.proofs.ReplyDialogs.{heard_number}
-use Rattle.sip_clients.proofs.FirstInvite.{ear_in, no_number, none_in_life, silent_from, told_more}
+use Rattle.sip_clients.proofs.FirstInvite.{ear_in, no_number, none_in_life, silent_from, told_beside}
 use Rattle.sip_clients.proofs.FirstReply.{first, first_replied, other_replied}
 use Rattle.sip_common.proofs.Heard.{AreApart, Leads, Lives, Moves, OpensBy, in_one, leads_same, leads_then, moves_led, none_came, quiet}
 use Rattle.sip_clients.proofs.Hearing.{Listens}
@@ -119,16 +118,13 @@ module _ (life : DialogLife) where
         → SideResult number (side_after event id side None done)
         → SideResult number (side_after event id side
         (option_map (λ id. cancel_client id cancelled) command) done)
-    unfolding start_command
-    freed number None cancelled done so = so
-    freed number (Some command) cancelled done so =
-        let clients = set_value (is_id id) side.clients done.0 in
-        let told = done.2 ++ (settled event id done.3 clients).1 in
-        let came = in_life (lives done.1 life) number in
-        let sent = start_command command (cancel_client command cancelled) in (
+    freed number command cancelled done so =
+        let settles = settled event id done.3 (set_value (is_id id) side.clients done.0) in
+        let came = in_life (lives done.1 life) number in (
           so.0,
           subst (λ shown. Listens (call ≡ Some life.born) (ear side.dialogs) (ear done.1) came
-              shown) (sym (told_more came told sent refl)) so.1,
+              shown)
+              (sym (told_beside came command cancelled (settles.0, done.2 ++ settles.1))) so.1,
         )
 
     abbrev done_of : ℕ → Client → Replied

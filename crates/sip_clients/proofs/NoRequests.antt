@@ -1,6 +1,6 @@
 -- The client side of a call tells the user of no request that comes up.
 use Rattle.std.proofs.Common.{◌≡◌, ℕ, Bool, true, false, cond, List, [], ◌∷◌, ◌++◌, refl}
-use Rattle.std.specs.Prelude.{Option, None, Some, Result, Ok, Err}
+use Rattle.std.specs.Prelude.{Option, None, Some}
 use Rattle.std.specs.Map.{set_value}
 use Rattle.std.specs.Option.{option_map}
 use Rattle.sip_message.specs.declared.id.Id.{Id}
@@ -13,7 +13,6 @@ use Rattle.sip_common.specs.declared.command.Plain.{Plain as PlainCommand}
 use Rattle.sip_common.specs.declared.debt.Debt.{Debt}
 use Rattle.sip_common.specs.declared.held_dialog.DialogName.{DialogName}
 use Rattle.sip_common.specs.declared.item.CallOut.{CallOut}
-use Rattle.sip_common.specs.declared.refusal.Refusal.{Refusal}
 use Rattle.sip_common.specs.declared.refusal.Refusal.TheVariants.{BadMethod}
 use Rattle.sip_common.specs.Requests.{is_final}
 use Rattle.sip_common.specs.Ids.{is_id}
@@ -30,17 +29,18 @@ use Rattle.sip_clients.specs.declared.outputs.ClientChange.TheVariants.{Stays, O
 use Rattle.sip_clients.specs.declared.reply.Reply.{Reply as Answer}
 use Rattle.sip_clients.specs.declared.service.Service.TheVariants.{Sent, Waits, Refused}
 use Rattle.sip_clients.specs.Cancel.{asked, cancel_case, cancel_by_user, cancel_client, cancelled_as, cancelled_of, freed_by, after_response, sent_beside}
-use Rattle.sip_clients.specs.Client.{Clients, Side, ClientTaken, client_at, client_changed, client_for}
-use Rattle.sip_clients.specs.Clients.{ack_paid, ack_by_user, found_taken, invite_taken, request_lost, lost_of, paid_or_refused, plain_taken, prack_paid, prack_by_user, reply_name, reply_of, reply_settled, request_by_user, response_taken, settled, started, status_of}
+use Rattle.sip_clients.specs.Client.{Clients, Side, client_at, client_changed, client_for}
+use Rattle.sip_clients.specs.Clients.{ack_by_user, found_taken, invite_taken, request_lost, lost_of, plain_taken, prack_paid, prack_by_user, reply_name, reply_of, reply_settled, request_by_user, response_taken, settled, started, status_of}
 use Rattle.sip_clients.specs.Commands.{bye_ended, debt_for, is_bad_outside, name_in, requested_at}
 use Rattle.sip_clients.specs.Dialogs.{paid_at}
 use Rattle.sip_common.specs.Notices.{refused}
-use Rattle.sip_clients.specs.Outputs.{ack_said, request_said, start_command}
+use Rattle.sip_clients.specs.Outputs.{request_said, start_command}
 use Rattle.sip_clients.specs.Outside.{plain_of}
 use Rattle.sip_clients.specs.Replied.{reply_taken}
 use Rattle.sip_clients.specs.Tick.{clients_ticked}
 use Rattle.sip_clients.proofs.ReplyStarts.{replies}
-use Rattle.sip_clients.proofs.WithoutStarts.{none_shown, request_said_quiet, ack_said_quiet, bye_quiet, lost_quiet, tick_quiet}
+use Rattle.sip_clients.proofs.WithoutStarts.{none_shown, request_said_quiet, ack_quiet, bye_quiet, lost_quiet, tick_quiet}
+use Rattle.sip_clients.proofs.Served.{paid_either}
 
 -- ---- what is sent
 
@@ -139,13 +139,6 @@ request_asks event command side =
     (settled_asks event event.id said.1 side.clients))
     (none_shown bye.1 (bye_quiet name command.method done.1 done.0))
 
-ack_paid_asks : (event : Event) (command : DialogBody) (name : DialogName) (debt : Debt)
-    (side : Side) → shown (ack_paid event command name debt side).1 ≡ []
-ack_paid_asks event command name debt side =
-    let service = (paid_at name event debt command.body side.dialogs).1 in
-    none_shown (ack_said event command.call_id service).0
-    (ack_said_quiet event command.call_id service)
-
 prack_paid_asks : (event : Event) (command : DialogBody) (name : DialogName) (debt : Debt)
     (side : Side) → shown (prack_paid event command name debt side).1 ≡ []
 prack_paid_asks event command name debt side =
@@ -155,25 +148,18 @@ prack_paid_asks event command name debt side =
     (none_shown said.0 (request_said_quiet event command.call_id name paid.1))
     (settled_asks event event.id said.1 side.clients)
 
-paid_asks : (event : Event) (command : DialogBody) (pay : Debt → Side → ClientTaken)
-    → ((debt : Debt) (side : Side) → shown (pay debt side).1 ≡ []) → (o : Result Debt Refusal)
-    → (side : Side) → shown (paid_or_refused event command pay o side).1 ≡ []
-paid_asks event command pay pays (Err refusal) side = refl
-paid_asks event command pay pays (Ok debt) side = pays debt side
-
 pub ack_command_asks : (event : Event) (command : DialogBody) (side : Side)
     → shown (ack_by_user event command side).1 ≡ []
 ack_command_asks event command side =
-    let name = name_in command.local_tag command.remote_tag in
-    paid_asks event command (ack_paid event command name) (ack_paid_asks event command name)
-    (debt_for kind.Ack name side.dialogs) side
+    none_shown (ack_by_user event command side).1 (ack_quiet event command side)
 
 pub prack_command_asks : (event : Event) (command : DialogBody) (side : Side)
     → shown (prack_by_user event command side).1 ≡ []
 prack_command_asks event command side =
     let name = name_in command.local_tag command.remote_tag in
-    paid_asks event command (prack_paid event command name) (prack_paid_asks event command name)
-    (debt_for kind.Prack name side.dialogs) side
+    paid_either (λ taken. shown taken.1 ≡ []) event command (prack_paid event command name) side
+    (debt_for kind.Prack name side.dialogs) (λ refusal. refl)
+    (λ debt. prack_paid_asks event command name debt side)
 
 cancel_by : (as_case : CancelCase) (event : Event) (command : Cancel) (invite : Client)
     (clients : Clients) → shown (cancelled_as as_case event command invite clients).1 ≡ []

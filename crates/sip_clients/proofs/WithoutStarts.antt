@@ -20,6 +20,7 @@ use Rattle.sip_clients.specs.declared.answers.SentAck.{SentAck}
 use Rattle.sip_clients.specs.declared.client.RequestKind.{RequestKind}
 use Rattle.sip_clients.specs.declared.client.RequestKind.TheVariants.{First, Again, Inside, Plain}
 use Rattle.sip_clients.specs.declared.client.Client.{Client}
+use Rattle.sip_clients.specs.declared.debts.DebtKind.TheVariants as kind
 use Rattle.sip_clients.specs.declared.event.Event.{Event}
 use Rattle.sip_clients.specs.declared.reply.Reply.{Reply as Answer}
 use Rattle.sip_clients.specs.declared.reply.ReplyCase.{ReplyCase}
@@ -28,14 +29,16 @@ use Rattle.sip_clients.specs.declared.service.Service.{Service}
 use Rattle.sip_clients.specs.declared.service.Service.TheVariants.{Sent, Waits, Refused}
 use Rattle.sip_clients.specs.Answers.{ack_of}
 use Rattle.sip_clients.specs.Client.{Clients, Side, without_client}
-use Rattle.sip_clients.specs.Clients.{lost_of}
-use Rattle.sip_clients.specs.Commands.{bye_ended}
-use Rattle.sip_clients.specs.Dialogs.{accepted, ended_with, dialog_for_provisional, own_ended}
+use Rattle.sip_clients.specs.Clients.{lost_of, ack_by_user, ack_paid}
+use Rattle.sip_clients.specs.Commands.{bye_ended, debt_for, name_in}
+use Rattle.sip_clients.specs.Dialogs.{accepted, ended_with, dialog_for_provisional, own_ended, paid_at}
 use Rattle.sip_clients.specs.Outputs.{ack_said, direct, request_said}
 use Rattle.sip_clients.specs.Replied.{ack_owed, by_reply_case, prack_owed}
 use Rattle.sip_clients.specs.Tick.{clients_left, is_over, early_ends_told, over_notices}
 use Rattle.sip_clients.proofs.StartBounds.{waits_for, waiting, AllClients, how_many, ids_of, Fits, Within, fits, none_of, own_nothing, at_most_same}
 use Rattle.sip_clients.proofs.Tally.{tally_filtered, tally_removed, weight}
+use Rattle.sip_clients.proofs.Served.{paid_either}
+use Rattle.sip_common.specs.declared.command.DialogBody.{DialogBody}
 
 -- ---- notices of no request, and ACKs
 
@@ -73,6 +76,15 @@ pub ack_said_quiet : (event : Event) (call_id : List ℕ) (service : Service)
 ack_said_quiet event call_id (Sent sending) = (tt, tt)
 ack_said_quiet event call_id Waits = tt
 ack_said_quiet event call_id (Refused refusal) = (refl, tt)
+
+pub ack_quiet : (event : Event) (command : DialogBody) (side : Side)
+    → AreQuiet (ack_by_user event command side).1
+ack_quiet event command side =
+    let name = name_in command.local_tag command.remote_tag in
+    paid_either (λ taken. AreQuiet taken.1) event command (ack_paid event command name) side
+    (debt_for kind.Ack name side.dialogs) (λ refusal. (refl, tt))
+    (λ debt. ack_said_quiet event command.call_id
+    (paid_at name event debt command.body side.dialogs).1)
 
 at_or_quiet : (b : Bool) (name : DialogName) (dialogs : Dialogs)
     → AreQuiet (cond {A = Dialogs × List CallOut} b (ended_at name dialogs) (dialogs, [])).1
