@@ -31,7 +31,6 @@ use Rattle.sip_clients.specs.declared.debts.DebtKind.TheVariants as kind
 use Rattle.sip_clients.specs.declared.event.Event.{Event}
 use Rattle.sip_clients.specs.declared.outputs.ClientChange.{ClientChange}
 use Rattle.sip_clients.specs.declared.outputs.ClientChange.TheVariants.{Stays, Over, Starts}
-use Rattle.sip_clients.specs.declared.service.Service.TheVariants.{Sent, Waits, Refused}
 use Rattle.sip_clients.specs.Cancel.{asked, cancel_case, cancel_client, cancel_by_user, cancelled_as, cancelled_of, sent_beside}
 use Rattle.sip_clients.specs.Client.{Clients, Side, client_at, client_changed, client_for, with_client, without_client}
 use Rattle.sip_clients.specs.Clients.{ack_kept, ack_paid, ack_by_user, acked_with, invite_taken, lost_of, plain_taken, prack_paid, prack_by_user, request_by_user, settled}

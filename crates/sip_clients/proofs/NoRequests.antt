@@ -27,7 +27,6 @@ use Rattle.sip_clients.specs.declared.event.Event.{Event}
 use Rattle.sip_clients.specs.declared.outputs.ClientChange.{ClientChange}
 use Rattle.sip_clients.specs.declared.outputs.ClientChange.TheVariants.{Stays, Over, Starts}
 use Rattle.sip_clients.specs.declared.reply.Reply.{Reply as Answer}
-use Rattle.sip_clients.specs.declared.service.Service.TheVariants.{Sent, Waits, Refused}
 use Rattle.sip_clients.specs.Cancel.{asked, cancel_case, cancel_by_user, cancel_client, cancelled_as, cancelled_of, freed_by, after_response, sent_beside}
 use Rattle.sip_clients.specs.Client.{Clients, Side, client_at, client_changed, client_for}
 use Rattle.sip_clients.specs.Clients.{ack_by_user, found_taken, invite_taken, request_lost, lost_of, plain_taken, prack_paid, prack_by_user, reply_name, reply_of, reply_settled, request_by_user, response_taken, settled, started, status_of}

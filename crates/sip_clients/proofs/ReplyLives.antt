@@ -293,6 +293,10 @@ module _ (event : Event) (id : Id) (call_id : List ℕ) (response : Message) (st
         by_kind client.kind (is_named own name) (is_success status)
         (not (has_answer own client.answers)) (is_there client.kind (Some held)) last
       where
+        never : (final : Bool) → (final && false) ≡ true → ⊥
+        never true e = absurd cc
+        never false e = absurd cc
+
         by_kind : (kind : RequestKind) (named success first there : Bool)
             → (is_final status && not (is_inviting kind && success)) ≡ true
             → (if named && (success && first) && there then success_brings kind response held else
@@ -301,15 +305,7 @@ module _ (event : Event) (id : Id) (call_id : List ℕ) (response : Message) (st
         by_kind kind true false first there last = refl
         by_kind kind false success first there last = refl
         by_kind First true true first there last = absurd (never (is_final status) last)
-          where
-            never : (final : Bool) → (final && false) ≡ true → ⊥
-            never true e = absurd cc
-            never false e = absurd cc
         by_kind (Again life) true true first there last = absurd (never (is_final status) last)
-          where
-            never : (final : Bool) → (final && false) ≡ true → ⊥
-            never true e = absurd cc
-            never false e = absurd cc
         by_kind (Inside life) true true first there last = none_either (first && there)
         by_kind Plain true true first there last = none_either (first && there)
 
