@@ -13,8 +13,7 @@ use Rattle.sip_common.specs.Dialogs.{dialog_at, is_named, lives, Dialogs}
 use Rattle.sip_common.specs.Ids.{is_id}
 use Rattle.sip_common.proofs.Entries as entries
 use Rattle.sip_common.proofs.Heard.{name_laws}
-use Rattle.sip_clients.specs.declared.client.RequestKind.{RequestKind}
-use Rattle.sip_clients.specs.declared.client.RequestKind.TheVariants.{First, Again, Inside, Plain}
+use Rattle.sip_clients.specs.declared.client.RequestKind.TheVariants.{Again}
 use Rattle.sip_clients.specs.declared.client.Client.{Client}
 use Rattle.sip_clients.specs.declared.reply.Reply.{Reply as Answer}
 use Rattle.sip_clients.specs.declared.reply.ReplyCase.{ReplyCase}
@@ -22,9 +21,8 @@ use Rattle.sip_clients.specs.declared.reply.ReplyCase.TheVariants as reply
 use Rattle.sip_clients.specs.Answers.{has_answer}
 use Rattle.sip_clients.specs.Debts.{owed}
 use Rattle.sip_clients.specs.Dialogs.{dialog_for_provisional}
-use Rattle.sip_clients.specs.Replied.{Replied, after_dialog, by_reply_case, request_over, heard_again, offer_to, prack_owed, replied_in, reply_taken}
-use Rattle.sip_clients.specs.Reply.{is_last, is_there, reliable_case, reply_case, success_case}
-use Rattle.sip_clients.proofs.AgainInvite.{StartsUnheard, said_unheard}
+use Rattle.sip_clients.specs.Replied.{by_reply_case, offer_to, prack_owed}
+use Rattle.sip_clients.specs.Reply.{is_there, reliable_case, success_case}
 use Rattle.sip_clients.proofs.CommandDialogs.{owed_keeps}
 use Rattle.sip_clients.proofs.FirstInvite.{id_exact}
 use Rattle.sip_clients.proofs.FirstReply.{Unheard, number_by}
@@ -33,22 +31,6 @@ abbrev pub again : DialogLife → Client → Client
 again own client = record client { kind = Again own }
 
 -- ---- the request after a response
-
-pub asks_kept : (case : ReplyCase) (client : Client) (found : Option HeldDialog) (answer : Answer)
-    → ((by_reply_case case client found answer).0).kind ≡ client.kind
-asks_kept reply.Repeated client found answer = refl
-asks_kept reply.Accepted client found answer = refl
-asks_kept reply.Late client found answer = refl
-asks_kept (reply.Reliable number) client found answer = by_asks client.kind
-  where
-    by_asks : (kind : RequestKind) → (heard_again kind number client).kind ≡ client.kind
-    by_asks First = refl
-    by_asks (Again own) = refl
-    by_asks (Inside own) = refl
-    by_asks Plain = refl
-asks_kept reply.Passed client found answer = refl
-asks_kept reply.Early client found answer = refl
-asks_kept reply.Told client found answer = refl
 
 pub heard_kept : (case : ReplyCase) (client : Client) (found : Option HeldDialog) (answer : Answer)
     → Unheard case → ((by_reply_case case client found answer).0).heard ≡ client.heard
@@ -59,43 +41,6 @@ heard_kept (reply.Reliable number) client found answer none = absurd cc
 heard_kept reply.Passed client found answer none = refl
 heard_kept reply.Early client found answer none = refl
 heard_kept reply.Told client found answer none = refl
-
-pub change_unheard : (case : ReplyCase) (client : Client) (found : Option HeldDialog)
-    (answer : Answer)
-    → StartsUnheard (by_reply_case case client found answer).3
-unfolding prack_owed
-change_unheard reply.Repeated client found answer = tt
-change_unheard reply.Accepted client found answer = tt
-change_unheard reply.Late client found answer = tt
-change_unheard (reply.Reliable number) client found answer =
-    said_unheard answer.event answer.call_id answer.name
-    (prack_owed number client (dialog_for_provisional client answer found) answer).1
-change_unheard reply.Passed client found answer = tt
-change_unheard reply.Early client found answer = tt
-change_unheard reply.Told client found answer = tt
-
--- the last response too keeps what the request asks, and starts none
-module _ (client : Client) (dialogs : Dialogs) (answer : Answer) where
-  abbrev found_at : Option HeldDialog
-  found_at = dialog_at answer.name dialogs
-
-  abbrev taken_by : Bool → Replied
-  taken_by last = cond {A = Replied} last (request_over client dialogs answer)
-      (after_dialog answer.name dialogs (replied_in client found_at answer))
-
-  pub asks_taken : ((reply_taken client dialogs answer).0).kind ≡ client.kind
-  asks_taken = elim (is_last client.kind answer.status) as (λ last.
-      ((taken_by last).0).kind ≡ client.kind) [
-        | true ↦ refl
-        | false ↦ asks_kept (reply_case client found_at answer) client found_at answer
-      ]
-
-  pub change_taken : StartsUnheard (reply_taken client dialogs answer).3
-  change_taken = elim (is_last client.kind answer.status) as (λ last.
-      StartsUnheard (taken_by last).3) [
-        | true ↦ tt
-        | false ↦ change_unheard (reply_case client found_at answer) client found_at answer
-      ]
 
 -- ---- which case it is
 

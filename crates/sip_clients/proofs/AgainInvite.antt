@@ -1,6 +1,6 @@
 -- What the client side makes of what was heard for an INVITE in a life of a dialog.
 use Rattle.std.proofs.Common.{◌≡◌, ◌⊎◌, inl, inr, ℕ, Bool, true, false, not, ◌&&◌, cond, List, [], ◌∷◌, refl, ap, ◌∙◌}
-use Rattle.std.specs.Prelude.{Option, None, Some, Result, Ok, Err, if◌then◌else◌}
+use Rattle.std.specs.Prelude.{Option, None, Some, if◌then◌else◌}
 use Rattle.std.specs.Option.{option_map}
 use Rattle.sip_message.specs.declared.id.Id.{Id}
 use Rattle.sip_reliable.specs.Inbound.{latest_after, offered}
@@ -14,7 +14,6 @@ use Rattle.sip_common.specs.declared.command.Plain.{Plain as PlainCommand}
 use Rattle.sip_common.specs.declared.held_dialog.DialogLife.{DialogLife}
 use Rattle.sip_common.specs.declared.held_dialog.DialogName.{DialogName}
 use Rattle.sip_common.specs.declared.item.CallOut.{CallOut}
-use Rattle.sip_common.specs.declared.refusal.Refusal.{Refusal}
 use Rattle.sip_common.specs.declared.refusal.Refusal.TheVariants.{BadMethod}
 use Rattle.sip_common.specs.Dialogs.{is_named, lives, Dialogs}
 use Rattle.sip_common.specs.Ids.{is_id}
@@ -32,11 +31,9 @@ use Rattle.sip_clients.specs.declared.debts.DebtKind.TheVariants as kind
 use Rattle.sip_clients.specs.declared.event.Event.{Event}
 use Rattle.sip_clients.specs.declared.outputs.ClientChange.{ClientChange}
 use Rattle.sip_clients.specs.declared.outputs.ClientChange.TheVariants.{Stays, Over, Starts}
-use Rattle.sip_clients.specs.declared.service.Service.{Service}
-use Rattle.sip_clients.specs.declared.service.Service.TheVariants.{Sent, Waits, Refused}
-use Rattle.sip_clients.specs.Cancel.{asked, cancel_case, cancel_client, cancel_by_user, cancellation, cancelled_as, cancelled_of, sent_beside}
+use Rattle.sip_clients.specs.Cancel.{asked, cancel_case, cancel_client, cancel_by_user, cancelled_as, cancelled_of, sent_beside}
 use Rattle.sip_clients.specs.Client.{Clients, Side, client_at, client_changed, client_for, with_client, without_client}
-use Rattle.sip_clients.specs.Clients.{ack_kept, ack_paid, ack_by_user, acked_with, invite_taken, lost_of, paid_or_refused, plain_taken, prack_paid, prack_by_user, request_by_user, settled}
+use Rattle.sip_clients.specs.Clients.{ack_kept, ack_paid, ack_by_user, acked_with, invite_taken, lost_of, plain_taken, prack_paid, prack_by_user, request_by_user, settled}
 use Rattle.sip_clients.specs.Commands.{ack_asked, debt_for, is_bad_outside, name_in, requested_at}
 use Rattle.sip_clients.specs.Dialogs.{paid_at}
 use Rattle.sip_common.specs.Notices.{refused}
@@ -46,6 +43,8 @@ use Rattle.sip_clients.specs.Provisionals.{in_life, told_of}
 use Rattle.sip_clients.specs.Tick.{clients_left, is_over}
 use Rattle.sip_clients.proofs.FirstInvite.{id_exact, no_number}
 use Rattle.sip_clients.proofs.Hearing.{Listens, Silent}
+use Rattle.sip_clients.proofs.StartBounds.{StartsFresh, said_fresh}
+use Rattle.sip_clients.proofs.Served.{paid_either}
 
 abbrev pub AreApart : Clients → Type 0
 AreApart clients = entries.Apart id_laws clients
@@ -111,18 +110,6 @@ listens_then Begins before middle after (Some number) shown hears (inr same) = r
     by_now (inl gone) = inl (same ∙ gone)
     by_now (inr is) = inr (same ∙ is)
 
--- a request that was just sent has heard nothing
-abbrev pub StartsUnheard : ClientChange → Type 0
-StartsUnheard Stays = Unit {0}
-StartsUnheard Over = Unit {0}
-StartsUnheard (Starts client) = client.heard ≡ None
-
-pub said_unheard : (event : Event) (call_id : List ℕ) (name : DialogName) (service : Service)
-    → StartsUnheard (request_said event call_id name service).1
-said_unheard event call_id name (Sent sending) = refl
-said_unheard event call_id name Waits = tt
-said_unheard event call_id name (Refused refusal) = tt
-
 abbrev pub ear_of : DialogLife → Id → Clients → Option (Option ℕ)
 ear_of life invite clients = client_ear life (client_at invite clients)
 
@@ -139,14 +126,14 @@ module _ (life : DialogLife) (invite : Id) where
 
   pub sent_apart : (id : Option Id) (cancelled : Client) (done : Clients × List CallOut)
       → AreApart done.0
-      → AreApart (sent_beside (option_map (λ id. cancellation id cancelled) id) done).0
+      → AreApart (sent_beside (option_map (λ id. cancel_client id cancelled) id) done).0
   sent_apart None cancelled done apart = apart
   sent_apart (Some id) cancelled done apart =
       entries.apart_inserted id_laws id (cancel_client id cancelled) done.0 apart
 
   pub sent_stays : (id : Option Id) (cancelled : Client) (done : Clients × List CallOut)
       → EndsOrStays (ear_of life invite done.0) (ear_of life invite
-      (sent_beside (option_map (λ id. cancellation id cancelled) id) done).0)
+      (sent_beside (option_map (λ id. cancel_client id cancelled) id) done).0)
   sent_stays None cancelled done = inr refl
   sent_stays (Some id) cancelled done =
       entries.by_insertion id_laws EarStays stays_same stays_none id invite
@@ -238,12 +225,12 @@ module _ (life : DialogLife) (invite : Id) (event : Option Id) where
   }
 
   pub keeps_settled : (of : Event) (id : Id) (change : ClientChange) → event ≡ Some of.id
-      → StartsUnheard change
+      → StartsFresh change
       → (clients : Clients) → AreApart clients → Keeps clients (settled of id change clients).0
-  keeps_settled of id Stays made unheard clients apart = keeps_same clients apart
-  keeps_settled of id Over made unheard clients apart = keeps_removed id clients apart
-  keeps_settled of id (Starts client) made unheard clients apart =
-      keeps_started of.id client made unheard clients apart
+  keeps_settled of id Stays made fresh clients apart = keeps_same clients apart
+  keeps_settled of id Over made fresh clients apart = keeps_removed id clients apart
+  keeps_settled of id (Starts client) made fresh clients apart =
+      keeps_started of.id client made fresh.1 clients apart
 
   -- ---- a request that is lost, commands of the user, and a tick
 
@@ -269,7 +256,7 @@ module _ (life : DialogLife) (invite : Id) (event : Option Id) where
   keeps_plain of command made clients apart =
       let client = client_for of.id Plain (plain_of of command) command.address in
       keeps_either (is_bad_outside command.method)
-      (refused of.id command.call_id BadMethod) (start_command of client ∷ []) clients
+      (refused of.id command.call_id BadMethod) (start_command of.id client ∷ []) clients
       (with_client of.id client clients)
       (keeps_same clients apart) (keeps_started of.id client made refl clients apart)
 
@@ -279,7 +266,7 @@ module _ (life : DialogLife) (invite : Id) (event : Option Id) where
       let name = name_in command.local_tag command.remote_tag in
       let service = (requested_at name of command side.dialogs).1 in
       keeps_settled of of.id (request_said of command.call_id name service).1 made
-      (said_unheard of command.call_id name service) side.clients apart
+      (said_fresh of command.call_id name service) side.clients apart
 
   keeps_noted : (debt : Debt) (name : DialogName) (ack : Option SentAck) (clients : Clients)
       → AreApart clients → Keeps clients (ack_kept debt name ack clients)
@@ -288,37 +275,26 @@ module _ (life : DialogLife) (invite : Id) (event : Option Id) where
       keeps_changed of (acked_with name ack) (λ client. refl) clients apart
   keeps_noted (Prack rseq number) name ack clients apart = keeps_same clients apart
 
-  by_ack : (of : Event) (command : DialogBody) (side : Side) (o : Result Debt Refusal)
-      → AreApart side.clients
-      → Keeps side.clients ((paid_or_refused of command
-      (ack_paid of command (name_in command.local_tag command.remote_tag)) o side).0).clients
-  by_ack of command side (Err refusal) apart = keeps_same side.clients apart
-  by_ack of command side (Ok debt) apart =
-      let name = name_in command.local_tag command.remote_tag in
-      keeps_noted debt name (ack_asked of name debt command side.dialogs).2 side.clients apart
-
   pub keeps_ack : (of : Event) (command : DialogBody) (side : Side) → AreApart side.clients
       → Keeps side.clients ((ack_by_user of command side).0).clients
   keeps_ack of command side apart =
-      by_ack of command side (debt_for kind.Ack
-      (name_in command.local_tag command.remote_tag) side.dialogs) apart
-
-  by_prack : (of : Event) (command : DialogBody) → event ≡ Some of.id
-      → (side : Side) (o : Result Debt Refusal) → AreApart side.clients
-      → Keeps side.clients ((paid_or_refused of command
-      (prack_paid of command (name_in command.local_tag command.remote_tag)) o side).0).clients
-  by_prack of command made side (Err refusal) apart = keeps_same side.clients apart
-  by_prack of command made side (Ok debt) apart =
       let name = name_in command.local_tag command.remote_tag in
-      let service = (paid_at name of debt command.body side.dialogs).1 in
-      keeps_settled of of.id (request_said of command.call_id name service).1 made
-      (said_unheard of command.call_id name service) side.clients apart
+      paid_either (λ taken. Keeps side.clients (taken.0).clients) of command
+      (ack_paid of command name) side (debt_for kind.Ack name side.dialogs)
+      (λ refusal. keeps_same side.clients apart)
+      (λ debt. keeps_noted debt name (ack_asked of name debt command side.dialogs).2 side.clients
+      apart)
 
   pub keeps_prack : (of : Event) (command : DialogBody) → event ≡ Some of.id → (side : Side)
       → AreApart side.clients → Keeps side.clients ((prack_by_user of command side).0).clients
   keeps_prack of command made side apart =
-      by_prack of command made side (debt_for kind.Prack
-      (name_in command.local_tag command.remote_tag) side.dialogs) apart
+      let name = name_in command.local_tag command.remote_tag in
+      paid_either (λ taken. Keeps side.clients (taken.0).clients) of command
+      (prack_paid of command name) side (debt_for kind.Prack name side.dialogs)
+      (λ refusal. keeps_same side.clients apart)
+      (λ debt. let service = (paid_at name of debt command.body side.dialogs).1 in
+      keeps_settled of of.id (request_said of command.call_id name service).1 made
+      (said_fresh of command.call_id name service) side.clients apart)
 
   -- ---- CANCEL
 

@@ -30,8 +30,10 @@ use Rattle.sip_clients.specs.Dialogs.{dialog_for_provisional}
 use Rattle.sip_clients.specs.Provisionals.{in_life, is_response, provisional_number, told_of}
 use Rattle.sip_clients.specs.Replied.{Replied, after_dialog, by_reply_case, request_over, notice, prack_owed, reply_taken}
 use Rattle.sip_clients.specs.Reply.{is_there, offer_case, rseq_of, success_case}
-use Rattle.sip_clients.proofs.AgainCases.{again, asks_kept, heard_kept, change_unheard, asks_taken, change_taken, case_by, Gone, gone, success_unheard, lives_same, lives_owed}
-use Rattle.sip_clients.proofs.AgainInvite.{AgainResult, AreApart, Keeps, StartsUnheard, asks_ear, client_ear, ear_of, keeps_settled, silent_then}
+use Rattle.sip_clients.proofs.AgainCases.{again, heard_kept, case_by, Gone, gone, success_unheard, lives_same, lives_owed}
+use Rattle.sip_clients.proofs.AgainInvite.{AgainResult, AreApart, Keeps, asks_ear, client_ear, ear_of, keeps_settled, silent_then}
+use Rattle.sip_clients.proofs.ReplyStarts.{case_fresh, replies, rest_kept}
+use Rattle.sip_clients.proofs.StartBounds.{StartsFresh}
 use Rattle.sip_clients.proofs.FirstInvite.{no_number}
 use Rattle.sip_clients.proofs.FirstReply.{Decided, Unheard, decided, number_by, told_once}
 use Rattle.sip_clients.proofs.Hearing.{Listens, Silent}
@@ -49,7 +51,7 @@ module _ (life : DialogLife) (invite : Id) (event : Option Id) (answer : Answer)
   -- ---- what is left to do once the request is as it is after the response
 
   module _ (clients : Clients) (left : AreApart clients) (dialogs : Dialogs) (change : ClientChange)
-      (starts : StartsUnheard change) (outs : List CallOut) where
+      (starts : StartsFresh change) (outs : List CallOut) where
     settles : Keeps life invite event clients (settled answer.event answer.id change clients).0
     settles = keeps_settled life invite event answer.event answer.id change made starts clients left
 
@@ -154,7 +156,7 @@ module _ (life : DialogLife) (invite : Id) (event : Option Id) (answer : Answer)
     no_ear none same =
         let after = change client in
         ear_own same ∙ ap (λ kind. asks_ear life kind after.heard)
-        (asks_taken (noting client) side.dialogs answer) ∙ none after.heard
+        (replies (noting client) side.dialogs answer).kept.0 ∙ none after.heard
 
     other_silent : is_id answer.id invite ≡ false
         → Silent (event ≡ Some invite) (ear side.clients) (ear changed)
@@ -164,7 +166,7 @@ module _ (life : DialogLife) (invite : Id) (event : Option Id) (answer : Answer)
         → Done None (reply_taken (noting client) side.dialogs answer)
     finish silent =
         let done = reply_taken (noting client) side.dialogs answer in
-        finish_silent changed left done.1 done.3 (change_taken (noting client) side.dialogs answer)
+        finish_silent changed left done.1 done.3 (replies (noting client) side.dialogs answer).fresh
         (done.2 ++ (settled answer.event answer.id done.3 changed).1) silent
 
     pub no_invite : ((heard : Option ℕ) → asks_ear life client.kind heard ≡ None)
@@ -210,7 +212,7 @@ module _ (life : DialogLife) (invite : Id) (event : Option Id) (answer : Answer)
     now_is : (case : ReplyCase) → Heard (taken_as case) → Unheard case
         → Silent (event ≡ Some invite) (ear side.clients) (ear after)
     now_is case heard none =
-        inr (inl (heard ∙ (λ i. asks_ear life (asks_kept case now held answer i)
+        inr (inl (heard ∙ (λ i. asks_ear life ((rest_kept case now held answer).0 i)
         (heard_kept case now held answer none i))
         ∙ (λ i. if ours i then Some client.heard else None) ∙ sym was))
 
@@ -226,7 +228,7 @@ module _ (life : DialogLife) (invite : Id) (event : Option Id) (answer : Answer)
         → DoneSo None (taken_as case)
     unheard case heard none =
         let done = taken_as case in
-        finish_silent after (left found is) done.1 done.3 (change_unheard case now held answer)
+        finish_silent after (left found is) done.1 done.3 (case_fresh case now held answer)
         (done.2 ++ (settled answer.event answer.id done.3 after).1) (now_is case heard none)
 
     passed : (number : ℕ) (offer : Offer) → offered client.heard number ≡ offer
@@ -248,7 +250,7 @@ module _ (life : DialogLife) (invite : Id) (event : Option Id) (answer : Answer)
     by_offer number Taken is_offered there alive heard =
         let done = taken_as (reply.Reliable number) in
         finish_heard after (left found is) done.1 done.3
-        (change_unheard (reply.Reliable number) now held answer)
+        (case_fresh (reply.Reliable number) now held answer)
         (done.2 ++ (settled answer.event answer.id done.3 after).1) number client.heard
         (lives_owed life own number (noting found is client) side.dialogs answer held refl there
         ∙ alive) was

@@ -15,24 +15,15 @@ use Rattle.sip_clients.specs.declared.client.RequestKind.TheVariants.{First, Aga
 use Rattle.sip_clients.specs.declared.client.Client.{Client}
 use Rattle.sip_clients.specs.declared.event.Event.{Event}
 use Rattle.sip_clients.specs.declared.reply.Reply.{Reply as Answer}
-use Rattle.sip_clients.specs.Cancel.{cancel_command, cancellation, freed_by, after_response, sent_beside}
+use Rattle.sip_clients.specs.Cancel.{cancel_client, freed_by, after_response, sent_beside}
 use Rattle.sip_clients.specs.Client.{Clients, Side, ClientTaken, client_at}
 use Rattle.sip_clients.specs.Clients.{found_taken, settled, side_after, reply_name, reply_of, reply_settled, response_taken, status_of}
 use Rattle.sip_clients.specs.Replied.{Replied, reply_taken}
 use Rattle.sip_clients.specs.Provisionals.{InTheDialog, in_life, is_for, number_for, provisional_number, told_of}
 use Rattle.sip_clients.proofs.AgainInvite.{AgainResult, AreApart, ear_of, keeps_same, listens_then, sent_apart, sent_stays, silent_result}
 use Rattle.sip_clients.proofs.AgainReply.{another, invite_replied, no_invite}
-use Rattle.sip_clients.proofs.FirstInvite.{none_in_life, told_more}
+use Rattle.sip_clients.proofs.FirstInvite.{none_in_life, told_beside}
 use Rattle.sip_clients.proofs.Hearing.{Listens}
-
-told_beside : (number : Option ℕ) (command : Option Id) (cancelled : Client)
-    (done : Clients × List CallOut)
-    → told_of number (sent_beside (option_map (λ id. cancellation id cancelled) command) done).1
-    ≡ told_of number done.1
-unfolding cancel_command
-told_beside number None cancelled done = refl
-told_beside number (Some id) cancelled done =
-    told_more number done.1 (cancel_command id cancelled) refl
 
 abbrev with_asks : RequestKind → Client → Client
 with_asks kind client = record client { kind = kind }
@@ -61,11 +52,11 @@ module _ (life : DialogLife) (invite : Id) (event : Option Id) (of : Event)
   freed : (number : Option ℕ) (command : Option Id) (cancelled : Client) (done : Replied)
       → SideResult number (side_after of id side None done)
       → SideResult number (side_after of id side
-      (option_map (λ id. cancellation id cancelled) command) done)
+      (option_map (λ id. cancel_client id cancelled) command) done)
   freed number command cancelled done so =
       let settles = settled of id done.3 (set_value (is_id id) side.clients done.0) in
       let first : Clients × List CallOut = (settles.0, done.2 ++ settles.1) in
-      let last = sent_beside (option_map (λ id. cancellation id cancelled) command) first in
+      let last = sent_beside (option_map (λ id. cancel_client id cancelled) command) first in
       let came = in_life (lives done.1 life) number in (
         sent_apart life invite command cancelled first so.0,
         subst (λ shown. Listens (event ≡ Some invite) (ear_of life invite side.clients)

@@ -25,7 +25,7 @@ use Rattle.sip_clients.specs.declared.reply.Reply.{Reply as Answer}
 use Rattle.sip_clients.specs.declared.reply.ReplyCase.{ReplyCase}
 use Rattle.sip_clients.specs.declared.reply.ReplyCase.TheVariants as reply
 use Rattle.sip_clients.specs.Answers.{ack_of}
-use Rattle.sip_clients.specs.Cancel.{cancel_command, cancellation, sent_beside}
+use Rattle.sip_clients.specs.Cancel.{cancel_client, sent_beside}
 use Rattle.sip_clients.specs.Client.{Clients}
 use Rattle.sip_clients.specs.Clients.{settled}
 use Rattle.sip_clients.specs.Outputs.{direct, start_command}
@@ -44,12 +44,12 @@ or_false false = refl
 module _ (p : CallOut → Bool) (none : (id : Id) (order : Order) → p (out.Command id order) ≡ false)
   where
     any_beside : (freed : Option Id) (invite : Client) (done : Clients × List CallOut)
-        → list_any p (sent_beside (option_map (λ id. cancellation id invite) freed) done).1
+        → list_any p (sent_beside (option_map (λ id. cancel_client id invite) freed) done).1
         ≡ list_any p done.1
-    unfolding cancel_command
+    unfolding start_command
     any_beside None invite done = refl
     any_beside (Some id) invite done =
-        list_any-append p done.1 (cancel_command id invite ∷ [])
+        list_any-append p done.1 (start_command id (cancel_client id invite) ∷ [])
         ∙ ap (λ b. list_any p done.1 || (b || false)) (none id _) ∙ or_false (list_any p done.1)
 
     any_settled : (event : Event) (id : Id) (change : ClientChange) (clients : Clients)
@@ -62,7 +62,7 @@ module _ (p : CallOut → Bool) (none : (id : Id) (order : Order) → p (out.Com
     pub any_given : (freed : Option Id) (invite : Client) (event : Event) (id : Id)
         (change : ClientChange) (clients : Clients) (told : List CallOut)
         → let after = settled event id change clients in
-        list_any p (sent_beside (option_map (λ id. cancellation id invite) freed)
+        list_any p (sent_beside (option_map (λ id. cancel_client id invite) freed)
         (after.0, told ++ after.1)).1 ≡ list_any p told
     any_given freed invite event id change clients told =
         let after = settled event id change clients in

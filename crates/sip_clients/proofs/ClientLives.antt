@@ -1,6 +1,6 @@
 -- The steps of the client side: what happens in the dialog of each name is what the response does
 -- in it and what goes out in it.
-use Rattle.std.proofs.Common.{◌≡◌, ℕ, Bool, true, false, cond, List, [], ◌∷◌, ◌++◌, refl, sym, ap, subst, ◌∙◌}
+use Rattle.std.proofs.Common.{◌≡◌, ℕ, Bool, true, false, List, [], ◌++◌, refl, sym, ap, subst, ◌∙◌}
 use Rattle.std.specs.Prelude.{Option, None, Some, Result, Ok, Err, find}
 use Rattle.std.specs.Map.{set_value}
 use Rattle.std.specs.Option.{option_map, option_map_or}
@@ -22,7 +22,7 @@ use Rattle.sip_common.specs.Notices.{refused}
 use Rattle.sip_common.specs.Requests.{is_final}
 use Rattle.sip_common.specs.Sent.{NumberedFrom, cseqs_in, number_before, requests_made, sent_in}
 use Rattle.sip_common.proofs.Heard.{AreApart, Lives, Moves, leads_as, leads_same, moves_as, moves_led, none_came, none_either, quiet}
-use Rattle.sip_common.proofs.Starts.{numbered_none, starts}
+use Rattle.sip_common.proofs.Starts.{numbered_none}
 use Rattle.sip_clients.specs.declared.cancel.CancelCase.{CancelCase}
 use Rattle.sip_clients.specs.declared.cancel.CancelCase.TheVariants as asked
 use Rattle.sip_clients.specs.declared.client.Client.{Client}
@@ -31,7 +31,7 @@ use Rattle.sip_clients.specs.declared.event.Event.{Event}
 use Rattle.sip_clients.specs.declared.service.Service.TheVariants.{Waits, Refused}
 use Rattle.sip_clients.specs.Cancel.{cancel_case, cancel_by_user, cancelled_as, cancelled_of, freed_by, after_response}
 use Rattle.sip_clients.specs.Client.{Side, ClientTaken, client_at}
-use Rattle.sip_clients.specs.Clients.{ack_paid, ack_by_user, found_taken, lost_of, paid_or_refused, prack_paid, prack_by_user, reply_name, reply_of, reply_settled, request_by_user, response_taken, settled, status_of}
+use Rattle.sip_clients.specs.Clients.{ack_by_user, found_taken, lost_of, paid_or_refused, prack_paid, prack_by_user, reply_name, reply_of, reply_settled, request_by_user, response_taken, settled, status_of}
 use Rattle.sip_clients.specs.Commands.{bye_ended, debt_for, debt_or_refusal, name_in, oldest_debt, request_in_held, requested_at}
 use Rattle.sip_clients.specs.Debts.{is_of, paid}
 use Rattle.sip_clients.specs.Dialogs.{paid_at, served_at}
@@ -39,12 +39,12 @@ use Rattle.sip_clients.specs.Happenings.{reply_brings}
 use Rattle.sip_clients.specs.Outputs.{request_said}
 use Rattle.sip_clients.specs.Replied.{reply_taken}
 use Rattle.sip_clients.proofs.DialogSends.{AreNamed, AreNumbered, Sends, sends_none, silent_outs, sends_one, after_silent, between_silent, change_cseqs, change_sent, settled_cseqs}
-use Rattle.sip_clients.proofs.CommandStarts.{bye_none}
 use Rattle.sip_clients.proofs.ReplyStarts.{replies}
-use Rattle.sip_clients.proofs.WithoutStarts.{ack_said_none, lost_none, request_said_none}
+use Rattle.sip_clients.proofs.WithoutStarts.{none_started, ack_quiet, bye_quiet, lost_quiet, request_said_quiet}
 use Rattle.sip_clients.proofs.FirstSides.{ack_leads, lost_leads, paid_in, pay_leads, request_leads}
 use Rattle.sip_clients.proofs.ReplyLives.{replied_so}
 use Rattle.sip_clients.proofs.SentIn.{beside_sent, discharge_cseqs, discharge_numbered, paid_sent, request_cseqs, request_numbered, request_sent_in, said_sent, served_sent}
+use Rattle.sip_clients.proofs.Served.{found_passes}
 
 -- ---- a request that is lost, and commands of the user
 
@@ -53,7 +53,8 @@ pub lost_lives : (id : Id) (timed_out : Bool) (o : Option Client) (side : Side)
     → Sends (lost_of id timed_out o side).1 side.dialogs
     ((lost_of id timed_out o side).0).dialogs
 lost_lives id timed_out o side apart =
-    silent_outs (lost_of id timed_out o side).1 (lost_none id timed_out o side) side.dialogs
+    silent_outs (lost_of id timed_out o side).1 (none_started (lost_of id timed_out o side).1
+    (lost_quiet id timed_out o side)) side.dialogs
     ((lost_of id timed_out o side).0).dialogs (lost_leads id timed_out o side apart)
 
 module _ (event : Event) (side : Side) (apart : AreApart side.dialogs)
@@ -80,19 +81,9 @@ module _ (event : Event) (side : Side) (apart : AreApart side.dialogs)
       command.body) refl held at
       ∙ sym (said_sent other event event.id command.call_id name done.1 side.clients)
       ∙ sym (between_silent other said.0 after.1 bye.1
-      (request_said_none event command.call_id name done.1)
-      (bye_none event name command.method done.1 done.0)))
+      (none_started said.0 (request_said_quiet event command.call_id name done.1))
+      (none_started bye.1 (bye_quiet name command.method done.1 done.0))))
       (request_leads event command side apart)
-
-  found_passes : {X : Type 0} (p : X → Bool) (xs : List X) (x : X) → find p xs ≡ Some x
-      → p x ≡ true
-  found_passes p [] x is = absurd cc
-  found_passes p (y ∷ xs) x is = by_first (p y) refl is (λ later. found_passes p xs x later)
-    where
-      by_first : (b : Bool) → p y ≡ b → cond b (Some y) (find p xs) ≡ Some x
-          → (find p xs ≡ Some x → p x ≡ true) → p x ≡ true
-      by_first true passes is rest = let same : y ≡ x = cc in ap p (sym same) ∙ passes
-      by_first false fails is rest = rest is
 
   -- an ACK takes no number
   ack_takes_none : (command : DialogBody) (found : Option HeldDialog) (other : DialogName)
@@ -112,20 +103,12 @@ module _ (event : Event) (side : Side) (apart : AreApart side.dialogs)
           let wrong : false ≡ true =
           found_passes (is_of kind.Ack) there.owed (Prack rseq number) is in absurd cc
 
-  ack_starts : (command : DialogBody) (o : Result Debt Refusal)
-      → starts (paid_or_refused event command
-      (ack_paid event command (name_in command.local_tag command.remote_tag)) o side).1 ≡ []
-  ack_starts command (Err refusal) = refl
-  ack_starts command (Ok debt) =
-      let name = name_in command.local_tag command.remote_tag in
-      ack_said_none event command.call_id (paid_at name event debt command.body side.dialogs).1
-
   pub ack_lives : (command : DialogBody) → ByOuts (ack_by_user event command side)
   ack_lives command =
       let name = name_in command.local_tag command.remote_tag in
       let debt = debt_for kind.Ack name side.dialogs in
       let taken = ack_by_user event command side in
-      silent_outs taken.1 (ack_starts command debt) side.dialogs (taken.0).dialogs
+      silent_outs taken.1 (none_started taken.1 (ack_quiet event command side)) side.dialogs (taken.0).dialogs
       (leads_as (paid_in command debt) quiet side.dialogs (taken.0).dialogs
       (λ other held at. ack_takes_none command (dialog_at name side.dialogs) other held)
       (ack_leads event command side apart))
@@ -150,7 +133,7 @@ module _ (event : Event) (side : Side) (apart : AreApart side.dialogs)
       held at
       ∙ sym (said_sent other event event.id command.call_id name done.1 side.clients)
       ∙ sym (after_silent other said.0 after.1
-      (request_said_none event command.call_id name done.1)))
+      (none_started said.0 (request_said_quiet event command.call_id name done.1))))
       (pay_leads event command debt side.dialogs apart)
 
   pub prack_lives : (command : DialogBody) → ByOuts (prack_by_user event command side)
@@ -220,7 +203,8 @@ module _ (event : Event) (id : Id) (call_id : List ℕ) (response : Message) (si
       let same : (name : DialogName) → change_cseqs name done.3 ≡ cseqs_in name taken.1 =
       λ name. sym (beside_sent name (freed_by final client.cancel) client
       (after.0, done.2 ++ after.1)
-      ∙ after_silent name done.2 after.1 (replies with_note side.dialogs answer).silent
+      ∙ after_silent name done.2 after.1
+      (none_started done.2 (replies with_note side.dialogs answer).quiet)
       ∙ settled_cseqs name event id done.3 clients) in (
         so.0,
         moves_as (Some event.id) (Some (ByResponse client.request response)) so.0

@@ -1,6 +1,6 @@
 -- What commands of the user leave owed in the dialog of each name is what was owed before them,
 -- changed as they pay.
-use Rattle.std.proofs.Common.{◌≡◌, ℕ, Bool, true, false, ◌&&◌, cond, List, [], ◌∷◌, ◌++◌, refl, sym, ap, subst, ◌∙◌}
+use Rattle.std.proofs.Common.{◌≡◌, ℕ, Bool, true, false, ◌&&◌, cond, List, ◌++◌, refl, sym, ap, subst, ◌∙◌}
 use Rattle.std.specs.Prelude.{Option, None, Some, Err, find, if◌then◌else◌}
 use Rattle.std.specs.List.{list_any}
 use Rattle.std.specs.Option.{option_map, option_map_or}
@@ -12,7 +12,7 @@ use Rattle.sip_common.specs.declared.held_dialog.DialogName.{DialogName}
 use Rattle.sip_common.specs.declared.held_dialog.HeldDialog.{HeldDialog}
 use Rattle.sip_common.specs.declared.item.CallOut.{CallOut}
 use Rattle.sip_common.specs.declared.refusal.Refusal.{Refusal}
-use Rattle.sip_common.specs.declared.refusal.Refusal.TheVariants.{NoSuchDialog, NothingToAck, NothingToPrack}
+use Rattle.sip_common.specs.declared.refusal.Refusal.TheVariants.{NoSuchDialog}
 use Rattle.sip_common.specs.Dialogs.{Dialogs, dialog_at, is_named}
 use Rattle.sip_common.specs.Notices.{refused}
 use Rattle.sip_common.specs.Refusal.{first_refusal}
@@ -23,9 +23,9 @@ use Rattle.sip_clients.specs.declared.debts.DebtKind.{DebtKind}
 use Rattle.sip_clients.specs.declared.debts.DebtKind.TheVariants as kind
 use Rattle.sip_clients.specs.declared.event.Event.{Event}
 use Rattle.sip_clients.specs.declared.service.Service.TheVariants.{Waits, Refused}
-use Rattle.sip_clients.specs.Client.{Side}
+use Rattle.sip_clients.specs.Client.{Side, ClientTaken}
 use Rattle.sip_clients.specs.Clients.{ack_paid, ack_by_user, paid_or_refused, prack_paid, prack_by_user, request_by_user, settled}
-use Rattle.sip_clients.specs.Commands.{bye_ended, debt_or_refusal, name_in, oldest_debt, request_in_held, request_refusals, requested_at, sent_unless}
+use Rattle.sip_clients.specs.Commands.{bye_ended, debt_or_refusal, name_in, nothing_owed, oldest_debt, request_in_held, request_refusals, requested_at, sent_unless}
 use Rattle.sip_clients.specs.Debts.{is_of, paid}
 use Rattle.sip_clients.specs.Dialogs.{paid_at}
 use Rattle.sip_clients.specs.Outputs.{ack_said, request_said}
@@ -34,9 +34,9 @@ use Rattle.sip_clients.specs.Service.{sending_in}
 use Rattle.sip_clients.proofs.CommandDialogs.{request_keeps, served_leads}
 use Rattle.sip_clients.proofs.DialogSends.{AreNamed, after_silent}
 use Rattle.sip_clients.proofs.DialogDebts.{neither_way, bye_same, goes, all_but, paid_drops, ack_goes, prack_pays}
-use Rattle.sip_clients.proofs.WithoutStarts.{request_said_none}
+use Rattle.sip_clients.proofs.WithoutStarts.{none_started, request_said_quiet}
 use Rattle.sip_clients.proofs.SentIn.{request_life, said_sent, service_cseqs}
-use Rattle.sip_clients.proofs.Served.{served_dialogs, served_in}
+use Rattle.sip_clients.proofs.Served.{served_dialogs, served_in, found_passes}
 
 -- ---- a request in a dialog
 
@@ -69,17 +69,6 @@ request_owes event command side apart =
     (bye_same name command.method done.1 done.0 leads.apart)
 
 -- ---- the commands Ack and Prack
-
-found_kind : (p : Debt → Bool) (debts : List Debt) (debt : Debt) → find p debts ≡ Some debt
-    → p debt ≡ true
-found_kind p [] debt is = absurd cc
-found_kind p (first ∷ debts) debt is =
-    by_first (p first) refl is (λ later. found_kind p debts debt later)
-  where
-    by_first : (b : Bool) → p first ≡ b → cond b (Some first) (find p debts) ≡ Some debt
-        → (find p debts ≡ Some debt → p debt ≡ true) → p debt ≡ true
-    by_first true passes is rest = let same : first ≡ debt = cc in ap p (sym same) ∙ passes
-    by_first false fails is rest = rest is
 
 module _ (event : Event) (command : DialogBody) (side : Side) where
   abbrev asked_name : DialogName
@@ -153,27 +142,37 @@ module _ (event : Event) (command : DialogBody) (side : Side) where
       ap (λ found. (served_in asked_name (paid event debt command.body) Waits side.dialogs found).1)
       at
 
-  by_ack : (o : Option HeldDialog) → dialog_at asked_name side.dialogs ≡ o
-      → let taken = paid_or_refused event command (ack_paid event command asked_name)
-      (option_map_or (oldest_debt kind.Ack) o (Err NoSuchDialog)) side in
-      Pays kind.Ack taken.1 (taken.0).dialogs
-  by_ack None at = refused_pays kind.Ack NoSuchDialog
-  by_ack (Some held) at = by_oldest (find (is_of kind.Ack) held.owed) refl
+  by_owed : (kind : DebtKind) (pay : Debt → Side → ClientTaken)
+      → ((debt : Debt) (held : HeldDialog) → dialog_at asked_name side.dialogs ≡ Some held
+      → find (is_of kind) held.owed ≡ Some debt
+      → Pays kind (pay debt side).1 ((pay debt side).0).dialogs)
+      → (o : Option HeldDialog) → dialog_at asked_name side.dialogs ≡ o
+      → let taken = paid_or_refused event command pay
+      (option_map_or (oldest_debt kind) o (Err NoSuchDialog)) side in
+      Pays kind taken.1 (taken.0).dialogs
+  by_owed kind pay pays None at = refused_pays kind NoSuchDialog
+  by_owed kind pay pays (Some held) at = by_oldest (find (is_of kind) held.owed) refl
     where
-      by_oldest : (o : Option Debt) → find (is_of kind.Ack) held.owed ≡ o
-          → let taken = paid_or_refused event command (ack_paid event command asked_name)
-          (debt_or_refusal kind.Ack o) side in
-          Pays kind.Ack taken.1 (taken.0).dialogs
-      by_oldest None is = refused_pays kind.Ack NothingToAck
-      by_oldest (Some debt) is =
-          let service = (paid_at asked_name event debt command.body side.dialogs).1 in
-          debt_paid kind.Ack debt held (ack_said event command.call_id service).0 at is
-          (λ name same. ack_goes event command.call_id service
-          ∙ ap goes (served_as debt held at))
+      by_oldest : (o : Option Debt) → find (is_of kind) held.owed ≡ o
+          → let taken = paid_or_refused event command pay (debt_or_refusal kind o) side in
+          Pays kind taken.1 (taken.0).dialogs
+      by_oldest None is = refused_pays kind (nothing_owed kind)
+      by_oldest (Some debt) is = pays debt held at is
+
+  ack_paid_off : (debt : Debt) (held : HeldDialog) → dialog_at asked_name side.dialogs ≡ Some held
+      → find (is_of kind.Ack) held.owed ≡ Some debt
+      → let taken = ack_paid event command asked_name debt side in
+      Pays kind.Ack taken.1 (taken.0).dialogs
+  ack_paid_off debt held at is =
+      let service = (paid_at asked_name event debt command.body side.dialogs).1 in
+      debt_paid kind.Ack debt held (ack_said event command.call_id service).0 at is
+      (λ name same. ack_goes event command.call_id service ∙ ap goes (served_as debt held at))
 
   pub ack_pays : Pays kind.Ack (ack_by_user event command side).1
       ((ack_by_user event command side).0).dialogs
-  ack_pays = by_ack (dialog_at asked_name side.dialogs) refl
+  ack_pays =
+      by_owed kind.Ack (ack_paid event command asked_name) ack_paid_off
+      (dialog_at asked_name side.dialogs) refl
 
   module _ (named : AreNamed side.dialogs) where
     prack_out : (debt : Debt) (held : HeldDialog) → dialog_at asked_name side.dialogs ≡ Some held
@@ -190,31 +189,26 @@ module _ (event : Event) (command : DialogBody) (side : Side) where
         let said = request_said event command.call_id asked_name service in
         ap (list_any is_of_prack)
         (after_silent name said.0 (settled event event.id said.1 side.clients).1
-        (request_said_none event command.call_id asked_name service)
+        (none_started said.0 (request_said_quiet event command.call_id asked_name service))
         ∙ said_sent name event event.id command.call_id asked_name service side.clients
         ∙ ap (service_cseqs name) (served_as debt held at))
         ∙ prack_pays name asked_name event held (named asked_name held at) same rseq number
         command.body
 
-    by_prack : (o : Option HeldDialog) → dialog_at asked_name side.dialogs ≡ o
-        → let taken = paid_or_refused event command (prack_paid event command asked_name)
-        (option_map_or (oldest_debt kind.Prack) o (Err NoSuchDialog)) side in
+    prack_paid_off : (debt : Debt) (held : HeldDialog)
+        → dialog_at asked_name side.dialogs ≡ Some held
+        → find (is_of kind.Prack) held.owed ≡ Some debt
+        → let taken = prack_paid event command asked_name debt side in
         Pays kind.Prack taken.1 (taken.0).dialogs
-    by_prack None at = refused_pays kind.Prack NoSuchDialog
-    by_prack (Some held) at = by_oldest (find (is_of kind.Prack) held.owed) refl
-      where
-        by_oldest : (o : Option Debt) → find (is_of kind.Prack) held.owed ≡ o
-            → let taken = paid_or_refused event command (prack_paid event command asked_name)
-            (debt_or_refusal kind.Prack o) side in
-            Pays kind.Prack taken.1 (taken.0).dialogs
-        by_oldest None is = refused_pays kind.Prack NothingToPrack
-        by_oldest (Some debt) is =
-            let done = paid_at asked_name event debt command.body side.dialogs in
-            let said = request_said event command.call_id asked_name done.1 in
-            debt_paid kind.Prack debt held
-            (said.0 ++ (settled event event.id said.1 side.clients).1) at is
-            (prack_out debt held at (found_kind (is_of kind.Prack) held.owed debt is))
+    prack_paid_off debt held at is =
+        let done = paid_at asked_name event debt command.body side.dialogs in
+        let said = request_said event command.call_id asked_name done.1 in
+        debt_paid kind.Prack debt held
+        (said.0 ++ (settled event event.id said.1 side.clients).1) at is
+        (prack_out debt held at (found_passes (is_of kind.Prack) held.owed debt is))
 
     pub prack_pays_off : Pays kind.Prack (prack_by_user event command side).1
         ((prack_by_user event command side).0).dialogs
-    prack_pays_off = by_prack (dialog_at asked_name side.dialogs) refl
+    prack_pays_off =
+        by_owed kind.Prack (prack_paid event command asked_name) prack_paid_off
+        (dialog_at asked_name side.dialogs) refl

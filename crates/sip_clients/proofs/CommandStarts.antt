@@ -1,7 +1,6 @@
 -- A command of the user starts at most one transaction, of a client, under the id of its event.
 use Rattle.std.proofs.Common.{◌≡◌, ℕ, ◌+◌, ◌≤◌, Bool, true, false, cond, List, [], ◌∷◌, ◌++◌, refl, sym, subst}
-use Rattle.std.specs.Prelude.{Option, None, Some, Result, Ok, Err, codes}
-use Rattle.std.specs.Str.{bytes_eq}
+use Rattle.std.specs.Prelude.{Option, None, Some}
 use Rattle.sip_message.specs.declared.id.Id.{Id}
 use Rattle.sip_common.specs.declared.command.Cancel.{Cancel}
 use Rattle.sip_common.specs.declared.command.DialogBody.{DialogBody}
@@ -12,9 +11,7 @@ use Rattle.sip_common.specs.declared.debt.Debt.{Debt}
 use Rattle.sip_common.specs.declared.debt.Debt.TheVariants.{Ack, Prack}
 use Rattle.sip_common.specs.declared.held_dialog.DialogName.{DialogName}
 use Rattle.sip_common.specs.declared.item.CallOut.{CallOut}
-use Rattle.sip_common.specs.declared.refusal.Refusal.{Refusal}
 use Rattle.sip_common.specs.declared.refusal.Refusal.TheVariants.{BadMethod, NoSuchRequest}
-use Rattle.sip_common.specs.Dialogs.{Dialogs}
 use Rattle.sip_common.specs.Ids.{is_id}
 use Rattle.sip_common.proofs.Starts.{starts}
 use Rattle.sip_clients.specs.declared.answers.SentAck.{SentAck}
@@ -27,10 +24,9 @@ use Rattle.sip_clients.specs.declared.client.Client.{Client}
 use Rattle.sip_clients.specs.declared.debts.DebtKind.TheVariants as kind
 use Rattle.sip_clients.specs.declared.event.Event.{Event}
 use Rattle.sip_clients.specs.declared.service.Service.{Service}
-use Rattle.sip_clients.specs.declared.service.Service.TheVariants.{Sent, Waits, Refused}
-use Rattle.sip_clients.specs.Cancel.{asked as with_cancel, cancel_case, cancel_by_user, cancellation, cancelled_as, cancelled_of, sent_beside}
+use Rattle.sip_clients.specs.Cancel.{asked as with_cancel, cancel_case, cancel_by_user, cancel_client, cancelled_as, cancelled_of, sent_beside}
 use Rattle.sip_clients.specs.Client.{Clients, Side, ClientTaken, client_at, client_changed, client_for, with_client}
-use Rattle.sip_clients.specs.Clients.{ack_kept, ack_paid, ack_by_user, acked_with, invite_taken, paid_or_refused, plain_taken, prack_paid, prack_by_user, request_by_user, settled, started}
+use Rattle.sip_clients.specs.Clients.{ack_kept, ack_paid, ack_by_user, acked_with, invite_taken, plain_taken, prack_paid, prack_by_user, request_by_user, settled, started}
 use Rattle.sip_clients.specs.Commands.{ack_asked, bye_ended, debt_for, is_bad_outside, name_in, requested_at}
 use Rattle.sip_clients.specs.Dialogs.{paid_at}
 use Rattle.sip_common.specs.Notices.{refused}
@@ -38,7 +34,8 @@ use Rattle.sip_clients.specs.Outputs.{request_said, start_command}
 use Rattle.sip_clients.specs.Outside.{invite_of, plain_of}
 use Rattle.sip_clients.proofs.StartBounds.{waits_in, waits_for, waiting, AllClients, how_many, ids_of, Fits, Within, fits, none_more, no_weight, same_weight, more_weight, swapped, none_of, of_none, nothing, at_most_same, started_within, settled_within, said_fresh, sent_within}
 use Rattle.sip_clients.proofs.Tally.{tally_changed, weight}
-use Rattle.sip_clients.proofs.WithoutStarts.{request_said_none, ack_said_none, at_or_none, silent_fits}
+use Rattle.sip_clients.proofs.WithoutStarts.{none_started, request_said_quiet, ack_said_quiet, bye_quiet, silent_fits}
+use Rattle.sip_clients.proofs.Served.{paid_either}
 
 module _ (event : Event) where
   abbrev OwnOf : Clients → Clients × List CallOut → Type 0
@@ -52,7 +49,7 @@ module _ (event : Event) where
   started_fits : (client : Client) (clients : Clients) → client.cancel ≡ cancel.NotAsked
       → OwnOf clients (started event client clients)
   started_fits client clients fresh =
-      fits (Some event.id) clients (start_command event client ∷ [])
+      fits (Some event.id) clients (start_command event.id client ∷ [])
       (with_client event.id client clients)
       (started_within event client clients fresh)
 
@@ -89,15 +86,9 @@ module _ (event : Event) where
       fits (Some event.id) clients (said.0 ++ after.1) after.0
       (subst (λ started. Within (λ id. weight (is_id id) (Some event.id)
       + how_many id (waiting clients)) started after.0)
-      (sym (none_of said.0 after.1 (request_said_none event call_id name service)))
+      (sym (none_of said.0 after.1
+      (none_started said.0 (request_said_quiet event call_id name service))))
       (settled_within event event.id said.1 clients (said_fresh event call_id name service)))
-
-  pub bye_none : (name : DialogName) (method : List ℕ) (service : Service) (dialogs : Dialogs)
-      → starts (bye_ended name method service dialogs).1 ≡ []
-  bye_none name method (Sent sending) dialogs =
-      at_or_none (bytes_eq method (codes "BYE")) name dialogs
-  bye_none name method Waits dialogs = refl
-  bye_none name method (Refused refusal) dialogs = refl
 
   then_silent : (clients after : Clients) (outs ends : List CallOut)
       → starts ends ≡ [] → Fits (Some event.id) clients outs after
@@ -123,7 +114,7 @@ module _ (event : Event) where
       let ends = bye_ended name command.method done.1 done.0 in
       let after = settled event event.id said.1 side.clients in
       then_silent side.clients after.0 (said.0 ++ after.1) ends.1
-      (bye_none name command.method done.1 done.0)
+      (none_started ends.1 (bye_quiet name command.method done.1 done.0))
       (said_fits command.call_id name done.1 side.clients)
 
   noted_fewer : (debt : Debt) (name : DialogName) (ack : Option SentAck) (clients : Clients)
@@ -137,40 +128,28 @@ module _ (event : Event) where
       (λ client. same_weight (weight (is_id id) (waits_in client.cancel))) clients)
   noted_fewer (Prack rseq number) name ack clients id = at_most_same clients id
 
-  ack_by : (command : DialogBody) (side : Side) (o : Result Debt Refusal)
-      → OnSide side (paid_or_refused event command
-      (ack_paid event command (name_in command.local_tag command.remote_tag)) o side)
-  ack_by command side (Err refusal) =
-      quiet_fits side.clients (refused event.id command.call_id refusal) refl
-  ack_by command side (Ok debt) =
-      let name = name_in command.local_tag command.remote_tag in
-      let told = ack_asked event name debt command side.dialogs in
-      silent_fits (Some event.id) side.clients told.1 (ack_kept debt name told.2 side.clients)
-      (ack_said_none event command.call_id
-      (paid_at name event debt command.body side.dialogs).1)
-      (noted_fewer debt name told.2 side.clients)
-
   pub ack_fits : (command : DialogBody) (side : Side)
       → OnSide side (ack_by_user event command side)
   ack_fits command side =
-      ack_by command side (debt_for kind.Ack
-      (name_in command.local_tag command.remote_tag) side.dialogs)
-
-  prack_by : (command : DialogBody) (side : Side) (o : Result Debt Refusal)
-      → OnSide side (paid_or_refused event command
-      (prack_paid event command (name_in command.local_tag command.remote_tag)) o side)
-  prack_by command side (Err refusal) =
-      quiet_fits side.clients (refused event.id command.call_id refusal) refl
-  prack_by command side (Ok debt) =
       let name = name_in command.local_tag command.remote_tag in
-      said_fits command.call_id name
-      (paid_at name event debt command.body side.dialogs).1 side.clients
+      paid_either (OnSide side) event command (ack_paid event command name) side
+      (debt_for kind.Ack name side.dialogs)
+      (λ refusal. quiet_fits side.clients (refused event.id command.call_id refusal) refl)
+      (λ debt. let told = ack_asked event name debt command side.dialogs in
+      silent_fits (Some event.id) side.clients told.1 (ack_kept debt name told.2 side.clients)
+      (none_started told.1 (ack_said_quiet event command.call_id
+      (paid_at name event debt command.body side.dialogs).1))
+      (noted_fewer debt name told.2 side.clients))
 
   pub prack_fits : (command : DialogBody) (side : Side)
       → OnSide side (prack_by_user event command side)
   prack_fits command side =
-      prack_by command side (debt_for kind.Prack
-      (name_in command.local_tag command.remote_tag) side.dialogs)
+      let name = name_in command.local_tag command.remote_tag in
+      paid_either (OnSide side) event command (prack_paid event command name) side
+      (debt_for kind.Prack name side.dialogs)
+      (λ refusal. quiet_fits side.clients (refused event.id command.call_id refusal) refl)
+      (λ debt. said_fits command.call_id name
+      (paid_at name event debt command.body side.dialogs).1 side.clients)
 
   -- ---- CANCEL
 
@@ -200,7 +179,7 @@ module _ (event : Event) where
       }
   cancel_by asked.Starts command invite clients =
       let after = client_changed command.id (with_cancel cancel.Sent) clients in
-      let sent = sent_beside (Some (cancellation event.id invite)) (after, []) in
+      let sent = sent_beside (Some (cancel_client event.id invite)) (after, []) in
       fits (Some event.id) clients sent.1 sent.0
       (sent_within (Some event.id) invite (λ id. how_many id (waiting clients)) (after, [])
       (nothing clients after (λ id. no_weight (how_many id (waiting after))

@@ -1,7 +1,7 @@
 -- What an input makes of what was heard in a life of a dialog for the first INVITE.
 use Rattle.std.proofs.Common.{◌≡◌, inl, inr, ℕ, Bool, true, false, ◌==◌, List, [], ◌∷◌, ◌++◌, map, refl, sym, ap, subst, ◌∙◌}
 use Rattle.std.specs.Prelude.{Option, None, Some, filter, if◌then◌else◌}
-use Rattle.std.specs.Option.{option_and_then, option_map_or}
+use Rattle.std.specs.Option.{option_and_then, option_map_or, option_map}
 use Rattle.std.proofs.lemmas.Bool.{eqb-true}
 use Rattle.std.specs.Cmp.{first_so, second_so}
 use Rattle.sip_message.specs.declared.id.Id.{Id}
@@ -18,6 +18,10 @@ use Rattle.sip_common.specs.Ids.{is_id}
 use Rattle.sip_clients.specs.Provisionals.{in_life, is_response, told_of}
 use Rattle.sip_common.proofs.Heard.{Goes, Life}
 use Rattle.sip_clients.proofs.Hearing.{Hears, Listens, Silent}
+use Rattle.sip_clients.specs.declared.client.Client.{Client}
+use Rattle.sip_clients.specs.Cancel.{cancel_client, sent_beside}
+use Rattle.sip_clients.specs.Client.{Clients}
+use Rattle.sip_clients.specs.Outputs.{start_command}
 
 -- ---- the ear of a life
 
@@ -93,6 +97,16 @@ pub told_more : (number : Option ℕ) (outs : List CallOut) (out : CallOut)
     → is_response out ≡ false → told_of number (outs ++ out ∷ []) ≡ told_of number outs
 told_more None outs out none = refl
 told_more (Some number) outs out none = told_also number outs out none
+
+-- a CANCEL that may go out last is told to nobody
+pub told_beside : (number : Option ℕ) (command : Option Id) (cancelled : Client)
+    (done : Clients × List CallOut)
+    → told_of number (sent_beside (option_map (λ id. cancel_client id cancelled) command) done).1
+    ≡ told_of number done.1
+unfolding start_command
+told_beside number None cancelled done = refl
+told_beside number (Some id) cancelled done =
+    told_more number done.1 (start_command id (cancel_client id cancelled)) refl
 
 -- ---- a number came
 

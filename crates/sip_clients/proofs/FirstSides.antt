@@ -26,7 +26,7 @@ use Rattle.sip_clients.specs.declared.event.Event.{Event}
 use Rattle.sip_clients.specs.declared.reply.Reply.{Reply as Answer}
 use Rattle.sip_clients.specs.declared.reply.ReplyCase.{ReplyCase}
 use Rattle.sip_clients.specs.declared.reply.ReplyCase.TheVariants as reply
-use Rattle.sip_clients.specs.Cancel.{cancel_command, cancellation, freed_by, after_response}
+use Rattle.sip_clients.specs.Cancel.{cancel_client, freed_by, after_response}
 use Rattle.sip_clients.specs.Client.{Clients, Side, ClientTaken, client_at}
 use Rattle.sip_clients.specs.Clients.{ack_paid, ack_by_user, found_taken, lost_of, paid_or_refused, prack_paid, prack_by_user, reply_name, reply_of, reply_settled, request_by_user, settled, side_after, response_taken, status_of}
 use Rattle.sip_clients.specs.declared.debts.DebtKind.TheVariants as kind
@@ -37,7 +37,7 @@ use Rattle.sip_clients.specs.Replied.{Replied, reply_taken}
 use Rattle.sip_clients.specs.Provisionals.{OfTheCall, in_life, is_for, number_for, provisional_number, told_of}
 use Rattle.sip_clients.proofs.CommandDialogs.{bye_leads, ended_leads, paid_keeps, request_keeps, served_leads}
 use Rattle.sip_clients.proofs.ReplyDialogs.{heard_number}
-use Rattle.sip_clients.proofs.FirstInvite.{ear_in, no_number, none_in_life, silent_from, told_more}
+use Rattle.sip_clients.proofs.FirstInvite.{ear_in, no_number, none_in_life, silent_from, told_beside}
 use Rattle.sip_clients.proofs.FirstReply.{first, first_replied, other_replied}
 use Rattle.sip_common.proofs.Heard.{AreApart, Leads, Lives, Moves, OpensBy, in_one, leads_same, leads_then, moves_led, none_came, quiet}
 use Rattle.sip_clients.proofs.Hearing.{Listens}
@@ -117,16 +117,14 @@ module _ (life : DialogLife) where
     freed : (number : Option ℕ) (command : Option Id) (cancelled : Client) (done : Replied)
         → SideResult number (side_after event id side None done)
         → SideResult number (side_after event id side
-        (option_map (λ id. cancellation id cancelled) command) done)
-    unfolding cancel_command
-    freed number None cancelled done so = so
-    freed number (Some command) cancelled done so =
-        let clients = set_value (is_id id) side.clients done.0 in
-        let told = done.2 ++ (settled event id done.3 clients).1 in
+        (option_map (λ id. cancel_client id cancelled) command) done)
+    freed number command cancelled done so =
+        let settles = settled event id done.3 (set_value (is_id id) side.clients done.0) in
         let came = in_life (lives done.1 life) number in (
           so.0,
           subst (λ shown. Listens (call ≡ Some life.born) (ear side.dialogs) (ear done.1) came
-              shown) (sym (told_more came told (cancel_command command cancelled) refl)) so.1,
+              shown)
+              (sym (told_beside came command cancelled (settles.0, done.2 ++ settles.1))) so.1,
         )
 
     abbrev done_of : ℕ → Client → Replied
@@ -220,33 +218,29 @@ pay_leads event command debt dialogs apart =
     (λ held. discharge_life debt (Some command.body) held.dialog)
     (paid_keeps event debt command.body) dialogs apart
 
-by_ack : (event : Event) (command : DialogBody) (side : Side) (o : Result Debt Refusal)
-    → AreApart side.dialogs
-    → Leads (paid_in command o) side.dialogs ((paid_or_refused event command
-    (ack_paid event command (name_in command.local_tag command.remote_tag)) o side).0).dialogs
-by_ack event command side (Err refusal) apart = leads_same side.dialogs apart
-by_ack event command side (Ok debt) apart = pay_leads event command debt side.dialogs apart
+by_pay : (event : Event) (command : DialogBody) (pay : Debt → Side → ClientTaken) (side : Side)
+    (o : Result Debt Refusal) → AreApart side.dialogs
+    → ((debt : Debt) → Leads (paid_in command (Ok debt)) side.dialogs ((pay debt side).0).dialogs)
+    → Leads (paid_in command o) side.dialogs
+    ((paid_or_refused event command pay o side).0).dialogs
+by_pay event command pay side (Err refusal) apart pays = leads_same side.dialogs apart
+by_pay event command pay side (Ok debt) apart pays = pays debt
 
 pub ack_leads : (event : Event) (command : DialogBody) (side : Side) → AreApart side.dialogs
     → Leads (paid_in command (debt_for kind.Ack
     (name_in command.local_tag command.remote_tag) side.dialogs)) side.dialogs
     ((ack_by_user event command side).0).dialogs
 ack_leads event command side apart =
-    by_ack event command side (debt_for kind.Ack
-    (name_in command.local_tag command.remote_tag) side.dialogs) apart
-
-by_prack : (event : Event) (command : DialogBody) (side : Side) (o : Result Debt Refusal)
-    → AreApart side.dialogs
-    → Leads (paid_in command o) side.dialogs ((paid_or_refused event command
-    (prack_paid event command (name_in command.local_tag command.remote_tag)) o
-    side).0).dialogs
-by_prack event command side (Err refusal) apart = leads_same side.dialogs apart
-by_prack event command side (Ok debt) apart = pay_leads event command debt side.dialogs apart
+    let name = name_in command.local_tag command.remote_tag in
+    by_pay event command (ack_paid event command name) side (debt_for kind.Ack name side.dialogs)
+    apart (λ debt. pay_leads event command debt side.dialogs apart)
 
 pub prack_leads : (event : Event) (command : DialogBody) (side : Side) → AreApart side.dialogs
     → Leads (paid_in command (debt_for kind.Prack
     (name_in command.local_tag command.remote_tag) side.dialogs)) side.dialogs
     ((prack_by_user event command side).0).dialogs
 prack_leads event command side apart =
-    by_prack event command side (debt_for kind.Prack
-    (name_in command.local_tag command.remote_tag) side.dialogs) apart
+    let name = name_in command.local_tag command.remote_tag in
+    by_pay event command (prack_paid event command name) side
+    (debt_for kind.Prack name side.dialogs) apart
+    (λ debt. pay_leads event command debt side.dialogs apart)

@@ -1,6 +1,6 @@
 -- What commands of the user make on the client side of a call stays of its own Call-ID.
 use Rattle.std.proofs.Common.{◌≡◌, ℕ, Bool, true, false, cond, List, [], ◌++◌, refl, ◌∙◌}
-use Rattle.std.specs.Prelude.{Option, None, Some, Result, Ok, Err, IfSome, codes}
+use Rattle.std.specs.Prelude.{Option, None, Some, IfSome, codes}
 use Rattle.sip_message.specs.declared.id.Id.{Id}
 use Rattle.sip_message.specs.declared.message.Message.{Message}
 use Rattle.sip_common.specs.declared.command.Cancel.{Cancel}
@@ -14,7 +14,6 @@ use Rattle.sip_common.specs.declared.debt.Debt.{Debt}
 use Rattle.sip_common.specs.declared.debt.Debt.TheVariants.{Ack, Prack}
 use Rattle.sip_common.specs.declared.held_dialog.DialogName.{DialogName}
 use Rattle.sip_common.specs.declared.item.CallOut.{CallOut}
-use Rattle.sip_common.specs.declared.refusal.Refusal.{Refusal}
 use Rattle.sip_common.specs.declared.refusal.Refusal.TheVariants.{BadMethod}
 use Rattle.sip_common.specs.Ids.{is_id}
 use Rattle.sip_clients.specs.declared.answers.SentAck.{SentAck}
@@ -27,17 +26,18 @@ use Rattle.sip_clients.specs.declared.client.Client.{Client}
 use Rattle.sip_clients.specs.declared.debts.DebtKind.TheVariants as kind
 use Rattle.sip_clients.specs.declared.event.Event.{Event}
 use Rattle.sip_clients.specs.Cancel.{asked, cancel_case, cancel_by_user, cancelled_as, cancelled_of}
-use Rattle.sip_clients.specs.Client.{Clients, Side, ClientTaken, client_at, client_changed, client_for}
-use Rattle.sip_clients.specs.Clients.{ack_kept, ack_paid, ack_by_user, acked_with, invite_taken, paid_or_refused, plain_taken, prack_paid, prack_by_user, request_by_user, settled, started}
+use Rattle.sip_clients.specs.Client.{Clients, client_at, client_changed, client_for}
+use Rattle.sip_clients.specs.Clients.{ack_kept, ack_paid, ack_by_user, acked_with, invite_taken, plain_taken, prack_paid, prack_by_user, request_by_user, settled, started}
 use Rattle.sip_clients.specs.Commands.{ack_asked, bye_ended, debt_for, is_bad_outside, name_in, requested_at}
 use Rattle.sip_clients.specs.Dialogs.{paid_at}
 use Rattle.sip_common.specs.Notices.{refused}
 use Rattle.sip_clients.specs.Outputs.{request_said}
 use Rattle.sip_clients.specs.Outside.{bare_invite, bare_plain, bare_request, invite_of, plain_of, supporting}
-use Rattle.sip_clients.specs.OwnCall.{AreClientsOf, IsNoticeOf, IsRequestOf, KeepsTo, on_side}
+use Rattle.sip_clients.specs.OwnCall.{AreClientsOf, IsNoticeOf, IsRequestOf, KeepsTo, on_side, IsSideOf, AreNoticesOf}
 use Rattle.sip_common.proofs.Each.{both, each_changed}
 use Rattle.sip_clients.proofs.OwnDialogs.{body_kept, bye_own, paid_own, requested_at_own}
 use Rattle.sip_clients.proofs.OwnReplies.{AreSettledOf, request_said_own, ack_said_own, started_own, settled_own, beside_own, client_own}
+use Rattle.sip_clients.proofs.Served.{paid_either}
 
 supporting_kept : (asked_for : ProvisionalSupport) (message : Message)
     → (supporting asked_for message).call_id ≡ message.call_id
@@ -145,25 +145,21 @@ prack_paid_own event command name debt side own =
       both (IsNoticeOf call_id) said.0 after.1 says.0 settles.1,
     )
 
-paid_or_refused_own : (event : Event) (command : DialogBody) (pay : Debt → Side → ClientTaken)
-    → ((debt : Debt) → KeepsTo command.call_id (pay debt)) → (o : Result Debt Refusal)
-    → KeepsTo command.call_id (paid_or_refused event command pay o)
-paid_or_refused_own event command pay pays (Err refusal) side own = (own, (refl, tt))
-paid_or_refused_own event command pay pays (Ok debt) side own = pays debt side own
-
 pub ack_own : (event : Event) (command : DialogBody)
     → KeepsTo command.call_id (ack_by_user event command)
 ack_own event command side own =
     let name = name_in command.local_tag command.remote_tag in
-    paid_or_refused_own event command (ack_paid event command name)
-    (ack_paid_own event command name) (debt_for kind.Ack name side.dialogs) side own
+    paid_either (λ taken. IsSideOf command.call_id taken.0 × AreNoticesOf command.call_id taken.1)
+    event command (ack_paid event command name) side (debt_for kind.Ack name side.dialogs)
+    (λ refusal. (own, (refl, tt))) (λ debt. ack_paid_own event command name debt side own)
 
 pub prack_own : (event : Event) (command : DialogBody)
     → KeepsTo command.call_id (prack_by_user event command)
 prack_own event command side own =
     let name = name_in command.local_tag command.remote_tag in
-    paid_or_refused_own event command (prack_paid event command name)
-    (prack_paid_own event command name) (debt_for kind.Prack name side.dialogs) side own
+    paid_either (λ taken. IsSideOf command.call_id taken.0 × AreNoticesOf command.call_id taken.1)
+    event command (prack_paid event command name) side (debt_for kind.Prack name side.dialogs)
+    (λ refusal. (own, (refl, tt))) (λ debt. prack_paid_own event command name debt side own)
 
 -- ---- CANCEL
 

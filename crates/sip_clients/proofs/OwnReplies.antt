@@ -26,7 +26,7 @@ use Rattle.sip_clients.specs.declared.reply.ReplyCase.TheVariants as reply
 use Rattle.sip_clients.specs.declared.service.Service.{Service}
 use Rattle.sip_clients.specs.declared.service.Service.TheVariants.{Sent, Waits, Refused}
 use Rattle.sip_clients.specs.Answers.{ack_of}
-use Rattle.sip_clients.specs.Cancel.{cancel_client, cancel_command, cancellation, freed_by, after_response, sent_beside}
+use Rattle.sip_clients.specs.Cancel.{cancel_client, freed_by, after_response, sent_beside}
 use Rattle.sip_clients.specs.Client.{Clients, Side, ClientTaken, client_at}
 use Rattle.sip_clients.specs.Clients.{found_taken, request_lost, lost_of, reply_name, reply_of, reply_settled, response_taken, settled, started, status_of}
 use Rattle.sip_clients.specs.Dialogs.{accepted, dialog_for_provisional}
@@ -102,12 +102,13 @@ module _ (call_id : List ℕ) where
   -- a CANCEL that may be sent after the rest
   pub beside_own : (freed : Option Id) (invite : Client) → IsRequestOf call_id invite
       → (done : Clients × List CallOut) → AreSettledOf done
-      → AreSettledOf (sent_beside (option_map (λ id. cancellation id invite) freed) done)
-  unfolding cancel_command
+      → AreSettledOf (sent_beside (option_map (λ id. cancel_client id invite) freed) done)
+  unfolding start_command
   beside_own None invite its done own = own
   beside_own (Some id) invite its done own = (
     each_inserted (IsRequestOf call_id) is_id id (cancel_client id invite) its done.0 own.0,
-    both (IsNoticeOf call_id) done.1 (cancel_command id invite ∷ []) own.1 (tt, tt),
+    both (IsNoticeOf call_id) done.1 (start_command id (cancel_client id invite) ∷ []) own.1
+        (tt, tt),
   )
 
   -- ---- a response

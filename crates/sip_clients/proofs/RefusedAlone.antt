@@ -1,6 +1,6 @@
 -- A command in a dialog that is refused gives its notice alone, and changes nothing.
 use Rattle.std.proofs.Common.{◌≡◌, ℕ, Bool, true, false, List, [], ◌∷◌, ◌++◌, map, refl, sym, ◌∙◌, ap}
-use Rattle.std.specs.Prelude.{Option, None, Some, Result, Ok, Err, codes}
+use Rattle.std.specs.Prelude.{Option, None, Some, codes}
 use Rattle.std.specs.List.{list_any}
 use Rattle.std.specs.Option.{option_map_or}
 use Rattle.std.specs.Str.{bytes_eq}
@@ -21,10 +21,10 @@ use Rattle.sip_common.specs.declared.held_dialog.HeldDialog.{HeldDialog}
 use Rattle.sip_common.specs.declared.item.CallOut.{CallOut}
 use Rattle.sip_common.specs.declared.refusal.Refusal.{Refusal}
 use Rattle.sip_common.specs.declared.refusal.Refusal.TheVariants.{NoSuchDialog, NoSuchRequest}
-use Rattle.sip_clients.specs.Cancel.{cancel_case, cancel_command, cancel_by_user, cancelled_as, cancelled_of}
+use Rattle.sip_clients.specs.Cancel.{cancel_case, cancel_by_user, cancelled_as, cancelled_of}
 use Rattle.sip_clients.specs.Client.{Clients, Side, client_at, ClientTaken}
-use Rattle.sip_clients.specs.Clients.{ack_kept, ack_paid, ack_by_user, paid_or_refused, prack_paid, prack_by_user, request_settled, request_by_user, settled}
-use Rattle.sip_clients.specs.Commands.{bye_ended, name_in, request_in_held, request_refusals, requested_at, sent_unless}
+use Rattle.sip_clients.specs.Clients.{ack_kept, ack_paid, ack_by_user, prack_paid, prack_by_user, request_settled, request_by_user, settled}
+use Rattle.sip_clients.specs.Commands.{bye_ended, debt_for, name_in, request_in_held, request_refusals, requested_at, sent_unless}
 use Rattle.sip_clients.specs.Dialogs.{paid_at}
 use Rattle.sip_clients.specs.Debts.{dropped_if_sent, paid}
 use Rattle.sip_clients.specs.Outputs.{ack_said, request_said, start_command}
@@ -32,12 +32,13 @@ use Rattle.sip_clients.specs.Service.{happens_by_sending, requested, discharged,
 use Rattle.sip_clients.specs.declared.cancel.CancelCase.{CancelCase}
 use Rattle.sip_clients.specs.declared.cancel.CancelCase.TheVariants as cancel
 use Rattle.sip_clients.specs.declared.client.Client.{Client}
+use Rattle.sip_clients.specs.declared.debts.DebtKind.TheVariants as kind
 use Rattle.sip_clients.specs.declared.event.Event.{Event}
 use Rattle.sip_clients.specs.declared.service.Sending.{Sending}
 use Rattle.sip_clients.specs.declared.service.Service.{Service}
 use Rattle.sip_clients.specs.declared.service.Service.TheVariants.{Sent, Waits, Refused}
 use Rattle.sip_clients.specs.RefusedCommands.{is_refusal, IsRefusedAlone}
-use Rattle.sip_clients.proofs.Served.{refused_same}
+use Rattle.sip_clients.proofs.Served.{refused_same, paid_either}
 
 pub told_alone : {S : Type 0} (before : S) (call_id : List ℕ) (event : Id) (refusal : Refusal)
     → IsRefusedAlone before call_id event (before, refused event call_id refusal)
@@ -220,36 +221,29 @@ module _ (event : Event) (side : Side) where
     )) (same refusal refl),
   )
 
-  paid_alone : (command : DialogBody) (pay : Debt → Side → ClientTaken)
-      → ((owed : Debt) → Lonely command.call_id (pay owed side)) → (owed : Result Debt Refusal)
-      → Lonely command.call_id (paid_or_refused event command pay owed side)
-  paid_alone command pay alone (Err refusal) =
-      told_alone side command.call_id event.id refusal
-  paid_alone command pay alone (Ok owed) = alone owed
-
   pub ack_alone : (command : DialogBody) → Lonely command.call_id (ack_by_user event command side)
   ack_alone command =
       let name = name_in command.local_tag command.remote_tag in
-      paid_alone command (ack_paid event command name)
+      paid_either (Lonely command.call_id) event command (ack_paid event command name) side
+      (debt_for kind.Ack name side.dialogs) (told_alone side command.call_id event.id)
       (λ owed. ack_by name command owed (paid_at name event owed command.body side.dialogs).0
       (paid_at name event owed command.body side.dialogs).1 (paid_same name owed command.body))
-      _
 
   pub prack_alone : (command : DialogBody) → Lonely command.call_id
       (prack_by_user event command side)
   prack_alone command =
       let name = name_in command.local_tag command.remote_tag in
-      paid_alone command (prack_paid event command name)
+      paid_either (Lonely command.call_id) event command (prack_paid event command name) side
+      (debt_for kind.Prack name side.dialogs) (told_alone side command.call_id event.id)
       (λ owed. prack_by name command (paid_at name event owed command.body side.dialogs).0
       (paid_at name event owed command.body side.dialogs).1 (paid_same name owed command.body))
-      _
 
   -- ---- CANCEL
 
   cancel_by : (way : CancelCase) (command : Cancel) (invite : Client)
       → IsRefusedAlone side.clients command.call_id event.id
       (cancelled_as way event command invite side.clients)
-  unfolding cancel_command
+  unfolding start_command
   cancel_by (cancel.Refused refusal) command invite =
       told_alone side.clients command.call_id event.id refusal
   cancel_by cancel.Repeated command invite =

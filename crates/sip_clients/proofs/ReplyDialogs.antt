@@ -195,60 +195,50 @@ module _ (event : Option Id) (client : Client) (answer : Answer)
           (ack_owed client before answer).0
           (success_keeps client.kind answer.response held) (keeps before))
 
-  -- a reliable provisional response
-  owed_goes : (number : ℕ) (found : Option HeldDialog) → IsNamedSo client answer found
-      → (other : DialogName)
-      → is_named answer.name other ≡ true
-      → Goes event (OpensBy (Some start) other) None (case_life (reply.Reliable number))
-      (case_begun (reply.Reliable number) found) found
-      (Some (owed answer.event (Prack number ((client.request).cseq).number)
-      (offer_to client answer.response) (dialog_for_provisional client answer found)).0)
-  owed_goes number None named other same =
-      let kept = owed_keeps answer.event (Prack number ((client.request).cseq).number)
-      (offer_to client answer.response) (dialog_by_response client answer) in
-      inr (
-        made ∙ ap (λ id. Some id) (sym kept.0),
-        kept.1,
-        (start, opens_so named other same, kept.2),
-        inl refl,
-      )
-  owed_goes number (Some held) named other same =
-      inl (owed_keeps answer.event (Prack number ((client.request).cseq).number)
-      (offer_to client answer.response) held)
+  -- a reliable provisional response, whose PRACK is owed in the dialog that has heard it so
+  abbrev prack_owes : ℕ → HeldDialog → HeldDialog
+  prack_owes number held =
+      (owed answer.event (Prack number ((client.request).cseq).number)
+      (offer_to client answer.response) held).0
 
-  heard_goes : (number : ℕ) (found : Option HeldDialog) → IsNamedSo client answer found
-      → (other : DialogName)
-      → is_named answer.name other ≡ true
-      → Goes event (OpensBy (Some start) other) (Some number) (case_life (reply.Reliable number))
+  abbrev GoesBy : Option ℕ → (HeldDialog → HeldDialog) → ℕ → Option HeldDialog → Type 0
+  GoesBy came hears number found = (other : DialogName) → is_named answer.name other ≡ true
+      → Goes event (OpensBy (Some start) other) came (case_life (reply.Reliable number))
       (case_begun (reply.Reliable number) found) found
-      (Some (owed answer.event (Prack number ((client.request).cseq).number)
-      (offer_to client answer.response) (hearing number
-      (dialog_for_provisional client answer found))).0)
-  heard_goes number None named other same =
-      let kept = owed_keeps answer.event (Prack number ((client.request).cseq).number)
-      (offer_to client answer.response) (hearing number (dialog_by_response client answer)) in
+      (Some (prack_owes number (hears (dialog_for_provisional client answer found))))
+
+  goes_by : (came : Option ℕ) (hears : HeldDialog → HeldDialog) (number : ℕ)
+      → ((held : HeldDialog)
+      → Keeps came (prack_life number held.dialog) held (prack_owes number (hears held)))
+      → (found : Option HeldDialog) → IsNamedSo client answer found
+      → GoesBy came hears number found
+  goes_by came hears number keeps None named other same =
+      let kept = keeps (dialog_by_response client answer) in
       inr (
         made ∙ ap (λ id. Some id) (sym kept.0),
         kept.1,
         (start, opens_so named other same, kept.2),
         inl refl,
       )
-  heard_goes number (Some held) named other same =
-      inl (owed_keeps answer.event (Prack number ((client.request).cseq).number)
-      (offer_to client answer.response) (hearing number held))
+  goes_by came hears number keeps (Some held) named other same = inl (keeps held)
+
+  unheard_goes : (number : ℕ) (found : Option HeldDialog) → IsNamedSo client answer found
+      → GoesBy None (λ held. held) number found
+  unheard_goes number =
+      goes_by None (λ held. held) number (λ held. owed_keeps answer.event
+      (Prack number ((client.request).cseq).number) (offer_to client answer.response) held)
 
   prack_goes : (kind : RequestKind) (number : ℕ) (found : Option HeldDialog)
       → IsNamedSo client answer found
-      → (other : DialogName) → is_named answer.name other ≡ true
-      → Goes event (OpensBy (Some start) other) (heard_number (reply.Reliable number) kind true)
-      (case_life (reply.Reliable number)) (case_begun (reply.Reliable number) found) found
-      (Some (owed answer.event (Prack number ((client.request).cseq).number)
-      (offer_to client answer.response)
-      (heard_first kind number (dialog_for_provisional client answer found))).0)
-  prack_goes First number found named other same = heard_goes number found named other same
-  prack_goes (Again life) number found named other same = owed_goes number found named other same
-  prack_goes (Inside life) number found named other same = owed_goes number found named other same
-  prack_goes Plain number found named other same = owed_goes number found named other same
+      → GoesBy (heard_number (reply.Reliable number) kind true) (heard_first kind number) number
+      found
+  prack_goes First number found named =
+      goes_by (Some number) (hearing number) number (λ held. owed_keeps answer.event
+      (Prack number ((client.request).cseq).number) (offer_to client answer.response)
+      (hearing number held)) found named
+  prack_goes (Again life) number found named = unheard_goes number found named
+  prack_goes (Inside life) number found named = unheard_goes number found named
+  prack_goes Plain number found named = unheard_goes number found named
 
   -- ---- all dialogs
 

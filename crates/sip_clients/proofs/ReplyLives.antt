@@ -1,8 +1,10 @@
 -- What happens in the dialog of each name where a request has a response: what the response does in
--- it, and what goes out in it.
-use Rattle.std.proofs.Common.{◌≡◌, ℕ, Bool, true, false, not, ◌&&◌, cond, List, [], ◌++◌, refl, sym, ap, subst, ◌∙◌, append-nil, nat_le, nat_lt}
+-- it, what goes out in it, and what is left owed in it.
+use Rattle.std.proofs.Common.{◌≡◌, ℕ, Bool, true, false, not, ◌&&◌, cond, List, [], ◌++◌, refl, sym, ap, subst, ◌∙◌, append-nil, nat_le, nat_lt, inl, inr}
 use Rattle.std.specs.Prelude.{Option, None, Some, if◌then◌else◌}
 use Rattle.std.specs.Cmp.{first_so}
+use Rattle.std.specs.List.{list_any}
+use Rattle.indexmap.specs.IndexMap.{insert_entry}
 use Rattle.sip_message.specs.declared.cseq.CSeq.{CSeq}
 use Rattle.sip_message.specs.declared.id.Id.{Id}
 use Rattle.sip_message.specs.declared.message.Message.{Message}
@@ -11,15 +13,18 @@ use Rattle.sip_dialog.specs.Opening.{ByResponse, Opening}
 use Rattle.sip_reliable.specs.declared.offer.Offer.{Offer}
 use Rattle.sip_reliable.specs.declared.offer.Offer.TheVariants.{Taken, Repeat, Gap}
 use Rattle.sip_reliable.specs.Inbound.{offered}
-use Rattle.sip_common.specs.declared.debt.Debt.TheVariants.{Prack}
+use Rattle.sip_common.specs.declared.debt.Debt.TheVariants.{Prack, Ack}
 use Rattle.sip_common.specs.declared.held_dialog.DialogName.{DialogName}
 use Rattle.sip_common.specs.declared.held_dialog.HeldDialog.{HeldDialog}
 use Rattle.sip_common.specs.Dialogs.{Dialogs, dialog_at, is_named}
 use Rattle.sip_common.specs.Requests.{is_final, is_success}
 use Rattle.sip_common.specs.Sent.{NumberedFrom, name_of_dialog, number_before, requests_made}
+use Rattle.sip_common.specs.declared.debt.Debt.{Debt}
+use Rattle.sip_common.specs.declared.item.CallOut.{CallOut}
 use Rattle.sip_common.proofs.Entries as entries
 use Rattle.sip_common.proofs.Heard.{AreApart, Lives, Moves, in_one, leads_as, moves_as, moves_led, name_laws, none_came, none_either, quiet}
 use Rattle.sip_common.proofs.Starts.{numbered_none}
+use Rattle.sip_common.proofs.Owing.{Owes, owes_as, still_same, unchanged}
 use Rattle.sip_clients.specs.declared.client.Client.{Client}
 use Rattle.sip_clients.specs.declared.client.RequestKind.{RequestKind}
 use Rattle.sip_clients.specs.declared.client.RequestKind.TheVariants.{First, Again, Inside, Plain}
@@ -27,29 +32,36 @@ use Rattle.sip_clients.specs.declared.event.Event.{Event}
 use Rattle.sip_clients.specs.declared.reply.Reply.{Reply as Answer}
 use Rattle.sip_clients.specs.declared.reply.ReplyCase.{ReplyCase}
 use Rattle.sip_clients.specs.declared.reply.ReplyCase.TheVariants as reply
+use Rattle.sip_clients.specs.declared.outputs.ClientChange.{ClientChange}
+use Rattle.sip_clients.specs.declared.service.Service.{Service}
 use Rattle.sip_clients.specs.Answers.{has_answer}
 use Rattle.sip_clients.specs.Cancel.{after_response}
 use Rattle.sip_clients.specs.Clients.{reply_name, reply_of}
-use Rattle.sip_clients.specs.Dialogs.{dialog_for_provisional}
+use Rattle.sip_clients.specs.Dialogs.{dialog_for_provisional, accepted, accepted_in, dialog_by_response}
 use Rattle.sip_clients.specs.Happenings.{reply_brings, success_brings}
-use Rattle.sip_clients.specs.Replied.{Replied, after_dialog, by_reply_case, ends_dialog, request_over, heard_first, offer_to, prack_owed, reply_taken}
+use Rattle.sip_clients.specs.Replied.{Replied, after_dialog, by_reply_case, ends_dialog, request_over, heard_first, offer_to, prack_owed, reply_taken, ack_owed, dialogs_with}
 use Rattle.sip_clients.specs.Reply.{offer_case, heard_of, is_inviting, is_last, is_dialog_response, is_there, reliable_case, reply_case, rseq_of}
+use Rattle.sip_clients.specs.Outputs.{request_said}
+use Rattle.sip_clients.specs.Owing.{asked_for, is_direct, is_of_prack}
+use Rattle.sip_clients.specs.Provisionals.{is_response}
 use Rattle.sip_clients.proofs.CommandDialogs.{ended_leads}
 use Rattle.sip_clients.proofs.ReplyDialogs.{IsNamedSo, case_begun, case_life, case_moves, heard_number, may_make, prack_life, reply_names}
 use Rattle.sip_clients.proofs.DialogSends.{AreNamed, made_either, change_cseqs, change_sent, said_change}
 use Rattle.sip_clients.proofs.SentIn.{discharge_cseqs, discharge_numbered, owed_sent}
+use Rattle.sip_clients.proofs.AskedDebts.{case_told, left_by, case_owes, asks_so, last_asks}
+use Rattle.sip_clients.proofs.DialogDebts.{ended_same, goes, unless_out, owed_adds, heard_kept, accepted_kept, ack_goes, prack_owes}
 
-pub heard_dialog : (kind : RequestKind) (number : ℕ) (held : HeldDialog)
+heard_dialog : (kind : RequestKind) (number : ℕ) (held : HeldDialog)
     → (heard_first kind number held).dialog ≡ held.dialog
 heard_dialog First number held = refl
 heard_dialog (Again life) number held = refl
 heard_dialog (Inside life) number held = refl
 heard_dialog Plain number held = refl
 
-pub success_final : (status : ℕ) → is_success status ≡ true → is_final status ≡ true
+success_final : (status : ℕ) → is_success status ≡ true → is_final status ≡ true
 success_final status e = first_so (nat_le 200 status) (nat_lt status 300) e
 
-pub not_last : (final success inviting : Bool) → (final && not (inviting && success)) ≡ false
+not_last : (final success inviting : Bool) → (final && not (inviting && success)) ≡ false
     → final ≡ true → success ≡ true
 not_last true true inviting last is = refl
 not_last true false true last is = absurd cc
@@ -281,6 +293,10 @@ module _ (event : Event) (id : Id) (call_id : List ℕ) (response : Message) (st
         by_kind client.kind (is_named own name) (is_success status)
         (not (has_answer own client.answers)) (is_there client.kind (Some held)) last
       where
+        never : (final : Bool) → (final && false) ≡ true → ⊥
+        never true e = absurd cc
+        never false e = absurd cc
+
         by_kind : (kind : RequestKind) (named success first there : Bool)
             → (is_final status && not (is_inviting kind && success)) ≡ true
             → (if named && (success && first) && there then success_brings kind response held else
@@ -289,15 +305,7 @@ module _ (event : Event) (id : Id) (call_id : List ℕ) (response : Message) (st
         by_kind kind true false first there last = refl
         by_kind kind false success first there last = refl
         by_kind First true true first there last = absurd (never (is_final status) last)
-          where
-            never : (final : Bool) → (final && false) ≡ true → ⊥
-            never true e = absurd cc
-            never false e = absurd cc
         by_kind (Again life) true true first there last = absurd (never (is_final status) last)
-          where
-            never : (final : Bool) → (final && false) ≡ true → ⊥
-            never true e = absurd cc
-            never false e = absurd cc
         by_kind (Inside life) true true first there last = none_either (first && there)
         by_kind Plain true true first there last = none_either (first && there)
 
@@ -346,3 +354,211 @@ module _ (event : Event) (id : Id) (call_id : List ℕ) (response : Message) (st
 
     pub replied_so : RepliedSo (reply_taken client dialogs answer)
     replied_so = by_last (is_last client.kind status) refl
+
+    -- ---- what is left owed in the dialog of its name
+
+    abbrev invite_number : ℕ
+    invite_number = ((client.request).cseq).number
+
+    abbrev ack_debt : Debt
+    ack_debt = Ack client.id invite_number
+
+    abbrev prack_debt : ℕ → Debt
+    prack_debt rseq = Prack rseq invite_number
+
+    abbrev acked_so : Option HeldDialog → HeldDialog × Service
+    acked_so o = ack_owed client (accepted client answer o) answer
+
+    abbrev pracked_so : ℕ → Option HeldDialog → HeldDialog × Service
+    pracked_so rseq o = prack_owed rseq client (dialog_for_provisional client answer o) answer
+
+    -- what goes out
+    abbrev sent_now : Debt → Bool
+    sent_now (Ack invite number) = goes (acked_so found).1
+    sent_now (Prack rseq number) = goes (pracked_so rseq found).1
+
+    abbrev case_left : ReplyCase → List Debt
+    case_left case = case_owes sent_now ack_debt prack_debt case
+
+    ack_here : (o : Option HeldDialog)
+        → Owes (Some event.id) (λ debts. debts ++ unless_out (goes (acked_so o).1) ack_debt) o
+        (Some (acked_so o).0)
+    unfolding ack_owed
+    ack_here None =
+        let made = dialog_by_response client answer in
+        let adds = owed_adds event ack_debt (offer_to client response) made in
+        inr (ap (λ id. Some id) (sym adds.0), adds.1)
+    ack_here (Some held) =
+        let before = accepted_in client.kind response held in
+        let adds = owed_adds event ack_debt (offer_to client response) before in
+        let kept = accepted_kept client.kind response held in
+        let left = unless_out (goes (acked_so (Some held)).1) ack_debt in
+        inl (adds.0 ∙ kept.0, adds.1 ∙ ap (λ debts. debts ++ left) kept.1)
+
+    prack_here : (rseq : ℕ) (o : Option HeldDialog)
+        → Owes (Some event.id)
+        (λ debts. debts ++ unless_out (goes (pracked_so rseq o).1) (prack_debt rseq)) o
+        (Some (pracked_so rseq o).0)
+    unfolding prack_owed
+    prack_here rseq None =
+        let made = dialog_by_response client answer in
+        let heard = heard_first client.kind rseq made in
+        let adds = owed_adds event (prack_debt rseq) (offer_to client response) heard in
+        let kept = heard_kept client.kind rseq made in
+        let left = unless_out (goes (pracked_so rseq None).1) (prack_debt rseq) in
+        inr (
+          ap (λ id. Some id) (sym (adds.0 ∙ kept.0)),
+          adds.1 ∙ ap (λ debts. debts ++ left) kept.1,
+        )
+    prack_here rseq (Some held) =
+        let heard = heard_first client.kind rseq held in
+        let adds = owed_adds event (prack_debt rseq) (offer_to client response) heard in
+        let kept = heard_kept client.kind rseq held in
+        let left = unless_out (goes (pracked_so rseq (Some held)).1) (prack_debt rseq) in
+        inl (adds.0 ∙ kept.0, adds.1 ∙ ap (λ debts. debts ++ left) kept.1)
+
+    abbrev early_here : (o : Option HeldDialog)
+        → Owes (Some event.id) (λ debts. debts ++ []) o
+        (Some (dialog_for_provisional client answer o))
+    early_here None = inr (refl, refl)
+    early_here (Some held) = inl (refl, sym (append-nil held.owed))
+
+    -- of each name
+    abbrev LeavesIn : List Debt → Dialogs → DialogName → Type 0
+    LeavesIn left after name =
+        Owes (Some event.id) (λ debts. debts ++ cond (is_named own name) left [])
+        (dialog_at name dialogs) (dialog_at name after)
+
+    nothing_left : (name : DialogName) → LeavesIn [] dialogs name
+    nothing_left name =
+        let held = dialog_at name dialogs in
+        owes_as (Some event.id) unchanged (λ debts. debts ++ cond (is_named own name) [] []) held
+        held (λ debts. sym (ap (λ xs. debts ++ xs) (none_either (is_named own name))
+        ∙ append-nil debts)) (inl (still_same held))
+
+    put_leaves : (left : List Debt) (after : HeldDialog)
+        → Owes (Some event.id) (λ debts. debts ++ left) found (Some after) → (name : DialogName)
+        → LeavesIn left (insert_entry is_named dialogs own after) name
+    put_leaves left after here name =
+        subst (Owes (Some event.id) (λ debts. debts ++ cond (is_named own name) left [])
+        (dialog_at name dialogs))
+        (sym (entries.found_inserted name_laws own name after dialogs))
+        (by_name (is_named own name) refl)
+      where
+        by_name : (b : Bool) → is_named own name ≡ b
+            → Owes (Some event.id) (λ debts. debts ++ cond b left []) (dialog_at name dialogs)
+            (cond b (Some after) (dialog_at name dialogs))
+        by_name true is =
+            subst (λ o. Owes (Some event.id) (λ debts. debts ++ left) o (Some after))
+            (sym (entries.same_key name_laws own name dialogs is)) here
+        by_name false is =
+            let held = dialog_at name dialogs in
+            owes_as (Some event.id) unchanged (λ debts. debts ++ []) held held
+            (λ debts. sym (append-nil debts)) (inl (still_same held))
+
+    case_leaves : (case : ReplyCase) (name : DialogName)
+        → LeavesIn (case_left case)
+        (dialogs_with own (by_reply_case case client found answer).1 dialogs) name
+    case_leaves reply.Repeated name = nothing_left name
+    case_leaves reply.Accepted name =
+        put_leaves (case_left reply.Accepted) (acked_so found).0 (ack_here found) name
+    case_leaves reply.Late name = nothing_left name
+    case_leaves (reply.Reliable rseq) name =
+        put_leaves (case_left (reply.Reliable rseq)) (pracked_so rseq found).0
+        (prack_here rseq found) name
+    case_leaves reply.Passed name = nothing_left name
+    case_leaves reply.Early name =
+        put_leaves [] (dialog_for_provisional client answer found) (early_here found) name
+    case_leaves reply.Told name = nothing_left name
+
+    -- ---- by what is given
+
+    abbrev pub given : DialogName → List CallOut → ClientChange → Debt → Bool
+    given name outs change (Ack invite number) = list_any is_direct outs
+    given name outs change (Prack rseq number) = list_any is_of_prack (change_cseqs name change)
+
+    prack_given : (rseq : ℕ) (name : DialogName) → IsNamedSo client answer found
+        → is_named own name ≡ true
+        → list_any is_of_prack (change_cseqs name
+        (request_said event call_id own (pracked_so rseq found).1).1)
+        ≡ goes (pracked_so rseq found).1
+    unfolding prack_owed
+    prack_given rseq name so same =
+        let held = dialog_for_provisional client answer found in
+        ap (list_any is_of_prack) (said_change name event call_id own (pracked_so rseq found).1)
+        ∙ prack_owes name own event (heard_first client.kind rseq held)
+        (ap (λ dialog. is_named own (name_of_dialog dialog)) (heard_dialog client.kind rseq held)
+        ∙ opened_named found refl so) same rseq invite_number (offer_to client response)
+
+    case_given : (case : ReplyCase) → Named case → (name : DialogName) → is_named own name ≡ true
+        → let done = by_reply_case case client found answer in
+        case_owes (given name done.2 done.3) ack_debt prack_debt case ≡ case_left case
+    case_given reply.Repeated so name same = refl
+    case_given reply.Accepted so name same =
+        ap (λ b. unless_out b ack_debt) (ack_goes event call_id (acked_so found).1)
+    case_given reply.Late so name same = refl
+    case_given (reply.Reliable rseq) so name same =
+        ap (λ b. unless_out b (prack_debt rseq)) (prack_given rseq name (so refl) same)
+    case_given reply.Passed so name same = refl
+    case_given reply.Early so name same = refl
+    case_given reply.Told so name same = refl
+
+    -- what is owed by what is given
+    abbrev pub leaves : DialogName → Replied → List Debt
+    leaves name done =
+        if is_named own name && is_there asker.kind (dialog_at name dialogs)
+        then left_by (list_any is_response done.2) (given name done.2 done.3)
+        (asked_for status asker response) else []
+
+    abbrev done_now : Replied
+    done_now = after_dialog own dialogs (by_reply_case case_now client found answer)
+
+    case_now_leaves : is_last asker.kind status ≡ false → (name : DialogName)
+        → leaves name (after_dialog own dialogs (by_reply_case case_now client found answer))
+        ≡ cond (is_named own name) (case_left case_now) []
+    case_now_leaves last name = by_name (is_named own name) refl
+      where
+        by_name : (b : Bool) → is_named own name ≡ b
+            → (if b && is_there asker.kind (dialog_at name dialogs)
+            then left_by (list_any is_response done_now.2) (given name done_now.2 done_now.3)
+            (asked_for status asker response) else [])
+            ≡ cond b (case_left case_now) []
+        by_name false is = refl
+        by_name true is =
+            (λ i. if is_there asker.kind (entries.same_key name_laws own name dialogs is i)
+            then left_by (case_told case_now client found answer i)
+            (given name done_now.2 done_now.3) (asked_for status asker response) else [])
+            ∙ asks_so (given name done_now.2 done_now.3) ack_debt prack_debt (is_final status)
+            (is_success status) (has_answer own client.answers) (is_there client.kind found)
+            (is_dialog_response answer) (heard_of client.kind client found) (rseq_of response)
+            (success_final status)
+            (not_last (is_final status) (is_success status) (is_inviting client.kind) last)
+            ∙ case_given case_now (reply_names client answer found (name_kept asker.kind)) name is
+
+    abbrev RepliedOwes : Replied → Type 0
+    RepliedOwes done = (name : DialogName)
+        → Owes (Some event.id) (λ debts. debts ++ leaves name done) (dialog_at name dialogs)
+        (dialog_at name done.1)
+
+    last_owes : (last : Bool) → is_last client.kind status ≡ last
+        → RepliedOwes (cond {A = Replied} last (request_over client dialogs answer)
+        (after_dialog own dialogs (by_reply_case case_now client found answer)))
+    last_owes true last name =
+        let done = request_over client dialogs answer in
+        let before = dialog_at name dialogs in
+        owes_as (Some event.id) unchanged (λ debts. debts ++ leaves name done) before
+        (dialog_at name done.1)
+        (λ debts. sym (ap (λ xs. debts ++ xs)
+        (last_asks (given name done.2 done.3) ack_debt prack_debt asker.kind before
+        (is_named own name) (is_final status) (is_success status) (is_dialog_response answer)
+        (list_any is_response done.2) (rseq_of response) last) ∙ append-nil debts))
+        (inl (ended_same client (ends_dialog status) dialogs apart name))
+    last_owes false last name =
+        let done = after_dialog own dialogs (by_reply_case case_now client found answer) in
+        owes_as (Some event.id) (λ debts. debts ++ cond (is_named own name) (case_left case_now) [])
+        (λ debts. debts ++ leaves name done) (dialog_at name dialogs) (dialog_at name done.1)
+        (λ debts. ap (λ xs. debts ++ xs) (sym (case_now_leaves last name)))
+        (case_leaves case_now name)
+
+    pub replied_owes : RepliedOwes (reply_taken client dialogs answer)
+    replied_owes = last_owes (is_last client.kind status) refl

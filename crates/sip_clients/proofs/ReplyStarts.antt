@@ -26,25 +26,29 @@ use Rattle.sip_clients.specs.Replied.{Replied, after_dialog, by_reply_case, ends
 use Rattle.sip_clients.specs.Reply.{is_last, reply_case}
 use Rattle.sip_clients.proofs.StartBounds.{waits_in, waits_for, waiting, how_many, ids_of, Fits, Within, fits, at_most_as, balanced, none_of, own_nothing, at_most_same, StartsFresh, settled_within, said_fresh, sent_within}
 use Rattle.sip_clients.proofs.Tally.{tally_set, weight}
-use Rattle.sip_clients.proofs.WithoutStarts.{ended_none, case_none}
+use Rattle.sip_clients.proofs.WithoutStarts.{AreQuiet, none_started, ended_quiet, case_quiet}
 
-cancel_kept : (case : ReplyCase) (client : Client) (found : Option HeldDialog) (answer : Answer)
-    → ((by_reply_case case client found answer).0).cancel ≡ client.cancel
-cancel_kept reply.Repeated client found answer = refl
-cancel_kept reply.Accepted client found answer = refl
-cancel_kept reply.Late client found answer = refl
-cancel_kept (reply.Reliable number) client found answer = by_asks client.kind
+-- what it asks and its CANCEL stay
+abbrev pub IsKept : Client → Client → Type 0
+IsKept before after = (after.kind ≡ before.kind) × (after.cancel ≡ before.cancel)
+
+pub rest_kept : (case : ReplyCase) (client : Client) (found : Option HeldDialog) (answer : Answer)
+    → IsKept client (by_reply_case case client found answer).0
+rest_kept reply.Repeated client found answer = (refl, refl)
+rest_kept reply.Accepted client found answer = (refl, refl)
+rest_kept reply.Late client found answer = (refl, refl)
+rest_kept (reply.Reliable number) client found answer = by_asks client.kind
   where
-    by_asks : (kind : RequestKind) → (heard_again kind number client).cancel ≡ client.cancel
-    by_asks First = refl
-    by_asks (Again own) = refl
-    by_asks (Inside own) = refl
-    by_asks Plain = refl
-cancel_kept reply.Passed client found answer = refl
-cancel_kept reply.Early client found answer = refl
-cancel_kept reply.Told client found answer = refl
+    by_asks : (kind : RequestKind) → IsKept client (heard_again kind number client)
+    by_asks First = (refl, refl)
+    by_asks (Again own) = (refl, refl)
+    by_asks (Inside own) = (refl, refl)
+    by_asks Plain = (refl, refl)
+rest_kept reply.Passed client found answer = (refl, refl)
+rest_kept reply.Early client found answer = (refl, refl)
+rest_kept reply.Told client found answer = (refl, refl)
 
-case_fresh : (case : ReplyCase) (client : Client) (found : Option HeldDialog) (answer : Answer)
+pub case_fresh : (case : ReplyCase) (client : Client) (found : Option HeldDialog) (answer : Answer)
     → StartsFresh (by_reply_case case client found answer).3
 unfolding prack_owed
 case_fresh reply.Repeated client found answer = tt
@@ -59,8 +63,8 @@ case_fresh reply.Told client found answer = tt
 
 -- what a response leaves of an INVITE's CANCEL, and what it starts
 pub record Replies (client : Client) (done : Replied) : Type 0 where
-  pub silent : starts done.2 ≡ []
-  pub same : (done.0).cancel ≡ client.cancel
+  pub quiet : AreQuiet done.2
+  pub kept : IsKept client done.0
   pub fresh : StartsFresh done.3
 
 pub replies : (client : Client) (dialogs : Dialogs) (answer : Answer)
@@ -74,13 +78,13 @@ replies client dialogs answer = by_last (is_last client.kind answer.status)
         → Replies client (cond {A = Replied} last (request_over client dialogs answer)
         (after_dialog answer.name dialogs (replied_in client found answer)))
     by_last true = record {
-      silent = ended_none client (ends_dialog answer.status) dialogs;
-      same = refl;
+      quiet = (refl, ended_quiet client (ends_dialog answer.status) dialogs);
+      kept = (refl, refl);
       fresh = tt;
     }
     by_last false = record {
-      silent = case_none (reply_case client found answer) client found answer;
-      same = cancel_kept (reply_case client found answer) client found answer;
+      quiet = case_quiet (reply_case client found answer) client found answer;
+      kept = rest_kept (reply_case client found answer) client found answer;
       fresh = case_fresh (reply_case client found answer) client found answer;
     }
 
@@ -113,7 +117,8 @@ module _ (event : Event) (id : Id) (call_id : List ℕ) (response : Message) (si
       let last = sent_beside (cancel_freed final client) (after.0, done.2 ++ after.1) in
       let own : Id → ℕ = λ of. weight (is_id of) (Some event.id) + how_many of (waiting put) in
       let settles : Within own (starts (done.2 ++ after.1)) after.0 =
-      subst (λ started. Within own started after.0) (sym (none_of done.2 after.1 so.silent))
+      subst (λ started. Within own started after.0) (sym (none_of done.2 after.1
+      (none_started done.2 so.quiet)))
       (settled_within event id done.3 put so.fresh) in
       let sends = sent_within freed client own (after.0, done.2 ++ after.1) settles in
       fits (Some event.id) side.clients last.1 last.0 record {
@@ -127,7 +132,7 @@ module _ (event : Event) (id : Id) (call_id : List ℕ) (response : Message) (si
             (weight (is_id of) (waits_in (cancelling_after final client.cancel)))
             (tally_set waits_for (is_id of) (is_id id) side.clients client done.0 is
             ∙ ap (λ state. how_many of (waiting side.clients)
-            + weight (is_id of) (waits_in state)) so.same)
+            + weight (is_id of) (waits_in state)) so.kept.1)
             (freed_weight final client.cancel of));
       }
 

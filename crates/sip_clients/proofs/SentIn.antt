@@ -32,7 +32,7 @@ use Rattle.sip_clients.specs.declared.event.Event.{Event}
 use Rattle.sip_clients.specs.declared.service.Sending.{Sending}
 use Rattle.sip_clients.specs.declared.service.Service.{Service}
 use Rattle.sip_clients.specs.declared.service.Service.TheVariants.{Sent, Waits, Refused}
-use Rattle.sip_clients.specs.Cancel.{cancel_command, cancellation, sent_beside}
+use Rattle.sip_clients.specs.Cancel.{cancel_client, sent_beside}
 use Rattle.sip_clients.specs.Client.{Clients}
 use Rattle.sip_clients.specs.Clients.{settled}
 use Rattle.sip_clients.specs.Commands.{is_own_kind, request_in_held, request_refusals, sent_unless}
@@ -242,9 +242,10 @@ said_sent name event id call_id own (Refused refusal) clients = refl
 -- a CANCEL that goes out last is sent in no dialog
 pub beside_sent : (name : DialogName) (freed : Option Id) (invite : Client)
     (done : Clients × List CallOut)
-    → cseqs_in name (sent_beside (option_map (λ id. cancellation id invite) freed) done).1
+    → cseqs_in name (sent_beside (option_map (λ id. cancel_client id invite) freed) done).1
     ≡ cseqs_in name done.1
-unfolding cancel_command
+unfolding start_command
 beside_sent name None invite done = refl
 beside_sent name (Some id) invite done =
-    cseqs_both name done.1 (cancel_command id invite ∷ []) ∙ append-nil (cseqs_in name done.1)
+    cseqs_both name done.1 (start_command id (cancel_client id invite) ∷ [])
+    ∙ append-nil (cseqs_in name done.1)

@@ -1,6 +1,6 @@
 -- What is to be sent in the dialog of a name, where that is held, and where it isn't.
-use Rattle.std.proofs.Common.{◌≡◌, Bool, true, false, ◌&&◌, ◌||◌, [], ◌∷◌, List, refl, ap, ◌∙◌}
-use Rattle.std.specs.Prelude.{Option, None, Some, if◌then◌else◌, codes, nat_le, ℕ}
+use Rattle.std.proofs.Common.{◌≡◌, Bool, true, false, ◌&&◌, ◌||◌, [], ◌∷◌, List, refl, ap, ◌∙◌, sym, cond}
+use Rattle.std.specs.Prelude.{Option, None, Some, if◌then◌else◌, codes, nat_le, ℕ, Result, Ok, Err, find}
 use Rattle.std.specs.Map.{set_value}
 use Rattle.std.specs.Option.{option_map, option_map_or}
 use Rattle.std.specs.Str.{bytes_eq}
@@ -23,6 +23,32 @@ use Rattle.sip_clients.specs.declared.event.Event.{Event}
 use Rattle.sip_clients.specs.declared.service.Sending.{Sending}
 use Rattle.sip_clients.specs.declared.service.Service.{Service}
 use Rattle.sip_clients.specs.declared.service.Service.TheVariants.{Refused}
+use Rattle.sip_common.specs.declared.command.DialogBody.{DialogBody}
+use Rattle.sip_common.specs.declared.debt.Debt.{Debt}
+use Rattle.sip_common.specs.Notices.{refused}
+use Rattle.sip_clients.specs.Client.{Side, ClientTaken}
+use Rattle.sip_clients.specs.Clients.{paid_or_refused}
+
+-- ---- the commands Ack and Prack
+
+-- what holds of a refusal and of each payment holds of what becomes of the command
+pub paid_either : (P : ClientTaken → Type 0) (event : Event) (command : DialogBody)
+    (pay : Debt → Side → ClientTaken) (side : Side) (o : Result Debt Refusal)
+    → ((refusal : Refusal) → P (side, refused event.id command.call_id refusal))
+    → ((debt : Debt) → P (pay debt side)) → P (paid_or_refused event command pay o side)
+paid_either P event command pay side (Err refusal) refuses pays = refuses refusal
+paid_either P event command pay side (Ok debt) refuses pays = pays debt
+
+pub found_passes : (p : Debt → Bool) (debts : List Debt) (debt : Debt) → find p debts ≡ Some debt
+    → p debt ≡ true
+found_passes p [] debt is = absurd cc
+found_passes p (first ∷ debts) debt is =
+    by_first (p first) refl is (λ later. found_passes p debts debt later)
+  where
+    by_first : (b : Bool) → p first ≡ b → cond b (Some first) (find p debts) ≡ Some debt
+        → (find p debts ≡ Some debt → p debt ≡ true) → p debt ≡ true
+    by_first true passes is rest = let same : first ≡ debt = cc in ap p (sym same) ∙ passes
+    by_first false fails is rest = rest is
 
 -- ---- the dialogs after it
 

@@ -25,10 +25,9 @@ use Rattle.sip_clients.specs.declared.outputs.ClientChange.{ClientChange}
 use Rattle.sip_clients.specs.declared.outputs.ClientChange.TheVariants.{Stays, Over, Starts}
 use Rattle.sip_clients.specs.declared.service.Service.{Service}
 use Rattle.sip_clients.specs.declared.service.Service.TheVariants.{Sent, Waits, Refused}
-use Rattle.sip_clients.specs.Cancel.{cancel_client, cancel_command, cancellation, sent_beside}
+use Rattle.sip_clients.specs.Cancel.{cancel_client, sent_beside}
 use Rattle.sip_clients.specs.Client.{Clients, with_client, without_client}
 use Rattle.sip_clients.specs.Clients.{settled, started}
-use Rattle.sip_clients.specs.Event.{branch_of}
 use Rattle.sip_clients.specs.Outputs.{request_said, start_command}
 use Rattle.sip_clients.proofs.Tally.{tally_inserted, tally_removed, weight}
 
@@ -194,17 +193,18 @@ and_one allowed started id client branch method clients fresh within = record {
 pub started_within : (event : Event) (client : Client) (clients : Clients) → client.cancel
     ≡ cancel.NotAsked
     → Within (λ id. weight (is_id id) (Some event.id) + how_many id (waiting clients))
-    (starts (start_command event client ∷ [])) (with_client event.id client clients)
+    (starts (start_command event.id client ∷ [])) (with_client event.id client clients)
 unfolding start_command
 started_within event client clients fresh =
     and_one (λ id. how_many id (waiting clients)) [] event.id client
-    (str_to_ascii_lowercase (branch_of event)) ((client.request).cseq).method clients fresh
-    (nothing clients clients (at_most_same clients))
+    (str_to_ascii_lowercase (top_branch client.request)) ((client.request).cseq).method clients
+    fresh (nothing clients clients (at_most_same clients))
 
+-- a request that was just sent waits for no CANCEL, and has heard nothing
 abbrev pub StartsFresh : ClientChange → Type 0
 StartsFresh Stays = Unit {0}
 StartsFresh Over = Unit {0}
-StartsFresh (Starts client) = client.cancel ≡ cancel.NotAsked
+StartsFresh (Starts client) = (client.cancel ≡ cancel.NotAsked) × (client.heard ≡ None)
 
 pub settled_within : (event : Event) (id : Id) (change : ClientChange) (clients : Clients)
     → StartsFresh change
@@ -215,11 +215,12 @@ settled_within event id Stays clients fresh =
 settled_within event id Over clients fresh =
     own_nothing (Some event.id) clients (without_client id clients)
     (λ of. tally_removed waits_for (is_id of) (is_id id) clients)
-settled_within event id (Starts client) clients fresh = started_within event client clients fresh
+settled_within event id (Starts client) clients fresh =
+    started_within event client clients fresh.0
 
 pub said_fresh : (event : Event) (call_id : List ℕ) (name : DialogName) (service : Service)
     → StartsFresh (request_said event call_id name service).1
-said_fresh event call_id name (Sent sending) = refl
+said_fresh event call_id name (Sent sending) = (refl, refl)
 said_fresh event call_id name Waits = tt
 said_fresh event call_id name (Refused refusal) = tt
 
@@ -227,9 +228,9 @@ said_fresh event call_id name (Refused refusal) = tt
 pub sent_within : (freed : Option Id) (invite : Client) (allowed : Id → ℕ)
     (done : Clients × List CallOut) → Within allowed (starts done.1) done.0
     → Within (λ id. weight (is_id id) freed + allowed id)
-    (starts (sent_beside (option_map (λ id. cancellation id invite) freed) done).1)
-    (sent_beside (option_map (λ id. cancellation id invite) freed) done).0
-unfolding cancel_command
+    (starts (sent_beside (option_map (λ id. cancel_client id invite) freed) done).1)
+    (sent_beside (option_map (λ id. cancel_client id invite) freed) done).0
+unfolding start_command
 sent_within None invite allowed done within = record {
   of_clients = within.of_clients;
   few = λ id. zero_more (how_many id (ids_of (starts done.1)) + how_many id (waiting done.0))
@@ -237,9 +238,9 @@ sent_within None invite allowed done within = record {
 }
 sent_within (Some id) invite allowed done within =
     let sent = cancel_client id invite in
-    let branch = str_to_ascii_lowercase (top_branch invite.request) in
+    let branch = str_to_ascii_lowercase (top_branch sent.request) in
     let method = ((sent.request).cseq).method in
     let after = with_client id sent done.0 in
     subst (λ started. Within (λ of. weight (is_id of) (Some id) + allowed of) started after)
-    (sym (filter_map-append start_in done.1 (cancel_command id invite ∷ [])))
+    (sym (filter_map-append start_in done.1 (start_command id sent ∷ [])))
     (and_one allowed (starts done.1) id sent branch method done.0 refl within)

@@ -1,19 +1,26 @@
--- What the client side makes without starting a transaction.
-use Rattle.std.proofs.Common.{◌≡◌, ℕ, ◌+◌, ◌≤◌, Bool, true, false, not, cond, List, [], ◌∷◌, ◌++◌, refl, sym, subst}
-use Rattle.std.specs.Prelude.{Option, None, Some, if◌then◌else◌}
+-- What the client side makes without starting a transaction or telling of a request.
+use Rattle.std.proofs.Common.{◌≡◌, ℕ, ◌+◌, ◌≤◌, Bool, true, false, not, cond, List, [], ◌∷◌, ◌++◌, map, refl, sym, subst, ◌∙◌}
+use Rattle.std.specs.Prelude.{Option, None, Some, codes, filter, if◌then◌else◌}
+use Rattle.std.specs.List.{AllByRecursion, cons_option}
 use Rattle.std.specs.Map.{values_of}
 use Rattle.std.specs.Option.{option_map_or}
+use Rattle.std.specs.Str.{bytes_eq}
 use Rattle.sip_message.specs.declared.id.Id.{Id}
 use Rattle.sip_common.specs.declared.held_dialog.DialogName.{DialogName}
 use Rattle.sip_common.specs.declared.held_dialog.HeldDialog.{HeldDialog}
 use Rattle.sip_common.specs.declared.item.CallOut.{CallOut}
-use Rattle.sip_common.specs.Dialogs.{early_ended, ended_at, lives, Dialogs}
+use Rattle.sip_common.specs.declared.item.CallOut.TheVariants as out
+use Rattle.sip_common.specs.Dialogs.{dialog_at, early_ended, ended_at, ended_notice, is_early_of, lives, Dialogs}
 use Rattle.sip_common.specs.Ids.{is_id}
-use Rattle.sip_common.proofs.Starts.{early_starts, ended_starts, none_of_all, none_of_both, starts}
+use Rattle.sip_common.specs.Notices.{request_told_by}
+use Rattle.sip_common.proofs.Each.{all_of_each, both}
+use Rattle.sip_common.proofs.Starts.{starts}
+use Rattle.sip_common.proofs.ToldRequests.{shown}
 use Rattle.sip_clients.specs.declared.answers.SentAck.{SentAck}
 use Rattle.sip_clients.specs.declared.client.RequestKind.{RequestKind}
 use Rattle.sip_clients.specs.declared.client.RequestKind.TheVariants.{First, Again, Inside, Plain}
 use Rattle.sip_clients.specs.declared.client.Client.{Client}
+use Rattle.sip_clients.specs.declared.debts.DebtKind.TheVariants as kind
 use Rattle.sip_clients.specs.declared.event.Event.{Event}
 use Rattle.sip_clients.specs.declared.reply.Reply.{Reply as Answer}
 use Rattle.sip_clients.specs.declared.reply.ReplyCase.{ReplyCase}
@@ -22,74 +29,148 @@ use Rattle.sip_clients.specs.declared.service.Service.{Service}
 use Rattle.sip_clients.specs.declared.service.Service.TheVariants.{Sent, Waits, Refused}
 use Rattle.sip_clients.specs.Answers.{ack_of}
 use Rattle.sip_clients.specs.Client.{Clients, Side, without_client}
-use Rattle.sip_clients.specs.Clients.{lost_of}
-use Rattle.sip_clients.specs.Dialogs.{accepted, ended_with, dialog_for_provisional, own_ended}
+use Rattle.sip_clients.specs.Clients.{lost_of, ack_by_user, ack_paid}
+use Rattle.sip_clients.specs.Commands.{bye_ended, debt_for, name_in}
+use Rattle.sip_clients.specs.Dialogs.{accepted, ended_with, dialog_for_provisional, own_ended, paid_at}
 use Rattle.sip_clients.specs.Outputs.{ack_said, direct, request_said}
 use Rattle.sip_clients.specs.Replied.{ack_owed, by_reply_case, prack_owed}
 use Rattle.sip_clients.specs.Tick.{clients_left, is_over, early_ends_told, over_notices}
 use Rattle.sip_clients.proofs.StartBounds.{waits_for, waiting, AllClients, how_many, ids_of, Fits, Within, fits, none_of, own_nothing, at_most_same}
 use Rattle.sip_clients.proofs.Tally.{tally_filtered, tally_removed, weight}
+use Rattle.sip_clients.proofs.Served.{paid_either}
+use Rattle.sip_common.specs.declared.command.DialogBody.{DialogBody}
+
+-- ---- notices of no request, and ACKs
+
+abbrev pub IsQuiet : CallOut → Type 0
+IsQuiet (out.Notice notice) = request_told_by (out.Notice notice) ≡ None
+IsQuiet (out.Command id command) = ⊥
+IsQuiet (out.Direct to bytes) = Unit {0}
+
+abbrev pub AreQuiet : List CallOut → Type 0
+AreQuiet outs = AllByRecursion IsQuiet outs
+
+pub none_started : (outs : List CallOut) → AreQuiet outs → starts outs ≡ []
+none_started [] quiet = refl
+none_started (out.Notice notice ∷ outs) quiet = none_started outs quiet.1
+none_started (out.Command id command ∷ outs) quiet = absurd quiet.0
+none_started (out.Direct to bytes ∷ outs) quiet = none_started outs quiet.1
+
+pub none_shown : (outs : List CallOut) → AreQuiet outs → shown outs ≡ []
+none_shown [] quiet = refl
+none_shown (out.Notice notice ∷ outs) quiet =
+    (λ i. cons_option (quiet.0 i) (shown outs)) ∙ none_shown outs quiet.1
+none_shown (out.Command id command ∷ outs) quiet = absurd quiet.0
+none_shown (out.Direct to bytes ∷ outs) quiet = none_shown outs quiet.1
 
 -- ---- what is told beside it
 
-pub request_said_none : (event : Event) (call_id : List ℕ) (name : DialogName) (service : Service)
-    → starts (request_said event call_id name service).0 ≡ []
-request_said_none event call_id name (Sent sending) = refl
-request_said_none event call_id name Waits = refl
-request_said_none event call_id name (Refused refusal) = refl
+pub request_said_quiet : (event : Event) (call_id : List ℕ) (name : DialogName) (service : Service)
+    → AreQuiet (request_said event call_id name service).0
+request_said_quiet event call_id name (Sent sending) = tt
+request_said_quiet event call_id name Waits = tt
+request_said_quiet event call_id name (Refused refusal) = (refl, tt)
 
-pub ack_said_none : (event : Event) (call_id : List ℕ) (service : Service)
-    → starts (ack_said event call_id service).0 ≡ []
-ack_said_none event call_id (Sent sending) = refl
-ack_said_none event call_id Waits = refl
-ack_said_none event call_id (Refused refusal) = refl
+pub ack_said_quiet : (event : Event) (call_id : List ℕ) (service : Service)
+    → AreQuiet (ack_said event call_id service).0
+ack_said_quiet event call_id (Sent sending) = (tt, tt)
+ack_said_quiet event call_id Waits = tt
+ack_said_quiet event call_id (Refused refusal) = (refl, tt)
 
-pub at_or_none : (b : Bool) (name : DialogName) (dialogs : Dialogs)
-    → starts (cond {A = Dialogs × List CallOut} b (ended_at name dialogs) (dialogs, [])).1 ≡ []
-at_or_none true name dialogs = ended_starts name dialogs
-at_or_none false name dialogs = refl
+pub ack_quiet : (event : Event) (command : DialogBody) (side : Side)
+    → AreQuiet (ack_by_user event command side).1
+ack_quiet event command side =
+    let name = name_in command.local_tag command.remote_tag in
+    paid_either (λ taken. AreQuiet taken.1) event command (ack_paid event command name) side
+    (debt_for kind.Ack name side.dialogs) (λ refusal. (refl, tt))
+    (λ debt. ack_said_quiet event command.call_id
+    (paid_at name event debt command.body side.dialogs).1)
 
-own_none : (kind : RequestKind) (ends : Bool) (dialogs : Dialogs)
-    → starts (own_ended kind ends dialogs).1 ≡ []
-own_none First ends dialogs = refl
-own_none (Again life) true dialogs = at_or_none (lives dialogs life) life.name dialogs
-own_none (Again life) false dialogs = refl
-own_none (Inside life) true dialogs = at_or_none (lives dialogs life) life.name dialogs
-own_none (Inside life) false dialogs = refl
-own_none Plain ends dialogs = refl
+at_or_quiet : (b : Bool) (name : DialogName) (dialogs : Dialogs)
+    → AreQuiet (cond {A = Dialogs × List CallOut} b (ended_at name dialogs) (dialogs, [])).1
+at_or_quiet false name dialogs = tt
+at_or_quiet true name dialogs = by_dialog (dialog_at name dialogs)
+  where
+    by_dialog : (o : Option HeldDialog)
+        → AreQuiet (option_map_or (λ held. ended_notice held ∷ []) o [])
+    by_dialog None = tt
+    by_dialog (Some held) = (refl, tt)
 
-pub ended_none : (client : Client) (ends : Bool) (dialogs : Dialogs)
-    → starts (ended_with client ends dialogs).1 ≡ []
-ended_none client ends dialogs =
+early_quiet : (invite : Id) (dialogs : Dialogs) → AreQuiet (early_ended invite dialogs).1
+early_quiet invite dialogs = each (filter (is_early_of invite) (values_of dialogs))
+  where
+    each : (dialogs : List HeldDialog) → AreQuiet (map ended_notice dialogs)
+    each [] = tt
+    each (held ∷ dialogs) = (refl, each dialogs)
+
+pub bye_quiet : (name : DialogName) (method : List ℕ) (service : Service) (dialogs : Dialogs)
+    → AreQuiet (bye_ended name method service dialogs).1
+bye_quiet name method (Sent sending) dialogs =
+    at_or_quiet (bytes_eq method (codes "BYE")) name dialogs
+bye_quiet name method Waits dialogs = tt
+bye_quiet name method (Refused refusal) dialogs = tt
+
+own_quiet : (kind : RequestKind) (ends : Bool) (dialogs : Dialogs)
+    → AreQuiet (own_ended kind ends dialogs).1
+own_quiet First ends dialogs = tt
+own_quiet (Again life) true dialogs = at_or_quiet (lives dialogs life) life.name dialogs
+own_quiet (Again life) false dialogs = tt
+own_quiet (Inside life) true dialogs = at_or_quiet (lives dialogs life) life.name dialogs
+own_quiet (Inside life) false dialogs = tt
+own_quiet Plain ends dialogs = tt
+
+pub ended_quiet : (client : Client) (ends : Bool) (dialogs : Dialogs)
+    → AreQuiet (ended_with client ends dialogs).1
+ended_quiet client ends dialogs =
     let early = early_ended client.id dialogs in
-    none_of_both early.1 (own_ended client.kind ends early.0).1 (early_starts client.id dialogs)
-    (own_none client.kind ends early.0)
+    both IsQuiet early.1 (own_ended client.kind ends early.0).1 (early_quiet client.id dialogs)
+    (own_quiet client.kind ends early.0)
 
-again_none : (o : Option SentAck) → starts (option_map_or (λ ack. direct ack ∷ []) o []) ≡ []
-again_none None = refl
-again_none (Some ack) = refl
+again_quiet : (o : Option SentAck) → AreQuiet (option_map_or (λ ack. direct ack ∷ []) o [])
+again_quiet None = tt
+again_quiet (Some ack) = (tt, tt)
 
-pub case_none : (case : ReplyCase) (client : Client) (found : Option HeldDialog) (answer : Answer)
-    → starts (by_reply_case case client found answer).2 ≡ []
+pub case_quiet : (case : ReplyCase) (client : Client) (found : Option HeldDialog) (answer : Answer)
+    → AreQuiet (by_reply_case case client found answer).2
 unfolding ack_owed prack_owed
-case_none reply.Repeated client found answer = again_none (ack_of answer.name client.answers)
-case_none reply.Accepted client found answer =
-    ack_said_none answer.event answer.call_id
-    (ack_owed client (accepted client answer found) answer).1
-case_none reply.Late client found answer = refl
-case_none (reply.Reliable number) client found answer =
-    request_said_none answer.event answer.call_id answer.name
-    (prack_owed number client (dialog_for_provisional client answer found) answer).1
-case_none reply.Passed client found answer = refl
-case_none reply.Early client found answer = refl
-case_none reply.Told client found answer = refl
+case_quiet reply.Repeated client found answer = again_quiet (ack_of answer.name client.answers)
+case_quiet reply.Accepted client found answer = (
+  refl,
+  ack_said_quiet answer.event answer.call_id
+      (ack_owed client (accepted client answer found) answer).1,
+)
+case_quiet reply.Late client found answer = (refl, tt)
+case_quiet (reply.Reliable number) client found answer = (
+  refl,
+  request_said_quiet answer.event answer.call_id answer.name
+      (prack_owed number client (dialog_for_provisional client answer found) answer).1,
+)
+case_quiet reply.Passed client found answer = tt
+case_quiet reply.Early client found answer = (refl, tt)
+case_quiet reply.Told client found answer = (refl, tt)
 
 -- ---- a request that is lost, and a tick
 
-pub lost_none : (id : Id) (timed_out : Bool) (o : Option Client) (side : Side)
-    → starts (lost_of id timed_out o side).1 ≡ []
-lost_none id timed_out None side = refl
-lost_none id timed_out (Some client) side = ended_none client timed_out side.dialogs
+pub lost_quiet : (id : Id) (timed_out : Bool) (o : Option Client) (side : Side)
+    → AreQuiet (lost_of id timed_out o side).1
+lost_quiet id timed_out None side = tt
+lost_quiet id timed_out (Some client) side = ended_quiet client timed_out side.dialogs
+
+pub tick_quiet : (now : ℕ) (dialogs : Dialogs) (clients : Clients)
+    → AreQuiet (over_notices now dialogs clients)
+tick_quiet now dialogs clients =
+    all_of_each IsQuiet (early_ends_told now dialogs)
+    (λ client. over (is_over now client) client) (values_of clients)
+  where
+    over : (b : Bool) (client : Client)
+        → AreQuiet (if b then (early_ended client.id dialogs).1 else [])
+    over true client = early_quiet client.id dialogs
+    over false client = tt
+
+pub tick_none : (now : ℕ) (dialogs : Dialogs) (clients : Clients)
+    → starts (over_notices now dialogs clients) ≡ []
+tick_none now dialogs clients =
+    none_started (over_notices now dialogs clients) (tick_quiet now dialogs clients)
 
 pub silent_fits : (own : Option Id) (before : Clients) (outs : List CallOut) (after : Clients)
     → starts outs ≡ []
@@ -124,19 +205,10 @@ lost_fits id timed_out None side =
     (λ of. tally_removed waits_for (is_id of) (is_id id) side.clients)
 lost_fits id timed_out (Some client) side =
     silent_fits None side.clients (lost_of id timed_out (Some client) side).1
-    (without_client id side.clients) (lost_none id timed_out (Some client) side)
+    (without_client id side.clients)
+    (none_started (lost_of id timed_out (Some client) side).1
+    (lost_quiet id timed_out (Some client) side))
     (λ of. tally_removed waits_for (is_id of) (is_id id) side.clients)
-
-over_by : (b : Bool) (outs : List CallOut) → starts outs ≡ [] → starts (if b then outs else []) ≡ []
-over_by true outs none = none
-over_by false outs none = refl
-
-pub tick_none : (now : ℕ) (dialogs : Dialogs) (clients : Clients)
-    → starts (over_notices now dialogs clients) ≡ []
-tick_none now dialogs clients =
-    none_of_all (early_ends_told now dialogs)
-    (λ client. over_by (is_over now client) (early_ended client.id dialogs).1
-    (early_starts client.id dialogs)) (values_of clients)
 
 pub tick_fits : (now : ℕ) (dialogs : Dialogs) (clients : Clients)
     → Fits None clients (over_notices now dialogs clients) (clients_left now clients)

@@ -2,7 +2,6 @@
 use Rattle.std.specs.Prelude.{Bool, not, ◌||◌, List, [], ◌∷◌, ◌++◌, Option, None, Some, if◌then◌else◌}
 use Rattle.std.specs.Option.{is_some, option_map}
 use Rattle.sip_message.specs.HopByHop.{cancel_of}
-use Rattle.sip_message.specs.TopVia.{top_branch}
 use Rattle.sip_message.specs.declared.id.Id.{Id}
 use Rattle.sip_common.specs.declared.command.Cancel.{Cancel}
 use Rattle.sip_common.specs.declared.item.CallOut.{CallOut}
@@ -11,36 +10,27 @@ use Rattle.sip_common.specs.declared.refusal.Refusal.TheVariants.{AlreadyFinal, 
 use Rattle.sip_common.specs.Notices.{refused}
 use Rattle.sip_clients.specs.declared.cancel.CancelCase.{CancelCase}
 use Rattle.sip_clients.specs.declared.cancel.CancelCase.TheVariants as case
-use Rattle.sip_clients.specs.declared.cancel.Cancellation.{Cancellation}
 use Rattle.sip_clients.specs.declared.client.RequestKind.TheVariants.{Plain}
 use Rattle.sip_clients.specs.declared.client.Cancelling.{Cancelling}
 use Rattle.sip_clients.specs.declared.client.Cancelling.TheVariants.{NotAsked, Waits, Sent}
 use Rattle.sip_clients.specs.declared.client.Client.{Client}
 use Rattle.sip_clients.specs.declared.event.Event.{Event}
 use Rattle.sip_clients.specs.Client.{Clients, Side, ClientTaken, client_at, client_changed, client_for, with_client}
-use Rattle.sip_clients.specs.Outputs.{start_under}
+use Rattle.sip_clients.specs.Outputs.{start_command}
 use Rattle.sip_clients.specs.Reply.{is_inviting}
 
 -- ---- the CANCEL
 
--- a request outside of dialogs, to where the INVITE was sent
+-- that of an INVITE, which the event of this id asked for: a request outside of dialogs, with the
+-- branch of the INVITE, to where that was sent
 abbrev pub cancel_client : Id → Client → Client
 cancel_client id invite = client_for id Plain (cancel_of invite.request) invite.to
 
--- its transaction has the branch of the INVITE
-unfoldable pub cancel_command : Id → Client → CallOut
-cancel_command id invite = start_under id (top_branch invite.request) (cancel_client id invite)
-
--- the CANCEL of an INVITE that the event of this id asked for
-abbrev pub cancellation : Id → Client → Cancellation
-cancellation id invite =
-    record { client = cancel_client id invite; start = cancel_command id invite }
-
 -- it is sent: it is held, and its transaction starts after what was told
-abbrev pub sent_beside : Option Cancellation → Clients × List CallOut → Clients × List CallOut
+abbrev pub sent_beside : Option Client → Clients × List CallOut → Clients × List CallOut
 sent_beside None done = done
 sent_beside (Some cancel) done =
-    (with_client (cancel.client).id cancel.client done.0, done.1 ++ cancel.start ∷ [])
+    (with_client cancel.id cancel done.0, done.1 ++ start_command cancel.id cancel ∷ [])
 
 -- ---- the command
 
@@ -74,7 +64,7 @@ cancelled_as case.Repeated event command invite clients = (clients, [])
 cancelled_as case.Waits event command invite clients =
     (client_changed command.id (asked (Waits event.id)) clients, [])
 cancelled_as case.Starts event command invite clients =
-    sent_beside (Some (cancellation event.id invite))
+    sent_beside (Some (cancel_client event.id invite))
     (client_changed command.id (asked Sent) clients, [])
 
 -- of the INVITE that is held, or of none
@@ -116,6 +106,6 @@ freed_by final (Waits id) = if final then None else Some id
 freed_by final Sent = None
 
 -- the CANCEL that waited for it
-abbrev pub cancel_freed : Bool → Client → Option Cancellation
+abbrev pub cancel_freed : Bool → Client → Option Client
 cancel_freed final invite =
-    option_map (λ id. cancellation id invite) (freed_by final invite.cancel)
+    option_map (λ id. cancel_client id invite) (freed_by final invite.cancel)

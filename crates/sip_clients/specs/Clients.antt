@@ -23,7 +23,6 @@ use Rattle.sip_common.specs.Notices.{refused}
 use Rattle.sip_common.specs.Requests.{is_final, name_of_tags}
 use Rattle.sip_common.specs.Ids.{is_id}
 use Rattle.sip_clients.specs.declared.answers.SentAck.{SentAck}
-use Rattle.sip_clients.specs.declared.cancel.Cancellation.{Cancellation}
 use Rattle.sip_clients.specs.declared.client.RequestKind.{RequestKind}
 use Rattle.sip_clients.specs.declared.client.RequestKind.TheVariants.{First, Again, Inside, Plain}
 use Rattle.sip_clients.specs.declared.client.Client.{Client}
@@ -43,7 +42,7 @@ use Rattle.sip_clients.specs.Replied.{Replied, reply_taken}
 -- a request is sent
 abbrev pub started : Event → Client → Clients → Clients × List CallOut
 started event client clients =
-    (with_client event.id client clients, start_command event client ∷ [])
+    (with_client event.id client clients, start_command event.id client ∷ [])
 
 -- what becomes of the requests after a response to that of an id, or after a command
 abbrev pub settled : Event → Id → ClientChange → Clients → Clients × List CallOut
@@ -66,13 +65,13 @@ status_of (start.Request uri) = None
 status_of (start.Response status reason) = Some status
 
 -- the requests, and what is told: what becomes of them, and last the CANCEL that waited for it
-abbrev pub reply_ended : Event → Id → ClientChange → Option Cancellation → Clients → List CallOut
+abbrev pub reply_ended : Event → Id → ClientChange → Option Client → Clients → List CallOut
     → Clients × List CallOut
 reply_ended event id change cancel clients told =
     let after = settled event id change clients in sent_beside cancel (after.0, told ++ after.1)
 
 -- what is held and told after it has done this to the request of this id and to the dialogs
-abbrev pub side_after : Event → Id → Side → Option Cancellation → Replied → ClientTaken
+abbrev pub side_after : Event → Id → Side → Option Client → Replied → ClientTaken
 side_after event id side cancel done =
     let clients = set_value (is_id id) side.clients done.0 in
     let after = reply_ended event id done.3 cancel clients done.2 in

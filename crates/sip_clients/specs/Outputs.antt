@@ -2,6 +2,7 @@
 use Rattle.std.specs.Prelude.{ℕ, List, [], ◌∷◌, Option, None, Some, if◌then◌else◌}
 use Rattle.sip_message.specs.Key.{client_key}
 use Rattle.sip_message.specs.Party.{tag_of}
+use Rattle.sip_message.specs.TopVia.{top_branch}
 use Rattle.sip_message.specs.Written.{written}
 use Rattle.sip_message.specs.declared.id.Id.{Id}
 use Rattle.sip_message.specs.declared.message.Message.{Message}
@@ -25,7 +26,6 @@ use Rattle.sip_clients.specs.declared.service.Sending.{Sending}
 use Rattle.sip_clients.specs.declared.service.Service.{Service}
 use Rattle.sip_clients.specs.declared.service.Service.TheVariants.{Sent, Waits, Refused}
 use Rattle.sip_clients.specs.Client.{client_for}
-use Rattle.sip_clients.specs.Event.{branch_of}
 
 -- the user is told of a response
 abbrev pub response_notice : Answer → CallOut
@@ -52,15 +52,13 @@ request_said event call_id name Waits = ([], Stays)
 request_said event call_id name (Refused refusal) =
     (refused event.id call_id refusal, Stays)
 
--- a request is sent through a transaction of its own, under this id and with this branch
-abbrev pub start_under : Id → List ℕ → Client → CallOut
-start_under id branch client =
-    out.Command id (Start (client_key branch ((client.request).cseq).method)
+-- a request is sent through a transaction of its own, under this id and with the branch of the
+-- request
+unfoldable pub start_command : Id → Client → CallOut
+start_command id client =
+    out.Command id
+    (Start (client_key (top_branch client.request) ((client.request).cseq).method)
     (client.request).call_id client.request client.to)
-
--- its transaction starts, with the branch of the event
-unfoldable pub start_command : Event → Client → CallOut
-start_command event client = start_under event.id (branch_of event) client
 
 -- ---- an ACK
 

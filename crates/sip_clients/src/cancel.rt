@@ -7,19 +7,12 @@ ghost use Rattle.sip_clients.specs.Client.{client_changed};
 use crate::client::{Cancelling, Client, RequestKind, client_for};
 use crate::event::Event;
 use crate::held::{ClientMap, hold};
-use crate::outputs::{refused, start_under};
+use crate::outputs::start_command;
 use crate::reply::is_inviting;
+use sip_common::outputs::refused;
 use sip_common::{CallOut, Cancel, Refusal};
 use sip_message::{Id, cancel_for};
 use std::alloc::{AllocError, Global};
-
-/// The CANCEL of an INVITE.
-#[derive(Drop)]
-pub(crate) struct Cancellation {
-    pub(crate) client: Client,
-    /// What starts its transaction.
-    pub(crate) start: CallOut,
-}
 
 /// What becomes of a command to cancel a client request.
 #[derive(Clone, Copy)]
@@ -36,30 +29,28 @@ pub(crate) enum CancelCase {
 // ---- the CANCEL
 
 // That of an INVITE which the event of this id asked for.
-#[tactic(auto, unfolding(crate::specs::Cancel::cancel_command))]
-fn made_cancel(alloc: Global, id: Id, invite: &Client) -> Result<Cancellation, AllocError>
-    ensures { IfOk result (λ cancel. cancel ≡ spec.cancellation id invite.now) }
+fn made_cancel(alloc: Global, id: Id, invite: &Client) -> Result<Client, AllocError>
+    ensures { IfOk result (λ cancel. cancel ≡ spec.cancel_client id invite.now) }
 {
     let message = cancel_for(alloc, &invite.request)?;
-    let client = client_for(alloc, id, RequestKind::Plain, message, invite.to);
-    let start = start_under(alloc, id, invite.request.vias.top().branch(), &client)?;
-    Ok(Cancellation { client, start })
+    Ok(client_for(alloc, id, RequestKind::Plain, message, invite.to))
 }
 
 /// It is sent, where there is one: it is held, and its transaction starts after what was told.
 pub(crate) fn send_beside(
+    alloc: Global,
     clients: &mut ClientMap,
-    cancel: Option<Cancellation>,
+    cancel: Option<Client>,
     outs: Vec<CallOut>,
 ) -> Result<Vec<CallOut>, AllocError>
     ensures { IfOk result (λ outs_now. (clients.new.entries, outs_now.items)
         ≡ spec.sent_beside cancel (clients.old.entries, outs.items)) }
 {
-    let Some(Cancellation { client, start }) = cancel else {
+    let Some(client) = cancel else {
         return Ok(outs);
     };
     let mut outs = outs;
-    outs.push(start)?;
+    outs.push(start_command(alloc, client.id, &client)?)?;
     hold(clients, client.id, client)?;
     Ok(outs)
 }
@@ -77,10 +68,15 @@ pub(crate) fn take_cancel(
         ≡ spec.cancelled event command.now clients.old.entries) }
 {
     let Some(invite) = clients.get(&command.id) else {
-        return refused(alloc, event, &command.call_id, Refusal::NoSuchRequest);
+        return refused(
+            alloc,
+            event.id,
+            command.call_id.clone()?,
+            Refusal::NoSuchRequest,
+        );
     };
     match cancel_case(invite) {
-        CancelCase::Refused(refusal) => refused(alloc, event, &command.call_id, refusal),
+        CancelCase::Refused(refusal) => refused(alloc, event.id, command.call_id.clone()?, refusal),
         CancelCase::Repeated => Ok(Vec::new(alloc)),
         CancelCase::Waits => {
             ask(clients, command.id, Cancelling::Waits(event.id));
@@ -89,7 +85,7 @@ pub(crate) fn take_cancel(
         CancelCase::Starts => {
             let cancel = made_cancel(alloc, event.id, invite)?;
             ask(clients, command.id, Cancelling::Sent);
-            send_beside(clients, Some(cancel), Vec::new(alloc))
+            send_beside(alloc, clients, Some(cancel), Vec::new(alloc))
         }
     }
 }
@@ -132,7 +128,7 @@ pub(crate) fn note_reply(
     alloc: Global,
     client: &mut Client,
     is_final: bool,
-) -> Result<Option<Cancellation>, AllocError>
+) -> Result<Option<Client>, AllocError>
     ensures client { OnOk result (client.new ≡ spec.after_response is_final client.old) }
     ensures cancel { IfOk result (λ cancel. cancel ≡ spec.cancel_freed is_final client.old) }
 {
@@ -146,7 +142,7 @@ fn cancel_freed(
     alloc: Global,
     invite: &Client,
     is_final: bool,
-) -> Result<Option<Cancellation>, AllocError>
+) -> Result<Option<Client>, AllocError>
     ensures { IfOk result (λ cancel. cancel ≡ spec.cancel_freed is_final invite.now) }
 {
     match freed_by(is_final, invite.cancel) {

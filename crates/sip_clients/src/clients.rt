@@ -11,10 +11,11 @@ use crate::commands::{ack_told, debt_for, is_bad_outside, name_in, prack_told, r
 use crate::debts::DebtKind;
 use crate::event::Event;
 use crate::held::{ClientMap, fail_request, note_ack, settle, start, take_response};
-use crate::outputs::{ClientChange, refused};
+use crate::outputs::ClientChange;
 use crate::outside::{invite_of, plain_of};
 use crate::tick::{drop_clients, drop_dialogs, next_due, over_notices};
 use indexmap::IndexMap;
+use sip_common::outputs::refused;
 use sip_common::{
     CallOut, Cancel, Debt, DialogBody, DialogName, DialogRequest, Dialogs, Invite, Plain, Refusal,
 };
@@ -267,7 +268,7 @@ fn plain_told(
         ≡ spec.plain_taken event plain.now requests.old.entries) }
 {
     if is_bad_outside(&plain.method) {
-        return refused(alloc, event, &plain.call_id, Refusal::BadMethod);
+        return refused(alloc, event.id, plain.call_id.clone()?, Refusal::BadMethod);
     }
     let message = plain_of(alloc, event, plain)?;
     let client = client_for(alloc, event.id, RequestKind::Plain, message, plain.address);
@@ -305,7 +306,7 @@ fn take_ack(
 {
     let name = name_in(alloc, &command.local_tag, &command.remote_tag)?;
     match debt_for(dialogs, &name, DebtKind::Ack) {
-        Err(refusal) => refused(alloc, event, &command.call_id, refusal),
+        Err(refusal) => refused(alloc, event.id, command.call_id.clone()?, refusal),
         Ok(debt) => pay_ack(alloc, requests, dialogs, event, name, command, debt),
     }
 }
@@ -344,7 +345,7 @@ fn take_prack(
 {
     let name = name_in(alloc, &command.local_tag, &command.remote_tag)?;
     match debt_for(dialogs, &name, DebtKind::Prack) {
-        Err(refusal) => refused(alloc, event, &command.call_id, refusal),
+        Err(refusal) => refused(alloc, event.id, command.call_id.clone()?, refusal),
         Ok(debt) => pay_prack(alloc, requests, dialogs, event, name, command, debt),
     }
 }

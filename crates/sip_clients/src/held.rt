@@ -8,7 +8,7 @@ ghost use Rattle.sip_clients.specs.Client.{client_at, client_changed, with_clien
 ghost use Rattle.sip_clients.specs.Clients as spec;
 
 use crate::answers::SentAck;
-use crate::cancel::{Cancellation, note_reply, send_beside};
+use crate::cancel::{note_reply, send_beside};
 use crate::client::Client;
 use crate::dialogs::end_with;
 use crate::event::Event;
@@ -63,7 +63,7 @@ pub(crate) fn take_response(
 }
 
 /// What is told of a response, what becomes of the requests, and the CANCEL that waited for it.
-type Told = (Vec<CallOut>, ClientChange, Option<Cancellation>);
+type Told = (Vec<CallOut>, ClientChange, Option<Client>);
 
 fn reply_to(
     alloc: Global,
@@ -95,7 +95,7 @@ fn settle_reply(
 {
     let (mut outs, change, cancel) = told;
     outs.append(&mut settle(alloc, clients, event, id, change)?)?;
-    send_beside(clients, cancel, outs)
+    send_beside(alloc, clients, cancel, outs)
 }
 
 /// What becomes of the requests after a response to that of an id, or after a command.
@@ -129,7 +129,7 @@ pub(crate) fn start(
     ensures { IfOk result (λ outs. (clients.new.entries, outs.items)
         ≡ spec.started event client clients.old.entries) }
 {
-    let out = start_command(alloc, event, &client)?;
+    let out = start_command(alloc, event.id, &client)?;
     hold(clients, event.id, client)?;
     one(alloc, out)
 }

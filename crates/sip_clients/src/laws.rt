@@ -1,25 +1,48 @@
 //! Laws of made names, of ticks, and of the Call-ID of what is held and told.
 
-ghost use Rattle.std.specs.Prelude.{◌≡◌, ℕ, Bool, List, false};
+ghost use Rattle.std.specs.Prelude.{◌≡◌, ℕ, Bool, List, Option, Some, false};
 ghost use Rattle.sip_message.specs.declared.id.Id.{Id};
 ghost use Rattle.sip_message.specs.declared.message.Message.{Message};
+ghost use Rattle.sip_message.specs.declared.rack.RAck.{RAck};
+ghost use Rattle.sip_message.specs.TopVia.{top_via};
 ghost use Rattle.sip_timers.specs.Queue.{is_due};
+ghost use Rattle.sip_dialog.specs.Request.{agent_via};
 ghost use Rattle.sip_common.specs.declared.command.Cancel.{Cancel};
 ghost use Rattle.sip_common.specs.declared.command.DialogBody.{DialogBody};
 ghost use Rattle.sip_common.specs.declared.command.DialogRequest.{DialogRequest};
 ghost use Rattle.sip_common.specs.declared.command.Invite.{Invite};
 ghost use Rattle.sip_common.specs.declared.command.Plain.{Plain};
+ghost use Rattle.sip_common.specs.declared.held_dialog.HeldDialog.{HeldDialog};
+ghost use Rattle.sip_clients.specs.declared.client.Client.{Client};
 ghost use Rattle.sip_clients.specs.declared.event.Event.{Event};
-ghost use Rattle.sip_clients.specs.Cancel.{cancel_by_user};
+ghost use Rattle.sip_clients.specs.Cancel.{cancel_by_user, cancel_client};
 ghost use Rattle.sip_clients.specs.Client.{Side, nothing_done};
 ghost use Rattle.sip_clients.specs.Clients.{ack_by_user, invite_taken, request_lost, plain_taken, prack_by_user, request_by_user, response_taken};
+ghost use Rattle.sip_clients.specs.Event.{branch_of};
 ghost use Rattle.sip_clients.specs.Name.{NamesDiffer};
+ghost use Rattle.sip_clients.specs.Outside.{invite_of, plain_of};
+ghost use Rattle.sip_clients.specs.Service.{sending_in};
 ghost use Rattle.sip_clients.specs.OwnCall.{KeepsTo, on_side};
 ghost use Rattle.sip_clients.specs.Tick.{next_removal, clients_ticked};
 
 /// Names of different rounds, places or indexes differ, whatever the seeds.
 pub fn names_differ()
     ensures { NamesDiffer }
+{}
+
+/// The top Via of a request that is made has the branch that its event makes (RFC 3261, section
+/// 8.1.1.7), and that of a CANCEL is the top Via of its INVITE (section 9.1). The transaction of
+/// each is started with that branch.
+pub fn each_request_has_its_branch()
+    ensures invite { (event : Event) (invite : Invite)
+        → top_via (invite_of event invite) ≡ Some (agent_via event.local (branch_of event)) }
+    ensures plain { (event : Event) (plain : Plain)
+        → top_via (plain_of event plain) ≡ Some (agent_via event.local (branch_of event)) }
+    ensures request { (event : Event) (method : List ℕ) (rack : Option RAck) (body : List ℕ)
+        (held : HeldDialog) → top_via (sending_in event method rack body held).message
+        ≡ Some (agent_via event.local (branch_of event)) }
+    ensures cancel { (id : Id) (invite : Client)
+        → top_via (cancel_client id invite).request ≡ top_via invite.request }
 {}
 
 /// Before the moment at which an INVITE is due to be removed a tick does nothing and says nothing.

@@ -24,5 +24,7 @@ pub use answers::{Answers, SentAck};
 pub use client::{Cancelling, Client, RequestKind};
 pub use clients::Clients;
 pub use event::Event;
-pub use laws::{each_notice_is_of_its_call, names_differ, quiet_until_due};
+pub use laws::{
+    each_notice_is_of_its_call, each_request_has_its_branch, names_differ, quiet_until_due,
+};
 pub use name::made_name;

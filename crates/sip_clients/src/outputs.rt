@@ -1,7 +1,6 @@
 //! What the user is told of a client request, and what is sent for it.
 
 ghost use Rattle.std.specs.Prelude.{◌≡◌, ◌∷◌, [], IfOk};
-ghost use Rattle.sip_common.specs.Notices.{refused};
 ghost use Rattle.sip_clients.specs.Outputs as spec;
 
 use crate::answers::SentAck;
@@ -9,9 +8,9 @@ use crate::client::{Client, RequestKind, client_for};
 use crate::event::Event;
 use crate::reply::Reply;
 use crate::service::{Sending, Service};
-use sip_common::outputs::one;
+use sip_common::outputs::{one, refused};
 use sip_common::request::is_invite;
-use sip_common::{CallOut, DialogLife, DialogName, Notice, Refusal};
+use sip_common::{CallOut, DialogLife, DialogName, Notice};
 use sip_message::{CallId, Id, Key, Message, write};
 use sip_text::{Boxed, Text};
 use sip_transactions::Command;
@@ -41,18 +40,6 @@ pub(crate) fn response_notice(alloc: Global, reply: &Reply) -> Result<CallOut, A
     }))
 }
 
-/// The notice that the command of an event is refused.
-pub(crate) fn refused(
-    alloc: Global,
-    event: Event,
-    call_id: &CallId,
-    refusal: Refusal,
-) -> Result<Vec<CallOut>, AllocError>
-    ensures { IfOk result (λ outs. outs.items ≡ refused event.id call_id.now refusal) }
-{
-    sip_common::outputs::refused(alloc, event.id, call_id.clone()?, refusal)
-}
-
 /// What is told of a request in the dialog of this name, and the request that is sent.
 pub(crate) fn request_said(
     alloc: Global,
@@ -73,10 +60,8 @@ pub(crate) fn request_said(
         }
         Service::Waits => Ok((Vec::new(alloc), ClientChange::Stays)),
         Service::Refused(refusal) => {
-            Ok((
-                refused(alloc, event, call_id, refusal)?,
-                ClientChange::Stays,
-            ))
+            let outs = refused(alloc, event.id, call_id.clone()?, refusal)?;
+            Ok((outs, ClientChange::Stays))
         }
     }
 }
@@ -125,7 +110,9 @@ pub(crate) fn ack_said(
             Ok((one(alloc, direct(&ack)?)?, Some(ack)))
         }
         Service::Waits => Ok((Vec::new(alloc), None)),
-        Service::Refused(refusal) => Ok((refused(alloc, event, call_id, refusal)?, None)),
+        Service::Refused(refusal) => {
+            Ok((refused(alloc, event.id, call_id.clone()?, refusal)?, None))
+        }
     }
 }
 
@@ -148,30 +135,13 @@ pub(crate) fn direct(ack: &SentAck) -> Result<CallOut, AllocError>
     })
 }
 
-/// The command that starts the transaction of a client request.
+/// The command of this id that starts the transaction of a client request.
 #[tactic(auto, unfolding(crate::specs::Outputs::start_command))]
-pub(crate) fn start_command(
-    alloc: Global,
-    event: Event,
-    client: &Client,
-) -> Result<CallOut, AllocError>
-    ensures { IfOk result (λ out. out ≡ spec.start_command event client.now) }
-{
-    let branch = event.branch(alloc)?;
-    start_under(alloc, event.id, branch.as_slice(), client)
-}
-
-/// The same, under this id and with this branch.
-pub(crate) fn start_under(
-    alloc: Global,
-    id: Id,
-    branch: &[u8],
-    client: &Client,
-) -> Result<CallOut, AllocError>
-    ensures { IfOk result (λ out. out ≡ spec.start_under id branch.now client.now) }
+pub(crate) fn start_command(alloc: Global, id: Id, client: &Client) -> Result<CallOut, AllocError>
+    ensures { IfOk result (λ out. out ≡ spec.start_command id client.now) }
 {
     let method = client.request.method().clone()?;
-    let key = Key::client(alloc, branch, method)?;
+    let key = Key::client(alloc, client.request.vias.top().branch(), method)?;
     let call_id = client.request.call_id.clone()?;
     let message = Boxed::new(alloc, client.request.clone()?)?;
     Ok(CallOut::Command(

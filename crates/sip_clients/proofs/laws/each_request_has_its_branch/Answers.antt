@@ -1,0 +1,56 @@
+use Rattle.std.proofs.Common.{◌≡◌, ℕ, ◌+◌, List, [], ◌∷◌, refl, sym, ◌∙◌}
+use Rattle.std.specs.Prelude.{Some, codes, take}
+use Rattle.sip_dialog.specs.Request.{agent_via, bare_request_in}
+use Rattle.sip_message.specs.declared.message.Message.{Message}
+use Rattle.sip_message.specs.declared.via.Via.{Via}
+use Rattle.sip_message.specs.Message.{with_body_of}
+use Rattle.sip_message.specs.TopVia.{top_via}
+use Rattle.sip_common.specs.declared.command.ProvisionalSupport.{ProvisionalSupport}
+use Rattle.sip_common.specs.declared.command.ProvisionalSupport.TheVariants as support
+use Rattle.sip_clients.specs.declared.event.Event.{Event}
+use Rattle.sip_clients.specs.Event.{branch_of}
+use Rattle.sip_clients.specs.Outside.{bare_invite, bare_plain, bare_request, supporting}
+use Rattle.sip_clients.proofs.laws.each_request_has_its_branch.Goals as goal
+
+with_body : (message : Message) (body : List ℕ)
+    → top_via (with_body_of message body) ≡ top_via message
+unfolding with_body_of
+with_body message [] = refl
+with_body message (b ∷ bs) = refl
+
+supports : (asked_for : ProvisionalSupport) (message : Message)
+    → top_via (supporting asked_for message) ≡ top_via message
+supports support.None message = refl
+supports support.Supported message = refl
+supports support.Required message = refl
+
+bare : (event : Event) (call_id method uri from to : List ℕ)
+    → top_via (bare_request event call_id method uri from to)
+    ≡ Some (agent_via event.local (branch_of event))
+unfolding bare_request
+bare event call_id method uri from to = refl
+
+top_alone : (request : Message) (vias : List Via)
+    → top_via (record request { vias = vias })
+    ≡ top_via (record request { vias = take 1 vias })
+top_alone request [] = refl
+top_alone request (via ∷ vias) = refl
+
+pub returns-clause-invite : goal.returns-clause-invite
+returns-clause-invite c event invite =
+    with_body (bare_invite event invite) invite.body
+    ∙ supports invite.support _
+    ∙ bare event invite.call_id (codes "INVITE") invite.request_uri invite.from invite.to
+
+pub returns-clause-plain : goal.returns-clause-plain
+returns-clause-plain c event plain =
+    with_body (bare_plain event plain) plain.body
+    ∙ bare event plain.call_id plain.method plain.request_uri plain.from plain.to
+
+pub returns-clause-request : goal.returns-clause-request
+returns-clause-request c event method rack body held =
+    with_body (bare_request_in held.dialog method (held.dialog.local_cseq + 1) (branch_of event)
+    event.local) body
+
+pub returns-clause-cancel : goal.returns-clause-cancel
+returns-clause-cancel c id invite = sym (top_alone invite.request invite.request.vias)
