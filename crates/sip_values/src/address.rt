@@ -9,7 +9,7 @@ use crate::parameter::{parameters_behind, parameters_between};
 use crate::row::{Row, split_of};
 use sip_message::NameAddr;
 use sip_parts::{DisplayText, Parameter, Uri, UriBytes, is_display_text, is_uri};
-use sip_text::{Separator, Series, Text, run_before, trimmed};
+use sip_text::{Separator, Series, run_before, trimmed};
 use std::alloc::{AllocError, Global};
 
 /// One address of a Contact, a Route or a Record-Route.
@@ -77,7 +77,7 @@ fn display_in(alloc: Global, text: &[u8]) -> Result<Option<DisplayText>, AllocEr
     if !is_display_text(display) {
         return Ok(None);
     }
-    Ok(Some(DisplayText::from_text(Text::copy_of(alloc, display)?)))
+    Ok(Some(DisplayText::copy_of(alloc, display)?))
 }
 
 /// Behind `<`: a URI, `>` and parameters.
@@ -90,7 +90,7 @@ pub(crate) fn bracketed_in(alloc: Global, text: &[u8]) -> Result<Option<Target>,
     let Some(parameters) = parameters_behind(alloc, rest)? else {
         return Ok(None);
     };
-    Ok(Some((Uri::from_text(Text::copy_of(alloc, uri)?), parameters)))
+    Ok(Some((Uri::copy_of(alloc, uri)?, parameters)))
 }
 
 /// A URI before `>`, and what follows.
@@ -139,5 +139,5 @@ fn uri_in(alloc: Global, text: &[u8]) -> Result<Option<Uri>, AllocError>
     if !is_uri(uri) {
         return Ok(None);
     }
-    Ok(Some(Uri::from_text(Text::copy_of(alloc, uri)?)))
+    Ok(Some(Uri::copy_of(alloc, uri)?))
 }

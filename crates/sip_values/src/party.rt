@@ -7,7 +7,7 @@ use crate::address::{Target, bare_in, bracketed_in};
 use crate::row::Row;
 use sip_message::Party;
 use sip_parts::{PartyDisplay, PartyParameters, is_party_display};
-use sip_text::{Separator, Text, trimmed};
+use sip_text::{Separator, trimmed};
 use std::alloc::{AllocError, Global};
 
 /// The address of a From or a To, whose `tag` is a token.
@@ -60,5 +60,5 @@ fn display_in(alloc: Global, text: &[u8]) -> Result<Option<PartyDisplay>, AllocE
     if !is_party_display(display) {
         return Ok(None);
     }
-    Ok(Some(PartyDisplay::from_text(Text::copy_of(alloc, display)?)))
+    Ok(Some(PartyDisplay::copy_of(alloc, display)?))
 }

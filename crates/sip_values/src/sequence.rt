@@ -5,7 +5,7 @@ ghost use Rattle.sip_values.specs.Sequence as values;
 use crate::numeral::{Numeral, numeral_in};
 use crate::row::Row;
 use sip_parts::Token;
-use sip_text::{Separator, Text, is_token, trimmed};
+use sip_text::{Separator, is_token, trimmed};
 use std::alloc::{AllocError, Global};
 
 /// A CSeq, whose number may be none.
@@ -85,5 +85,5 @@ pub(crate) fn token_in(alloc: Global, text: &[u8]) -> Result<Option<Token>, Allo
     if !is_token(token) {
         return Ok(None);
     }
-    Ok(Some(Token::from_text(Text::copy_of(alloc, token)?)))
+    Ok(Some(Token::copy_of(alloc, token)?))
 }
