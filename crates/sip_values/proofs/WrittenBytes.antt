@@ -1,17 +1,17 @@
 -- What is written has no line ends inside its lines and no white space at the ends of its values.
-use Rattle.std.proofs.Common.{◌≡◌, ℕ, ◌^◌, ◌<◌, Bool, true, false, cond, eqb, not, ◌&&◌, List, [], ◌∷◌, ◌++◌, length, codes, decimal, refl, sym, ap, ◌∙◌, arith}
+use Rattle.std.proofs.Common.{◌≡◌, ℕ, ◌^◌, ◌<◌, Bool, true, false, cond, eqb, not, ◌&&◌, List, [], ◌∷◌, ◌++◌, codes, decimal, refl, sym, ap, ◌∙◌}
 use Rattle.std.specs.Char.{is_ascii_digit}
 use Rattle.std.specs.List.{list_all}
 use Rattle.std.specs.Str.{all_ascii_digits}
 use Rattle.std.specs.Str.Parse.{digits_value}
-use Rattle.std.proofs.lemmas.Bool.{and_parts, and_from, and_right, or_parts, not-true, true≢false, eqb-true}
+use Rattle.std.proofs.lemmas.Bool.{and_parts, and_from, and_right, or_parts, not-true, true≢false}
 use Rattle.std.proofs.lemmas.Fmt.{digits_value-decimal, decimal_nonempty}
 use Rattle.std.proofs.lemmas.List.{append-nil}
 use Rattle.std.proofs.lemmas.List.Folds.{list_all-append}
 use Rattle.std.proofs.lemmas.Str.Parse.{numerals_by_value, tells_all_ascii_digits}
 use Rattle.sip_text.specs.Character.{is_blank, is_line_byte, is_token_byte}
 use Rattle.sip_text.specs.Number.{is_digits}
-use Rattle.sip_text.specs.Token.{is_run, is_token}
+use Rattle.sip_text.specs.Token.{is_token}
 use Rattle.sip_text.specs.Trimmed.{trimmed, trimmed_end}
 use Rattle.sip_parts.specs.HeaderValue.{has_no_blank_ends, has_no_line_byte, is_header_value}
 use Rattle.sip_text.specs.Parameter.{is_value_byte, is_value_word}
@@ -25,7 +25,6 @@ use Rattle.sip_parts.proofs.BlankEnds.{trims_to_itself}
 use Rattle.sip_values.proofs.Blanks.{end_is, starts_full}
 use Rattle.sip_values.proofs.Characters.{token_bytes, full_at}
 use Rattle.sip_values.proofs.Cuts.{all_imply, run_all}
-use Rattle.sip_values.proofs.Pieces.{by_bool}
 
 -- ---- bytes that neither end a line nor are white space
 

@@ -1,4 +1,4 @@
-use Rattle.std.proofs.Common.{◌≡◌, ◌==◌, get_or, refl, arith}
+use Rattle.std.proofs.Common.{◌==◌, get_or, refl, arith}
 use Rattle.std.proofs.lemmas.Bool.{agree_below_at}
 use Rattle.sip_parts.specs.Host.{is_host_byte}
 use Rattle.sip_parts.specs.declared.host.TheConstants.{HOST_BYTES}

@@ -1,4 +1,4 @@
-use Rattle.std.proofs.Common.{◌≡◌, ◌==◌, get_or, refl, arith}
+use Rattle.std.proofs.Common.{◌==◌, get_or, refl, arith}
 use Rattle.std.proofs.lemmas.Bool.{agree_below_at}
 use Rattle.sip_text.specs.Character.{is_token_byte}
 use Rattle.sip_text.specs.declared.character.TheConstants.{TOKEN_BYTES}

@@ -1,4 +1,4 @@
-use Rattle.std.proofs.Common.{◌≡◌, ◌==◌, get_or, refl, arith}
+use Rattle.std.proofs.Common.{◌==◌, get_or, refl, arith}
 use Rattle.std.proofs.lemmas.Bool.{agree_below_at}
 use Rattle.sip_text.specs.Parameter.{is_value_byte}
 use Rattle.sip_text.specs.declared.parameters.TheConstants.{VALUE_BYTES}
