@@ -1,50 +1,22 @@
 -- The texts of one's own address in a made request keep the rules of their places.
-use Rattle.std.proofs.Common.{◌≡◌, ℕ, ◌<◌, ◌^◌, Bool, true, false, not, List, [], ◌∷◌, ◌++◌, length, refl, sym, ap, ◌∙◌, IsTrue, codes, decimal, slice_index, arith, eqb, length-append}
+use Rattle.std.proofs.Common.{◌≡◌, ℕ, ◌<◌, Bool, true, false, not, List, [], ◌∷◌, ◌++◌, length, refl, sym, ap, ◌∙◌, IsTrue, codes, decimal, slice_index, arith, eqb}
 use Rattle.std.specs.List.{list_all}
 use Rattle.std.specs.Char.{is_ascii_digit}
-use Rattle.std.proofs.lemmas.List.Folds.{list_all-append}
-use Rattle.std.proofs.lemmas.Fmt.{decimal_nonempty}
-use Rattle.std.proofs.lemmas.Bool.{eqb-true, true≢false}
+use Rattle.std.proofs.lemmas.Bool.{eqb-true, true≢false, and_parts}
 use Rattle.sip_parts.specs.Host.{is_host, is_host_byte}
 use Rattle.sip_parts.specs.Uri.{is_uri, is_uri_byte}
-use Rattle.sip_parts.proofs.Bytes.{both_true, none_of, all_weaker, and_left, and_right}
+use Rattle.sip_parts.proofs.Bytes.{none_of}
 use Rattle.sip_message.specs.declared.addr.Addr.{Addr}
 use Rattle.sip_message.specs.Ip.{ip_text}
 use Rattle.sip_parts.specs.Parameters.{value_named}
 use Rattle.sip_message.specs.Via.{are_vias}
 use Rattle.sip_dialog.specs.Branch.{is_branch}
 use Rattle.sip_dialog.specs.Request.{agent_via}
-use Rattle.sip_message.proofs.Stamps.{all_digits-decimal}
-
--- a test that digits pass
-abbrev pub PassesDigits : (ℕ → Bool) → Type 0
-PassesDigits test = (b : ℕ) → is_ascii_digit b ≡ true → test b ≡ true
-
-both : (test : ℕ → Bool) (xs ys : List ℕ) → list_all test xs ≡ true → list_all test ys ≡ true
-    → list_all test (xs ++ ys) ≡ true
-both test xs ys p q = list_all-append test xs ys ∙ both_true _ _ p q
-
-number : (test : ℕ → Bool) → PassesDigits test → (n : ℕ) → n < 2 ^ 64
-    → list_all test (decimal n) ≡ true
-number test digits n fits =
-    all_weaker is_ascii_digit test digits (decimal n) (all_digits-decimal n fits)
-
-pub ip_passes : (test : ℕ → Bool) → PassesDigits test → list_all test (codes ".") ≡ true
-    → (ip : List ℕ) → slice_index ip 0 < 256 → slice_index ip 1 < 256 → slice_index ip 2 < 256
-    → slice_index ip 3 < 256 → list_all test (ip_text ip) ≡ true
-ip_passes test digits dot ip p q r s =
-    both test _ _ (both test _ _ (both test _ _
-    (both test _ _ (both test _ _ (both test _ _ (number test digits _ (omega arith)) dot)
-    (number test digits _ (omega arith))) dot) (number test digits _ (omega arith))) dot)
-    (number test digits _ (omega arith))
+pub use Rattle.sip_message.proofs.Stamps.{PassesDigits, ip_passes, ip_nonempty, both, number}
 
 host_digit : PassesDigits is_host_byte
 unfolding is_host_byte
 host_digit b h = ap not (none_of is_ascii_digit (codes " \t\r\n:;,[\"<>") b refl h)
-
-host_dot : list_all is_host_byte (codes ".") ≡ true
-unfolding is_host_byte
-host_dot = refl
 
 no_bracket : (b : ℕ) (r : Bool) → eqb b 91 ≡ r → is_host_byte b ≡ true → eqb b 91 ≡ false
 unfolding is_host_byte
@@ -55,19 +27,13 @@ host_from_bytes : (text : List ℕ) → 0 < length text → list_all is_host_byt
     → is_host text ≡ true
 unfolding is_host
 host_from_bytes [] some all = absurd (omega arith)
-host_from_bytes (b ∷ bs) some all = rw (no_bracket b (eqb b 91) refl (and_left _ _ all)) all
-
-more : (xs ys : List ℕ) → 0 < length ys → 0 < length (xs ++ ys)
-more xs ys some = let e = length-append xs ys in omega arith
-
-longer : (ip : List ℕ) → slice_index ip 3 < 256 → 0 < length (ip_text ip)
-longer ip s = more _ (decimal (slice_index ip 3))
-    (decimal_nonempty (slice_index ip 3) (omega arith))
+host_from_bytes (b ∷ bs) some all = rw (no_bracket b (eqb b 91) refl (and_parts _ _ all).0) all
 
 pub ip_is_host : (ip : List ℕ) → slice_index ip 0 < 256 → slice_index ip 1 < 256
     → slice_index ip 2 < 256 → slice_index ip 3 < 256 → IsTrue (is_host (ip_text ip))
-ip_is_host ip p q r s = host_from_bytes (ip_text ip) (longer ip s)
-    (ip_passes is_host_byte host_digit host_dot ip p q r s)
+unfolding is_host_byte
+ip_is_host ip p q r s = host_from_bytes (ip_text ip) (ip_nonempty ip s)
+    (ip_passes is_host_byte host_digit refl ip p q r s)
 
 uri_digit : PassesDigits is_uri_byte
 unfolding is_uri_byte
@@ -88,4 +54,4 @@ own_uri ip port p q r s t =
 pub own_are_vias : (local : Addr) (branch : List ℕ) → IsTrue (is_branch branch)
     → IsTrue (are_vias (agent_via local branch ∷ []))
 unfolding are_vias value_named
-own_are_vias local branch rule = and_right _ _ rule
+own_are_vias local branch rule = (and_parts _ _ rule).1

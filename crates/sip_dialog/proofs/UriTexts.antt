@@ -1,21 +1,18 @@
 -- What follows the last `@` of a URI, by the place of that `@`.
 use Rattle.std.proofs.Common.{◌≡◌, ℕ, suc, ◌+◌, ◌-◌, ◌<◌, Bool, true, false, not, List, [], ◌∷◌, length, get_or, take, drop, Some, refl, sym, ap, ◌∙◌, arith, length-drop}
 use Rattle.std.specs.List.{list_any, after_last, suffix_len}
+use Rattle.std.proofs.lemmas.Bool.{false_from_ne_true}
 use Rattle.std.proofs.lemmas.List.{take_all}
 use Rattle.std.proofs.lemmas.List.Folds.{list_any_at}
 use Rattle.std.proofs.lemmas.List.Sums.{suffix_len_is}
 use Rattle.memchr.specs.Find.{Nowhere}
 use Rattle.sip_dialog.specs.UriText.{is_at_sign, after_userinfo, after_scheme}
 
-not_true : (b : Bool) → (b ≡ true → ⊥) → b ≡ false
-not_true true h = absurd (h refl)
-not_true false h = refl
-
 any_none : (test : ℕ → Bool) (text : List ℕ)
     → Nowhere (λ k. test (get_or text k 0) ≡ true) 0 (length text) → list_any test text ≡ false
 any_none test [] none = refl
 any_none test (b ∷ bs) none =
-    let here : test b ≡ false = not_true (test b) (none 0 (omega arith) (omega arith)) in
+    let here : test b ≡ false = false_from_ne_true (test b) (none 0 (omega arith) (omega arith)) in
     let rest = any_none test bs (λ k low high. none (suc k) (omega arith) (omega arith)) in
     rw (here, rest) refl
 
@@ -32,7 +29,7 @@ after_last_at uri k lt none is =
     let back : k + 1 - 1 ≡ k = omega arith in
     let count : suffix_len (λ b. not (is_at_sign b)) uri ≡ length uri - (k + 1) =
     suffix_len_is (λ b. not (is_at_sign b)) uri (k + 1) 0 (omega arith)
-    (λ i low high. ap not (not_true _ (none i low high)))
+    (λ i low high. ap not (false_from_ne_true _ (none i low high)))
     (λ _. ap not (ap (λ n. is_at_sign (get_or uri n 0)) back ∙ is)) in
     let place : length uri - suffix_len (λ b. not (is_at_sign b)) uri ≡ k + 1 = omega arith in
     ap (λ n. drop n uri) place

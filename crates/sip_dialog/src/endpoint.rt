@@ -5,7 +5,6 @@ ghost use Rattle.sip_dialog.specs.Endpoint as endpoint;
 
 use sip_message::Party;
 use sip_parts::{Token, Uri};
-use sip_text::Text;
 use std::alloc::{AllocError, Global};
 
 /// One end of a dialog: its URI, and its tag as it was spelled when the dialog was made, if it had
@@ -45,7 +44,7 @@ fn tag_of(alloc: Global, party: &Party) -> Result<Option<Token>, AllocError>
     if tag.is_empty() {
         return Ok(None);
     }
-    Ok(Some(Token::from_text(Text::copy_of(alloc, tag)?)))
+    Ok(Some(Token::copy_of(alloc, tag)?))
 }
 
 impl Drop for Endpoint {

@@ -12,9 +12,6 @@ use sip_parts::{RequestUri, StatusCode, Token, Uri};
 use sip_text::Series;
 use std::alloc::{AllocError, Global};
 
-/// The least status that is no provisional one.
-const FIRST_FINAL: u16 = 200;
-
 impl Dialog {
     /// The dialog that an answer of this status to the request makes at the callee; `tag` is the
     /// tag that the answer has in To (RFC 3261, section 12.1.1). A provisional status makes an
@@ -114,7 +111,7 @@ fn opened_by_response(
 fn state_by(status: StatusCode) -> DialogState
     ensures { result ≡ opening.state_by status }
 {
-    if status.code() < FIRST_FINAL {
+    if status.code() < StatusCode::FIRST_FINAL {
         DialogState::Early
     } else {
         DialogState::Confirmed

@@ -3,7 +3,6 @@
 ghost use Rattle.std.specs.Prelude.{◌≡◌, ◌∷◌, ◌++◌, [], IfOk, OnOk, IsTrue, codes};
 ghost use Rattle.sip_message.specs.Addr.{addr_text};
 ghost use Rattle.sip_message.specs.Ip.{ip_text};
-ghost use Rattle.sip_text.specs.Token.{is_token};
 ghost use Rattle.sip_dialog.specs.Branch.{is_branch};
 ghost use Rattle.sip_dialog.specs.Request as request;
 
@@ -21,10 +20,11 @@ pub(crate) fn is_invite(method: &Token) -> bool
 }
 
 /// The Via of a made request, which asks for `rport` (RFC 3581, section 3).
+#[tactic(auto, unfolding(sip_text::specs::Token::is_token, sip_text::specs::Token::is_token_byte))]
 pub fn own_via(alloc: Global, local: Addr, branch: Branch) -> Result<Vias, AllocError>
     ensures { IfOk result (λ vias. vias ≡ request.agent_via local branch ∷ []) }
 {
-    let transport = udp(alloc)?;
+    let transport = Token::copy_of(alloc, b"UDP")?;
     let host = own_host(alloc, local)?;
     let parameters = via_parameters(alloc, branch)?;
     let mut vias = Vec::new(alloc);
@@ -53,33 +53,19 @@ pub(crate) fn contacts_of(
     Ok(contacts)
 }
 
-fn token_of(alloc: Global, word: &[u8]) -> Result<Token, AllocError>
-    requires { IsTrue (is_token word.now) }
-    ensures { IfOk result (λ token. token ≡ word.now) }
-{
-    Ok(Token::from_text(Text::copy_of(alloc, word)?))
-}
-
 /// The method ACK.
 #[tactic(auto, unfolding(sip_text::specs::Token::is_token, sip_text::specs::Token::is_token_byte))]
 pub(crate) fn ack(alloc: Global) -> Result<Token, AllocError>
     ensures { IfOk result (λ token. token ≡ codes "ACK") }
 {
-    token_of(alloc, b"ACK")
-}
-
-#[tactic(auto, unfolding(sip_text::specs::Token::is_token, sip_text::specs::Token::is_token_byte))]
-fn udp(alloc: Global) -> Result<Token, AllocError>
-    ensures { IfOk result (λ token. token ≡ codes "UDP") }
-{
-    token_of(alloc, b"UDP")
+    Token::copy_of(alloc, b"ACK")
 }
 
 fn own_host(alloc: Global, local: Addr) -> Result<Host, AllocError>
     ensures { IfOk result (λ host. host ≡ ip_text local.ip) }
 {
     let [_a, _b, _c, _d] = local.ip;
-    Ok(Host::from_text(Text::copy_of(alloc, &ip_text(local.ip))?))
+    Host::copy_of(alloc, &ip_text(local.ip))
 }
 
 #[tactic(auto, unfolding(sip_text::specs::Token::is_token, sip_text::specs::Token::is_token_byte))]
@@ -88,11 +74,11 @@ fn via_parameters(alloc: Global, branch: Branch) -> Result<Series<Parameter>, Al
     ensures rule { OnOk result (IsTrue (is_branch branch)) }
 {
     let rport = Parameter {
-        name: token_of(alloc, b"rport")?,
+        name: Token::copy_of(alloc, b"rport")?,
         value: None,
     };
     let branch = Parameter {
-        name: token_of(alloc, b"branch")?,
+        name: Token::copy_of(alloc, b"branch")?,
         value: Some(branch.into_value()),
     };
     let mut parameters = Vec::new(alloc);

@@ -1,13 +1,14 @@
 -- An IP address as a parameter's value, and a branch that a stamp leaves alone.
-use Rattle.std.proofs.Common.{◌≡◌, ℕ, ◌<◌, ◌^◌, Bool, true, false, cond, not, List, [], ◌∷◌, ◌++◌, length, Some, None, refl, sym, ap, ◌∙◌, IsTrue, codes, decimal, slice_index, arith, rules}
+use Rattle.std.proofs.Common.{◌≡◌, ℕ, ◌<◌, ◌^◌, Bool, true, false, cond, not, List, [], ◌∷◌, ◌++◌, length, Some, None, refl, sym, ap, ◌∙◌, IsTrue, codes, decimal, slice_index, arith, length-append}
 use Rattle.std.specs.List.{list_all}
 use Rattle.std.specs.Char.{is_ascii_digit}
 use Rattle.std.specs.Str.{str_eq_ignore_ascii_case, str_to_ascii_lowercase, bytes_eq}
 use Rattle.std.proofs.lemmas.List.Folds.{list_all-append}
 use Rattle.std.proofs.lemmas.Slice.Eq.{bytes_eq-Decides}
-use Rattle.std.proofs.lemmas.Str.Parse.{IsDigitsTest, numerals_by_value}
-use Rattle.std.proofs.lemmas.Fmt.{digits_decimal, decimal_nonempty}
-use Rattle.sip_text.specs.Token.{is_run}
+use Rattle.std.proofs.lemmas.Bool.{and_from, false_from_ne_true, or_right}
+use Rattle.std.proofs.lemmas.Fmt.{decimal_nonempty}
+use Rattle.sip_text.proofs.Numerals.{decimal_digits}
+use Rattle.sip_text.proofs.Runs.{run_from_all}
 use Rattle.sip_parts.specs.declared.parameter.Parameter.{Parameter}
 use Rattle.sip_message.specs.declared.via.Via.{Via}
 use Rattle.sip_text.specs.Parameter.{is_value_byte, is_value_word, is_parameter_value}
@@ -19,77 +20,56 @@ use Rattle.std.specs.List.{slice_get}
 use Rattle.std.proofs.lemmas.Option.{same_Some}
 use Rattle.sip_message.specs.Source.{with_value, asks_port, with_received, with_port, stamped_parameters, stamped_via}
 use Rattle.sip_message.specs.declared.addr.Addr.{Addr}
-use Rattle.sip_parts.proofs.Bytes.{or_right, both_true, none_of, all_weaker}
-
-digits_test : IsDigitsTest (λ ds. list_all is_ascii_digit ds ≡ true)
-digits_test = search rules
-
--- a number's digits are digits
-pub all_digits-decimal : (n : ℕ) → n < 2 ^ 64 → list_all is_ascii_digit (decimal n) ≡ true
-all_digits-decimal n fits = digits_decimal (numerals_by_value _ digits_test) n fits
+use Rattle.sip_parts.proofs.Bytes.{none_of, all_weaker}
 
 digit_value_byte : (b : ℕ) → is_ascii_digit b ≡ true → is_value_byte b ≡ true
 unfolding is_value_byte
 digit_value_byte b h = ap not (none_of is_ascii_digit (codes " \t\r\n;,<>\"") b refl h)
 
-number_word : (n : ℕ) → n < 256 → list_all is_value_byte (decimal n) ≡ true
-number_word n lt =
-    all_weaker is_ascii_digit is_value_byte digit_value_byte (decimal n)
-    (all_digits-decimal n (omega arith))
+-- a test that digits pass
+abbrev pub PassesDigits : (ℕ → Bool) → Type 0
+PassesDigits test = (b : ℕ) → is_ascii_digit b ≡ true → test b ≡ true
 
-both_words : (xs ys : List ℕ) → list_all is_value_byte xs ≡ true → list_all is_value_byte ys ≡ true
-    → list_all is_value_byte (xs ++ ys) ≡ true
-both_words xs ys p q = list_all-append is_value_byte xs ys ∙ both_true _ _ p q
+pub both : (test : ℕ → Bool) (xs ys : List ℕ) → list_all test xs ≡ true → list_all test ys ≡ true
+    → list_all test (xs ++ ys) ≡ true
+both test xs ys p q = list_all-append test xs ys ∙ and_from _ _ p q
 
-dot_word : list_all is_value_byte (codes ".") ≡ true
-unfolding is_value_byte
-dot_word = refl
+pub number : (test : ℕ → Bool) → PassesDigits test → (n : ℕ) → n < 2 ^ 64
+    → list_all test (decimal n) ≡ true
+number test digits n fits =
+    all_weaker is_ascii_digit test digits (decimal n) (decimal_digits n fits)
 
-pub run_from_all : (test : ℕ → Bool) (text : List ℕ) → 0 < length text → list_all test text ≡ true
-    → is_run test text ≡ true
-run_from_all test [] some all = absurd (omega arith)
-run_from_all test (b ∷ bs) some all = all
+pub ip_passes : (test : ℕ → Bool) → PassesDigits test → list_all test (codes ".") ≡ true
+    → (ip : List ℕ) → slice_index ip 0 < 256 → slice_index ip 1 < 256 → slice_index ip 2 < 256
+    → slice_index ip 3 < 256 → list_all test (ip_text ip) ≡ true
+ip_passes test digits dot ip p q r s =
+    both test _ _ (both test _ _ (both test _ _
+    (both test _ _ (both test _ _ (both test _ _ (number test digits _ (omega arith)) dot)
+    (number test digits _ (omega arith))) dot) (number test digits _ (omega arith))) dot)
+    (number test digits _ (omega arith))
 
-words_of : (a b c d : List ℕ) → list_all is_value_byte a ≡ true → list_all is_value_byte b ≡ true
-    → list_all is_value_byte c ≡ true → list_all is_value_byte d ≡ true
-    → list_all is_value_byte (((((a ++ codes ".") ++ b) ++ codes ".") ++ c) ++ codes "." ++ d)
-    ≡ true
-words_of a b c d p q r s =
-    both_words _ d (both_words _ (codes ".")
-    (both_words _ c (both_words _ (codes ".")
-    (both_words _ b (both_words a (codes ".") p dot_word) q) dot_word) r) dot_word) s
+more : (xs ys : List ℕ) → 0 < length ys → 0 < length (xs ++ ys)
+more xs ys some = let e = length-append xs ys in omega arith
 
-more : (xs ys : List ℕ) → 0 < length xs → 0 < length (xs ++ ys)
-more [] ys some = absurd (omega arith)
-more (b ∷ bs) ys some = omega arith
-
-longer : (ip : List ℕ) → 0 < length (decimal (slice_index ip 0)) → 0 < length (ip_text ip)
-longer ip some =
-    more _ _ (more _ _ (more _ _ (more _ _
-    (more _ _ (more (decimal (slice_index ip 0)) (codes ".") some)))))
+pub ip_nonempty : (ip : List ℕ) → slice_index ip 3 < 256 → 0 < length (ip_text ip)
+ip_nonempty ip s = more _ (decimal (slice_index ip 3))
+    (decimal_nonempty (slice_index ip 3) (omega arith))
 
 pub ip_is_value : (ip : List ℕ) → slice_index ip 0 < 256 → slice_index ip 1 < 256
     → slice_index ip 2 < 256 → slice_index ip 3 < 256 → IsTrue (is_parameter_value (ip_text ip))
-unfolding is_parameter_value is_value_word
+unfolding is_parameter_value is_value_word is_value_byte
 ip_is_value ip p q r s =
-    let some = decimal_nonempty (slice_index ip 0) (omega arith) in
     or_right (is_quoted (ip_text ip)) _
-    (run_from_all is_value_byte (ip_text ip) (longer ip some)
-    (words_of (decimal (slice_index ip 0)) (decimal (slice_index ip 1))
-    (decimal (slice_index ip 2)) (decimal (slice_index ip 3)) (number_word _ p)
-    (number_word _ q) (number_word _ r) (number_word _ s)))
+    (run_from_all is_value_byte (ip_text ip) (ip_nonempty ip s)
+    (ip_passes is_value_byte digit_value_byte refl ip p q r s))
 
 -- no name is both
 not_both : (name a b : List ℕ) → (str_to_ascii_lowercase a ≡ str_to_ascii_lowercase b → ⊥)
     → str_eq_ignore_ascii_case name a ≡ true → str_eq_ignore_ascii_case name b ≡ false
-not_both name a b differ is = not_true _
+not_both name a b differ is = false_from_ne_true _
     (λ other. differ (sym ((bytes_eq-Decides (str_to_ascii_lowercase name)
     (str_to_ascii_lowercase a)).0 is)
     ∙ (bytes_eq-Decides (str_to_ascii_lowercase name) (str_to_ascii_lowercase b)).0 other))
-  where
-    not_true : (r : Bool) → (r ≡ true → ⊥) → r ≡ false
-    not_true true h = absurd (h refl)
-    not_true false h = refl
 
 abbrev branch : List ℕ
 branch = codes "branch"
@@ -194,5 +174,4 @@ unfolding is_parameter_value is_value_word
 port_is_value n lt =
     or_right (is_quoted (decimal n)) _
     (run_from_all is_value_byte (decimal n) (decimal_nonempty n (omega arith))
-    (all_weaker is_ascii_digit is_value_byte digit_value_byte (decimal n)
-    (all_digits-decimal n (omega arith))))
+    (number is_value_byte digit_value_byte n (omega arith)))

@@ -1,6 +1,6 @@
 //! The requests that follow another in its own hop: the ACK of a response that isn't a success (RFC
 //! 3261, section 17.1.1.3), and CANCEL (RFC 3261, section 9.1).
-ghost use Rattle.std.specs.Prelude.{◌≡◌, IfOk, codes, take};
+ghost use Rattle.std.specs.Prelude.{◌≡◌, IfOk, take};
 ghost use Rattle.sip_message.specs.HopByHop as spec;
 
 use crate::cseq::CSeq;
@@ -8,26 +8,28 @@ use crate::message::{MAX_FORWARDS, Message};
 use crate::party::Party;
 use crate::vias::Vias;
 use sip_parts::Token;
-use sip_text::{Series, Text};
+use sip_text::Series;
 use std::alloc::{AllocError, Global};
 
 /// The ACK that the client of an INVITE sends for a response of 300 to 699: the start line, From,
 /// Call-ID, CSeq number and Route of the request, its top Via alone, the To of the response, and no
 /// body.
+#[tactic(auto, unfolding(sip_text::specs::Token::is_token, sip_text::specs::Token::is_token_byte))]
 pub fn ack_for(alloc: Global, request: &Message, response: &Message) -> Result<Message, AllocError>
     ensures { IfOk result (λ made. made ≡ spec.ack_of request.now response.now) }
 {
     let to = response.to.clone()?;
-    hop_by_hop(alloc, request, to, ack_method(alloc)?)
+    hop_by_hop(alloc, request, to, Token::copy_of(alloc, b"ACK")?)
 }
 
 /// The CANCEL of a request: its start line, From, To, Call-ID, CSeq number and Route, its top Via
 /// alone, and no body.
+#[tactic(auto, unfolding(sip_text::specs::Token::is_token, sip_text::specs::Token::is_token_byte))]
 pub fn cancel_for(alloc: Global, request: &Message) -> Result<Message, AllocError>
     ensures { IfOk result (λ made. made ≡ spec.cancel_of request.now) }
 {
     let to = request.to.clone()?;
-    hop_by_hop(alloc, request, to, cancel_method(alloc)?)
+    hop_by_hop(alloc, request, to, Token::copy_of(alloc, b"CANCEL")?)
 }
 
 fn hop_by_hop(
@@ -62,18 +64,4 @@ fn top_alone(alloc: Global, vias: &Vias) -> Result<Vias, AllocError>
     let mut alone = Series::new(alloc);
     alone.push(top.clone()?)?;
     Ok(Vias::from_series(alone))
-}
-
-#[tactic(auto, unfolding(sip_text::specs::Token::is_token, sip_text::specs::Token::is_token_byte))]
-fn ack_method(alloc: Global) -> Result<Token, AllocError>
-    ensures { IfOk result (λ token. token ≡ codes "ACK") }
-{
-    Ok(Token::from_text(Text::copy_of(alloc, b"ACK")?))
-}
-
-#[tactic(auto, unfolding(sip_text::specs::Token::is_token, sip_text::specs::Token::is_token_byte))]
-fn cancel_method(alloc: Global) -> Result<Token, AllocError>
-    ensures { IfOk result (λ token. token ≡ codes "CANCEL") }
-{
-    Ok(Token::from_text(Text::copy_of(alloc, b"CANCEL")?))
 }

@@ -9,7 +9,6 @@ use crate::message::Message;
 use crate::start_line::StartLine;
 use crate::via::Via;
 use sip_parts::Token;
-use sip_text::Text;
 use std::alloc::{AllocError, Global};
 
 /// The port of a Via that names none.
@@ -53,7 +52,7 @@ fn transaction_method(alloc: Global, method: &Token) -> Result<Token, AllocError
 fn invite(alloc: Global) -> Result<Token, AllocError>
     ensures { IfOk result (λ token. token ≡ codes "INVITE") }
 {
-    Ok(Token::from_text(Text::copy_of(alloc, b"INVITE")?))
+    Token::copy_of(alloc, b"INVITE")
 }
 
 /// The port of a Via, 5060 where it names none.

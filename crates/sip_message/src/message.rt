@@ -1,5 +1,5 @@
 //! Messages (RFC 3261, section 7).
-ghost use Rattle.std.specs.Prelude.{◌≡◌, IfOk, codes};
+ghost use Rattle.std.specs.Prelude.{◌≡◌, IfOk};
 ghost use Rattle.sip_message.specs.Message as message;
 
 use crate::cseq::CSeq;
@@ -102,26 +102,14 @@ impl Message {
     }
 }
 
+#[tactic(auto, unfolding(sip_parts::specs::HeaderValue::is_header_value))]
 fn content_type(alloc: Global) -> Result<Header, AllocError>
     ensures { IfOk result (λ header. header ≡ message.content_type) }
 {
     Ok(Header {
-        name: content_type_name(alloc)?,
-        value: content_type_value(alloc)?,
+        name: OtherName::copy_of(alloc, b"Content-Type")?,
+        value: HeaderValue::copy_of(alloc, b"application/sdp")?,
     })
-}
-
-fn content_type_name(alloc: Global) -> Result<OtherName, AllocError>
-    ensures { IfOk result (λ name. name ≡ codes "Content-Type") }
-{
-    Ok(OtherName::from_text(Text::copy_of(alloc, b"Content-Type")?))
-}
-
-#[tactic(auto, unfolding(sip_parts::specs::HeaderValue::is_header_value))]
-fn content_type_value(alloc: Global) -> Result<HeaderValue, AllocError>
-    ensures { IfOk result (λ value. value ≡ codes "application/sdp") }
-{
-    Ok(HeaderValue::from_text(Text::copy_of(alloc, b"application/sdp")?))
 }
 
 // Written out, so that a message is dropped by one call wherever a value that holds one is.

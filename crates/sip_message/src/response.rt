@@ -12,7 +12,6 @@ use crate::vias::Vias;
 use sip_parts::{
     CallId, Parameter, ParameterValue, PartyParameters, Reason, StatusCode, Token, parameter_named,
 };
-use sip_text::{Series, Text};
 use std::alloc::{AllocError, Global};
 
 /// The response to the request: its Via, From, To, Call-ID and CSeq, no other header and no body.
@@ -92,14 +91,15 @@ pub(crate) fn tag_parameter(alloc: Global, tag: &Token) -> Result<Parameter, All
     ensures rule { OnOk result (IsTrue (token_rule.is_token tag.now)) }
 {
     Ok(Parameter {
-        name: Token::from_text(Text::copy_of(alloc, b"tag")?),
+        name: Token::copy_of(alloc, b"tag")?,
         value: Some(token_value(alloc, tag)?),
     })
 }
 
+#[tactic(auto, using(sip_parts::proofs::Bytes::token_is_value))]
 fn token_value(alloc: Global, token: &Token) -> Result<ParameterValue, AllocError>
     ensures value { IfOk result (λ value. value ≡ token.now) }
     ensures rule { OnOk result (IsTrue (token_rule.is_token token.now)) }
 {
-    Ok(ParameterValue::from_text(Text::copy_of(alloc, token.as_slice())?))
+    ParameterValue::copy_of(alloc, token.as_slice())
 }

@@ -9,7 +9,7 @@ use crate::keys::port_of;
 use crate::message::Message;
 use crate::via::Via;
 use sip_parts::{Parameter, ParameterValue, Token, parameter_named};
-use sip_text::{Series, Text, decimal, token_eq};
+use sip_text::{Series, decimal, token_eq};
 use std::alloc::{AllocError, Global};
 
 /// Notes the source in the top Via, and gives the address that the answer goes to. Where the first
@@ -121,7 +121,7 @@ fn with_value(
         made.push(parameter.clone()?)?;
         rest = others;
     }
-    let name = Token::from_text(Text::copy_of(alloc, name)?);
+    let name = Token::copy_of(alloc, name)?;
     made.push(valued(alloc, name, value)?)?;
     Ok(Series::from_vec(made))
 }
@@ -141,6 +141,6 @@ fn valued(alloc: Global, name: Token, value: &[u8]) -> Result<Parameter, AllocEr
 {
     Ok(Parameter {
         name,
-        value: Some(ParameterValue::from_text(Text::copy_of(alloc, value)?)),
+        value: Some(ParameterValue::copy_of(alloc, value)?),
     })
 }

@@ -2,6 +2,7 @@
 use Rattle.std.proofs.Common.{◌≡◌, ℕ, suc, ◌-◌, Bool, true, false, not, cond, ◌&&◌, List, [], ◌∷◌, length, refl, sym, ap, subst, ◌∙◌, arith}
 use Rattle.std.specs.Prelude.{slice_index}
 use Rattle.std.specs.List.{list_all}
+use Rattle.std.specs.Cmp.Derive.{one_truth}
 use Rattle.std.proofs.lemmas.Bool.{and_parts, and_from, not-true}
 use Rattle.std.proofs.lemmas.Slice.Eq.{bytes_eq-Decides}
 use Rattle.sip_text.specs.Character.{is_blank}
@@ -121,12 +122,7 @@ ends_kept b bs is =
 
 pub ends_agree : (text : List ℕ) → full_ends text ≡ has_no_blank_ends text
 ends_agree text =
-    same_truth (full_ends text) (has_no_blank_ends text) (full_has_none text) (has_full_ends text)
-  where
-    same_truth : (x y : Bool) → (x ≡ true → y ≡ true) → (y ≡ true → x ≡ true) → x ≡ y
-    same_truth true y f g = sym (f refl)
-    same_truth false true f g = g refl
-    same_truth false false f g = refl
+    one_truth (full_ends text) (has_no_blank_ends text) (full_has_none text) (has_full_ends text)
 
 -- ---- a test of the first byte and then of the last
 

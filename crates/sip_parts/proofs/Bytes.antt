@@ -1,29 +1,14 @@
 -- Tests of each byte of a text.
-use Rattle.std.proofs.Common.{◌≡◌, ℕ, Bool, true, false, ◌&&◌, ◌||◌, not, eqb, List, [], ◌∷◌, refl, sym, ap, ◌∙◌, IsTrue, codes}
+use Rattle.std.proofs.Common.{◌≡◌, ℕ, Bool, true, false, ◌||◌, not, eqb, List, [], ◌∷◌, refl, sym, ap, ◌∙◌, IsTrue, codes}
 use Rattle.std.specs.List.{list_all}
-use Rattle.std.proofs.lemmas.Bool.{eqb-true, true≢false}
+use Rattle.std.proofs.lemmas.Bool.{eqb-true, true≢false, and_parts, or_right}
+pub use Rattle.std.proofs.lemmas.Bool.{and_from as both_true}
 use Rattle.sip_text.specs.Character.{is_among, is_token_byte}
 use Rattle.sip_text.specs.Token.{is_token}
 use Rattle.sip_parts.specs.Word.{is_word_byte, is_word}
 use Rattle.sip_parts.specs.Uri.{is_uri_byte, is_uri}
 use Rattle.sip_text.specs.Parameter.{is_value_byte, is_value_word, is_parameter_value}
 use Rattle.sip_text.specs.Quoted.{is_quoted}
-
-pub and_left : (a b : Bool) → (a && b) ≡ true → a ≡ true
-and_left true b h = refl
-and_left false b h = h
-
-pub and_right : (a b : Bool) → (a && b) ≡ true → b ≡ true
-and_right true b h = h
-and_right false b h = absurd cc
-
-pub both_true : (a b : Bool) → a ≡ true → b ≡ true → (a && b) ≡ true
-both_true true b h g = g
-both_true false b h g = h
-
-pub or_right : (a b : Bool) → b ≡ true → (a || b) ≡ true
-or_right true b h = refl
-or_right false b h = h
 
 step : (test : ℕ → Bool) (c : ℕ) (cs : List ℕ) (b : ℕ) (r : Bool) → eqb c b ≡ r
     → not (test c) ≡ true → test b ≡ true → is_among cs b ≡ false → is_among (c ∷ cs) b ≡ false
@@ -36,17 +21,16 @@ pub none_of : (test : ℕ → Bool) (bytes : List ℕ) (b : ℕ) → list_all (�
     → test b ≡ true → is_among bytes b ≡ false
 none_of test [] b fail h = refl
 none_of test (c ∷ cs) b fail h =
-    step test c cs b (eqb c b) refl
-    (and_left (not (test c)) (list_all (λ c. not (test c)) cs) fail) h
-    (none_of test cs b (and_right (not (test c)) (list_all (λ c. not (test c)) cs) fail) h)
+    let parts = and_parts (not (test c)) (list_all (λ c. not (test c)) cs) fail in
+    step test c cs b (eqb c b) refl parts.0 h (none_of test cs b parts.1 h)
 
 -- what passes the one test passes the other
 pub all_weaker : (p q : ℕ → Bool) → ((b : ℕ) → p b ≡ true → q b ≡ true) → (text : List ℕ)
     → list_all p text ≡ true → list_all q text ≡ true
 all_weaker p q weaker [] h = refl
 all_weaker p q weaker (b ∷ bs) h =
-    both_true (q b) (list_all q bs) (weaker b (and_left (p b) (list_all p bs) h))
-    (all_weaker p q weaker bs (and_right (p b) (list_all p bs) h))
+    let parts = and_parts (p b) (list_all p bs) h in
+    both_true (q b) (list_all q bs) (weaker b parts.0) (all_weaker p q weaker bs parts.1)
 
 uri_byte : (b : ℕ) → is_uri_byte b ≡ true → is_word_byte b ≡ true
 unfolding is_uri_byte is_word_byte

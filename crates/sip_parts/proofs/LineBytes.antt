@@ -1,23 +1,16 @@
 -- A text has a byte that passes a test, or has none.
-use Rattle.std.proofs.Common.{◌≡◌, ℕ, zero, suc, ◌<◌, Bool, true, false, not, ◌&&◌, List, [], ◌∷◌, length, Option, Some, None, refl, sym, arith}
+use Rattle.std.proofs.Common.{◌≡◌, ℕ, zero, suc, ◌<◌, Bool, true, false, not, List, [], ◌∷◌, length, Option, Some, None, refl, sym, arith}
 use Rattle.std.specs.List.{list_all}
 use Rattle.std.specs.Prelude.{is_some}
-use Rattle.std.proofs.lemmas.Bool.{true≢false}
+use Rattle.std.proofs.Math.Bool.{and-false}
+use Rattle.std.proofs.lemmas.Bool.{true≢false, false_from_ne_true}
 use Rattle.memchr.specs.Find.{IsFirstByte, Nowhere, Passes}
-
-not_true : (b : Bool) → (b ≡ true → ⊥) → b ≡ false
-not_true true h = absurd (h refl)
-not_true false h = refl
-
-and_false : (b : Bool) → (b && false) ≡ false
-and_false true = refl
-and_false false = refl
 
 pub none_passes : (test : ℕ → Bool) (text : List ℕ) → Nowhere (Passes test text) 0 (length text)
     → list_all (λ b. not (test b)) text ≡ true
 none_passes test [] none = refl
 none_passes test (b ∷ bs) none =
-    let here : test b ≡ false = not_true (test b) (none 0 (omega arith) (omega arith)) in
+    let here : test b ≡ false = false_from_ne_true (test b) (none 0 (omega arith) (omega arith)) in
     let rest = none_passes test bs (λ k low high. none (suc k) (omega arith) (omega arith)) in
     rw (here, rest) refl
 
@@ -27,7 +20,7 @@ one_passes test [] k lt is = absurd (omega arith)
 one_passes test (b ∷ bs) zero lt is = rw is refl
 one_passes test (b ∷ bs) (suc k) lt is =
     let rest : list_all (λ b. not (test b)) bs ≡ false = one_passes test bs k (omega arith) is in
-    rw rest (and_false (not (test b)))
+    rw rest (and-false (not (test b)))
 
 -- no byte passes the test exactly where none is found first
 pub none_found : (test : ℕ → Bool) (text : List ℕ) (found : Option ℕ) (answer : Bool)

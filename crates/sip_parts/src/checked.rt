@@ -1,5 +1,5 @@
 //! A text that keeps a rule of the grammar by its type.
-ghost use Rattle.std.specs.Prelude.{◌≡◌, ℕ, Bool, List, IsTrue, nat_eq};
+ghost use Rattle.std.specs.Prelude.{◌≡◌, ℕ, Bool, List, IfOk, IsTrue, nat_eq};
 ghost use Rattle.std.specs.Option.{SomeIff};
 ghost use Rattle.std.specs.Cmp.{partial_equiv_from_equiv, partial_order_from_own_ties};
 ghost use Rattle.std.specs.Cmp.Lexicographic.{pointwise, nat_list_eq_equiv, slice_cmp};
@@ -9,7 +9,7 @@ ghost use Rattle.std.specs.Ordering.{nat_cmp, as_partial_cmp};
 ghost use Rattle.std.proofs.Common.{rules};
 
 use sip_text::Text;
-use std::alloc::AllocError;
+use std::alloc::{AllocError, Global};
 use std::cmp::Ordering;
 use std::hash::{Hash, Hasher};
 use std::marker::{Model, PhantomData};
@@ -64,6 +64,14 @@ impl<R: Rule> Checked<R> {
             text,
             rule: PhantomData,
         }
+    }
+
+    /// A copy of the text, which keeps the rule.
+    pub fn copy_of(alloc: Global, text: &[u8]) -> Result<Checked<R>, AllocError>
+        requires { IsTrue (R.holds text.now) }
+        ensures { IfOk result (λ made. made ≡ text.now) }
+    {
+        Ok(Checked::from_text(Text::copy_of(alloc, text)?))
     }
 
     pub fn as_slice(&self) -> &[u8]

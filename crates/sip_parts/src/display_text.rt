@@ -1,11 +1,10 @@
 //! The display text of an address (RFC 3261, section 20.10).
 ghost use Rattle.std.specs.Prelude.{◌≡◌, []};
-ghost use Rattle.std.specs.List.{list_all};
 ghost use Rattle.sip_parts.specs.DisplayText as rule;
 
 use crate::checked::{Checked, Rule};
 use crate::header_value::has_no_blank_ends;
-use sip_text::{Text, is_quoted};
+use sip_text::{ByteClass, Text, each_is, is_quoted};
 use std::alloc::Global;
 
 /// The rule of [`DisplayText`].
@@ -39,18 +38,18 @@ impl Checked<DisplayTextRule> {
 pub fn is_display_text(text: &[u8]) -> bool
     ensures { result ≡ rule.is_display_text text.now }
 {
-    is_quoted(text) || (has_no_blank_ends(text) && each_is_display_text_byte(text))
+    is_quoted(text) || (has_no_blank_ends(text) && each_is::<DisplayBytes>(text))
 }
 
-fn each_is_display_text_byte(text: &[u8]) -> bool
-    ensures { result ≡ list_all rule.is_display_text_byte text.now }
-{
-    text.iter().all(|byte| is_display_text_byte(*byte))
-}
+struct DisplayBytes;
 
-#[tactic(auto, unfolding(crate::specs::DisplayText::is_display_text_byte))]
-fn is_display_text_byte(byte: u8) -> bool
-    ensures { result ≡ rule.is_display_text_byte byte }
-{
-    !matches!(byte, b'\r' | b'\n' | b'<' | b'>' | b'"' | b',')
+impl ByteClass for DisplayBytes {
+    ghost use Rattle.sip_parts.specs.DisplayText.{is_display_text_byte};
+
+    ghost holds = { is_display_text_byte };
+
+    #[tactic(auto, unfolding(crate::specs::DisplayText::is_display_text_byte))]
+    fn test(byte: u8) -> bool {
+        !matches!(byte, b'\r' | b'\n' | b'<' | b'>' | b'"' | b',')
+    }
 }

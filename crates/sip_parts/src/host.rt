@@ -1,10 +1,9 @@
 //! The host of a Via (RFC 3261, section 20.42).
 ghost use Rattle.std.specs.Prelude.{◌≡◌};
-ghost use Rattle.std.specs.List.{list_all};
 ghost use Rattle.sip_parts.specs.Host as rule;
 
 use crate::checked::{Checked, Rule};
-use sip_text::{ByteClass, cut};
+use sip_text::{ByteClass, cut, each_is};
 
 /// The rule of [`Host`].
 pub struct HostRule;
@@ -30,7 +29,7 @@ pub fn is_host(text: &[u8]) -> bool
     match text {
         [] => false,
         [b'[', rest @ ..] => ends_in_bracket(rest),
-        [_, ..] => each_is_host_byte(text),
+        [_, ..] => each_is::<HostBytes>(text),
     }
 }
 
@@ -38,31 +37,25 @@ fn ends_in_bracket(text: &[u8]) -> bool
     ensures { result ≡ rule.ends_in_bracket text.now }
 {
     match cut(b']', text) {
-        Some((inside, [])) => each_is_bracket_byte(inside),
+        Some((inside, [])) => each_is::<BracketBytes>(inside),
         _ => false,
     }
 }
 
-fn each_is_bracket_byte(text: &[u8]) -> bool
-    ensures { result ≡ list_all rule.is_bracket_byte text.now }
-{
-    text.iter().all(|byte| is_bracket_byte(*byte))
-}
+struct BracketBytes;
 
-#[tactic(auto, unfolding(crate::specs::Host::is_bracket_byte))]
-fn is_bracket_byte(byte: u8) -> bool
-    ensures { result ≡ rule.is_bracket_byte byte }
-{
-    !matches!(
-        byte,
-        b' ' | b'\t' | b'\r' | b'\n' | b',' | b';' | b']' | b'"' | b'<' | b'>'
-    )
-}
+impl ByteClass for BracketBytes {
+    ghost use Rattle.sip_parts.specs.Host.{is_bracket_byte};
 
-fn each_is_host_byte(text: &[u8]) -> bool
-    ensures { result ≡ list_all rule.is_host_byte text.now }
-{
-    text.iter().all(|byte| is_host_byte(*byte))
+    ghost holds = { is_bracket_byte };
+
+    #[tactic(auto, unfolding(crate::specs::Host::is_bracket_byte))]
+    fn test(byte: u8) -> bool {
+        !matches!(
+            byte,
+            b' ' | b'\t' | b'\r' | b'\n' | b',' | b';' | b']' | b'"' | b'<' | b'>'
+        )
+    }
 }
 
 // An x at the place of each byte of a host without brackets.
@@ -77,12 +70,6 @@ static HOST_BYTES: [u8; 256] = *b"\
     xxxxxxxxxxxxxxxxxxxxxxxxxxxxxxxx\
     xxxxxxxxxxxxxxxxxxxxxxxxxxxxxxxx";
 
-fn is_host_byte(byte: u8) -> bool
-    ensures { result ≡ rule.is_host_byte byte }
-{
-    HOST_BYTES[usize::from(byte)] == b'x'
-}
-
 /// The bytes of a host without brackets.
 pub struct HostBytes;
 
@@ -92,6 +79,6 @@ impl ByteClass for HostBytes {
     ghost holds = { is_host_byte };
 
     fn test(byte: u8) -> bool {
-        is_host_byte(byte)
+        HOST_BYTES[usize::from(byte)] == b'x'
     }
 }

@@ -1,11 +1,10 @@
 //! The display text of an address (RFC 3261, section 20.10).
 ghost use Rattle.std.specs.Prelude.{◌≡◌, []};
-ghost use Rattle.std.specs.List.{list_all};
 ghost use Rattle.sip_parts.specs.PartyDisplay as rule;
 
 use crate::checked::{Checked, Rule};
 use crate::header_value::has_no_blank_ends;
-use sip_text::{Text, is_quoted};
+use sip_text::{ByteClass, Text, each_is, is_quoted};
 use std::alloc::Global;
 
 /// The rule of [`PartyDisplay`].
@@ -39,18 +38,18 @@ impl Checked<PartyDisplayRule> {
 pub fn is_party_display(text: &[u8]) -> bool
     ensures { result ≡ rule.is_party_display text.now }
 {
-    is_quoted(text) || (has_no_blank_ends(text) && each_is_party_display_byte(text))
+    is_quoted(text) || (has_no_blank_ends(text) && each_is::<PartyDisplayBytes>(text))
 }
 
-fn each_is_party_display_byte(text: &[u8]) -> bool
-    ensures { result ≡ list_all rule.is_party_display_byte text.now }
-{
-    text.iter().all(|byte| is_party_display_byte(*byte))
-}
+struct PartyDisplayBytes;
 
-#[tactic(auto, unfolding(crate::specs::PartyDisplay::is_party_display_byte))]
-fn is_party_display_byte(byte: u8) -> bool
-    ensures { result ≡ rule.is_party_display_byte byte }
-{
-    !matches!(byte, b'\r' | b'\n' | b'<' | b'>' | b'"')
+impl ByteClass for PartyDisplayBytes {
+    ghost use Rattle.sip_parts.specs.PartyDisplay.{is_party_display_byte};
+
+    ghost holds = { is_party_display_byte };
+
+    #[tactic(auto, unfolding(crate::specs::PartyDisplay::is_party_display_byte))]
+    fn test(byte: u8) -> bool {
+        !matches!(byte, b'\r' | b'\n' | b'<' | b'>' | b'"')
+    }
 }

@@ -23,6 +23,12 @@ impl Model for StatusCode {
 }
 
 impl StatusCode {
+    /// The least one that is no provisional one.
+    pub const FIRST_FINAL: u16 = 200;
+
+    /// The least one that rejects a request.
+    pub const FIRST_REJECTING: u16 = 300;
+
     /// The status code of this number, or None outside 100 to 699.
     pub fn new(code: u16) -> Option<StatusCode>
         ensures { SomeIff result ((100 ≤ code) × (code ≤ 699)) code }

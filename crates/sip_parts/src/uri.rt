@@ -1,10 +1,9 @@
 //! URIs in header fields (RFC 3261, section 19.1).
 ghost use Rattle.std.specs.Prelude.{◌≡◌};
-ghost use Rattle.std.specs.List.{list_all};
 ghost use Rattle.sip_parts.specs.Uri as rule;
 
 use crate::checked::{Checked, Rule};
-use sip_text::ByteClass;
+use sip_text::{ByteClass, is_run};
 
 /// The rule of [`Uri`].
 pub struct UriRule;
@@ -27,16 +26,7 @@ pub type Uri = Checked<UriRule>;
 pub fn is_uri(text: &[u8]) -> bool
     ensures { result ≡ rule.is_uri text.now }
 {
-    match text {
-        [] => false,
-        [_, ..] => each_is_uri_byte(text),
-    }
-}
-
-fn each_is_uri_byte(text: &[u8]) -> bool
-    ensures { result ≡ list_all rule.is_uri_byte text.now }
-{
-    text.iter().all(|byte| is_uri_byte(*byte))
+    is_run::<UriBytes>(text)
 }
 
 // An x at the place of each byte of a URI.
@@ -51,12 +41,6 @@ static URI_BYTES: [u8; 256] = *b"\
     xxxxxxxxxxxxxxxxxxxxxxxxxxxxxxxx\
     xxxxxxxxxxxxxxxxxxxxxxxxxxxxxxxx";
 
-pub(crate) fn is_uri_byte(byte: u8) -> bool
-    ensures { result ≡ rule.is_uri_byte byte }
-{
-    URI_BYTES[usize::from(byte)] == b'x'
-}
-
 /// The bytes of a URI.
 pub struct UriBytes;
 
@@ -66,6 +50,6 @@ impl ByteClass for UriBytes {
     ghost holds = { is_uri_byte };
 
     fn test(byte: u8) -> bool {
-        is_uri_byte(byte)
+        URI_BYTES[usize::from(byte)] == b'x'
     }
 }

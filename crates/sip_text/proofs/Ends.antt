@@ -1,23 +1,16 @@
 -- White space at the end of a text.
-use Rattle.std.proofs.Common.{◌≡◌, ℕ, ◌+◌, ◌-◌, ◌≤◌, Bool, true, false, cond, ◌&&◌, List, [], ◌∷◌, ◌++◌, length, get_or, take, refl, sym, ap, ◌∙◌, arith}
+use Rattle.std.proofs.Common.{◌≡◌, ℕ, ◌+◌, ◌-◌, ◌≤◌, true, false, cond, ◌&&◌, List, [], ◌∷◌, ◌++◌, length, get_or, take, refl, sym, ap, ◌∙◌, arith}
 use Rattle.std.specs.List.{list_all}
+use Rattle.std.proofs.Math.Bool.{and-true, and-false}
 use Rattle.std.proofs.lemmas.List.{take_more, take_all}
 use Rattle.std.proofs.lemmas.List.Folds.{list_all-append}
 use Rattle.sip_text.specs.Character.{is_blank}
 use Rattle.sip_text.specs.Trimmed.{trimmed_end}
 
-and_true : (a : Bool) → (a && true) ≡ a
-and_true true = refl
-and_true false = refl
-
-and_false : (a : Bool) → (a && false) ≡ false
-and_false true = refl
-and_false false = refl
-
 all_push : (xs : List ℕ) (b : ℕ)
     → list_all is_blank (xs ++ b ∷ []) ≡ (list_all is_blank xs && is_blank b)
 all_push xs b = list_all-append is_blank xs (b ∷ [])
-    ∙ ap (λ t. list_all is_blank xs && t) (and_true (is_blank b))
+    ∙ ap (λ t. list_all is_blank xs && t) (and-true (is_blank b))
 
 -- a blank at the end is cut off
 pub trimmed_end-blank : (xs : List ℕ) (b : ℕ) → is_blank b ≡ true
@@ -25,7 +18,7 @@ pub trimmed_end-blank : (xs : List ℕ) (b : ℕ) → is_blank b ≡ true
 trimmed_end-blank [] b h = ap (λ t. cond (t && true) [] (b ∷ [])) h
 trimmed_end-blank (x ∷ xs) b h =
     let all : list_all is_blank (xs ++ b ∷ []) ≡ list_all is_blank xs =
-    all_push xs b ∙ ap (λ t. list_all is_blank xs && t) h ∙ and_true _ in
+    all_push xs b ∙ ap (λ t. list_all is_blank xs && t) h ∙ and-true _ in
     rw (all, trimmed_end-blank xs b h) refl
 
 -- any other byte stays, with all that stands before it
@@ -34,8 +27,8 @@ pub trimmed_end-other : (xs : List ℕ) (b : ℕ) → is_blank b ≡ false
 trimmed_end-other [] b h = ap (λ t. cond (t && true) [] (b ∷ [])) h
 trimmed_end-other (x ∷ xs) b h =
     let all : list_all is_blank (xs ++ b ∷ []) ≡ false =
-    all_push xs b ∙ ap (λ t. list_all is_blank xs && t) h ∙ and_false _ in
-    rw (all, and_false (is_blank x), trimmed_end-other xs b h) refl
+    all_push xs b ∙ ap (λ t. list_all is_blank xs && t) h ∙ and-false _ in
+    rw (all, and-false (is_blank x), trimmed_end-other xs b h) refl
 
 pub front_last : (text : List ℕ) → 1 ≤ length text
     → text ≡ take (length text - 1) text ++ get_or text (length text - 1) 0 ∷ []

@@ -9,7 +9,6 @@ pub mod ParameterForms
 pub mod OpenQuotes
 pub mod QuotedStrings
 pub mod LineParts
-pub mod Tables
 pub mod Runs
 pub mod Options
 pub mod Cuts

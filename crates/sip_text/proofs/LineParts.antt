@@ -4,7 +4,6 @@ use Rattle.std.specs.List.{list_all, slice_split, onto_first}
 use Rattle.std.specs.Option.{option_map}
 use Rattle.std.specs.Str.Lines.{strip_carriage_return}
 use Rattle.std.proofs.lemmas.Bool.{eqb-true, and_from}
-use Rattle.std.proofs.lemmas.Option.{same_Some}
 use Rattle.std.proofs.lemmas.List.{append-nil, take-append-drop}
 use Rattle.std.proofs.Math.Seq.{take-append_seam}
 use Rattle.sip_text.specs.Character.{is_blank}
@@ -13,39 +12,13 @@ use Rattle.sip_text.specs.Line.{line_at}
 use Rattle.sip_text.specs.Lines.{has_no, IsLine, IsLines}
 use Rattle.sip_text.specs.Trimmed.{trimmed_start, trimmed_end}
 use Rattle.sip_text.specs.Unfolded.{begins_blank, joined, unfolded_from, unfolded_behind}
-use Rattle.sip_text.proofs.Separators.{mapped}
+use Rattle.sip_text.proofs.Cuts.{cut_took}
+use Rattle.sip_text.proofs.Separators.{mapped, not_mapped}
 
 -- ---- one line
 
 abbrev pub longer : ℕ → List ℕ × List ℕ → List ℕ × List ℕ
 longer c p = (c ∷ p.0, p.1)
-
-record IsAtEnd (text : List ℕ) (p : List ℕ × List ℕ) : Type 0 where
-  pub parts : text ≡ p.0 ++ (10 ∷ p.1)
-  pub one : IsTrue (has_no 10 p.0)
-
-at_end_by : (c : ℕ) (cs : List ℕ) (p : List ℕ × List ℕ) (r : Bool) → eqb c 10 ≡ r
-    → ((q : List ℕ × List ℕ) → cut_at 10 cs ≡ Some q → IsAtEnd cs q)
-    → cond r (Some ([], cs)) (option_map (longer c) (cut_at 10 cs)) ≡ Some p → IsAtEnd (c ∷ cs) p
-at_end_by c cs p true t more e =
-    subst (λ (q : List ℕ × List ℕ). IsAtEnd (c ∷ cs) q) (same_Some _ _ e)
-    (record { parts = ap (λ (b : ℕ). b ∷ cs) (eqb-true c 10 t); one = refl })
-at_end_by c cs p false t more e =
-    let m = mapped (longer c) (cut_at 10 cs) p e in
-    let end = more m.0 m.1 in
-    subst (λ (q : List ℕ × List ℕ). IsAtEnd (c ∷ cs) q) m.2
-    (record {
-      parts = ap (λ (xs : List ℕ). c ∷ xs) end.parts;
-      one = and_from _ _ (ap not t) end.one;
-    })
-
-at_end : (text : List ℕ) (p : List ℕ × List ℕ) → cut_at 10 text ≡ Some p → IsAtEnd text p
-at_end [] p e = absurd cc
-at_end (c ∷ cs) p e = at_end_by c cs p (eqb c 10) refl (at_end cs) e
-
-not_mapped : {A B : Type 0} (f : A → B) (o : Option A) → option_map f o ≡ None → o ≡ None
-not_mapped f None e = refl
-not_mapped f (Some x) e = absurd cc
 
 no_end_by : (c : ℕ) (cs : List ℕ) (r : Bool) → eqb c 10 ≡ r
     → (cut_at 10 cs ≡ None → IsTrue (has_no 10 cs))
@@ -65,12 +38,12 @@ unfolding line_at
 line_takes text line after e =
     let m = mapped (λ (p : List ℕ × List ℕ). (strip_carriage_return p.0, p.1)) (cut_at 10 text)
     (line, after) e in
-    let end = at_end text m.0 m.1 in
+    let end = cut_took 10 text m.0 m.1 in
     let after_is : m.0.1 ≡ after = ap (λ (p : List ℕ × List ℕ). p.1) m.2 in
     record {
       part = m.0.0;
-      parts = subst (λ (xs : List ℕ). text ≡ m.0.0 ++ (10 ∷ xs)) after_is end.parts;
-      one = end.one;
+      parts = subst (λ (xs : List ℕ). text ≡ m.0.0 ++ (10 ∷ xs)) after_is end.whole;
+      one = end.none;
       stripped = sym (ap (λ (p : List ℕ × List ℕ). p.0) m.2);
     }
 

@@ -1,15 +1,12 @@
 -- A text without a quote ends outside of quotes.
 use Rattle.std.proofs.Common.{◌≡◌, ℕ, suc, Bool, true, false, eqb, List, [], ◌∷◌, length, get_or, refl, arith}
 use Rattle.std.specs.Prelude.{fold, Option, None, Some, is_some}
+use Rattle.std.proofs.lemmas.Bool.{false_from_ne_true}
 use Rattle.memchr.specs.Find.{IsFirstByte, Nowhere, is_byte}
 use Rattle.sip_text.specs.OpenQuote.{is_in_quotes, has_open_quote}
 use Rattle.sip_text.specs.Separator.{after}
 use Rattle.sip_text.specs.declared.separator.Place.{Place}
 use Rattle.sip_text.specs.declared.separator.Place.TheVariants.{Plain, Quoted, Escaped, Bracketed}
-
-not_true : (b : Bool) → (b ≡ true → ⊥) → b ≡ false
-not_true true h = absurd (h refl)
-not_true false h = refl
 
 by_bool : {G : Type 0} (b : Bool) → (b ≡ true → G) → (b ≡ false → G) → G
 by_bool true t f = t refl
@@ -30,7 +27,7 @@ stays_outside : (place : Place) (text : List ℕ) → is_in_quotes place ≡ fal
 stays_outside place [] out none = out
 stays_outside place (b ∷ bs) out none =
     stays_outside (after place b) bs
-    (outside place b out (not_true _ (none 0 (omega arith) (omega arith))))
+    (outside place b out (false_from_ne_true _ (none 0 (omega arith) (omega arith))))
     (λ k low high. none (suc k) (omega arith) (omega arith))
 
 none_open : (text : List ℕ) → Nowhere (λ k. eqb (get_or text k 0) 34 ≡ true) 0 (length text)

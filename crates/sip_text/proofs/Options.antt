@@ -1,5 +1,6 @@
 -- Steps that gave something.
 use Rattle.std.proofs.Common.{◌≡◌, Bool, true, false, cond, Option, Some, None, refl, ◌⊎◌, inl, inr}
+pub use Rattle.std.proofs.lemmas.Option.{cond_some as passed, same_Some as same_some}
 use Rattle.sip_text.specs.Options.{◌>>=◌}
 
 -- the value of a step that gave one
@@ -14,16 +15,7 @@ pub chosen : {A : Type 0} (b : Bool) (x y z : A) → cond b x y ≡ z
 chosen true x y z e = inl (refl, e)
 chosen false x y z e = inr (refl, e)
 
--- a test that did not end it
-pub passed : {A : Type 0} (b : Bool) (x y : A) → cond b (Some x) None ≡ Some y
-    → (b ≡ true) × (x ≡ y)
-passed true x y e = (refl, cc)
-passed false x y e = absurd cc
-
 pub not_stopped : {A : Type 0} (b : Bool) (x y : A) → cond b None (Some x) ≡ Some y
     → (b ≡ false) × (x ≡ y)
 not_stopped true x y e = absurd cc
 not_stopped false x y e = (refl, cc)
-
-pub same_some : {A : Type 0} (x y : A) → ◌≡◌ {A = Option A} (Some x) (Some y) → x ≡ y
-same_some x y e = cc

@@ -21,7 +21,7 @@ abbrev Goes : Bool → List ℕ → Type 0
 Goes true text = ClosesAfterByte text
 Goes false text = Closes text
 
-nothing_more : (bs : List ℕ) → is_nothing bs ≡ true → bs ≡ []
+pub nothing_more : (bs : List ℕ) → is_nothing bs ≡ true → bs ≡ []
 nothing_more [] e = refl
 nothing_more (b ∷ bs) e = absurd cc
 

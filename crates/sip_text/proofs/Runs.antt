@@ -1,5 +1,5 @@
 -- Runs of bytes that pass a test.
-use Rattle.std.proofs.Common.{◌≡◌, ℕ, Bool, true, false, cond, eqb, List, [], ◌∷◌, ◌++◌, take, drop, Some, None, refl, sym, ap, subst, ◌∙◌, ◌+◌, suc, arith}
+use Rattle.std.proofs.Common.{◌≡◌, ℕ, Bool, true, false, cond, eqb, List, [], ◌∷◌, ◌++◌, length, take, drop, Some, None, refl, sym, ap, subst, ◌∙◌, ◌+◌, ◌<◌, suc, arith}
 use Rattle.std.specs.List.{list_all, prefix_len, take_while}
 use Rattle.std.proofs.lemmas.Bool.{eqb-true}
 use Rattle.std.proofs.lemmas.List.{take-append-drop}
@@ -14,6 +14,12 @@ passes_by test b bs true is rest =
     let one : 1 + prefix_len test bs ≡ suc (prefix_len test bs) = omega arith in
     rw one (rw is rest)
 passes_by test b bs false is rest = refl
+
+-- bytes that pass, of which there is one at least
+pub run_from_all : (test : ℕ → Bool) (text : List ℕ) → 0 < length text → list_all test text ≡ true
+    → is_run test text ≡ true
+run_from_all test [] some all = absurd (omega arith)
+run_from_all test (b ∷ bs) some all = all
 
 -- each byte of the run passes
 pub run_passes : (test : ℕ → Bool) (text : List ℕ)

@@ -4,7 +4,7 @@ use Rattle.memchr.specs.Find.{Nowhere}
 use Rattle.std.specs.Prelude.{option_and_then}
 use Rattle.std.specs.Option.{option_map}
 use Rattle.std.proofs.lemmas.Option.{same_Some}
-use Rattle.std.proofs.lemmas.Bool.{or_parts}
+use Rattle.std.proofs.lemmas.Bool.{or_parts, false_from_ne_true}
 use Rattle.std.proofs.lemmas.List.{take_more, get_or-take, length-take-le}
 use Rattle.sip_text.specs.Separator.{separates, opens, step, next_place, place_after, by_place, cut_from, IsCutFrom, IsWholeFrom}
 use Rattle.sip_text.specs.declared.separator.Separator.{Separator}
@@ -26,6 +26,10 @@ pub mapped : {A B : Type 0} (f : A → B) (o : Option A) (y : B) → option_map 
     → (x : A) × (o ≡ Some x) × (f x ≡ y)
 mapped f None y e = absurd cc
 mapped f (Some x) y e = (x, refl, same_Some _ _ e)
+
+pub not_mapped : {A B : Type 0} (f : A → B) (o : Option A) → option_map f o ≡ None → o ≡ None
+not_mapped f None e = refl
+not_mapped f (Some x) e = absurd cc
 
 -- ---- takes and again
 
@@ -83,10 +87,6 @@ whole_by at b bs place (Some p) is more e =
       none = ap (option_and_then (λ r. place_after at r bs)) is
           ∙ rest.none;
     }
-  where
-    not_mapped : {A B : Type 0} (f : A → B) (o : Option A) → option_map f o ≡ None → o ≡ None
-    not_mapped f None e = refl
-    not_mapped f (Some x) e = absurd cc
 
 pub whole_takes : (at : Separator) (place : Place) (text : List ℕ) → cut_from at place text ≡ None
     → IsWholeFrom at place text
@@ -133,10 +133,6 @@ cut_at_index at place last (b ∷ bs) (suc k) lt none stops =
 
 -- ---- the short way
 
-not_true : (b : Bool) → (b ≡ true → ⊥) → b ≡ false
-not_true true h = absurd (h refl)
-not_true false h = refl
-
 quiet_step : (at : Separator) (b : ℕ) → separates at b ≡ false → opens at b ≡ false
     → next_place at Plain b ≡ Some Plain
 quiet_step (Byte at) b s o =
@@ -152,8 +148,8 @@ pub quiet : (at : Separator) (text : List ℕ)
     → place_after at Plain text ≡ Some Plain
 quiet at [] s o = refl
 quiet at (b ∷ bs) s o =
-    let here = quiet_step at b (not_true _ (s 0 (omega arith) (omega arith)))
-    (not_true _ (o 0 (omega arith) (omega arith))) in
+    let here = quiet_step at b (false_from_ne_true _ (s 0 (omega arith) (omega arith)))
+    (false_from_ne_true _ (o 0 (omega arith) (omega arith))) in
     ap (option_and_then (λ p. place_after at p bs)) here
     ∙ quiet at bs (λ k low high. s (suc k) (omega arith) (omega arith))
     (λ k low high. o (suc k) (omega arith) (omega arith))
@@ -171,7 +167,7 @@ pub nothing_separates : (at : Separator) (place : Place) (text : List ℕ)
     → cut_from at place text ≡ None
 nothing_separates at place [] s = refl
 nothing_separates at place (b ∷ bs) s =
-    let here = at_rest at place b (not_true _ (s 0 (omega arith) (omega arith))) in
+    let here = at_rest at place b (false_from_ne_true _ (s 0 (omega arith) (omega arith))) in
     ap (λ o. by_place b bs o (λ p. cut_from at p bs)) here.1
     ∙ ap (option_map (λ (q : List ℕ × List ℕ). (b ∷ q.0, q.1)))
     (nothing_separates at here.0 bs (λ k low high. s (suc k) (omega arith) (omega arith)))

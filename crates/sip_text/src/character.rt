@@ -30,13 +30,6 @@ static TOKEN_BYTES: [u8; 256] = *b"\
     ................................\
     ................................";
 
-/// Whether the byte may stand in a token.
-pub fn is_token_byte(byte: u8) -> bool
-    ensures { result ≡ character.is_token_byte byte }
-{
-    TOKEN_BYTES[usize::from(byte)] == b'x'
-}
-
 /// The bytes of a token.
 pub struct TokenBytes;
 
@@ -46,6 +39,6 @@ impl ByteClass for TokenBytes {
     ghost holds = { is_token_byte };
 
     fn test(byte: u8) -> bool {
-        is_token_byte(byte)
+        TOKEN_BYTES[usize::from(byte)] == b'x'
     }
 }

@@ -22,7 +22,7 @@ mod trim;
 mod values;
 
 pub use boxed::Boxed;
-pub use character::{TokenBytes, is_blank, is_line_byte, is_token_byte};
+pub use character::{TokenBytes, is_blank, is_line_byte};
 pub use fault::TextFault;
 pub use folding::{begins_blank, lines, unfold};
 pub use laws::{one_cut, one_list_of_parameters, one_split, quoted_strings};
@@ -35,7 +35,7 @@ pub use parameters::{
 };
 pub use pieces::{cut, cut_blank};
 pub use quoted::is_quoted;
-pub use run::{ByteClass, run_before, run_len};
+pub use run::{ByteClass, each_is, is_run, run_before, run_len};
 pub use separator::{Place, Separator};
 pub use series::Series;
 pub use text::Text;

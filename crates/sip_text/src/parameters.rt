@@ -1,6 +1,5 @@
 //! Parameters as text (RFC 3261, section 7.3.1).
 ghost use Rattle.std.specs.Prelude.{◌≡◌, false, IfErr, IfOk, IfSome, IsTrue, map};
-ghost use Rattle.std.specs.List.{list_all};
 ghost use Rattle.std.specs.Option.{option_copied, option_map};
 ghost use Rattle.sip_text.specs.Character as character;
 ghost use Rattle.sip_text.specs.Forms.{split};
@@ -13,7 +12,7 @@ use crate::character::is_blank;
 use crate::fault::TextFault;
 use crate::open_quote::has_open_quote;
 use crate::quoted::is_quoted;
-use crate::run::ByteClass;
+use crate::run::{ByteClass, is_run};
 use crate::separator::Separator;
 use crate::token::is_token;
 use crate::trim::trimmed;
@@ -144,16 +143,7 @@ pub fn is_parameter_value(text: &[u8]) -> bool
 pub fn is_value_word(text: &[u8]) -> bool
     ensures { result ≡ parameter.is_value_word text.now }
 {
-    match text {
-        [] => false,
-        [_, ..] => each_is_value_byte(text),
-    }
-}
-
-fn each_is_value_byte(text: &[u8]) -> bool
-    ensures { result ≡ list_all parameter.is_value_byte text.now }
-{
-    text.iter().all(|byte| is_value_byte(*byte))
+    is_run::<ValueBytes>(text)
 }
 
 // An x at the place of each byte of a value without quotes.
@@ -168,12 +158,6 @@ static VALUE_BYTES: [u8; 256] = *b"\
     xxxxxxxxxxxxxxxxxxxxxxxxxxxxxxxx\
     xxxxxxxxxxxxxxxxxxxxxxxxxxxxxxxx";
 
-fn is_value_byte(byte: u8) -> bool
-    ensures { result ≡ parameter.is_value_byte byte }
-{
-    VALUE_BYTES[usize::from(byte)] == b'x'
-}
-
 /// The bytes of a parameter's value without quotes.
 pub struct ValueBytes;
 
@@ -183,6 +167,6 @@ impl ByteClass for ValueBytes {
     ghost holds = { is_value_byte };
 
     fn test(byte: u8) -> bool {
-        is_value_byte(byte)
+        VALUE_BYTES[usize::from(byte)] == b'x'
     }
 }

@@ -1,8 +1,9 @@
 //! Runs of bytes of one class.
 ghost use Rattle.std.specs.Prelude.{◌≡◌, ◌≤◌, length};
-ghost use Rattle.std.specs.List.{prefix_len};
+ghost use Rattle.std.specs.List.{list_all, prefix_len};
 ghost use Rattle.sip_text.specs.Cut.{both_now};
 ghost use Rattle.sip_text.specs.Run.{run_before};
+ghost use Rattle.sip_text.specs.Token as token;
 
 /// A class of bytes.
 pub trait ByteClass {
@@ -14,6 +15,23 @@ pub trait ByteClass {
     /// Whether the byte is of the class.
     fn test(byte: u8) -> bool
         ensures { result ≡ holds byte };
+}
+
+/// Whether each byte of the text is of the class.
+pub fn each_is<C: ByteClass>(text: &[u8]) -> bool
+    ensures { result ≡ list_all C.holds text.now }
+{
+    text.iter().all(|byte| C::test(*byte))
+}
+
+/// Whether the text is one or more bytes of the class.
+pub fn is_run<C: ByteClass>(text: &[u8]) -> bool
+    ensures { result ≡ token.is_run C.holds text.now }
+{
+    match text {
+        [] => false,
+        [_, ..] => each_is::<C>(text),
+    }
 }
 
 /// How many bytes of the class the text begins with.

@@ -7,7 +7,6 @@ use Rattle.std.proofs.lemmas.Bool.{eqb-true, ne_eqb, ltb-false, true≢false}
 use Rattle.std.proofs.lemmas.Slice.Eq.{bytes_eq-Decides}
 use Rattle.sip_text.specs.Character.{is_blank, is_token_byte}
 use Rattle.sip_text.specs.Token.{is_run, is_token}
-use Rattle.sip_parts.specs.Host.{is_host_byte}
 use Rattle.sip_parts.specs.Word.{is_word_byte, is_word}
 use Rattle.sip_text.specs.Lines.{has_no}
 use Rattle.sip_values.proofs.Cuts.{run_all, none_of}
@@ -17,16 +16,6 @@ pub full_at : (test : ℕ → Bool) (b at : ℕ) → test at ≡ false → test 
 full_at test b at fails passes =
     by_bool (eqb b at) (λ r. r ≡ false)
     (λ e. absurd (true≢false (sym passes ∙ ap test (eqb-true b at e) ∙ fails))) (λ e. refl)
-
--- a test that neither the space nor the tab passes
-pub full_bytes : (test : ℕ → Bool) → test 32 ≡ false → test 9 ≡ false → (b : ℕ) → test b ≡ true
-    → is_blank b ≡ false
-full_bytes test space tab b passes =
-    rw (full_at test b 32 space passes, full_at test b 9 tab passes) refl
-
-pub not_blank : (test : ℕ → Bool) → test 32 ≡ false → test 9 ≡ false → (b : ℕ) → test b ≡ true
-    → not (is_blank b) ≡ true
-not_blank test space tab b passes = ap not (full_bytes test space tab b passes)
 
 -- ---- tokens
 
@@ -39,7 +28,8 @@ token_bytes text token = run_all is_token_byte text (token_run text token)
 
 pub token_full : (b : ℕ) → is_token_byte b ≡ true → is_blank b ≡ false
 unfolding is_token_byte
-token_full b passes = full_bytes is_token_byte refl refl b passes
+token_full b passes =
+    rw (full_at is_token_byte b 32 refl passes, full_at is_token_byte b 9 refl passes) refl
 
 pub token_without : (at : ℕ) → is_token_byte at ≡ false → (text : List ℕ) → is_token text ≡ true
     → has_no at text ≡ true
@@ -70,10 +60,6 @@ word_bytes text word = run_all is_word_byte text word
 pub word_without_space : (text : List ℕ) → is_word text ≡ true → has_no 32 text ≡ true
 unfolding is_word_byte
 word_without_space text word = none_of is_word_byte 32 refl text (word_bytes text word)
-
-pub host_full : (b : ℕ) → is_host_byte b ≡ true → is_blank b ≡ false
-unfolding is_host_byte
-host_full b passes = full_bytes is_host_byte refl refl b passes
 
 -- ---- without case
 

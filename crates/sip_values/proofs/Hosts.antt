@@ -11,7 +11,7 @@ use Rattle.sip_parts.specs.Host.{is_host_byte, is_bracket_byte, is_closed, is_ho
 use Rattle.sip_values.proofs.Characters.{full_at}
 use Rattle.sip_values.proofs.Cuts.{all_imply, at_takes}
 use Rattle.sip_values.proofs.Passing.{Passes, clear, all_pass, place_append, byte_clear, anywhere_clear}
-use Rattle.sip_values.proofs.WrittenBytes.{is_solid, solid}
+use Rattle.sip_values.proofs.WrittenBytes.{is_solid, solid, solid_byte}
 
 closed_by : (bs : List ℕ) (o : Option (List ℕ × List ℕ)) → cut_at 93 bs ≡ o → is_closed o ≡ true
     → (inside : List ℕ) × (bs ≡ inside ++ (93 ∷ [])) × (list_all is_bracket_byte inside ≡ true)
@@ -41,19 +41,8 @@ host_all q bytes inner open_q close_q (b ∷ bs) is = by_first (eqb b 91) refl i
 pub host_solid : (host : List ℕ) → is_host host ≡ true → solid host ≡ true
 unfolding is_host_byte is_bracket_byte
 host_solid host is =
-    host_all is_solid (λ b p. rw (
-      full_at is_host_byte b 32 refl p,
-      full_at is_host_byte b 9 refl p,
-      full_at is_host_byte b 13 refl p,
-      full_at is_host_byte b 10 refl p,
-    ) refl)
-    (λ b p. rw (
-      full_at is_bracket_byte b 32 refl p,
-      full_at is_bracket_byte b 9 refl p,
-      full_at is_bracket_byte b 13 refl p,
-      full_at is_bracket_byte b 10 refl p,
-    ) refl) refl refl
-    host is
+    host_all is_solid (solid_byte is_host_byte refl refl refl refl)
+    (solid_byte is_bracket_byte refl refl refl refl) refl refl host is
 
 pub host_passes_semicolon : (host : List ℕ) → is_host host ≡ true → Passes (Anywhere 59) host
 unfolding is_host_byte is_bracket_byte

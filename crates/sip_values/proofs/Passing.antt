@@ -12,6 +12,7 @@ use Rattle.sip_text.specs.declared.separator.Separator.{Separator}
 use Rattle.sip_text.specs.declared.separator.Separator.TheVariants.{Byte, Anywhere, Blank, Colon}
 use Rattle.sip_text.specs.declared.separator.Place.{Place}
 use Rattle.sip_text.specs.declared.separator.Place.TheVariants.{Plain, Quoted, Escaped}
+use Rattle.sip_text.proofs.QuotedStrings.{nothing_more}
 use Rattle.sip_text.proofs.Separators.{cut_again, whole_again, and_then_some}
 use Rattle.sip_values.proofs.Characters.{full_at, token_bytes}
 use Rattle.sip_values.proofs.Cuts.{all_imply, run_all}
@@ -158,10 +159,6 @@ ends_by : (escaped : Bool) (b : ℕ) (bs : List ℕ) (r : Bool) → is_line_byte
 ends_by escaped b bs true is e = absurd cc
 ends_by escaped b bs false is e = record { plain = is; rest = e }
 
-nothing_is : (bs : List ℕ) → is_nothing bs ≡ true → bs ≡ []
-nothing_is [] e = refl
-nothing_is (b ∷ bs) e = absurd cc
-
 quote_passes : (c : ℕ) (escaped : Bool) (text : List ℕ) → ends_in_quote escaped text ≡ true
     → place_after (Byte c) (inside escaped) text ≡ Some Plain
 quote_passes c escaped [] e = absurd cc
@@ -182,7 +179,7 @@ quote_passes c false (b ∷ bs) e =
         (not_both b f) ∙ ap (λ r. place_after (Byte c) (cond r Escaped Quoted) bs) f ∙ more true h
     by_byte more false true f g h =
         ap (λ r. place_after (Byte c) (cond r Plain (cond (eqb b 92) Escaped Quoted)) bs) g
-        ∙ ap (place_after (Byte c) Plain) (nothing_is bs h)
+        ∙ ap (place_after (Byte c) Plain) (nothing_more bs h)
     by_byte more false false f g h =
         ap (λ r. place_after (Byte c) (cond r Plain (cond (eqb b 92) Escaped Quoted)) bs) g
         ∙ ap (λ r. place_after (Byte c) (cond r Escaped Quoted) bs) f ∙ more false h
@@ -229,7 +226,7 @@ quote_ends false (b ∷ bs) e =
     by_byte further false true f g h = (
       [],
       ap (λ (c : ℕ). c ∷ bs) (eqb-true b 34 g)
-          ∙ ap (λ (xs : List ℕ). 34 ∷ xs) (nothing_is bs h),
+          ∙ ap (λ (xs : List ℕ). 34 ∷ xs) (nothing_more bs h),
     )
     by_byte further false false f g h =
         let more = further false h in (b ∷ more.0, ap (λ (xs : List ℕ). b ∷ xs) more.1)
@@ -258,7 +255,7 @@ quote_plain false (b ∷ bs) e =
         → cond x (ends_in_quote true bs) (cond y (is_nothing bs) (ends_in_quote false bs)) ≡ true
         → list_all (λ c. not (is_line_byte c)) bs ≡ true
     by_byte more true y h = more true h
-    by_byte more false true h = ap (list_all (λ c. not (is_line_byte c))) (nothing_is bs h)
+    by_byte more false true h = ap (list_all (λ c. not (is_line_byte c))) (nothing_more bs h)
     by_byte more false false h = more false h
 
 pub quoted_plain : (text : List ℕ) → is_quoted text ≡ true

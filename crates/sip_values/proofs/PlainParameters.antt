@@ -5,7 +5,7 @@ use Rattle.sip_text.specs.Parameter.{is_parameter_value, is_value_word, name_fro
 use Rattle.sip_text.specs.Quoted.{is_quoted}
 use Rattle.sip_text.specs.Token.{is_token}
 use Rattle.sip_text.specs.declared.separator.Separator.TheVariants.{Byte}
-use Rattle.sip_parts.proofs.Bytes.{or_right}
+use Rattle.std.proofs.lemmas.Bool.{or_right}
 use Rattle.sip_values.specs.First.{behind, first}
 use Rattle.sip_values.proofs.Characters.{no_equals}
 use Rattle.sip_values.proofs.Firsts.{first_ends, first_goes_on, follows}

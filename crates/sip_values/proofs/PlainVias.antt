@@ -1,5 +1,5 @@
 -- Via values and addresses without white space.
-use Rattle.std.proofs.Common.{◌≡◌, ℕ, true, List, [], ◌∷◌, ◌++◌, Option, Some, None, refl, sym, ap, ◌∙◌, append_assoc}
+use Rattle.std.proofs.Common.{◌≡◌, ℕ, true, not, codes, List, [], ◌∷◌, ◌++◌, Option, Some, None, refl, sym, ap, ◌∙◌, append_assoc}
 use Rattle.std.specs.List.{list_all}
 use Rattle.std.proofs.lemmas.Bool.{and_parts}
 use Rattle.std.proofs.lemmas.List.{append-nil}
@@ -10,6 +10,7 @@ use Rattle.sip_text.proofs.Runs.{run_found}
 use Rattle.sip_parts.specs.Host.{is_host, is_host_byte}
 use Rattle.sip_parts.specs.Uri.{is_uri, is_uri_byte}
 use Rattle.sip_parts.specs.Word.{is_word, is_word_byte}
+use Rattle.sip_parts.proofs.Bytes.{none_of}
 use Rattle.sip_values.specs.Address.{uri_before_bracket}
 use Rattle.sip_values.specs.First.{behind, first}
 use Rattle.sip_values.specs.Numeral.{numeral}
@@ -20,7 +21,7 @@ use Rattle.sip_values.proofs.Firsts.{first_ends, first_goes_on, follows}
 use Rattle.sip_values.proofs.Hosts.{host_passes_colon, host_passes_semicolon, host_solid}
 use Rattle.sip_values.proofs.Passing.{Passes, all_pass, anywhere_clear, both_pass, class_passes, clear, cut_here, none_here, token_passes_blank}
 use Rattle.sip_values.proofs.PlainRuns.{token_is}
-use Rattle.sip_values.proofs.WrittenBytes.{full_to, solid_kept, token_solid, uri_solid}
+use Rattle.sip_values.proofs.WrittenBytes.{solid_kept, token_solid, uri_solid}
 
 -- ---- hosts and ports
 
@@ -43,13 +44,7 @@ unfolding is_token is_token_byte is_word is_word_byte
 token_word [] token = absurd cc
 token_word (b ∷ bs) token =
     all_imply is_token_byte is_word_byte
-    (λ c passes. rw (
-      full_to is_token_byte c 32 refl passes,
-      full_to is_token_byte c 9 refl passes,
-      full_to is_token_byte c 13 refl passes,
-      full_to is_token_byte c 10 refl passes,
-    ) refl)
-    (b ∷ bs) token
+    (λ c passes. ap not (none_of is_token_byte (codes " \t\r\n") c refl passes)) (b ∷ bs) token
 
 port_kept : (port : List ℕ) → is_token port ≡ true
     → port_from port ≡ Some (numeral port)

@@ -1,29 +1,30 @@
 -- What is written has no line ends inside its lines and no white space at the ends of its values.
-use Rattle.std.proofs.Common.{◌≡◌, ℕ, ◌^◌, ◌<◌, Bool, true, false, cond, eqb, not, ◌&&◌, List, [], ◌∷◌, ◌++◌, length, decimal, refl, sym, ap, ◌∙◌, arith}
+use Rattle.std.proofs.Common.{◌≡◌, ℕ, ◌^◌, ◌<◌, Bool, true, false, cond, eqb, not, ◌&&◌, List, [], ◌∷◌, ◌++◌, codes, decimal, refl, sym, ap, ◌∙◌}
 use Rattle.std.specs.Char.{is_ascii_digit}
 use Rattle.std.specs.List.{list_all}
 use Rattle.std.specs.Str.{all_ascii_digits}
 use Rattle.std.specs.Str.Parse.{digits_value}
-use Rattle.std.proofs.lemmas.Bool.{and_parts, and_from, and_right, or_parts, not-true, true≢false, eqb-true}
-use Rattle.std.proofs.lemmas.Fmt.{digits_decimal, digits_value-decimal, decimal_nonempty}
+use Rattle.std.proofs.lemmas.Bool.{and_parts, and_from, and_right, or_parts, not-true, true≢false}
+use Rattle.std.proofs.lemmas.Fmt.{digits_value-decimal, decimal_nonempty}
 use Rattle.std.proofs.lemmas.List.{append-nil}
 use Rattle.std.proofs.lemmas.List.Folds.{list_all-append}
 use Rattle.std.proofs.lemmas.Str.Parse.{numerals_by_value, tells_all_ascii_digits}
 use Rattle.sip_text.specs.Character.{is_blank, is_line_byte, is_token_byte}
 use Rattle.sip_text.specs.Number.{is_digits}
-use Rattle.sip_text.specs.Token.{is_run, is_token}
+use Rattle.sip_text.specs.Token.{is_token}
 use Rattle.sip_text.specs.Trimmed.{trimmed, trimmed_end}
 use Rattle.sip_parts.specs.HeaderValue.{has_no_blank_ends, has_no_line_byte, is_header_value}
 use Rattle.sip_text.specs.Parameter.{is_value_byte, is_value_word}
 use Rattle.sip_parts.specs.Uri.{is_uri_byte, is_uri}
 use Rattle.sip_parts.specs.Word.{is_word_byte, is_word}
 use Rattle.sip_text.specs.Lines.{has_no}
+use Rattle.sip_text.proofs.Numerals.{decimal_digits as each_is_digit}
+use Rattle.sip_text.proofs.Runs.{run_from_all}
+use Rattle.sip_parts.proofs.Bytes.{none_of}
 use Rattle.sip_parts.proofs.BlankEnds.{trims_to_itself}
 use Rattle.sip_values.proofs.Blanks.{end_is, starts_full}
 use Rattle.sip_values.proofs.Characters.{token_bytes, full_at}
 use Rattle.sip_values.proofs.Cuts.{all_imply, run_all}
-use Rattle.sip_values.proofs.Digits.{all_digits}
-use Rattle.sip_values.proofs.Pieces.{by_bool}
 
 -- ---- bytes that neither end a line nor are white space
 
@@ -128,36 +129,17 @@ header_value_plain value is = (and_parts (has_no_blank_ends value) (has_no_line_
 
 -- ---- decimal numbers
 
-run_from : (test : ℕ → Bool) (text : List ℕ) → 0 < length text → list_all test text ≡ true
-    → is_run test text ≡ true
-run_from test [] some all = absurd (omega arith)
-run_from test (b ∷ bs) some all = all
-
 pub decimal_digits : (n : ℕ) → n < 2 ^ 64 → is_digits (decimal n) ≡ true
 decimal_digits n lt =
-    run_from is_ascii_digit (decimal n) (decimal_nonempty n lt)
-    (sym (all_digits (decimal n)) ∙ digits_decimal
-    (numerals_by_value (λ ds. all_ascii_digits ds ≡ true) tells_all_ascii_digits) n lt)
+    run_from_all is_ascii_digit (decimal n) (decimal_nonempty n lt) (each_is_digit n lt)
 
 pub decimal_value : (n : ℕ) → n < 2 ^ 64 → digits_value 10 (decimal n) ≡ n
 decimal_value n lt = digits_value-decimal
     (numerals_by_value (λ ds. all_ascii_digits ds ≡ true) tells_all_ascii_digits) n lt
-
-pub full_to : (test : ℕ → Bool) (b at : ℕ) → test at ≡ false → test b ≡ true → eqb at b ≡ false
-full_to test b at fails passes =
-    by_bool (eqb at b) (λ r. r ≡ false)
-    (λ e. absurd (true≢false (sym passes ∙ ap test (sym (eqb-true at b e)) ∙ fails)))
-    (λ e. refl)
 
 pub digits_word : (text : List ℕ) → is_digits text ≡ true → is_word text ≡ true
 unfolding is_word is_word_byte
 digits_word [] digits = absurd (true≢false (sym digits))
 digits_word (b ∷ bs) digits =
     all_imply is_ascii_digit is_word_byte
-    (λ c d. rw (
-      full_to is_ascii_digit c 32 refl d,
-      full_to is_ascii_digit c 9 refl d,
-      full_to is_ascii_digit c 13 refl d,
-      full_to is_ascii_digit c 10 refl d,
-    ) refl)
-    (b ∷ bs) digits
+    (λ c d. ap not (none_of is_ascii_digit (codes " \t\r\n") c refl d)) (b ∷ bs) digits

@@ -1,14 +1,13 @@
 //! Addresses: a display text, a URI and parameters (RFC 3261, section 20.10).
-ghost use Rattle.std.specs.Prelude.{◌≡◌, IfOk, IfSome, IsTrue};
+ghost use Rattle.std.specs.Prelude.{◌≡◌, [], IfOk, IfSome, IsTrue};
 ghost use Rattle.sip_text.specs.Cut.{both_now};
-ghost use Rattle.sip_parts.specs.DisplayText as rule;
 ghost use Rattle.sip_parts.specs.Uri.{is_uri};
 ghost use Rattle.sip_values.specs.Address as values;
 
 use crate::parameter::{parameters_behind, parameters_between};
-use crate::row::{Row, split_of};
+use crate::row::{Row, checked_in, split_of};
 use sip_message::NameAddr;
-use sip_parts::{DisplayText, Parameter, Uri, UriBytes, is_display_text, is_uri};
+use sip_parts::{Checked, DisplayTextRule, Parameter, Rule, Uri, UriBytes, UriRule, is_uri};
 use sip_text::{Separator, Series, Text, run_before, trimmed};
 use std::alloc::{AllocError, Global};
 
@@ -22,8 +21,9 @@ impl Row for AddressRow {
 
     ghost reads = { name_addr_from };
 
+    #[tactic(auto, unfolding(sip_parts::specs::DisplayText::is_display_text))]
     fn read(alloc: Global, text: &[u8]) -> Result<Option<NameAddr>, AllocError> {
-        let Some((display, (uri, parameters))) = address_in(alloc, text)? else {
+        let Some((display, (uri, parameters))) = address_in::<DisplayTextRule>(alloc, text)? else {
             return Ok(None);
         };
         Ok(Some(NameAddr {
@@ -52,32 +52,28 @@ impl Row for AddressListRow {
 /// A URI and parameters.
 pub(crate) type Target = (Uri, Series<Parameter>);
 
-fn address_in(alloc: Global, text: &[u8]) -> Result<Option<(DisplayText, Target)>, AllocError>
-    ensures { IfOk result (λ made. made ≡ values.address_from rule.is_display_text text.now) }
+/// A display text and what stands in brackets, or what stands without brackets.
+pub(crate) fn address_in<R: Rule>(
+    alloc: Global,
+    text: &[u8],
+) -> Result<Option<(Checked<R>, Target)>, AllocError>
+    requires { IsTrue (R.holds []) }
+    ensures { IfOk result (λ made. made ≡ values.address_from R.holds text.now) }
 {
     let Some((display, rest)) = Separator::Byte(b'<').cut(text) else {
         let Some(target) = bare_in(alloc, text)? else {
             return Ok(None);
         };
-        return Ok(Some((DisplayText::nothing(alloc), target)));
+        let nothing = Checked::from_text(Text::from_vec(Vec::new(alloc)));
+        return Ok(Some((nothing, target)));
     };
-    let Some(display) = display_in(alloc, display)? else {
+    let Some(display) = checked_in(alloc, display)? else {
         return Ok(None);
     };
     let Some(target) = bracketed_in(alloc, rest)? else {
         return Ok(None);
     };
     Ok(Some((display, target)))
-}
-
-fn display_in(alloc: Global, text: &[u8]) -> Result<Option<DisplayText>, AllocError>
-    ensures { IfOk result (λ made. made ≡ values.display_from rule.is_display_text text.now) }
-{
-    let display = trimmed(text);
-    if !is_display_text(display) {
-        return Ok(None);
-    }
-    Ok(Some(DisplayText::from_text(Text::copy_of(alloc, display)?)))
 }
 
 /// Behind `<`: a URI, `>` and parameters.
@@ -90,7 +86,7 @@ pub(crate) fn bracketed_in(alloc: Global, text: &[u8]) -> Result<Option<Target>,
     let Some(parameters) = parameters_behind(alloc, rest)? else {
         return Ok(None);
     };
-    Ok(Some((Uri::from_text(Text::copy_of(alloc, uri)?), parameters)))
+    Ok(Some((Uri::copy_of(alloc, uri)?, parameters)))
 }
 
 /// A URI before `>`, and what follows.
@@ -118,26 +114,16 @@ pub(crate) fn bare_in(alloc: Global, text: &[u8]) -> Result<Option<Target>, Allo
     ensures { IfOk result (λ made. made ≡ values.bare_from text.now) }
 {
     let Some((uri, rest)) = Separator::Byte(b';').cut(text) else {
-        let Some(uri) = uri_in(alloc, text)? else {
+        let Some(uri) = checked_in::<UriRule>(alloc, text)? else {
             return Ok(None);
         };
         return Ok(Some((uri, Series::new(alloc))));
     };
-    let Some(uri) = uri_in(alloc, uri)? else {
+    let Some(uri) = checked_in::<UriRule>(alloc, uri)? else {
         return Ok(None);
     };
     let Some(parameters) = parameters_between(alloc, rest)? else {
         return Ok(None);
     };
     Ok(Some((uri, parameters)))
-}
-
-fn uri_in(alloc: Global, text: &[u8]) -> Result<Option<Uri>, AllocError>
-    ensures { IfOk result (λ made. made ≡ values.uri_from text.now) }
-{
-    let uri = trimmed(text);
-    if !is_uri(uri) {
-        return Ok(None);
-    }
-    Ok(Some(Uri::from_text(Text::copy_of(alloc, uri)?)))
 }

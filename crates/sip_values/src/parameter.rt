@@ -11,8 +11,7 @@ ghost use Rattle.sip_values.specs.ParameterValues as values;
 use crate::row::Row;
 use sip_parts::{Parameter, ParameterValue, Token};
 use sip_text::{
-    ParameterText, Separator, Series, Text, TokenBytes, ValueBytes, is_blanks, parameter_in,
-    run_len,
+    ParameterText, Separator, Series, TokenBytes, ValueBytes, is_blanks, parameter_in, run_len,
 };
 use std::alloc::{AllocError, Global};
 
@@ -40,11 +39,11 @@ fn owned(alloc: Global, text: ParameterText<'_>) -> Result<Parameter, AllocError
     ensures { IfOk result (λ parameter. parameter
         ≡ values.parameter_of (parameter_now text.entry)) }
 {
-    let name = Token::from_text(Text::copy_of(alloc, text.name)?);
+    let name = Token::copy_of(alloc, text.name)?;
     let Some(value) = text.value else {
         return Ok(Parameter { name, value: None });
     };
-    let value = ParameterValue::from_text(Text::copy_of(alloc, value)?);
+    let value = ParameterValue::copy_of(alloc, value)?;
     Ok(Parameter {
         name,
         value: Some(value),

@@ -1,8 +1,10 @@
 //! How the value of a header is read.
 ghost use Rattle.std.specs.Prelude.{◌≡◌, IfOk};
-ghost use Rattle.sip_text.specs.Forms.{split};
+ghost use Rattle.sip_text.specs.Forms.{passing, reading_of, split};
+ghost use Rattle.sip_text.specs.Trimmed as ends;
 
-use sip_text::{Separator, Series};
+use sip_parts::{Checked, Rule};
+use sip_text::{Separator, Series, trimmed};
 use std::alloc::{AllocError, Global};
 
 /// A form of text, and the value that a text in this form has.
@@ -17,6 +19,20 @@ pub trait Row {
     /// The value, or None where the text isn't in this form.
     fn read(alloc: Global, text: &[u8]) -> Result<Option<Self::Value>, AllocError>
         ensures { IfOk result (λ made. made ≡ reads text.now) };
+}
+
+/// The text without the white space at its ends, or None where it doesn't keep the rule then.
+pub(crate) fn checked_in<R: Rule>(
+    alloc: Global,
+    text: &[u8],
+) -> Result<Option<Checked<R>>, AllocError>
+    ensures { IfOk result (λ made. made ≡ reading_of (passing R.holds) ends.trimmed text.now) }
+{
+    let inside = trimmed(text);
+    if !R::test(inside) {
+        return Ok(None);
+    }
+    Ok(Some(Checked::copy_of(alloc, inside)?))
 }
 
 /// The values of the pieces between separators, or None where a piece isn't in the form.

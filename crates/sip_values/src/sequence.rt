@@ -1,11 +1,10 @@
 //! CSeq and RAck (RFC 3261, section 20.16; RFC 3262, section 7.2).
-ghost use Rattle.std.specs.Prelude.{◌≡◌, IfOk};
-ghost use Rattle.sip_values.specs.Sequence as values;
+ghost use Rattle.std.specs.Prelude.{◌≡◌};
 
 use crate::numeral::{Numeral, numeral_in};
-use crate::row::Row;
-use sip_parts::Token;
-use sip_text::{Separator, Text, is_token, trimmed};
+use crate::row::{Row, checked_in};
+use sip_parts::{Token, TokenRule};
+use sip_text::{Separator, trimmed};
 use std::alloc::{AllocError, Global};
 
 /// A CSeq, whose number may be none.
@@ -40,7 +39,7 @@ impl Row for CSeqRow {
         let Some(number) = numeral_in(number) else {
             return Ok(None);
         };
-        let Some(method) = token_in(alloc, rest)? else {
+        let Some(method) = checked_in::<TokenRule>(alloc, rest)? else {
             return Ok(None);
         };
         Ok(Some(CSeqDraft { number, method }))
@@ -75,15 +74,4 @@ impl Row for RAckRow {
         };
         Ok(Some(RAckDraft { rseq, cseq, method }))
     }
-}
-
-/// A token, with white space round it.
-pub(crate) fn token_in(alloc: Global, text: &[u8]) -> Result<Option<Token>, AllocError>
-    ensures { IfOk result (λ made. made ≡ values.token_from text.now) }
-{
-    let token = trimmed(text);
-    if !is_token(token) {
-        return Ok(None);
-    }
-    Ok(Some(Token::from_text(Text::copy_of(alloc, token)?)))
 }

@@ -13,8 +13,7 @@ use crate::parameter::{behind_semicolon, parameters_between};
 use crate::row::{Row, split_of};
 use sip_parts::{Host, HostBytes, Parameter, Token, is_host};
 use sip_text::{
-    Separator, Series, Text, TokenBytes, has_open_quote, is_token, run_before, run_len, token_eq,
-    trimmed,
+    Separator, Series, TokenBytes, has_open_quote, is_token, run_before, run_len, token_eq, trimmed,
 };
 use std::alloc::{AllocError, Global};
 
@@ -100,7 +99,7 @@ fn hop_in(alloc: Global, text: &[u8]) -> Result<Option<ViaDraft>, AllocError>
         return Ok(None);
     };
     Ok(Some(ViaDraft {
-        transport: Token::from_text(Text::copy_of(alloc, transport)?),
+        transport: Token::copy_of(alloc, transport)?,
         host,
         port,
         parameters,
@@ -150,7 +149,7 @@ fn end_in(
             None => return Ok(None),
         },
     };
-    let host = Host::from_text(Text::copy_of(alloc, host)?);
+    let host = Host::copy_of(alloc, host)?;
     Ok(Some(((host, port), parameters)))
 }
 

@@ -3,7 +3,6 @@ ghost use Rattle.std.specs.Prelude.{◌≡◌};
 
 use crate::row::Row;
 use sip_parts::{CallId, is_word};
-use sip_text::Text;
 use std::alloc::{AllocError, Global};
 
 /// A text without white space.
@@ -20,6 +19,6 @@ impl Row for CallIdRow {
         if !is_word(text) {
             return Ok(None);
         }
-        Ok(Some(CallId::from_text(Text::copy_of(alloc, text)?)))
+        Ok(Some(CallId::copy_of(alloc, text)?))
     }
 }

@@ -1,0 +1,10 @@
+use Rattle.std.proofs.Common.{◌==◌, get_or, refl, arith}
+use Rattle.std.proofs.lemmas.Bool.{agree_below_at}
+use Rattle.sip_parts.specs.Uri.{is_uri_byte}
+use Rattle.sip_parts.specs.declared.uri.TheConstants.{URI_BYTES}
+use Rattle.sip_parts.proofs.uri.UriBytesByteClass.test.Goals as goal
+
+pub returns : goal.returns
+unfolding is_uri_byte
+returns c = rw c.from.ensures
+    (agree_below_at (λ b. get_or URI_BYTES b 0 == 120) is_uri_byte 256 c.args.byte refl (omega arith))
