@@ -1,102 +1,96 @@
-//! Examples: each public call of the core that takes memory once, with its answer compared.
+//! Examples: public calls of the core that take memory and that no case runs, with the answer
+//! compared.
 //!
 //! Each example ends as it is to be, or says that memory was refused and left all as it is to be
 //! then. Where a call that was refused memory changes nothing, the example makes it again.
 
 mod calls;
-mod dialogs;
 mod files;
-mod lines;
 mod messages;
-mod pieces;
 mod queues;
-mod rounds;
 mod server_side;
 mod texts;
 mod transactions;
 mod worked;
 
-use crate::stop::Stop;
-pub use rounds::outputs_of;
+use crate::stop::{Stop, check};
+use crate::tally::tell;
+use sip_calls::CallShard;
+use sip_served::Served;
+use sip_timers::Queue;
+use sip_transactions::Shard;
 use std::alloc::Global;
 use std::thread::Threads;
+use worked::{LOCAL, SEED};
 
-/// The examples that are asked for, and what came of them.
-#[derive(Drop)]
-pub struct Examples<'a> {
-    only: Option<&'a str>,
-    name: &'static str,
-    count: u64,
-    failures: u64,
-    differ: Vec<&'static str>,
-    last: Result<(), Stop>,
-}
+/// The names of the examples, in the order of their numbers.
+const NAMES: [&str; 12] = [
+    "unfold",
+    "lines",
+    "split_values",
+    "params",
+    "Queue",
+    "write",
+    "Shard::receive",
+    "Shard::failed",
+    "Served",
+    "CallShard",
+    "write_round",
+    "replay",
+];
 
-impl<'a> Examples<'a> {
-    /// Before the first: the one of this name is asked for, or all are.
-    pub fn new(alloc: Global, only: Option<&'a str>) -> Examples<'a> {
-        Examples {
-            only,
-            name: "",
-            count: 0,
-            failures: 0,
-            differ: Vec::new(alloc),
-            last: Ok(()),
-        }
-    }
-
-    /// Whether the example of this name, which comes next, is asked for.
-    pub fn wants(&mut self, name: &'static str) -> bool {
-        self.name = name;
-        match self.only {
-            Some(only) => only == name,
-            None => true,
-        }
-    }
-
-    /// Notes what came of the example that came next; where there is no memory for its name, it
-    /// is counted alone.
-    pub fn note(&mut self, end: Result<(), Stop>) {
-        self.count = self.count.saturating_add(1);
-        self.last = end;
-        if end.is_err() {
-            self.failures = self.failures.saturating_add(1);
-            let _ = self.differ.push(self.name);
-        }
-    }
-
-    /// How many were run.
-    pub fn count(&self) -> u64 {
-        self.count
-    }
-
-    /// How many of them didn't end as they are to.
-    pub fn failures(&self) -> u64 {
-        self.failures
-    }
-
-    /// Their names.
-    pub fn differ(&self) -> &[&'static str] {
-        self.differ.as_slice()
-    }
-
-    /// What came of the last one that was run.
-    pub fn last(&self) -> Result<(), Stop> {
-        self.last
+// The example of this number.
+fn example<T: Threads + Sync>(threads: &T, alloc: Global, number: usize) -> Result<(), Stop> {
+    match number {
+        0 => texts::a_fold_is_one_space(alloc),
+        1 => texts::two_lines(alloc),
+        2 => texts::two_values(alloc),
+        3 => texts::two_parameters(alloc),
+        4 => queues::keys_are_due(&mut Queue::new(alloc)),
+        5 => messages::headers_in_their_order(alloc),
+        6 => transactions::a_request_is_answered(alloc, &mut Shard::new(alloc, LOCAL)),
+        7 => transactions::a_request_is_not_sent(alloc, &mut Shard::new(alloc, LOCAL)),
+        8 => server_side::a_request_is_told_and_answered(alloc, &mut Served::new(alloc, LOCAL)),
+        9 => calls::a_request_is_told_and_answered(alloc, &mut CallShard::new(alloc, LOCAL, SEED)),
+        10 => files::a_round_is_written(alloc),
+        11 => files::a_file_is_replayed(threads, alloc),
+        _ => Err(Stop::Words),
     }
 }
 
-/// Runs the examples that are asked for.
-pub fn run_examples<R: Threads + Sync>(rt: &R, alloc: Global, examples: &mut Examples<'_>) {
-    texts::of_texts(alloc, examples);
-    queues::of_queues(alloc, examples);
-    messages::of_messages(alloc, examples);
-    dialogs::of_dialogs(alloc, examples);
-    transactions::of_transactions(alloc, examples);
-    server_side::of_server_side(alloc, examples);
-    calls::of_calls(alloc, examples);
-    pieces::of_pieces(rt, alloc, examples);
-    rounds::of_rounds(rt, alloc, examples);
-    files::of_files(rt, alloc, examples);
-    lines::of_lines(alloc, examples);
+/// Runs the example of this name.
+///
+/// # Errors
+///
+/// `Different` where its answer is another than the right one, `NoMemory` and `Broken` where memory
+/// was refused and what stays is as it is to be, `Words` where there is no such example.
+pub fn run_example<T: Threads + Sync>(
+    rt: &HostRuntime,
+    threads: &T,
+    name: &str,
+) -> Result<(), Stop> {
+    for (number, known) in NAMES.iter().enumerate() {
+        if *known == name {
+            example(threads, rt.alloc(), number)?;
+            return Ok(println!(rt; "right")?);
+        }
+    }
+    Err(Stop::Words)
+}
+
+/// Runs all examples, and writes the name of each that differs.
+///
+/// # Errors
+///
+/// `Different` where one differs, and an output that fails.
+pub fn run_examples<T: Threads + Sync>(rt: &HostRuntime, threads: &T) -> Result<(), Stop> {
+    let mut differ: u64 = 0;
+    for (number, name) in NAMES.iter().enumerate() {
+        if example(threads, rt.alloc(), number).is_err() {
+            println!(rt; "{name} differs")?;
+            differ = differ.saturating_add(1);
+        }
+    }
+    tell(rt, &[(NAMES.len() as u64, "examples"), (differ, "differ")])?;
+    check(differ == 0)
 }

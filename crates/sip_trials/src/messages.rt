@@ -1,7 +1,6 @@
 //! Messages that are read and answered.
 
-use crate::fault::TrialFault;
-use crate::tally::{Tally, expect};
+use crate::stop::{Stop, expect};
 use sip_message::{Message, Reason, StatusCode, Token, response_to, write};
 use sip_reader::read;
 use sip_text::Text;
@@ -14,12 +13,12 @@ const REASON: &[u8] = b"OK";
 
 const OK: u16 = 200;
 
-/// Reads a text so often.
+/// Reads a text so often: how often, and its bytes.
 ///
 /// # Errors
 ///
-/// `Message`, where the text spells none, and want of memory.
-pub fn read_often(alloc: Global, text: &[u8], times: u64) -> Result<Tally, TrialFault> {
+/// `Different`, where the text spells none, and want of memory.
+pub fn read_often(alloc: Global, text: &[u8], times: u64) -> Result<[u64; 2], Stop> {
     let mut messages: u64 = 0;
     for _ in 0..times {
         let message = message_of(alloc, text)?;
@@ -27,19 +26,16 @@ pub fn read_often(alloc: Global, text: &[u8], times: u64) -> Result<Tally, Trial
             messages = messages.saturating_add(1);
         }
     }
-    expect("messages read", times, messages)?;
-    Ok(Tally::Read {
-        messages,
-        bytes: text.len() as u64,
-    })
+    expect("not each text is read", times, messages)?;
+    Ok([messages, text.len() as u64])
 }
 
-/// Reads a text so often, and each time makes its 200 and writes it.
+/// Reads a text so often, and each time makes its 200 and writes it: how often, and its bytes.
 ///
 /// # Errors
 ///
-/// `Message`, where the text spells none, and want of memory.
-pub fn answer_often(alloc: Global, text: &[u8], times: u64) -> Result<Tally, TrialFault> {
+/// `Different`, where the text spells none, and want of memory.
+pub fn answer_often(alloc: Global, text: &[u8], times: u64) -> Result<[u64; 2], Stop> {
     let tag = token_of(alloc, TAG)?;
     let mut bytes: u64 = 0;
     for _ in 0..times {
@@ -48,39 +44,33 @@ pub fn answer_often(alloc: Global, text: &[u8], times: u64) -> Result<Tally, Tri
     }
     let one = answer_to(alloc, text, &tag)?;
     message_of(alloc, &one)?;
-    expect(
-        "bytes written",
-        times.saturating_mul(one.len() as u64),
-        bytes,
-    )?;
-    Ok(Tally::Answered {
-        answers: times,
-        bytes: one.len() as u64,
-    })
+    let length = one.len() as u64;
+    expect("answers differ", times.saturating_mul(length), bytes)?;
+    Ok([times, length])
 }
 
-fn answer_to(alloc: Global, text: &[u8], tag: &Token) -> Result<Vec<u8>, TrialFault> {
+fn answer_to(alloc: Global, text: &[u8], tag: &Token) -> Result<Vec<u8>, Stop> {
     let request = message_of(alloc, text)?;
     let (Some(status), Some(reason)) = (
         StatusCode::new(OK),
         Reason::new(Text::copy_of(alloc, REASON)?),
     ) else {
-        return Err(TrialFault::Message);
+        return Err(Stop::Different);
     };
     let answer = response_to(alloc, &request, status, reason, tag)?;
     Ok(write(alloc, &answer)?)
 }
 
-fn message_of(alloc: Global, text: &[u8]) -> Result<Message, TrialFault> {
+fn message_of(alloc: Global, text: &[u8]) -> Result<Message, Stop> {
     match read(alloc, text) {
         Ok(message) => Ok(message),
-        Err(_) => Err(TrialFault::Message),
+        Err(_) => Err(Stop::Different),
     }
 }
 
-fn token_of(alloc: Global, text: &[u8]) -> Result<Token, TrialFault> {
+fn token_of(alloc: Global, text: &[u8]) -> Result<Token, Stop> {
     match Token::new(Text::copy_of(alloc, text)?) {
         Some(token) => Ok(token),
-        None => Err(TrialFault::Message),
+        None => Err(Stop::Different),
     }
 }

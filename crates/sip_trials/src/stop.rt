@@ -1,23 +1,82 @@
-//! Why an example stopped.
+//! Why a trial stopped.
 
-use sip_desk::Unfinished;
-use sip_dialog::DialogFault;
 use sip_files::{EventsFault, ReplayFault};
 use sip_message::ReadFault;
 use sip_round::RoundFault;
 use sip_text::TextFault;
-use sip_transactions::ShardFault;
 use std::alloc::{AllocError, AllocFailed};
+use std::io;
 
-/// Why an example stopped.
-#[derive(Clone, Copy, Debug, PartialEq, Eq)]
+const DIFFERENT: u8 = 1;
+
+const BAD_WORDS: u8 = 2;
+
+const BAD_ROUND: u8 = 3;
+
+const FAILED_DEVICE: u8 = 4;
+
+const NO_MEMORY: u8 = 5;
+
+/// What is told of words that ask for nothing.
+const USAGE: &str = "\
+bad words; it takes none, or one of
+  cases FOLDER
+  read FILE N
+  answer FILE N
+  transactions HELD N
+  idle HELD N
+  rounds N SHARDS WORKERS
+  examples
+  example NAME
+  round_by_round FOLDER
+  cuts FOLDER N
+  devices FOLDER
+  sizes
+with each number from 1 to 9999999, at most 999 rounds, 256 shards and 64 workers";
+
+/// Why a trial stopped.
+#[derive(Clone, Copy, PartialEq, Eq)]
 pub enum Stop {
+    /// The words ask for nothing that there is.
+    Words,
     /// Something is another than it is to be.
     Different,
+    /// Of this there is another number than there is to be.
+    Count(&'static str),
+    /// A round was refused.
+    Round,
+    /// A file or a stream failed.
+    Device,
     /// Memory was refused, and what stays of it is as it is to be.
     NoMemory,
     /// The same, and what it was refused to is broken, as it is to be then.
     Broken,
+}
+
+impl Stop {
+    /// What is told of it.
+    pub fn text(self) -> &'static str {
+        match self {
+            Stop::Words => USAGE,
+            Stop::Different => "something differs",
+            Stop::Count(what) => what,
+            Stop::Round => "a round is refused",
+            Stop::Device => "a file or a stream failed",
+            Stop::NoMemory => "no memory",
+            Stop::Broken => "no memory, and broken",
+        }
+    }
+
+    /// The status that the program ends in.
+    pub fn status(self) -> u8 {
+        match self {
+            Stop::Different | Stop::Count(_) => DIFFERENT,
+            Stop::Words => BAD_WORDS,
+            Stop::Round => BAD_ROUND,
+            Stop::Device => FAILED_DEVICE,
+            Stop::NoMemory | Stop::Broken => NO_MEMORY,
+        }
+    }
 }
 
 /// Goes on where this holds.
@@ -27,6 +86,19 @@ pub enum Stop {
 /// `Different` where it doesn't.
 pub fn check(holds: bool) -> Result<(), Stop> {
     if holds { Ok(()) } else { Err(Stop::Different) }
+}
+
+/// Goes on where a count is the one that it is to be.
+///
+/// # Errors
+///
+/// `Count` where it isn't.
+pub fn expect(what: &'static str, wanted: u64, given: u64) -> Result<(), Stop> {
+    if given == wanted {
+        Ok(())
+    } else {
+        Err(Stop::Count(what))
+    }
 }
 
 impl From<AllocError> for Stop {
@@ -53,18 +125,6 @@ impl From<sip_round::NoMemory> for Stop {
     }
 }
 
-impl From<sip_desk::NoMemory> for Stop {
-    fn from(_error: sip_desk::NoMemory) -> Stop {
-        Stop::NoMemory
-    }
-}
-
-impl From<Unfinished> for Stop {
-    fn from(_error: Unfinished) -> Stop {
-        Stop::Different
-    }
-}
-
 impl From<TextFault> for Stop {
     fn from(fault: TextFault) -> Stop {
         match fault {
@@ -83,29 +143,11 @@ impl From<ReadFault> for Stop {
     }
 }
 
-impl From<DialogFault> for Stop {
-    fn from(fault: DialogFault) -> Stop {
-        match fault {
-            DialogFault::NoMemory => Stop::NoMemory,
-            _ => Stop::Different,
-        }
-    }
-}
-
-impl From<ShardFault> for Stop {
-    fn from(fault: ShardFault) -> Stop {
-        match fault {
-            ShardFault::NoMemory => Stop::NoMemory,
-            ShardFault::Broken => Stop::Different,
-        }
-    }
-}
-
 impl From<RoundFault> for Stop {
     fn from(fault: RoundFault) -> Stop {
         match fault {
             RoundFault::NoMemory { .. } => Stop::NoMemory,
-            _ => Stop::Different,
+            _ => Stop::Round,
         }
     }
 }
@@ -126,6 +168,15 @@ impl From<ReplayFault> for Stop {
             | ReplayFault::Events(EventsFault::NoMemory)
             | ReplayFault::Round(_, RoundFault::NoMemory { .. }) => Stop::NoMemory,
             _ => Stop::Different,
+        }
+    }
+}
+
+impl From<io::Error> for Stop {
+    fn from(error: io::Error) -> Stop {
+        match error.kind() {
+            io::ErrorKind::OutOfMemory => Stop::NoMemory,
+            _ => Stop::Device,
         }
     }
 }

@@ -1,9 +1,6 @@
 //! The server side of one call.
 
-use crate::examples::Examples;
-use crate::examples::worked::{
-    ID, LOCAL, NAME, OPTIONS, PEER, TOLD, line_of, message, respond, token,
-};
+use crate::examples::worked::{ID, NAME, OPTIONS, PEER, TOLD, is_line, message, respond, token};
 use crate::stop::{Stop, check};
 use sip_message::key_of;
 use sip_served::{CallOut, Item, Served};
@@ -14,12 +11,6 @@ use std::alloc::Global;
 /// A tick at this moment does nothing more: the request has ended.
 const LATE: u64 = 99_000;
 
-pub fn of_server_side(alloc: Global, examples: &mut Examples<'_>) {
-    if examples.wants("Served") {
-        examples.note(a_request_is_told_and_answered(alloc));
-    }
-}
-
 /// The request, as a transaction hands it up.
 pub fn request_up(alloc: Global) -> Result<Item, Stop> {
     let request = message(alloc, OPTIONS)?;
@@ -29,13 +20,6 @@ pub fn request_up(alloc: Global) -> Result<Item, Stop> {
         call_id: request.call_id.clone()?,
         kind: Kind::Request(Boxed::new(alloc, request)?, PEER),
     }))
-}
-
-/// The one thing that is given.
-pub fn only(mut outs: Vec<CallOut>) -> Result<CallOut, Stop> {
-    let only = outs.pop().ok_or(Stop::Different)?;
-    check(outs.is_empty())?;
-    Ok(only)
 }
 
 // What it says; where it was refused memory, it has to be broken.
@@ -51,19 +35,19 @@ fn said(served: &mut Served, outs: Result<Vec<CallOut>, ShardFault>) -> Result<V
     }
 }
 
-fn a_request_is_told_and_answered(alloc: Global) -> Result<(), Stop> {
-    let mut served = Served::new(alloc, LOCAL);
-    check(!served.holds() && served.next_due().is_none())?;
-    let tag = token(alloc, NAME)?;
+// The request is told to the user.
+fn tells(alloc: Global, served: &mut Served) -> Result<(), Stop> {
     let item = request_up(alloc)?;
-    let outs = served.item(tag, ID, item, 0);
-    let told = only(said(&mut served, outs)?)?;
-    check(line_of(alloc, told)?.as_slice() == TOLD)?;
-    let answer = respond(alloc)?;
-    let outs = served.respond(ID, answer, 10);
-    check(matches!(only(said(&mut served, outs)?)?, CallOut::Command(ID, _)))?;
+    let outs = served.item(token(alloc, NAME)?, ID, item, 0);
+    is_line(alloc, said(served, outs)?, TOLD)
+}
+
+pub fn a_request_is_told_and_answered(alloc: Global, served: &mut Served) -> Result<(), Stop> {
+    check(!served.holds() && served.next_due().is_none())?;
+    tells(alloc, served)?;
+    let outs = served.respond(ID, respond(alloc)?, 10);
+    check(matches!(said(served, outs)?.as_slice(), [CallOut::Command(ID, _)]))?;
     check(served.holds() && served.next_due() == Some(32_010))?;
     let outs = served.tick(LATE);
-    check(said(&mut served, outs)?.is_empty() && !served.holds())?;
-    check(served.dialogs().is_empty())
+    check(said(served, outs)?.is_empty() && !served.holds() && served.dialogs().is_empty())
 }

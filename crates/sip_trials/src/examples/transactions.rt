@@ -2,12 +2,9 @@
 
 ghost use Rattle.std.specs.Prelude.{◌≤◌, ◌^◌};
 
-use crate::examples::Examples;
-use crate::examples::worked::{
-    ID, LOCAL, NAME, OK, OPTIONS, PEER, call_id, message, reason, status, token,
-};
+use crate::examples::worked::{ID, OK, OPTIONS, PEER, call_id, message, success_to, token};
 use crate::stop::{Stop, check};
-use sip_message::{Key, key_of, response_to};
+use sip_message::{Key, key_of};
 use sip_text::Boxed;
 use sip_transactions::{Command, Kind, Out, Shard, ShardFault, State, Up};
 use std::alloc::Global;
@@ -22,28 +19,6 @@ CSeq: 1 OPTIONS\r
 Content-Length: 0\r
 \r
 ";
-
-/// Its response.
-const COMING: &[u8] = b"SIP/2.0 200 OK\r
-Via: SIP/2.0/UDP 192.0.2.1:5060;rport;branch=z9hG4bKc1\r
-From: <sip:a@192.0.2.1>;tag=l1\r
-To: <sip:b@192.0.2.9>;tag=x\r
-Call-ID: c3\r
-CSeq: 1 OPTIONS\r
-\r
-";
-
-pub fn of_transactions(alloc: Global, examples: &mut Examples<'_>) {
-    if examples.wants("Shard::receive") {
-        examples.note(a_request_is_answered(alloc));
-    }
-    if examples.wants("Shard::command") {
-        examples.note(a_request_goes_out(alloc));
-    }
-    if examples.wants("Shard::failed") {
-        examples.note(a_request_is_not_sent(alloc));
-    }
-}
 
 // What a shard says; where it was refused memory, it has to be broken.
 fn said(shard: &mut Shard, outs: Result<Vec<Out>, ShardFault>) -> Result<Vec<Out>, Stop> {
@@ -66,52 +41,20 @@ fn received(alloc: Global, shard: &mut Shard, text: &[u8], now: u64) -> Result<V
     said(shard, outs)
 }
 
-// What a tick gives.
-fn ticked(shard: &mut Shard, now: u64) -> Result<Vec<Out>, Stop>
+// Nothing comes of a tick, and so many transactions are held then.
+fn is_quiet(shard: &mut Shard, now: u64, live: usize) -> Result<(), Stop>
     requires { now ≤ 2 ^ 62 }
 {
     let outs = shard.tick(now);
-    said(shard, outs)
+    check(said(shard, outs)?.is_empty() && shard.live() == live)
 }
 
 // What the one thing is that is handed up, under the id of the event.
-fn only_kind(mut outs: Vec<Out>) -> Option<Kind> {
-    match (outs.pop(), outs.is_empty()) {
-        (Some(Out::Up(up)), true) => {
-            let Up { id, kind, .. } = up;
-            if id == ID { Some(kind) } else { None }
-        }
+fn told(outs: &[Out]) -> Option<&Kind> {
+    match outs {
+        [Out::Up(up)] if up.id == ID => Some(&up.kind),
         _ => None,
     }
-}
-
-// Its answer, as a command.
-fn answer(alloc: Global) -> Result<Command, Stop> {
-    let request = message(alloc, OPTIONS)?;
-    let (reason, tag) = (reason(alloc, b"OK")?, token(alloc, NAME)?);
-    let response = response_to(alloc, &request, status(200)?, reason, &tag)?;
-    Ok(Command::Answer {
-        key: key_of(alloc, &request)?,
-        message: Boxed::new(alloc, response)?,
-    })
-}
-
-fn a_request_is_answered(alloc: Global) -> Result<(), Stop> {
-    let mut shard = Shard::new(alloc, LOCAL);
-    let told = only_kind(received(alloc, &mut shard, OPTIONS, 0)?);
-    check(matches!(told, Some(Kind::Request(_, _))))?;
-    let outs = shard.command(ID, answer(alloc)?, 10);
-    check(sends(&said(&mut shard, outs)?, OK))?;
-    is_completed(alloc, &mut shard)
-}
-
-// The answer is sent again, until 64 T1 have passed.
-fn is_completed(alloc: Global, shard: &mut Shard) -> Result<(), Stop> {
-    let key = key_of(alloc, &message(alloc, OPTIONS)?)?;
-    check(shard.state_of(&key) == Some(State::Completed))?;
-    check(sends(&received(alloc, shard, OPTIONS, 20)?, OK))?;
-    check(ticked(shard, 32_009)?.is_empty() && shard.live() == 1)?;
-    check(ticked(shard, 32_010)?.is_empty() && shard.live() == 0)
 }
 
 // Whether just these bytes are sent to the peer.
@@ -122,12 +65,30 @@ fn sends(outs: &[Out], text: &[u8]) -> bool {
     }
 }
 
-// A shard whose request goes out.
-fn with_start(alloc: Global) -> Result<Shard, Stop> {
-    let mut shard = Shard::new(alloc, LOCAL);
-    let outs = shard.command(ID, start(alloc)?, 0);
-    check(sends(&said(&mut shard, outs)?, GOING))?;
-    Ok(shard)
+// The answer to the request, as a command.
+fn answer(alloc: Global) -> Result<Command, Stop> {
+    let request = message(alloc, OPTIONS)?;
+    Ok(Command::Answer {
+        key: key_of(alloc, &request)?,
+        message: Boxed::new(alloc, success_to(alloc, &request)?)?,
+    })
+}
+
+pub fn a_request_is_answered(alloc: Global, shard: &mut Shard) -> Result<(), Stop> {
+    let outs = received(alloc, shard, OPTIONS, 0)?;
+    check(matches!(told(&outs), Some(Kind::Request(_, _))))?;
+    let outs = shard.command(ID, answer(alloc)?, 10);
+    check(sends(&said(shard, outs)?, OK))?;
+    is_completed(alloc, shard)
+}
+
+// The answer is sent again, until 64 T1 have passed.
+fn is_completed(alloc: Global, shard: &mut Shard) -> Result<(), Stop> {
+    check(sends(&received(alloc, shard, OPTIONS, 20)?, OK))?;
+    let key = key_of(alloc, &message(alloc, OPTIONS)?)?;
+    check(shard.state_of(&key) == Some(State::Completed))?;
+    is_quiet(shard, 32_009, 1)?;
+    is_quiet(shard, 32_010, 0)
 }
 
 fn started_key(alloc: Global) -> Result<Key, Stop> {
@@ -143,19 +104,14 @@ fn start(alloc: Global) -> Result<Command, Stop> {
     })
 }
 
-fn a_request_goes_out(alloc: Global) -> Result<(), Stop> {
-    let mut shard = with_start(alloc)?;
-    check(sends(&ticked(&mut shard, 500)?, GOING))?;
-    let told = only_kind(received(alloc, &mut shard, COMING, 600)?);
-    check(matches!(told, Some(Kind::Response(_))))?;
-    check(shard.state_of(&started_key(alloc)?) == Some(State::Completed))
+pub fn a_request_is_not_sent(alloc: Global, shard: &mut Shard) -> Result<(), Stop> {
+    let outs = shard.command(ID, start(alloc)?, 0);
+    check(sends(&said(shard, outs)?, GOING))?;
+    fails(shard, &started_key(alloc)?)
 }
 
-fn a_request_is_not_sent(alloc: Global) -> Result<(), Stop> {
-    let mut shard = with_start(alloc)?;
-    let key = started_key(alloc)?;
-    let outs = shard.failed(ID, &key, 10);
-    let told = only_kind(said(&mut shard, outs)?);
-    check(matches!(told, Some(Kind::Failed)))?;
-    check(shard.live() == 0 && shard.state_of(&key).is_none())
+fn fails(shard: &mut Shard, key: &Key) -> Result<(), Stop> {
+    let outs = shard.failed(ID, key, 10);
+    check(matches!(told(&said(shard, outs)?), Some(Kind::Failed)))?;
+    check(shard.live() == 0 && shard.state_of(key).is_none())
 }

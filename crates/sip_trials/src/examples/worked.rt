@@ -1,9 +1,8 @@
 //! Messages, addresses and parts that several examples use.
 
-use crate::stop::Stop;
-use sip_dialog::Branch;
+use crate::stop::{Stop, check};
 use sip_files::write_output;
-use sip_message::{Addr, CallId, Id, Message, Reason, StatusCode, Token, Uri};
+use sip_message::{Addr, CallId, Id, Message, Reason, StatusCode, Token, Uri, response_to, write};
 use sip_reader::read;
 use sip_round::{Config, Output};
 use sip_served::{CallOut, Reliability, Respond};
@@ -90,24 +89,20 @@ pub fn token(alloc: Global, text: &[u8]) -> Result<Token, Stop> {
     Token::new(Text::copy_of(alloc, text)?).ok_or(Stop::Different)
 }
 
-pub fn branch(alloc: Global, text: &[u8]) -> Result<Branch, Stop> {
-    Branch::new(token(alloc, text)?).ok_or(Stop::Different)
-}
-
-pub fn uri(alloc: Global, text: &[u8]) -> Result<Uri, Stop> {
-    Uri::new(Text::copy_of(alloc, text)?).ok_or(Stop::Different)
-}
-
 pub fn call_id(alloc: Global, text: &[u8]) -> Result<CallId, Stop> {
     CallId::new(Text::copy_of(alloc, text)?).ok_or(Stop::Different)
 }
 
-pub fn status(code: u16) -> Result<StatusCode, Stop> {
-    StatusCode::new(code).ok_or(Stop::Different)
-}
-
 pub fn reason(alloc: Global, text: &[u8]) -> Result<Reason, Stop> {
     Reason::new(Text::copy_of(alloc, text)?).ok_or(Stop::Different)
+}
+
+/// The 200 to a request.
+pub fn success_to(alloc: Global, request: &Message) -> Result<Message, Stop> {
+    let tag = token(alloc, NAME)?;
+    let status = StatusCode::new(200).ok_or(Stop::Different)?;
+    let reason = reason(alloc, b"OK")?;
+    Ok(response_to(alloc, request, status, reason, &tag)?)
 }
 
 /// The user's 200 to the request.
@@ -122,14 +117,12 @@ pub fn respond(alloc: Global) -> Result<Respond, Stop> {
     })
 }
 
-/// The line of an output file that says what a call gives; of a command there is none.
-pub fn line_of(alloc: Global, out: CallOut) -> Result<Vec<u8>, AllocError> {
-    match out {
-        CallOut::Notice(notice) => write_output(alloc, &Output::Notice(notice)),
-        CallOut::Direct { to, bytes } => {
-            let key = None;
-            write_output(alloc, &Output::Send { key, to, bytes })
+/// That a call gives one thing, and the line of an output file that says it is this.
+pub fn is_line(alloc: Global, mut outs: Vec<CallOut>, line: &[u8]) -> Result<(), Stop> {
+    match (outs.pop(), outs.is_empty()) {
+        (Some(CallOut::Notice(notice)), true) => {
+            check(write_output(alloc, &Output::Notice(notice))?.as_slice() == line)
         }
-        CallOut::Command(_, _) => Ok(Vec::new(alloc)),
+        _ => Err(Stop::Different),
     }
 }
