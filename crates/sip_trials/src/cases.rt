@@ -68,7 +68,7 @@ fn push_name(
     }
 }
 
-// Whether a case writes what it is to; else says in what it differs.
+// Whether a case writes what it is to; else says from where on it differs.
 fn is_right<T: Threads + Host>(
     rt: &HostRuntime,
     threads: &T,
@@ -79,7 +79,8 @@ fn is_right<T: Threads + Host>(
     let expected = expected_of(rt, folder, name)?;
     let is_same = written.as_slice() == expected.as_slice();
     if !is_same {
-        tell_difference(rt, name, &written, &expected)?;
+        let line = first_difference(&written, &expected);
+        println!(rt; "{name} differs from line {line} on")?;
     }
     Ok(is_same)
 }
@@ -162,20 +163,16 @@ fn file_of(rt: &HostRuntime, folder: &str, name: &str, kind: &str) -> io::Result
     fs::read(rt, path.as_str())
 }
 
-// Says in which line what was written differs first from what is expected.
-fn tell_difference(
-    rt: &HostRuntime,
-    name: &str,
-    written: &[u8],
-    expected: &[u8],
-) -> io::Result<()> {
-    let (Ok(written), Ok(expected)) = (str::from_utf8(written), str::from_utf8(expected)) else {
-        return println!(rt; "{name} differs in what is no text");
-    };
-    for (line, wanted) in written.lines().zip(expected.lines()) {
-        if line != wanted {
-            return println!(rt; "{name}:\n{line}\nand not\n{wanted}");
+// The number of the first line, from 1, in which two texts differ.
+fn first_difference(written: &[u8], expected: &[u8]) -> u64 {
+    let mut line: u64 = 1;
+    for (one, other) in written.iter().zip(expected) {
+        if one != other {
+            break;
+        }
+        if *one == b'\n' {
+            line = line.saturating_add(1);
         }
     }
-    println!(rt; "{name}: the one is the beginning of the other")
+    line
 }

@@ -2,7 +2,7 @@
 
 use crate::open::Open;
 use crate::options::options_of;
-use crate::stop::{Stop, expect};
+use crate::stop::{Stop, check, expect};
 use sip_message::{Addr, Reason, Spread};
 use sip_round::{Agent, Config, Event, Output, Round};
 use sip_served::{Notice, Reliability, Respond, UserCommand};
@@ -98,18 +98,14 @@ impl Load {
     ///
     /// # Errors
     ///
-    /// A round that is refused, want of memory, and `Count` where something comes.
+    /// A round that is refused, want of memory, and `Different` where something comes.
     pub fn idle_round<R: Threads + Sync>(&mut self, rt: &R, moment: u64) -> Result<(), Stop> {
         let round = Round {
             moment,
             events: Series::from_vec(Vec::new(self.alloc)),
         };
         let outputs = self.run(rt, &round)?;
-        expect(
-            "a round without events has outputs",
-            0,
-            outputs.len() as u64,
-        )
+        check(outputs.is_empty())
     }
 
     fn run<R: Threads + Sync>(&mut self, rt: &R, round: &Round) -> Result<Vec<Output>, Stop> {
@@ -139,13 +135,10 @@ impl Load {
     ///
     /// # Errors
     ///
-    /// `Count` where that isn't so.
+    /// `Held` where that isn't so.
     pub fn is_held(&self, held: u64) -> Result<(), Stop> {
-        let (transactions, calls) = self.agent.live();
-        let transactions = u64::try_from(transactions).unwrap_or(u64::MAX);
-        let calls = u64::try_from(calls).unwrap_or(u64::MAX);
-        expect("other transactions are held", held, transactions)?;
-        expect("other calls are held", held, calls)
+        let held = u128::from(held);
+        expect(Stop::Held, self.agent.live() == (held, held))
     }
 
     /// What came of the requests: how many were told, answered, have ended and are held, and how
@@ -153,12 +146,12 @@ impl Load {
     ///
     /// # Errors
     ///
-    /// `Count`, where the user wasn't told of each request, not each was answered, or not as many
-    /// are held as are to be.
+    /// `Untold`, `Unanswered` and `Held`, where the user wasn't told of each request, not each was
+    /// answered, or not as many are held as are to be.
     pub fn served(&self, held: u64) -> Result<[u64; 5], Stop> {
         self.is_held(held)?;
-        expect("not each request was told", self.made, self.told)?;
-        expect("not each request was answered", self.made, self.answered)?;
+        expect(Stop::Untold, self.told == self.made)?;
+        expect(Stop::Unanswered, self.answered == self.made)?;
         let ended = self.made.saturating_sub(held);
         Ok([self.told, self.answered, ended, held, self.rounds])
     }

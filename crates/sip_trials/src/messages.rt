@@ -1,6 +1,6 @@
 //! Messages that are read and answered.
 
-use crate::stop::{Stop, expect};
+use crate::stop::{Stop, check};
 use sip_message::{Message, Reason, StatusCode, Token, response_to, write};
 use sip_reader::read;
 use sip_text::Text;
@@ -26,7 +26,7 @@ pub fn read_often(alloc: Global, text: &[u8], times: u64) -> Result<[u64; 2], St
             messages = messages.saturating_add(1);
         }
     }
-    expect("not each text is read", times, messages)?;
+    check(messages == times)?;
     Ok([messages, text.len() as u64])
 }
 
@@ -45,7 +45,7 @@ pub fn answer_often(alloc: Global, text: &[u8], times: u64) -> Result<[u64; 2], 
     let one = answer_to(alloc, text, &tag)?;
     message_of(alloc, &one)?;
     let length = one.len() as u64;
-    expect("answers differ", times.saturating_mul(length), bytes)?;
+    check(bytes == times.saturating_mul(length))?;
     Ok([times, length])
 }
 

@@ -19,6 +19,12 @@ const LIFE: u64 = 32_000;
 /// How many requests come in a round to the most shards and workers.
 const REQUESTS: u64 = 1_000;
 
+/// How many rounds there are of which each begins what ends so many rounds later, and how long each
+/// takes.
+const SHORT_ROUNDS: u64 = 20_000;
+
+const ROUND: u64 = 100;
+
 /// How many events a round has at most, and how many of them are different requests.
 const MOST_EVENTS: u64 = 65_536;
 
@@ -30,11 +36,12 @@ const REQUESTS_AT_MOST: u64 = 512;
 ///
 /// # Errors
 ///
-/// `Count` where not all is told, answered, sent and ended; a round that is refused; and want of
+/// `Untold`, `Unanswered` and `Held` where not all is told, answered, sent and ended; a round that is refused; and want of
 /// memory.
 pub fn sizes_of<R: Threads + Sync>(rt: &R, alloc: Global) -> Result<[u64; 4], Stop> {
     held_in_one_shard(rt, alloc)?;
     most_shards(rt, alloc)?;
+    many_rounds(rt, alloc)?;
     most_events(rt, alloc)?;
     Ok([HELD, MOST_SHARDS as u64, MOST_WORKERS as u64, MOST_EVENTS])
 }
@@ -63,6 +70,19 @@ fn most_shards<R: Threads + Sync>(rt: &R, alloc: Global) -> Result<(), Stop> {
     Ok(())
 }
 
+// What has ended is no longer held: a request is answered in the next round, and held from its own
+// round on to the one before 64 T1 have passed.
+fn many_rounds<R: Threads + Sync>(rt: &R, alloc: Global) -> Result<(), Stop> {
+    let most = LIFE / ROUND + 1;
+    let mut load = Load::new(alloc, 3, 1)?;
+    for number in 0..SHORT_ROUNDS {
+        load.round(rt, number.saturating_mul(ROUND), 1)?;
+        load.is_held(most.min(number.saturating_add(1)))?;
+    }
+    load.reshard(7)?;
+    load.is_held(most)
+}
+
 // The same requests come again and again in one round: each is told once.
 fn most_events<R: Threads + Sync>(rt: &R, alloc: Global) -> Result<(), Stop> {
     let mut agent = Agent::new(alloc, CONFIG, 1, Spread)?;
@@ -72,11 +92,7 @@ fn most_events<R: Threads + Sync>(rt: &R, alloc: Global) -> Result<(), Stop> {
         .iter()
         .filter(|output| matches!(output, Output::Notice(_)))
         .count();
-    expect(
-        "not each request is told once",
-        REQUESTS_AT_MOST,
-        told as u64,
-    )
+    expect(Stop::Untold, told as u64 == REQUESTS_AT_MOST)
 }
 
 fn many_events(alloc: Global) -> Result<Series<Event>, AllocError> {

@@ -41,8 +41,12 @@ pub enum Stop {
     Words,
     /// Something is another than it is to be.
     Different,
-    /// Of this there is another number than there is to be.
-    Count(&'static str),
+    /// The user isn't told of each request, or more than once.
+    Untold,
+    /// Not each request is answered, or one is more than once.
+    Unanswered,
+    /// Other numbers are held than are to be.
+    Held,
     /// A round was refused.
     Round,
     /// A file or a stream failed.
@@ -59,7 +63,9 @@ impl Stop {
         match self {
             Stop::Words => USAGE,
             Stop::Different => "something differs",
-            Stop::Count(what) => what,
+            Stop::Untold => "not each request was told once",
+            Stop::Unanswered => "not each request was answered once",
+            Stop::Held => "other numbers are held",
             Stop::Round => "a round is refused",
             Stop::Device => "a file or a stream failed",
             Stop::NoMemory => "no memory",
@@ -70,7 +76,7 @@ impl Stop {
     /// The status that the program ends in.
     pub fn status(self) -> u8 {
         match self {
-            Stop::Different | Stop::Count(_) => DIFFERENT,
+            Stop::Different | Stop::Untold | Stop::Unanswered | Stop::Held => DIFFERENT,
             Stop::Words => BAD_WORDS,
             Stop::Round => BAD_ROUND,
             Stop::Device => FAILED_DEVICE,
@@ -85,20 +91,16 @@ impl Stop {
 ///
 /// `Different` where it doesn't.
 pub fn check(holds: bool) -> Result<(), Stop> {
-    if holds { Ok(()) } else { Err(Stop::Different) }
+    expect(Stop::Different, holds)
 }
 
-/// Goes on where a count is the one that it is to be.
+/// Goes on where this holds.
 ///
 /// # Errors
 ///
-/// `Count` where it isn't.
-pub fn expect(what: &'static str, wanted: u64, given: u64) -> Result<(), Stop> {
-    if given == wanted {
-        Ok(())
-    } else {
-        Err(Stop::Count(what))
-    }
+/// The one that is given where it doesn't.
+pub fn expect(stop: Stop, holds: bool) -> Result<(), Stop> {
+    if holds { Ok(()) } else { Err(stop) }
 }
 
 impl From<AllocError> for Stop {

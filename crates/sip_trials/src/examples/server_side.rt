@@ -1,9 +1,11 @@
 //! The server side of one call.
 
+ghost use Rattle.std.specs.Prelude.{◌≤◌, ◌^◌};
+
 use crate::examples::worked::{ID, NAME, OPTIONS, PEER, TOLD, is_line, message, respond, token};
 use crate::stop::{Stop, check};
 use sip_message::key_of;
-use sip_served::{CallOut, Item, Served};
+use sip_served::{CallOut, Item, Served, UserCommand};
 use sip_text::Boxed;
 use sip_transactions::{Kind, ShardFault, Up};
 use std::alloc::Global;
@@ -35,18 +37,20 @@ fn said(served: &mut Served, outs: Result<Vec<CallOut>, ShardFault>) -> Result<V
     }
 }
 
-// The request is told to the user.
-fn tells(alloc: Global, served: &mut Served) -> Result<(), Stop> {
-    let item = request_up(alloc)?;
-    let outs = served.item(token(alloc, NAME)?, ID, item, 0);
-    is_line(alloc, said(served, outs)?, TOLD)
+// What an item of the first event gives.
+fn given(alloc: Global, served: &mut Served, item: Item, now: u64) -> Result<Vec<CallOut>, Stop>
+    requires { now ≤ 2 ^ 62 }
+{
+    let outs = served.item(token(alloc, NAME)?, ID, item, now);
+    said(served, outs)
 }
 
 pub fn a_request_is_told_and_answered(alloc: Global, served: &mut Served) -> Result<(), Stop> {
     check(!served.holds() && served.next_due().is_none())?;
-    tells(alloc, served)?;
-    let outs = served.respond(ID, respond(alloc)?, 10);
-    check(matches!(said(served, outs)?.as_slice(), [CallOut::Command(ID, _)]))?;
+    is_line(alloc, given(alloc, served, request_up(alloc)?, 0)?, TOLD)?;
+    let answer = Item::User(UserCommand::Respond(respond(alloc)?));
+    let outs = given(alloc, served, answer, 10)?;
+    check(matches!(outs.as_slice(), [CallOut::Command(ID, _)]))?;
     check(served.holds() && served.next_due() == Some(32_010))?;
     let outs = served.tick(LATE);
     check(said(served, outs)?.is_empty() && !served.holds() && served.dialogs().is_empty())

@@ -1,24 +1,16 @@
 //! Runs over UDP that are recorded: the replay of the record sends and tells what the run did.
 
+use super::loopback::{bound, called, listened, stand_in_order, usual_call};
 use super::run_on;
-use super::udp::{bound, stand_in_order};
-use sip_message::{Addr, CallId, Uri};
+use sip_message::Addr;
 use sip_program::Host;
-use sip_text::Text;
-use sip_udp::{CallPlan, Endpoint, ListenPlan, agent, call_from, listen_at};
+use sip_udp::{Endpoint, ListenPlan, agent};
 use std::alloc::{AllocError, Global};
 use std::io::{self, BufRead, BufReader, PipeReader, PipeWriter, Read, Write};
 use std::net::{Ipv4Addr, Net, SocketAddrV4, UdpSocket};
 use std::test::Fail;
 use std::thread::{self, Threads};
 use std::time::Clock;
-
-/// What a run told, and its record.
-#[derive(Drop)]
-struct Run {
-    notices: Vec<u8>,
-    record: Vec<u8>,
-}
 
 // The lines of a text that begin so, without these beginnings.
 fn lines_after(alloc: Global, text: &[u8], beginning: &str) -> Result<Vec<u8>, Fail> {
@@ -43,83 +35,29 @@ fn replayed<T: Threads + Host>(rt: &T, alloc: Global, record: &[u8]) -> Result<V
     }
 }
 
-// A listener that rings for a while, and its record.
-fn listened<R: Threads + Clock + Sync>(
-    rt: &R,
-    alloc: Global,
-    socket: UdpSocket,
-    local: Addr,
-) -> Option<Run> {
-    let mut run = Run {
-        notices: Vec::new(alloc),
-        record: Vec::new(alloc),
-    };
-    let mut plan = ListenPlan::usual(alloc);
-    plan.ring = Some(200);
-    let endpoint = Endpoint::new(socket, local, [7; 32], Some(&mut run.record));
-    let mut errors = Vec::new(alloc);
-    listen_at(
-        rt,
-        alloc,
-        endpoint,
-        plan,
-        300,
-        &mut run.notices,
-        &mut errors,
-    )
-    .ok()?;
-    Some(run)
-}
-
-// A caller that holds its call for a while, and its record.
-fn called<R: Threads + Clock + Sync>(
-    rt: &R,
-    alloc: Global,
-    socket: UdpSocket,
-    local: Addr,
-    to: Addr,
-) -> Option<Run> {
-    let mut run = Run {
-        notices: Vec::new(alloc),
-        record: Vec::new(alloc),
-    };
-    let uri = Uri::new(Text::copy_of(alloc, b"sip:b@127.0.0.1").ok()?)?;
-    let call_id = CallId::new(Text::copy_of(alloc, b"c1").ok()?)?;
-    let mut plan = CallPlan::usual(alloc, to, uri, call_id);
-    plan.hold = Some(300);
-    plan.must_answer = true;
-    let endpoint = Endpoint::new(socket, local, [8; 32], Some(&mut run.record));
-    let mut errors = Vec::new(alloc);
-    call_from(
-        rt,
-        alloc,
-        endpoint,
-        plan,
-        200,
-        &mut run.notices,
-        &mut errors,
-    )
-    .ok()?;
-    Some(run)
-}
-
 // Each told what its replay tells, and what the one sent to the other came there.
 #[test]
 fn a_recorded_call_is_replayed_as_it_was(rt: HostRuntime) -> Result<(), Fail> {
     let alloc = rt.alloc();
-    let (theirs, to) = bound(&rt)?;
-    let (own, from) = bound(&rt)?;
+    let theirs = bound(&rt)?;
+    let own = bound(&rt)?;
+    let (to, from) = (theirs.1, own.1);
+    let mut rings = ListenPlan::usual(alloc);
+    rings.ring = Some(200);
+    let mut holds = usual_call(alloc, to)?;
+    holds.hold = Some(300);
+    holds.must_answer = true;
     let (heard, told) = thread::join(
         &rt,
-        || listened(&rt, alloc, theirs, to),
-        || called(&rt, alloc, own, from, to),
+        || listened(&rt, alloc, theirs, rings, 300, false),
+        || called(&rt, alloc, own, holds, 200),
     );
-    let heard = heard.ok_or("a listener that ends")?;
-    let told = told.ok_or("a caller that ends")?;
+    assert!(rt; heard.ended.is_ok());
+    assert!(rt; told.ended.is_ok());
     let served = replayed(&rt, alloc, &heard.record)?;
     let asked = replayed(&rt, alloc, &told.record)?;
     for (run, output) in [(&heard, &served), (&told, &asked)] {
-        let notices = lines_after(alloc, &run.notices, "notice ")?;
+        let notices = lines_after(alloc, &run.notices.bytes, "notice ")?;
         assert!(rt; !notices.is_empty());
         assert!(rt; lines_after(alloc, output, "notice ")?.as_slice() == notices.as_slice());
     }
@@ -133,7 +71,7 @@ fn a_recorded_call_is_replayed_as_it_was(rt: HostRuntime) -> Result<(), Fail> {
         assert!(rt; sent.starts_with(arrived.as_slice()));
     }
     let words = [" 180 ", " response 0.1 200 ", " ended ", " 200 "];
-    assert!(rt; stand_in_order(&told.notices, &words)?);
+    assert!(rt; stand_in_order(&told.notices.bytes, &words)?);
     Ok(())
 }
 
@@ -381,29 +319,15 @@ fn asked(alloc: Global, mut script: Script, to: Addr) -> Result<Heard, Fail> {
     script.finish()
 }
 
-// The notices of a listener that answers reliably, and then that it is busy.
-fn busy<R: Threads + Clock + Sync>(
-    rt: &R,
-    alloc: Global,
-    socket: UdpSocket,
-    local: Addr,
-) -> Option<Vec<u8>> {
-    let mut notices = Vec::new(alloc);
-    let mut errors = Vec::new(alloc);
-    let mut plan = ListenPlan::usual(alloc);
-    plan.reliable = true;
-    plan.status = 486;
-    let endpoint = Endpoint::new(socket, local, [7; 32], None::<Vec<u8>>);
-    listen_at(rt, alloc, endpoint, plan, 200, &mut notices, &mut errors).ok()?;
-    Some(notices)
-}
-
 // The 183 is acknowledged before the 486 comes, and an OPTIONS is served.
 #[test]
 fn a_listener_answers_reliably_and_as_it_is_told(rt: HostRuntime) -> Result<(), Fail> {
     let alloc = rt.alloc();
     let (socket, local) = bound(&rt)?;
     let (theirs, to) = bound(&rt)?;
+    let mut busy = ListenPlan::usual(alloc);
+    busy.reliable = true;
+    busy.status = 486;
     let (commands, writer) = io::pipe(&rt)?;
     let (reader, notices) = io::pipe(&rt)?;
     let script = Script {
@@ -415,7 +339,7 @@ fn a_listener_answers_reliably_and_as_it_is_told(rt: HostRuntime) -> Result<(), 
     };
     let (served, (run, heard)) = thread::join(
         &rt,
-        || busy(&rt, alloc, theirs, to),
+        || listened(&rt, alloc, (theirs, to), busy, 200, false),
         || {
             thread::join(
                 &rt,
@@ -428,7 +352,12 @@ fn a_listener_answers_reliably_and_as_it_is_told(rt: HostRuntime) -> Result<(), 
     assert!(rt; run.is_some());
     let words = [" 183 ", " 486 ", " ended ", "notice c2 response ", " 200 "];
     assert!(rt; stand_in_order(&heard.told, &words)?);
-    let served = served.ok_or("a listener that ends")?;
-    assert!(rt; stand_in_order(&served, &[" INVITE ", "notice c1 prack ", " OPTIONS "])?);
+    assert!(rt; served.ended.is_ok());
+    assert!(rt;
+        stand_in_order(
+            &served.notices.bytes,
+            &[" INVITE ", "notice c1 prack ", " OPTIONS "]
+        )?
+    );
     Ok(())
 }

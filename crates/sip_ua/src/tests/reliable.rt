@@ -1,34 +1,40 @@
 //! The ledgers of reliable provisional responses.
 
 use sip_reliable::{Inbound, NoMatch, Offer, Outbound, SendFault, Tick, taken_in_order};
+use std::process::Abort;
 
-#[test]
-fn takes_the_first_and_then_each_next(rt: HostRuntime) {
+// What a ledger says to responses of these numbers.
+fn offers(rt: &impl Abort, answers: &[(u32, Offer)]) {
     let mut inbound = Inbound::new();
-    for (rseq, offer) in [
-        (7, Offer::Taken),
-        (7, Offer::Repeat),
-        (9, Offer::Gap),
-        (8, Offer::Taken),
-        (3, Offer::Repeat),
-        (9, Offer::Taken),
-    ] {
-        assert!(rt; inbound.offer(rseq) == offer, "at {rseq}");
+    for (rseq, offer) in answers {
+        assert!(rt; inbound.offer(*rseq) == *offer, "at {rseq}");
     }
-    taken_in_order();
 }
 
+// The first is taken, and then each next; nothing follows the last number.
 #[test]
-fn nothing_follows_the_last_number(rt: HostRuntime) {
-    let mut inbound = Inbound::new();
-    for (rseq, offer) in [
-        (4_294_967_295, Offer::Taken),
-        (4_294_967_295, Offer::Repeat),
-        (0, Offer::Repeat),
-        (1, Offer::Repeat),
-    ] {
-        assert!(rt; inbound.offer(rseq) == offer, "at {rseq}");
-    }
+fn takes_the_first_and_then_each_next(rt: HostRuntime) {
+    offers(
+        &rt,
+        &[
+            (7, Offer::Taken),
+            (7, Offer::Repeat),
+            (9, Offer::Gap),
+            (8, Offer::Taken),
+            (3, Offer::Repeat),
+            (9, Offer::Taken),
+        ],
+    );
+    offers(
+        &rt,
+        &[
+            (4_294_967_295, Offer::Taken),
+            (4_294_967_295, Offer::Repeat),
+            (0, Offer::Repeat),
+            (1, Offer::Repeat),
+        ],
+    );
+    taken_in_order();
 }
 
 // Whether those of these numbers are to be sent again.
