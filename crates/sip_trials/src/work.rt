@@ -56,7 +56,7 @@ pub fn done<T: Threads + Host>(
         Task::Transactions => served(rt, transactions(threads, rt.alloc(), first, second)?),
         Task::Idle => served(rt, idle(threads, rt.alloc(), first, second)?),
         Task::Rounds => {
-            let load = Load::new(rt.alloc(), second as usize, third as usize)?;
+            let load = Load::new(rt.alloc(), size_of(second), size_of(third))?;
             served(rt, large_rounds(threads, load, first)?)
         }
         Task::Sizes => {
@@ -72,6 +72,11 @@ pub fn done<T: Threads + Host>(
             )?)
         }
     }
+}
+
+// A number of shards or workers; of those that there can't be, 0 is one.
+fn size_of(number: u64) -> usize {
+    usize::try_from(number).unwrap_or(0)
 }
 
 // Reads the message of a file so often, or answers it.

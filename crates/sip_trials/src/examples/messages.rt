@@ -55,6 +55,7 @@ ab";
 
 // What was read is copied, and the copy is written.
 pub fn headers_in_their_order(alloc: Global) -> Result<(), Stop> {
-    let copy = message(alloc, SCRAMBLED)?.clone()?;
+    let request = message(alloc, SCRAMBLED)?;
+    let copy = request.clone()?;
     check(write(alloc, &copy)?.as_slice() == WRITTEN)
 }
