@@ -19,7 +19,7 @@ mod tally;
 mod words;
 mod work;
 
-use sip_program::Host;
+use sip_program::{Host, given_words};
 use std::process::ExitCode;
 use std::thread::Threads;
 use std::{env, io};
@@ -41,7 +41,7 @@ const GATE: [&[&str]; 6] = [
 ];
 
 fn main(rt: HostRuntime) -> ExitCode {
-    let end = match own_words(&rt) {
+    let end = match given_words(&rt) {
         Ok(words) => tried(&rt, &rt, &words),
         Err(error) => Err(Stop::from(error)),
     };
@@ -56,11 +56,6 @@ fn main(rt: HostRuntime) -> ExitCode {
     ExitCode::from(status)
 }
 
-// The program's words, without its own name.
-fn own_words(rt: &HostRuntime) -> io::Result<Vec<String>> {
-    Ok(env::args(rt)?.skip(1).collect(rt.alloc())?)
-}
-
 // Does what the words ask for, or what the gate runs.
 fn tried<T: Threads + Host>(rt: &HostRuntime, threads: &T, words: &[String]) -> Result<(), Stop> {
     if words.is_empty() {
@@ -69,10 +64,13 @@ fn tried<T: Threads + Host>(rt: &HostRuntime, threads: &T, words: &[String]) -> 
         }
         return Ok(());
     }
-    let words: Vec<&str> = words.iter().map(|word| word.as_str()).collect(rt.alloc())?;
-    one(rt, threads, &words)
+    one(rt, threads, words)
 }
 
-fn one<T: Threads + Host>(rt: &HostRuntime, threads: &T, words: &[&str]) -> Result<(), Stop> {
+fn one<T: Threads + Host, S: AsStr>(
+    rt: &HostRuntime,
+    threads: &T,
+    words: &[S],
+) -> Result<(), Stop> {
     done(rt, threads, asked_by(words).ok_or(Stop::Words)?)
 }

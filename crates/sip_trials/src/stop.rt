@@ -35,7 +35,7 @@ bad words; it takes none, or one of
 with each number from 1 to 9999999, at most 999 rounds, 256 shards and 64 workers";
 
 /// Why a trial stopped.
-#[derive(Clone, Copy, PartialEq, Eq)]
+#[derive(Clone, Copy)]
 pub enum Stop {
     /// The words ask for nothing that there is.
     Words,

@@ -1,5 +1,7 @@
 //! The words of the command line.
 
+use std::convert::AsStr;
+
 /// The greatest number that a word may be: numbers stand in names as seven digits.
 const MAX_COUNT: u64 = 9_999_999;
 
@@ -61,10 +63,10 @@ pub struct Asked<'a> {
 }
 
 /// What the words ask for, without the program's own name.
-pub fn asked_by<'a>(words: &[&'a str]) -> Option<Asked<'a>> {
+pub fn asked_by<'a, S: AsStr>(words: &'a [S]) -> Option<Asked<'a>> {
     let (word, rest) = words.split_first()?;
     for (known, task, has_text, count) in FORMS {
-        if *word == known {
+        if word.as_str() == known {
             return with_words(task, has_text, count, rest);
         }
     }
@@ -72,15 +74,15 @@ pub fn asked_by<'a>(words: &[&'a str]) -> Option<Asked<'a>> {
 }
 
 // A task with a text, where it has one, and so many numbers.
-fn with_words<'a>(
+fn with_words<'a, S: AsStr>(
     task: Task,
     has_text: bool,
     count: usize,
-    words: &[&'a str],
+    words: &'a [S],
 ) -> Option<Asked<'a>> {
     let (text, numbers) = if has_text {
         let (text, numbers) = words.split_first()?;
-        (*text, numbers)
+        (text.as_str(), numbers)
     } else {
         ("", words)
     };
@@ -95,10 +97,10 @@ fn with_words<'a>(
 }
 
 // The numbers that the words are, from 1 to the most.
-fn numbers_of(words: &[&str]) -> Option<[u64; MOST_NUMBERS]> {
+fn numbers_of<S: AsStr>(words: &[S]) -> Option<[u64; MOST_NUMBERS]> {
     let mut numbers = [1; MOST_NUMBERS];
     for (number, word) in numbers.iter_mut().zip(words) {
-        *number = word.parse().ok()?;
+        *number = word.as_str().parse().ok()?;
         if *number == 0 || *number > MAX_COUNT {
             return None;
         }

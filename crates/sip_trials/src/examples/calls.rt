@@ -3,11 +3,11 @@
 ghost use Rattle.std.specs.Prelude.{◌≤◌, ◌^◌};
 
 use crate::examples::server_side::request_up;
-use crate::examples::worked::{ID, TOLD, is_line, respond};
+use crate::examples::worked::{ID, TOLD, answer, is_line};
 use crate::stop::{Stop, check};
 use sip_calls::CallShard;
 use sip_message::Id;
-use sip_served::{CallOut, Item, UserCommand};
+use sip_served::{CallOut, Item};
 use sip_transactions::{Command, ShardFault};
 use std::alloc::Global;
 
@@ -48,8 +48,7 @@ fn is_quiet(shard: &mut CallShard, now: u64, live: usize) -> Result<(), Stop>
 
 pub fn a_request_is_told_and_answered(alloc: Global, shard: &mut CallShard) -> Result<(), Stop> {
     is_line(alloc, given(shard, ID, request_up(alloc)?, 0)?, TOLD)?;
-    let answer = Item::User(UserCommand::Respond(respond(alloc)?));
-    let outs = given(shard, LATER, answer, 10)?;
+    let outs = given(shard, LATER, answer(alloc)?, 10)?;
     check(matches!(
         outs.as_slice(),
         [CallOut::Command(ID, Command::Answer { .. })]

@@ -2,10 +2,10 @@
 
 ghost use Rattle.std.specs.Prelude.{◌≤◌, ◌^◌};
 
-use crate::examples::worked::{ID, NAME, OPTIONS, PEER, TOLD, is_line, message, respond, token};
+use crate::examples::worked::{ID, NAME, OPTIONS, PEER, TOLD, answer, is_line, message, token};
 use crate::stop::{Stop, check};
 use sip_message::key_of;
-use sip_served::{CallOut, Item, Served, UserCommand};
+use sip_served::{CallOut, Item, Served};
 use sip_text::Boxed;
 use sip_transactions::{Kind, ShardFault, Up};
 use std::alloc::Global;
@@ -48,8 +48,7 @@ fn given(alloc: Global, served: &mut Served, item: Item, now: u64) -> Result<Vec
 pub fn a_request_is_told_and_answered(alloc: Global, served: &mut Served) -> Result<(), Stop> {
     check(!served.holds() && served.next_due().is_none())?;
     is_line(alloc, given(alloc, served, request_up(alloc)?, 0)?, TOLD)?;
-    let answer = Item::User(UserCommand::Respond(respond(alloc)?));
-    let outs = given(alloc, served, answer, 10)?;
+    let outs = given(alloc, served, answer(alloc)?, 10)?;
     check(matches!(outs.as_slice(), [CallOut::Command(ID, _)]))?;
     check(served.holds() && served.next_due() == Some(32_010))?;
     let outs = served.tick(LATE);

@@ -5,7 +5,7 @@ use sip_files::write_output;
 use sip_message::{Addr, CallId, Id, Message, Reason, StatusCode, Token, Uri, response_to, write};
 use sip_reader::read;
 use sip_round::{Config, Output};
-use sip_served::{CallOut, Reliability, Respond};
+use sip_served::{CallOut, Item, Notice, Reliability, Respond, UserCommand};
 use sip_text::Text;
 use std::alloc::{AllocError, Global};
 
@@ -106,7 +106,11 @@ pub fn success_to(alloc: Global, request: &Message) -> Result<Message, Stop> {
 }
 
 /// The user's 200 to the request.
-pub fn respond(alloc: Global) -> Result<Respond, Stop> {
+pub fn answer(alloc: Global) -> Result<Item, Stop> {
+    Ok(Item::User(UserCommand::Respond(respond(alloc)?)))
+}
+
+fn respond(alloc: Global) -> Result<Respond, Stop> {
     Ok(Respond {
         call_id: call_id(alloc, b"c1")?,
         id: ID,
@@ -119,10 +123,14 @@ pub fn respond(alloc: Global) -> Result<Respond, Stop> {
 
 /// That a call gives one thing, and the line of an output file that says it is this.
 pub fn is_line(alloc: Global, mut outs: Vec<CallOut>, line: &[u8]) -> Result<(), Stop> {
-    match (outs.pop(), outs.is_empty()) {
-        (Some(CallOut::Notice(notice)), true) => {
-            check(write_output(alloc, &Output::Notice(notice))?.as_slice() == line)
-        }
+    check(outs.len() == 1)?;
+    match outs.pop() {
+        Some(CallOut::Notice(notice)) => is_told(alloc, notice, line),
         _ => Err(Stop::Different),
     }
+}
+
+// The line of an output file that says so is this.
+fn is_told(alloc: Global, notice: Notice, line: &[u8]) -> Result<(), Stop> {
+    check(write_output(alloc, &Output::Notice(notice))?.as_slice() == line)
 }

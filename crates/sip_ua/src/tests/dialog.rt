@@ -2,7 +2,7 @@
 //! faults.
 
 use sip_dialog::{Branch, Dialog, DialogFault, DialogState};
-use sip_message::{Addr, Token, Uri};
+use sip_message::{Addr, Message, Token, Uri};
 use sip_reader::read;
 use sip_text::Text;
 use std::alloc::Global;
@@ -17,24 +17,29 @@ const LOCAL: Addr = Addr {
 // The greatest number of a request.
 const LAST: u32 = 2_147_483_647;
 
+// What the INVITE and its answers begin with.
+const INVITE: &str = "INVITE sip:b@192.0.2.9 SIP/2.0\r\nTo: <sip:b@192.0.2.9>\r\n";
+
+const RINGING: &str = "SIP/2.0 180 X\r\nTo: <sip:b@192.0.2.9>;tag=x\r\n";
+
+const SUCCESS: &str = "SIP/2.0 200 X\r\nTo: <sip:b@192.0.2.9>;tag=x\r\n";
+
 // A header that leads over a strict route.
 const STRICT: &str = "Record-Route: <sip:p>\r\n";
 
-// The dialog of an INVITE of this number that one sent and its answer of this status, with this
-// header.
-fn dialog_of(alloc: Global, status: u16, cseq: u32, header: &str) -> Result<Dialog, Fail> {
-    let common = format!(in alloc;
-        "Via: SIP/2.0/UDP 192.0.2.1:5060;rport;branch=z9hG4bKi\r\n\
-        From: <sip:a@192.0.2.1>;tag=l1\r\nCall-ID: c2\r\nCSeq: {cseq} INVITE\r\n{header}"
+// The message that begins so, an INVITE or its answer, of this number, with this header.
+fn message(alloc: Global, start: &str, cseq: u32, header: &str) -> Result<Message, Fail> {
+    let text = format!(in alloc;
+        "{start}Via: SIP/2.0/UDP 192.0.2.1:5060;rport;branch=z9hG4bKi\r\n\
+        From: <sip:a@192.0.2.1>;tag=l1\r\nCall-ID: c2\r\nCSeq: {cseq} INVITE\r\n{header}\r\n"
     )?;
-    let request = format!(in alloc;
-        "INVITE sip:b@192.0.2.9 SIP/2.0\r\n{common}To: <sip:b@192.0.2.9>\r\n\r\n"
-    )?;
-    let request = read(alloc, request.as_bytes()).ok().ok_or("an INVITE")?;
-    let response = format!(in alloc;
-        "SIP/2.0 {status} X\r\n{common}To: <sip:b@192.0.2.9>;tag=x\r\n\r\n"
-    )?;
-    let response = read(alloc, response.as_bytes()).ok().ok_or("a response")?;
+    Ok(read(alloc, text.as_bytes()).ok().ok_or("a message")?)
+}
+
+// The dialog of an INVITE of this number that one sent and its answer, with this header.
+fn dialog_of(alloc: Global, answer: &str, cseq: u32, header: &str) -> Result<Dialog, Fail> {
+    let request = message(alloc, INVITE, cseq, "")?;
+    let response = message(alloc, answer, cseq, header)?;
     Ok(Dialog::from_response(alloc, &request, &response)?)
 }
 
@@ -65,36 +70,46 @@ fn ack_fault(alloc: Global, dialog: &Dialog) -> Result<Option<DialogFault>, Fail
     Ok(dialog.ack(1, body, branch, LOCAL).err())
 }
 
+// Why a 200 doesn't confirm the dialog.
+fn confirm_fault(alloc: Global, dialog: &mut Dialog) -> Result<Option<DialogFault>, Fail> {
+    let response = message(alloc, SUCCESS, 1, "")?;
+    Ok(dialog.confirm(&response).err())
+}
+
+// Why the target isn't refreshed.
+fn refresh_fault(alloc: Global, dialog: &mut Dialog) -> Result<Option<DialogFault>, Fail> {
+    let target = Uri::new(Text::copy_of(alloc, b"sip:n@10.0.0.6")?).ok_or("a URI")?;
+    Ok(dialog.refresh(target).err())
+}
+
 // Numbers end; a strict router is told before that, and an early dialog before a strict router.
 #[test]
 fn the_first_fault_is_told(rt: HostRuntime) -> Result<(), Fail> {
     let cases = [
-        (200, LAST - 1, "", "INFO", None, LAST),
+        (SUCCESS, LAST - 1, "", "INFO", None),
+        (SUCCESS, LAST, "", "INFO", Some(DialogFault::SequenceUsedUp)),
         (
-            200,
-            LAST,
-            "",
-            "INFO",
-            Some(DialogFault::SequenceUsedUp),
-            LAST,
-        ),
-        (
-            200,
+            SUCCESS,
             LAST,
             STRICT,
             "INFO",
             Some(DialogFault::StrictRoute),
-            LAST,
         ),
-        (180, 1, STRICT, "INVITE", Some(DialogFault::NotConfirmed), 1),
+        (
+            RINGING,
+            LAST,
+            STRICT,
+            "INVITE",
+            Some(DialogFault::NotConfirmed),
+        ),
     ];
-    for (status, cseq, header, method, fault, after) in cases {
-        let mut dialog = dialog_of(rt.alloc(), status, cseq, header)?;
+    for (answer, cseq, header, method, fault) in cases {
+        let mut dialog = dialog_of(rt.alloc(), answer, cseq, header)?;
         assert!(rt;
             next_fault(rt.alloc(), &mut dialog, method)? == fault,
-            "at {cseq}"
+            "{method} at {cseq}"
         );
-        assert!(rt; dialog.local_cseq() == after, "at {cseq}");
+        assert!(rt; dialog.local_cseq() == LAST, "{method} at {cseq}");
     }
     Ok(())
 }
@@ -102,26 +117,18 @@ fn the_first_fault_is_told(rt: HostRuntime) -> Result<(), Fail> {
 #[test]
 fn an_early_and_an_ended_dialog_refuse(rt: HostRuntime) -> Result<(), Fail> {
     let alloc = rt.alloc();
-    let mut dialog = dialog_of(alloc, 180, 1, STRICT)?;
+    let mut dialog = dialog_of(alloc, RINGING, 1, STRICT)?;
     assert!(rt; ack_fault(alloc, &dialog)? == Some(DialogFault::NotConfirmed));
     dialog.end();
     dialog.end();
-    let ended = Some(DialogFault::Ended);
-    assert!(rt; next_fault(alloc, &mut dialog, "INVITE")? == ended);
-    assert!(rt; ack_fault(alloc, &dialog)? == ended);
-    assert!(rt; dialog.accept(9) == Err(DialogFault::Ended));
-    let target = Uri::new(Text::copy_of(alloc, b"sip:n@10.0.0.6")?).ok_or("a URI")?;
-    assert!(rt; dialog.refresh(target) == Err(DialogFault::Ended));
-    assert!(rt; confirm_fault(alloc, &mut dialog)? == ended);
+    let faults = [
+        next_fault(alloc, &mut dialog, "INVITE")?,
+        ack_fault(alloc, &dialog)?,
+        dialog.accept(9).err(),
+        refresh_fault(alloc, &mut dialog)?,
+        confirm_fault(alloc, &mut dialog)?,
+    ];
+    assert!(rt; faults == [Some(DialogFault::Ended); 5]);
     assert!(rt; dialog.state() == DialogState::Ended);
     Ok(())
-}
-
-// Why a 200 doesn't confirm the dialog.
-fn confirm_fault(alloc: Global, dialog: &mut Dialog) -> Result<Option<DialogFault>, Fail> {
-    let response = "SIP/2.0 200 X\r\nVia: SIP/2.0/UDP 192.0.2.1:5060;rport;branch=z9hG4bKi\r\n\
-        From: <sip:a@192.0.2.1>;tag=l1\r\nTo: <sip:b@192.0.2.9>;tag=x\r\nCall-ID: c2\r\n\
-        CSeq: 1 INVITE\r\n\r\n";
-    let response = read(alloc, response.as_bytes()).ok().ok_or("a response")?;
-    Ok(dialog.confirm(&response).err())
 }
