@@ -19,6 +19,25 @@ pub(super) struct Run {
     pub(super) ended: Result<(), UaFault>,
 }
 
+/// How a listener answers.
+#[derive(Clone, Copy)]
+pub(super) enum Answers {
+    Usually,
+    /// It rings for so many ms.
+    Rings(u32),
+    /// It answers reliably, and then that it is busy.
+    Busy,
+}
+
+/// How a caller calls.
+#[derive(Clone, Copy)]
+pub(super) enum Calls {
+    /// It has to be answered, and holds the call for so many ms.
+    Holds(u32),
+    /// It gives the call up before its last turns.
+    Leaves,
+}
+
 // A socket on loopback, and its address.
 pub(super) fn bound<R: Net>(rt: &R) -> io::Result<(UdpSocket, Addr)> {
     let socket = UdpSocket::bind(rt, (Ipv4Addr::LOCALHOST, 0))?;
@@ -28,12 +47,26 @@ pub(super) fn bound<R: Net>(rt: &R) -> io::Result<(UdpSocket, Addr)> {
     Ok((socket, Addr { ip, port }))
 }
 
+fn listen_plan(alloc: Global, answers: Answers) -> ListenPlan {
+    let mut plan = ListenPlan::usual(alloc);
+    match answers {
+        Answers::Usually => {}
+        Answers::Rings(time) => plan.ring = Some(time),
+        Answers::Busy => {
+            plan.reliable = true;
+            plan.status = 486;
+        }
+    }
+    plan
+}
+
 // A listener that takes so many turns, and whose notices can't be flushed where that fails.
 pub(super) fn listened<R: Threads + Clock + Sync>(
     rt: &R,
     alloc: Global,
-    (socket, local): (UdpSocket, Addr),
-    plan: ListenPlan,
+    socket: UdpSocket,
+    local: Addr,
+    answers: Answers,
     turns: u32,
     fails: bool,
 ) -> Run {
@@ -41,6 +74,7 @@ pub(super) fn listened<R: Threads + Clock + Sync>(
     let mut record = Vec::new(alloc);
     let mut errors = Vec::new(alloc);
     let endpoint = Endpoint::new(socket, local, [7; 32], Some(&mut record));
+    let plan = listen_plan(alloc, answers);
     let ended = listen_at(rt, alloc, endpoint, plan, turns, &mut notices, &mut errors);
     Run {
         notices,
@@ -56,40 +90,52 @@ pub(super) fn names(alloc: Global) -> Result<(Uri, CallId), Fail> {
     Ok((uri, call_id))
 }
 
-// A call to this address, which does what is usual.
-pub(super) fn usual_call(alloc: Global, to: Addr) -> Result<CallPlan, Fail> {
+fn call_plan(alloc: Global, to: Addr, calls: Calls) -> Result<CallPlan, Fail> {
     let (uri, call_id) = names(alloc)?;
-    Ok(CallPlan::usual(alloc, to, uri, call_id))
+    let mut plan = CallPlan::usual(alloc, to, uri, call_id);
+    match calls {
+        Calls::Holds(time) => {
+            plan.hold = Some(time);
+            plan.must_answer = true;
+        }
+        Calls::Leaves => plan.leaves = true,
+    }
+    Ok(plan)
 }
 
 // A caller that takes so many turns.
 pub(super) fn called<R: Threads + Clock + Sync>(
     rt: &R,
     alloc: Global,
-    (socket, local): (UdpSocket, Addr),
-    plan: CallPlan,
+    socket: UdpSocket,
+    local: Addr,
+    to: Addr,
+    calls: Calls,
     turns: u32,
-) -> Run {
+) -> Result<Run, Fail> {
+    let plan = call_plan(alloc, to, calls)?;
     let mut notices = Flushed::new(alloc, false);
     let mut record = Vec::new(alloc);
     let mut errors = Vec::new(alloc);
     let endpoint = Endpoint::new(socket, local, [8; 32], Some(&mut record));
     let ended = call_from(rt, alloc, endpoint, plan, turns, &mut notices, &mut errors);
-    Run {
+    Ok(Run {
         notices,
         record,
         ended,
-    }
+    })
 }
 
 // Whether these stand in the text in this order.
-pub(super) fn stand_in_order(text: &[u8], parts: &[&str]) -> Result<bool, Fail> {
-    let mut left = str::from_utf8(text).ok().ok_or("a text")?;
+pub(super) fn stand_in_order(text: &[u8], parts: &[&str]) -> bool {
+    let Ok(mut left) = str::from_utf8(text) else {
+        return false;
+    };
     for part in parts {
         let Some((_, after)) = left.split_once(*part) else {
-            return Ok(false);
+            return false;
         };
         left = after;
     }
-    Ok(true)
+    true
 }

@@ -2,7 +2,7 @@
 
 ghost use Rattle.std.specs.Prelude.{Some, ◌≤◌};
 
-use super::loopback::{bound, called, listened, names, stand_in_order, usual_call};
+use super::loopback::{Answers, Calls, bound, called, listened, names, stand_in_order};
 use super::{Ended, run_on};
 use sip_desk::{Desk, NoMemory, Poster, open};
 use sip_message::{Addr, Key, Token};
@@ -10,9 +10,7 @@ use sip_program::Host;
 use sip_round::{Event, Output};
 use sip_text::{Series, Text};
 use sip_transactions::DropReason;
-use sip_udp::{
-    Asked, Flags, Inlet, ListenPlan, Outlet, Received, UaFault, call, hear, listen, send_all,
-};
+use sip_udp::{Asked, Flags, Inlet, Outlet, Received, UaFault, call, hear, listen, send_all};
 use std::alloc::{AllocError, Global};
 use std::net::{Ipv4Addr, SocketAddrV4, UdpSocket};
 use std::process::Abort;
@@ -237,14 +235,14 @@ fn a_call_between_two_agents_on_loopback(rt: HostRuntime) -> Result<(), Fail> {
         " BYE ",
         "notice c1 ended ",
     ];
-    assert!(rt; stand_in_order(&heard, &served)?);
+    assert!(rt; stand_in_order(&heard, &served));
     let answered = [
         " response 0.1 200 ",
         "notice c1 ended ",
         " response ",
         " 200 ",
     ];
-    assert!(rt; stand_in_order(&told, &answered)?);
+    assert!(rt; stand_in_order(&told, &answered));
     Ok(())
 }
 
@@ -252,17 +250,14 @@ fn a_call_between_two_agents_on_loopback(rt: HostRuntime) -> Result<(), Fail> {
 #[test]
 fn a_call_that_is_given_up_while_it_rings(rt: HostRuntime) -> Result<(), Fail> {
     let alloc = rt.alloc();
-    let theirs = bound(&rt)?;
-    let own = bound(&rt)?;
-    let mut rings = ListenPlan::usual(alloc);
-    rings.ring = Some(60_000);
-    let mut leaves = usual_call(alloc, theirs.1)?;
-    leaves.leaves = true;
+    let (theirs, to) = bound(&rt)?;
+    let (own, from) = bound(&rt)?;
     let (heard, told) = thread::join(
         &rt,
-        || listened(&rt, alloc, theirs, rings, 300, false),
-        || called(&rt, alloc, own, leaves, 150),
+        || listened(&rt, alloc, theirs, to, Answers::Rings(60_000), 300, false),
+        || called(&rt, alloc, own, from, to, Calls::Leaves, 150),
     );
+    let told = told?;
     assert!(rt; heard.ended.is_ok());
     assert!(rt; told.ended.is_ok());
     let cancelled = [
@@ -271,14 +266,14 @@ fn a_call_that_is_given_up_while_it_rings(rt: HostRuntime) -> Result<(), Fail> {
         "notice c1 cancel ",
         "notice c1 ended ",
     ];
-    assert!(rt; stand_in_order(&heard.notices.bytes, &cancelled)?);
+    assert!(rt; stand_in_order(&heard.notices.bytes, &cancelled));
     let given_up = [
         " response 0.1 180 ",
         " response 0.1 487 ",
         "notice c1 ended ",
     ];
-    assert!(rt; stand_in_order(&told.notices.bytes, &given_up)?);
-    assert!(rt; !stand_in_order(&told.notices.bytes, &[" response 0.1 200 "])?);
+    assert!(rt; stand_in_order(&told.notices.bytes, &given_up));
+    assert!(rt; !stand_in_order(&told.notices.bytes, &[" response 0.1 200 "]));
     Ok(())
 }
 
@@ -301,12 +296,11 @@ fn answer_to_info(alloc: Global, socket: &UdpSocket, to: Addr) -> Option<bool> {
 fn a_listener_flushes_each_notice(rt: HostRuntime) -> Result<(), Fail> {
     let alloc = rt.alloc();
     for (fails, expected) in [(false, Ok(())), (true, Err(UaFault::Output))] {
-        let theirs = bound(&rt)?;
+        let (theirs, to) = bound(&rt)?;
         let (own, _) = bound(&rt)?;
-        let to = theirs.1;
         let (heard, answered) = thread::join(
             &rt,
-            || listened(&rt, alloc, theirs, ListenPlan::usual(alloc), 100, fails),
+            || listened(&rt, alloc, theirs, to, Answers::Usually, 100, fails),
             || answer_to_info(alloc, &own, to),
         );
         assert!(rt; heard.ended == expected);
@@ -340,7 +334,8 @@ fn blast<R: Clock>(rt: &R, socket: &UdpSocket, to: Addr, datagrams: u32) {
 fn end_of_listener<R: Threads + Clock + Sync>(
     rt: &R,
     alloc: Global,
-    (socket, local): (UdpSocket, Addr),
+    socket: UdpSocket,
+    local: Addr,
     turns: u32,
     own: &UdpSocket,
     to: Addr,
@@ -357,10 +352,9 @@ fn end_of_listener<R: Threads + Clock + Sync>(
 // What comes after the last turn is collected, so that the line is settled.
 #[test]
 fn a_listener_ends_well_while_datagrams_come(rt: HostRuntime) -> Result<(), Fail> {
-    let theirs = bound(&rt)?;
+    let (theirs, to) = bound(&rt)?;
     let (own, _) = bound(&rt)?;
-    let to = theirs.1;
-    assert!(rt; end_of_listener(&rt, rt.alloc(), theirs, 20, &own, to, 1_000).is_ok());
+    assert!(rt; end_of_listener(&rt, rt.alloc(), theirs, to, 20, &own, to, 1_000).is_ok());
     Ok(())
 }
 
@@ -372,7 +366,7 @@ fn a_listener_whose_socket_fails_tells_so(rt: HostRuntime) -> Result<(), Fail> {
     let (socket, local) = bound(&rt)?;
     socket.connect(SocketAddrV4::new(Ipv4Addr::LOCALHOST, to.port))?;
     let own = socket.try_clone()?;
-    let ended = end_of_listener(&rt, rt.alloc(), (socket, local), 400, &own, to, 2_000);
+    let ended = end_of_listener(&rt, rt.alloc(), socket, local, 400, &own, to, 2_000);
     assert!(rt; ended == Err(UaFault::Socket));
     Ok(())
 }
@@ -442,16 +436,23 @@ fn moment_of(record: &[u8], words: &str) -> Result<u64, Fail> {
     Err(Fail::from("a datagram"))
 }
 
-// The listener rings and answers with a body; the caller acknowledges it, stays for a while, and
-// ends each dialog once. What is sent names the port that the socket got.
-#[test]
-fn a_call_is_as_the_words_of_both_say(rt: HostRuntime) -> Result<(), Fail> {
-    let alloc = rt.alloc();
-    let (socket, to) = bound(&rt)?;
-    drop(socket);
+/// What came of a listener and a caller, and the listener's record.
+#[derive(Drop)]
+struct Talked {
+    served: Ended,
+    called: Ended,
+    events: Vec<u8>,
+}
+
+// Runs a listener and a caller by their words.
+fn talked<T: Threads + Host + AllocGlobal>(
+    rt: &T,
+    alloc: Global,
+    to: Addr,
+) -> Result<Talked, Fail> {
     let body = format!(in alloc; "/tmp/ua-body-{}", to.port)?;
     let record = format!(in alloc; "/tmp/ua-record-{}", to.port)?;
-    fs::write(&rt, body.as_str(), BODY)?;
+    fs::write(rt, body.as_str(), BODY)?;
     let listen = format!(in alloc;
         "listen --local {to} --turns 250 --ring 100 --reliable \
         --body {body} --record {record} --stats"
@@ -461,14 +462,31 @@ fn a_call_is_as_the_words_of_both_say(rt: HostRuntime) -> Result<(), Fail> {
         --turns 240 --hold 300 --leave --must-answer --stats"
     )?;
     let (served, called) = thread::join(
-        &rt,
-        || ua_with(&rt, alloc, listen.as_str()),
-        || ua_with(&rt, alloc, call.as_str()),
+        rt,
+        || ua_with(rt, alloc, listen.as_str()),
+        || ua_with(rt, alloc, call.as_str()),
     );
-    let (served, called) = (served?, called?);
-    let events = fs::read(&rt, record.as_str())?;
-    fs::remove_file(&rt, body.as_str())?;
-    fs::remove_file(&rt, record.as_str())?;
+    let events = fs::read(rt, record.as_str())?;
+    fs::remove_file(rt, body.as_str())?;
+    fs::remove_file(rt, record.as_str())?;
+    Ok(Talked {
+        served: served?,
+        called: called?,
+        events,
+    })
+}
+
+// The listener rings and answers with a body; the caller acknowledges it, stays for a while, and
+// ends each dialog once. What is sent names the port that the socket got.
+#[test]
+fn a_call_is_as_the_words_of_both_say(rt: HostRuntime) -> Result<(), Fail> {
+    let (socket, to) = bound(&rt)?;
+    drop(socket);
+    let Talked {
+        served,
+        called,
+        events,
+    } = talked(&rt, rt.alloc(), to)?;
     assert!(rt; served.status == 0);
     assert!(rt; called.status == 0);
     let words = [
@@ -478,10 +496,10 @@ fn a_call_is_as_the_words_of_both_say(rt: HostRuntime) -> Result<(), Fail> {
         " ended ",
         " 200 ",
     ];
-    assert!(rt; stand_in_order(&called.output, &words)?);
-    assert!(rt; !stand_in_order(&called.output, &[" refused "])?);
+    assert!(rt; stand_in_order(&called.output, &words));
+    assert!(rt; !stand_in_order(&called.output, &[" refused "]));
     let words = [" INVITE ", "notice ua-call ack ", " BYE ", " ended "];
-    assert!(rt; stand_in_order(&served.output, &words)?);
+    assert!(rt; stand_in_order(&served.output, &words));
     let acknowledged = moment_of(&events, "ACK ")?;
     assert!(rt; moment_of(&events, "BYE ")? >= acknowledged.saturating_add(250));
     let port = between(&called.errors, "ua: local 127.0.0.1:", ", ")?;
@@ -495,7 +513,7 @@ fn a_call_is_as_the_words_of_both_say(rt: HostRuntime) -> Result<(), Fail> {
         port,
         ">",
     ];
-    assert!(rt; stand_in_order(&events, &words)?);
-    assert!(rt; stand_in_order(&served.errors, &[", 1 INVITEs, ", " 0 lost\n"])?);
+    assert!(rt; stand_in_order(&events, &words));
+    assert!(rt; stand_in_order(&served.errors, &[", 1 INVITEs, ", " 0 lost\n"]));
     Ok(())
 }
