@@ -20,9 +20,9 @@ mod words;
 mod work;
 
 use sip_program::{Host, given_words};
+use std::convert::AsStr;
 use std::process::ExitCode;
 use std::thread::Threads;
-use std::{env, io};
 use stop::Stop;
 use words::asked_by;
 use work::done;
