@@ -445,7 +445,7 @@ struct Talked {
 }
 
 // Runs a listener and a caller by their words.
-fn talked<T: Threads + Host + AllocGlobal>(
+fn run_both<T: Threads + Host + AllocGlobal>(
     rt: &T,
     alloc: Global,
     to: Addr,
@@ -486,7 +486,7 @@ fn a_call_is_as_the_words_of_both_say(rt: HostRuntime) -> Result<(), Fail> {
         served,
         called,
         events,
-    } = talked(&rt, rt.alloc(), to)?;
+    } = run_both(&rt, rt.alloc(), to)?;
     assert!(rt; served.status == 0);
     assert!(rt; called.status == 0);
     let words = [
