@@ -27,8 +27,7 @@ use Rattle.sip_clients.proofs.ReplyStarts.{response_fits}
 use Rattle.sip_clients.proofs.WithoutStarts.{lost_fits, quiet_then, stays_quiet, tick_fits, tick_none}
 use Rattle.sip_calls.specs.declared.call.Call.{Call}
 use Rattle.sip_calls.specs.declared.calls.Calls.{Calls}
-use Rattle.sip_calls.specs.Call.{CallItem}
-use Rattle.sip_calls.specs.Call.{call_step, command_taken, event_of, first_command_taken, kept, lost_taken, new_call, tag_of_answers, up_taken}
+use Rattle.sip_calls.specs.Call.{CallItem, call_step, command_taken, event_of, first_command_taken, kept, lost_taken, made_tag, new_call, up_taken}
 use Rattle.sip_calls.specs.Provisionals.{event_in, event_of_kind, side_held}
 use Rattle.sip_calls.specs.Sides.{CallTaken, side_of, ticked}
 use Rattle.sip_calls.proofs.KeptSides.{kept_side}
@@ -55,10 +54,10 @@ up_starts call calls id now up (kind.Request request reply_to) =
     let of = event_of calls id now in
     let k = kind.Request request reply_to in
     stays_quiet (Some id) call.clients (up_taken call of up k).1
-    (kind_starts (call.served).state (tag_of_answers of request) up k now)
+    (kind_starts call.served (made_tag of) up k now)
 up_starts call calls id now up (kind.Ack ack) =
     stays_quiet (Some id) call.clients (up_taken call (event_of calls id now) up (kind.Ack ack)).1
-    (kind_starts (call.served).state [] up (kind.Ack ack) now)
+    (kind_starts call.served [] up (kind.Ack ack) now)
 up_starts call calls id now up (kind.Response response) =
     response_fits (event_of calls id now) up.id up.call_id response (side_of call)
 up_starts call calls id now up kind.Timeout =
@@ -94,7 +93,7 @@ command_starts call calls id now (Request request) =
 command_starts call calls id now (Respond respond) =
     stays_quiet (Some id) call.clients
     (command_taken call (event_of calls id now) (Respond respond)).1
-    (respond_starts (call.served).state id respond now)
+    (respond_starts call.served id respond now)
 command_starts call calls id now (Ack ack) = ack_fits (event_of calls id now) ack (side_of call)
 command_starts call calls id now (Prack prack) =
     prack_fits (event_of calls id now) prack (side_of call)
@@ -103,15 +102,15 @@ command_starts call calls id now (Cancel cancel) =
 
 pub tick_silent_of : (call : Call) (now : ℕ) → starts (ticked call now).1 ≡ []
 tick_silent_of call now =
-    let first = served.tick_taken (call.served).state now in
+    let first = served.tick_taken call.served now in
     none_of_both first.1 (over_notices now (first.0).dialogs call.clients)
-    (tick_starts (call.served).state now) (tick_none now (first.0).dialogs call.clients)
+    (tick_starts call.served now) (tick_none now (first.0).dialogs call.clients)
 
 ticked_starts : (call : Call) (now : ℕ) → Starts None call (ticked call now)
 ticked_starts call now =
-    let first = served.tick_taken (call.served).state now in
+    let first = served.tick_taken call.served now in
     quiet_then None call.clients first.1 (over_notices now (first.0).dialogs call.clients)
-    (clients_left now call.clients) (tick_starts (call.served).state now)
+    (clients_left now call.clients) (tick_starts call.served now)
     (tick_fits now (first.0).dialogs call.clients)
 
 -- ---- all of it

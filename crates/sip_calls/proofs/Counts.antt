@@ -144,7 +144,7 @@ command_none call (Plain plain) outs name held = refl
 command_none call (Request request) outs name held = refl
 command_none call (Respond respond) outs name held =
     answer_none respond.status outs name held
-    (find (has_id respond.id) ((call.served).state).requests)
+    (find (has_id respond.id) (call.served).requests)
 command_none call (Ack ack) outs name held = refl
 command_none call (Prack prack) outs name held = refl
 command_none call (Cancel cancel) outs name held = refl

@@ -14,8 +14,7 @@ use Rattle.sip_common.specs.declared.item.CallOut.{CallOut}
 use Rattle.sip_common.specs.declared.item.Item.TheVariants.{Up, User}
 use Rattle.sip_common.specs.declared.notice.Notice.{Notice}
 use Rattle.sip_common.specs.declared.notice.Notice.TheVariants as notice
-use Rattle.sip_common.specs.Dialogs.{is_named}
-use Rattle.sip_common.specs.Dialogs.{Dialogs}
+use Rattle.sip_common.specs.Dialogs.{Dialogs, is_named}
 use Rattle.sip_served.specs.Happenings.{accepts, answer_confirms, answer_opens}
 use Rattle.sip_served.proofs.DialogSteps.{ack_leads as server_ack, request_leads as server_request, respond_moves}
 use Rattle.sip_common.proofs.Entries.{none_apart}
@@ -27,8 +26,7 @@ use Rattle.sip_clients.proofs.FirstSides.{ResultOf, ack_leads, ear, lost_leads, 
 use Rattle.sip_clients.proofs.Hearing.{heard_in_order}
 use Rattle.sip_calls.specs.declared.call.Call.{Call}
 use Rattle.sip_calls.specs.declared.calls.Calls.{Calls}
-use Rattle.sip_calls.specs.Call.{CallItem}
-use Rattle.sip_calls.specs.Call.{call_step, command_taken, event_of, first_command_taken, kept, lost_taken, new_call, tag_of_answers, up_taken}
+use Rattle.sip_calls.specs.Call.{CallItem, call_step, command_taken, event_of, first_command_taken, kept, lost_taken, made_tag, new_call, up_taken}
 use Rattle.sip_calls.specs.Provisionals.{EventsDiffer, came, done, event_in, event_of_kind, number_in, number_in_life, number_up, shown, side_held}
 use Rattle.sip_calls.specs.Sides.{CallTaken, side_of, ticked}
 use Rattle.sip_calls.proofs.KeptSides.{kept_side}
@@ -37,7 +35,7 @@ module _ (life : DialogLife) where
   -- ---- all that happens
 
   abbrev dialogs_of : Call → Dialogs
-  dialogs_of call = ((call.served).state).dialogs
+  dialogs_of call = (call.served).dialogs
 
   abbrev Step : Option Id → Option ℕ → Dialogs → CallTaken → Type 0
   Step event number before taken = ResultOf life event before (dialogs_of taken.0) number taken.1
@@ -64,10 +62,10 @@ module _ (life : DialogLife) where
       let of = event_of calls id now in
       let k = kind.Request request reply_to in
       leads_of id call (up_taken call of up k) (accepts request)
-      (server_request (call.served).state (tag_of_answers of request) up request reply_to now apart)
+      (server_request call.served (made_tag of) up request reply_to now apart)
   up_step call calls id now up (kind.Ack ack) apart =
       leads_of id call (up_taken call (event_of calls id now) up (kind.Ack ack)) quiet
-      (server_ack (call.served).state up.call_id ack apart)
+      (server_ack call.served up.call_id ack apart)
   up_step call calls id now up (kind.Response response) apart =
       response_step life (Some id) (event_of calls id now) refl up.id up.call_id response
       (side_of call) apart
@@ -103,9 +101,9 @@ module _ (life : DialogLife) where
       (requested_in request) (request_leads (event_of calls id now) request (side_of call) apart)
   command_step call calls id now (Respond respond) apart =
       let taken = command_taken call (event_of calls id now) (Respond respond) in
-      silent_moves life (Some id) (answer_opens (call.served).state respond)
-      (answer_confirms (call.served).state respond taken.1) (λ name. []) (dialogs_of call)
-      (dialogs_of taken.0) taken.1 (respond_moves id (call.served).state respond now apart)
+      silent_moves life (Some id) (answer_opens call.served respond)
+      (answer_confirms call.served respond taken.1) (λ name. []) (dialogs_of call)
+      (dialogs_of taken.0) taken.1 (respond_moves id call.served respond now apart)
   command_step call calls id now (Ack ack) apart =
       leads_of id call (command_taken call (event_of calls id now) (Ack ack)) _
       (ack_leads (event_of calls id now) ack (side_of call) apart)

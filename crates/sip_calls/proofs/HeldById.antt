@@ -14,14 +14,14 @@ use Rattle.sip_common.specs.declared.command.UserCommand.{UserCommand}
 use Rattle.sip_common.specs.declared.command.UserCommand.TheVariants.{Invite, Plain as PlainCommand, Request, Respond, Ack, Prack, Cancel}
 use Rattle.sip_common.specs.declared.item.Item.TheVariants.{Up, User}
 use Rattle.sip_served.specs.declared.held_request.HeldRequest.{HeldRequest}
-use Rattle.sip_served.specs.Arrival.{new_request}
+use Rattle.sip_served.specs.Arrival.{arrival_of}
 use Rattle.sip_served.specs.Tick.{is_kept_at, request_ticked}
 use Rattle.sip_served.proofs.Found.{passed_id}
 use Rattle.sip_served.proofs.RequestIds.{Adds, ack_ids, arrival_adds, ids_of, respond_ids}
 use Rattle.sip_calls.specs.declared.call.Call.{Call}
 use Rattle.sip_calls.specs.declared.calls.Calls.{Calls}
 use Rattle.sip_calls.specs.HeldRequests.{id_of_kind, request_brought, requests_held}
-use Rattle.sip_calls.specs.Call.{CallItem, call_step, command_taken, event_of, first_command_taken, kept, new_call, tag_of_answers, up_taken}
+use Rattle.sip_calls.specs.Call.{CallItem, call_step, command_taken, event_of, first_command_taken, kept, made_tag, new_call, up_taken}
 use Rattle.sip_calls.specs.HeldById.{HeldById}
 use Rattle.sip_calls.specs.Histories.{call_from}
 use Rattle.sip_calls.specs.Sides.{CallTaken, ticked}
@@ -107,15 +107,14 @@ module _ (calls : Calls) (call : Call) (coming : List Id) where
       → Rises (requests_of call) (cons_option (id_of_kind up.id k) coming)
       → Rises (requests_of (up_taken call (event_of calls id now) up k).0) coming
   up_rises id now up (kind.Request request reply_to) rise =
-      let tag = tag_of_answers (event_of calls id now) request in
-      let arrival = new_request up.key up.id request reply_to tag in
+      let arrival = arrival_of up request reply_to (made_tag (event_of calls id now)) in
       adds_rise up.id coming (requests_of call)
       (requests_of (up_taken call (event_of calls id now) up (kind.Request request reply_to)).0)
-      rise (arrival_adds (call.served).state up.call_id arrival now)
+      rise (arrival_adds call.served up.call_id arrival now)
   up_rises id now up (kind.Ack ack) rise =
       same_rise coming (requests_of call)
       (requests_of (up_taken call (event_of calls id now) up (kind.Ack ack)).0) rise
-      (ack_ids (call.served).state up.call_id ack)
+      (ack_ids call.served up.call_id ack)
   up_rises id now up (kind.Response response) rise = rise
   up_rises id now up kind.Timeout rise = rise
   up_rises id now up kind.Failed rise = rise
@@ -125,7 +124,7 @@ module _ (calls : Calls) (call : Call) (coming : List Id) where
   command_rises id now (Respond respond) rise =
       same_rise coming (requests_of call)
       (requests_of (command_taken call (event_of calls id now) (Respond respond)).0) rise
-      (respond_ids (call.served).state id respond now)
+      (respond_ids call.served id respond now)
   command_rises id now (Invite invite) rise = rise
   command_rises id now (PlainCommand plain) rise = rise
   command_rises id now (Request request) rise = rise

@@ -23,7 +23,7 @@ use Rattle.sip_calls.proofs.KeptSides.{some_items}
 -- ---- what is held
 
 abbrev pub requests_of : Call → List HeldRequest
-requests_of call = ((call.served).state).requests
+requests_of call = (call.served).requests
 
 or_first : (x y z : Bool) → x ≡ true → ((x || y) || z) ≡ true
 or_first true y z e = refl
@@ -42,7 +42,7 @@ kept_requests call = by_list (requests_of call) refl
         (λ e. ap (λ b. requests_held (if b then Some call else None)) e ∙ sym none)
     by_list (request ∷ requests) some =
         if_held (or_first (nat_lt 0 (length (requests_of call)))
-        (nat_lt 0 (length ((call.served).state).dialogs)) (not (length call.clients == 0))
+        (nat_lt 0 (length (call.served).dialogs)) (not (length call.clients == 0))
         (ap (λ xs. nat_lt 0 (length xs)) some ∙ some_items request requests))
 
 -- the ids of what is held differ, and none of them comes up again

@@ -26,22 +26,22 @@ or_third true z e = refl
 or_third false z e = e
 
 pub kept_side : (call : Call) → side_held (kept_call call) ≡ side_of call
-kept_side call = by_lists (((call.served).state).dialogs) call.clients refl refl
+kept_side call = by_lists ((call.served).dialogs) call.clients refl refl
   where
     if_held : holds_any call ≡ true → side_held (kept_call call) ≡ side_of call
     if_held e = ap (λ b. side_held (if b then Some call else None)) e
 
-    by_lists : (dialogs : Dialogs) (clients : Clients) → ((call.served).state).dialogs ≡ dialogs
+    by_lists : (dialogs : Dialogs) (clients : Clients) → (call.served).dialogs ≡ dialogs
         → call.clients ≡ clients → side_held (kept_call call) ≡ side_of call
     by_lists [] [] d c =
         by_bool (holds_any call) if_held
         (λ e. ap (λ b. side_held (if b then Some call else None)) e
         ∙ (λ i. record { dialogs = sym d i; clients = sym c i }))
     by_lists (dialog ∷ dialogs) clients d c =
-        if_held (or_second (nat_lt 0 (length ((call.served).state).requests))
-        (nat_lt 0 (length ((call.served).state).dialogs)) (not (length call.clients == 0))
+        if_held (or_second (nat_lt 0 (length (call.served).requests))
+        (nat_lt 0 (length (call.served).dialogs)) (not (length call.clients == 0))
         (ap (λ xs. nat_lt 0 (length xs)) d ∙ some_items dialog dialogs))
     by_lists [] (client ∷ clients) d c =
-        if_held (or_third (nat_lt 0 (length ((call.served).state).requests)
-        || nat_lt 0 (length ((call.served).state).dialogs)) (not (length call.clients == 0))
+        if_held (or_third (nat_lt 0 (length (call.served).requests)
+        || nat_lt 0 (length (call.served).dialogs)) (not (length call.clients == 0))
         (ap (λ xs. not (length xs == 0)) c ∙ not_none client clients))

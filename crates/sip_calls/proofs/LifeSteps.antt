@@ -29,7 +29,7 @@ use Rattle.sip_clients.proofs.ClientLives.{ack_lives, cancel_lives, lost_lives, 
 use Rattle.sip_clients.proofs.DialogSends.{AreNamed, AreNumbered, Sends, by_outs, sends_none, silent_outs}
 use Rattle.sip_calls.specs.declared.call.Call.{Call}
 use Rattle.sip_calls.specs.declared.calls.Calls.{Calls}
-use Rattle.sip_calls.specs.Call.{CallItem, call_step, command_taken, event_of, first_command_taken, kept, lost_taken, new_call, tag_of_answers, up_taken}
+use Rattle.sip_calls.specs.Call.{CallItem, call_step, command_taken, event_of, first_command_taken, kept, lost_taken, made_tag, new_call, up_taken}
 use Rattle.sip_calls.specs.Histories.{brought_by_command, brought_by_kind, happens_in, opening_by_command, opening_by_kind, opening_in}
 use Rattle.sip_calls.specs.Provisionals.{event_in, event_of_kind, side_held}
 use Rattle.sip_calls.specs.Sides.{CallTaken, side_of, ticked}
@@ -37,7 +37,7 @@ use Rattle.sip_calls.proofs.CallStarts.{tick_silent_of}
 use Rattle.sip_calls.proofs.KeptSides.{kept_side}
 
 abbrev pub dialogs_of : Call → Dialogs
-dialogs_of call = ((call.served).state).dialogs
+dialogs_of call = (call.served).dialogs
 
 -- what is brought, and what goes out
 abbrev with_outs : Lives → List CallOut → Lives
@@ -93,18 +93,18 @@ up_step : (call : Call) (calls : Calls) (id : Id) (now : ℕ) (up : AnUp) (k : K
 up_step call calls id now up (kind.Request request reply_to) apart named =
     let of = event_of calls id now in
     let k = kind.Request request reply_to in
-    let tag = tag_of_answers of request in
+    let tag = made_tag of in
     let taken = up_taken call of up k in
     without_outs (Some id) None (accepts request) call taken
-    (kind_starts (call.served).state tag up k now)
+    (kind_starts call.served tag up k now)
     (moves_led (Some id) None (λ name. []) (accepts request) (dialogs_of call) (dialogs_of taken.0)
-    (server_request (call.served).state tag up request reply_to now apart))
+    (server_request call.served tag up request reply_to now apart))
 up_step call calls id now up (kind.Ack ack) apart named =
     let k = kind.Ack ack in
     let taken = up_taken call (event_of calls id now) up k in
-    without_outs (Some id) None quiet call taken (kind_starts (call.served).state [] up k now)
+    without_outs (Some id) None quiet call taken (kind_starts call.served [] up k now)
     (moves_led (Some id) None (λ name. []) quiet (dialogs_of call) (dialogs_of taken.0)
-    (server_ack (call.served).state up.call_id ack apart))
+    (server_ack call.served up.call_id ack apart))
 up_step call calls id now up (kind.Response response) apart named =
     response_lives (event_of calls id now) up.id up.call_id response (side_of call) apart named
 up_step call calls id now up kind.Timeout apart named =
@@ -146,10 +146,10 @@ command_step call calls id now (Request request) apart named =
     (request_lives (event_of calls id now) (side_of call) apart named request)
 command_step call calls id now (Respond respond) apart named =
     let taken = command_taken call (event_of calls id now) (Respond respond) in
-    without_outs (Some id) (answer_opens (call.served).state respond)
-    (answer_confirms (call.served).state respond taken.1) call taken
-    (respond_starts (call.served).state id respond now)
-    (respond_moves id (call.served).state respond now apart)
+    without_outs (Some id) (answer_opens call.served respond)
+    (answer_confirms call.served respond taken.1) call taken
+    (respond_starts call.served id respond now)
+    (respond_moves id call.served respond now apart)
 command_step call calls id now (Ack ack) apart named =
     command_sends id call (command_taken call (event_of calls id now) (Ack ack))
     (ack_lives (event_of calls id now) (side_of call) apart named ack)

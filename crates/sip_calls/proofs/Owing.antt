@@ -27,7 +27,7 @@ use Rattle.sip_clients.proofs.DialogDebts.{lost_owes}
 use Rattle.sip_clients.proofs.ReplyDebts.{response_leaves}
 use Rattle.sip_calls.specs.declared.call.Call.{Call}
 use Rattle.sip_calls.specs.declared.calls.Calls.{Calls}
-use Rattle.sip_calls.specs.Call.{CallItem, call_step, command_taken, event_of, first_command_taken, kept, new_call, tag_of_answers, up_taken}
+use Rattle.sip_calls.specs.Call.{CallItem, call_step, command_taken, event_of, first_command_taken, kept, made_tag, new_call, up_taken}
 use Rattle.sip_calls.specs.Histories.{History, call_from, history_after}
 use Rattle.sip_calls.specs.Owing.{OwesAsTold, owed_by_command, owed_by_kind, owed_from, owed_in, owed_next}
 use Rattle.sip_calls.specs.Provisionals.{event_in, event_of_kind, side_held}
@@ -56,11 +56,11 @@ up_owes call calls id now up (kind.Request request reply_to) apart named =
     let of = event_of calls id now in
     let taken = up_taken call of up (kind.Request request reply_to) in
     same_to (Some id) (dialogs_of call) (dialogs_of taken.0)
-    (request_same (call.served).state (tag_of_answers of request) up request reply_to now apart)
+    (request_same call.served (made_tag of) up request reply_to now apart)
 up_owes call calls id now up (kind.Ack ack) apart named =
     let taken = up_taken call (event_of calls id now) up (kind.Ack ack) in
     same_to (Some id) (dialogs_of call) (dialogs_of taken.0)
-    (ack_same (call.served).state up.call_id ack)
+    (ack_same call.served up.call_id ack)
 up_owes call calls id now up (kind.Response response) apart named =
     response_leaves (event_of calls id now) up.id up.call_id response (side_of call) apart named
 up_owes call calls id now up kind.Timeout apart named =
@@ -86,7 +86,7 @@ command_owes call calls id now (Request request) apart named name =
     same_to (Some id) (dialogs_of call) (dialogs_of taken.0)
     (request_owes (event_of calls id now) request (side_of call) apart) name
 command_owes call calls id now (Respond respond) apart named name =
-    respond_owes id (call.served).state respond now apart name
+    respond_owes id call.served respond now apart name
 command_owes call calls id now (Ack ack) apart named name =
     inl (ack_pays (event_of calls id now) ack (side_of call) name)
 command_owes call calls id now (Prack prack) apart named name =

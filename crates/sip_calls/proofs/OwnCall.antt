@@ -18,7 +18,6 @@ use Rattle.sip_common.specs.declared.notice.Notice.TheVariants as notice
 use Rattle.sip_common.specs.Command.{call_of_command}
 use Rattle.sip_common.specs.OwnCall.{IsKindOf}
 use Rattle.sip_served.specs.State.{ServedTaken}
-use Rattle.sip_served.specs.Step.{kind_taken}
 use Rattle.sip_served.specs.Tick as served
 use Rattle.sip_common.proofs.Each.{both}
 use Rattle.sip_served.proofs.OwnCall as server
@@ -32,8 +31,7 @@ use Rattle.sip_clients.proofs.OwnCommands.{ack_own, cancel_own, dialog_request_o
 use Rattle.sip_clients.proofs.OwnReplies.{lost_own, response_own, tick_own}
 use Rattle.sip_calls.specs.declared.call.Call.{Call}
 use Rattle.sip_calls.specs.declared.calls.Calls.{Calls}
-use Rattle.sip_calls.specs.Call.{CallItem}
-use Rattle.sip_calls.specs.Call.{Taken, call_machine, call_step, command_taken, event_of, first_command_taken, kept, lost_taken, new_call, tag_of_answers, up_taken}
+use Rattle.sip_calls.specs.Call.{CallItem, Taken, call_machine, call_step, command_taken, event_of, first_command_taken, kept, lost_taken, made_tag, new_call, served_taken, up_taken}
 use Rattle.sip_calls.specs.OwnCall.{AreSidesOf, EachNoticeIsOwn, IsCallOf, IsInputOf, IsNoticeOf}
 use Rattle.sip_calls.specs.Sides.{CallTaken, by_clients, by_server, one_after_other, holds_any, side_of, ticked}
 
@@ -90,17 +88,18 @@ module _ (call_id : List ℕ) where
       (λ call. by_clients call (request_lost id timed_out (side_of call))) (own, (its, tt))
       (λ call own. clients_own call (request_lost id timed_out) own (lost_own call_id id timed_out))
 
+  served_own : (call : Call) (event : Event) (up : AnUp) (k : Kind) → up.call_id ≡ call_id
+      → IsKindOf call_id k → AreSidesOf call_id call → IsDoneOf (served_taken call event up k)
+  served_own call event up k its of_kind own =
+      server_own call _ own (server.kind_is call_id call.served (made_tag event) up k event.moment
+      its of_kind own.state)
+
   up_own : (call : Call) (event : Event) (up : AnUp) (k : Kind) → up.call_id ≡ call_id
       → IsKindOf call_id k → AreSidesOf call_id call → IsDoneOf (up_taken call event up k)
   up_own call event up (kind.Request request reply_to) its of_kind own =
-      let tag = tag_of_answers event request in
-      let k = kind.Request request reply_to in
-      server_own call (kind_taken (call.served).state tag up k event.moment) own
-      (server.kind_is call_id (call.served).state tag up k event.moment its of_kind own.state)
+      served_own call event up (kind.Request request reply_to) its of_kind own
   up_own call event up (kind.Ack ack) its of_kind own =
-      server_own call (kind_taken (call.served).state [] up (kind.Ack ack) event.moment) own
-      (server.kind_is call_id (call.served).state [] up (kind.Ack ack) event.moment its of_kind
-      own.state)
+      served_own call event up (kind.Ack ack) its of_kind own
   up_own call event up (kind.Response response) its of_kind own =
       let step = response_taken event up.id up.call_id response in
       clients_own call step own
@@ -140,7 +139,7 @@ module _ (call_id : List ℕ) where
       (keeps_same step request.call_id call_id its (dialog_request_own event request))
   command_own call event (Respond respond) its own =
       server_own call _ own
-      (server.respond_is call_id (call.served).state event.id respond event.moment its own.state)
+      (server.respond_is call_id call.served event.id respond event.moment its own.state)
   command_own call event (Ack ack) its own =
       let step = ack_by_user event ack in
       clients_own call step own (keeps_same step ack.call_id call_id its (ack_own event ack))
@@ -155,10 +154,10 @@ module _ (call_id : List ℕ) where
 
   ticked_own : (call : Call) (now : ℕ) → AreSidesOf call_id call → IsDoneOf (ticked call now)
   ticked_own call now own =
-      let first = served.tick_taken (call.served).state now in
+      let first = served.tick_taken call.served now in
       after (by_server call first)
       (λ call. by_clients call (clients.clients_ticked (side_of call) now))
-      (server_own call first own (server.tick_is call_id (call.served).state now own.state))
+      (server_own call first own (server.tick_is call_id call.served now own.state))
       (λ call own. clients_own call (λ side. clients.clients_ticked side now) own
       (tick_own call_id now))
 

@@ -18,7 +18,7 @@ use Rattle.sip_common.specs.declared.held_dialog.HeldDialog.{HeldDialog}
 use Rattle.sip_common.specs.Dialogs.{Dialogs, early_ended, ended_notice, is_early_of}
 use Rattle.sip_common.specs.Ids.{is_id}
 use Rattle.sip_served.specs.declared.held_request.HeldRequest.{HeldRequest}
-use Rattle.sip_served.specs.Arrival.{new_request}
+use Rattle.sip_served.specs.Arrival.{arrival_of}
 use Rattle.sip_served.specs.State.{has_id}
 use Rattle.sip_served.specs.Tick as served
 use Rattle.sip_served.proofs.RequestIds.{ack_ids, all_left, apart_left, arrival_adds, ids_of, respond_ids}
@@ -28,13 +28,10 @@ use Rattle.sip_clients.specs.Tick.{is_over, early_ends_told, over_notices}
 use Rattle.sip_clients.proofs.Hearing.{NoneOf}
 use Rattle.sip_calls.specs.declared.call.Call.{Call}
 use Rattle.sip_calls.specs.declared.calls.Calls.{Calls}
-use Rattle.sip_calls.specs.Call.{CallItem, call_step, command_taken, event_of, first_command_taken, kept, new_call, tag_of_answers, up_taken}
+use Rattle.sip_calls.specs.Call.{CallItem, call_step, command_taken, event_of, first_command_taken, kept, made_tag, new_call, up_taken}
 use Rattle.sip_calls.specs.Histories.{call_from}
 use Rattle.sip_calls.specs.Sides.{CallTaken, ticked}
 use Rattle.std.specs.Option.{option_map_or}
-use Rattle.sip_message.specs.declared.addr.Addr.{Addr}
-use Rattle.sip_message.specs.declared.key.Key.{Key}
-use Rattle.sip_message.specs.declared.message.Message.{Message}
 use Rattle.sip_served.specs.Unacknowledged.{at_tick}
 use Rattle.sip_served.proofs.ItemsFollow.{ack_follows, arrival_follows, respond_follows}
 use Rattle.sip_served.proofs.Reading.{Follows, IsTold, Quiet, Reading, fold_on, quiet_both}
@@ -93,9 +90,7 @@ abbrev pub read_by : {X : Type 0} → X → (HeldRequest → X) → (X → CallO
 read_by none read by = record { none = none; read = read; by = by; ticks = at_tick by }
 
 module _ {X : Type 0} (none : X) (read : HeldRequest → X) (by : Id → X → CallOut → X)
-    (told : (invite : Id) → IsTold X (read_by none read (by invite)) invite)
-    (new : (key : Key) (id : Id) (request : Message) (reply_to : Addr) (tag : List ℕ)
-    → read (new_request key id request reply_to tag) ≡ none) where
+    (told : (invite : Id) → IsTold X (read_by none read (by invite)) invite) where
   abbrev reading : Id → Reading X
   reading invite = read_by none read (by invite)
 
@@ -163,26 +158,25 @@ module _ {X : Type 0} (none : X) (read : HeldRequest → X) (by : Id → X → C
         then fold (by invite) (was invite) (up_taken call (event_of calls id now) up k).1
         else was invite) ids (requests_of (up_taken call (event_of calls id now) up k).0)
     up_step id now up (kind.Request request reply_to) ids differ sound =
-        let tag = tag_of_answers (event_of calls id now) request in
-        let arrival = new_request up.key up.id request reply_to tag in
+        let arrival = arrival_of up request reply_to (made_tag (event_of calls id now)) in
         let taken = up_taken call (event_of calls id now) up (kind.Request request reply_to) in
         let fresh = none_found up.id (requests_of call)
         (heads up.id ids (ids_of (requests_of call)) sound.later) in
         record {
           sound = adds_sound up.id ids (requests_of call) (requests_of taken.0) sound
               (IsDistinct-head is_id up.id ids differ)
-              (arrival_adds (call.served).state up.call_id arrival now);
+              (arrival_adds call.served up.call_id arrival now);
           says = follows_says (requests_of call) (requests_of taken.0) taken.1 said says
-              (λ invite. arrival_follows (reading invite) invite (told invite) (call.served).state
-              up.call_id arrival now fresh (new up.key up.id request reply_to tag));
+              (λ invite. arrival_follows (reading invite) invite (told invite) call.served
+              up.call_id arrival now fresh);
         }
     up_step id now up (kind.Ack ack) ids differ sound =
         let taken = up_taken call (event_of calls id now) up (kind.Ack ack) in
         record {
           sound = same_sound ids (requests_of call) (requests_of taken.0) sound
-              (ack_ids (call.served).state up.call_id ack);
+              (ack_ids call.served up.call_id ack);
           says = follows_says (requests_of call) (requests_of taken.0) taken.1 said says
-              (λ invite. ack_follows (reading invite) invite (told invite) (call.served).state
+              (λ invite. ack_follows (reading invite) invite (told invite) call.served
               up.call_id ack);
         }
     up_step id now up (kind.Response response) ids differ sound =
@@ -202,9 +196,9 @@ module _ {X : Type 0} (none : X) (read : HeldRequest → X) (by : Id → X → C
         let taken = command_taken call (event_of calls id now) (Respond respond) in
         record {
           sound = same_sound ids (requests_of call) (requests_of taken.0) sound
-              (respond_ids (call.served).state id respond now);
+              (respond_ids call.served id respond now);
           says = follows_says (requests_of call) (requests_of taken.0) taken.1 said says
-              (λ invite. respond_follows (reading invite) invite (told invite) (call.served).state
+              (λ invite. respond_follows (reading invite) invite (told invite) call.served
               id respond now);
         }
     command_step id now (Invite invite) ids sound = untouched ids call sound refl
@@ -222,7 +216,7 @@ module _ {X : Type 0} (none : X) (read : HeldRequest → X) (by : Id → X → C
         → Step (λ invite. fold (at_tick (by invite)) (was invite) (ticked call now).1) ids
         (requests_of (ticked call now).0)
     tick_step now ids sound =
-        let first = served.tick_taken (call.served).state now in
+        let first = served.tick_taken call.served now in
         let last = over_notices now (first.0).dialogs call.clients in
         record {
           sound = record {

@@ -7,9 +7,8 @@ use Rattle.std.proofs.lemmas.Bool.{false≢true}
 use Rattle.sip_message.specs.declared.id.Id.{Id}
 use Rattle.sip_message.specs.declared.message.Message.{Message}
 use Rattle.sip_common.specs.Command.{call_of_command}
-use Rattle.sip_common.specs.Dialogs.{is_early_of}
+use Rattle.sip_common.specs.Dialogs.{Dialogs, is_early_of}
 use Rattle.sip_served.specs.Respond.{by_refusal, by_request, confirms_dialog, dialogs_answered, makes_dialog, refusal_for, rejects, respond_taken}
-use Rattle.sip_common.specs.Dialogs.{Dialogs}
 use Rattle.sip_served.specs.State.{State, has_id}
 use Rattle.sip_common.specs.declared.command.Plain.{Plain as APlain}
 use Rattle.sip_common.specs.declared.command.Respond.{Respond as ARespond}
@@ -35,7 +34,7 @@ use Rattle.sip_clients.proofs.RefusedAlone.{ack_alone, by_bool, cancel_alone, en
 
 answered_told : (event : Id) (held : HeldRequest) (respond : ARespond) (response : Message)
     (dialogs : Dialogs)
-    → list_any is_refusal (dialogs_answered event held respond response dialogs).1 ≡ false
+    → list_any is_refusal (dialogs_answered event held respond.status response dialogs).1 ≡ false
 answered_told event held respond response dialogs =
     by_bool (makes_dialog held respond.status) (λ makes. rw makes refl)
     (λ no. rw no (by_bool (confirms_dialog held respond.status) (λ confirms. rw confirms refl)
@@ -99,7 +98,7 @@ later_alone call event (Request request) =
     by_clients_alone call request.call_id event.id
     (request_by_user event request (side_of call)) (request_alone event (side_of call) request)
 later_alone call event (Respond respond) = λ some.
-    let m = respond_alone (call.served).state event.id respond event.moment some in
+    let m = respond_alone call.served event.id respond event.moment some in
     (m.0, ap (by_server call) m.1)
 later_alone call event (Ack ack) =
     by_clients_alone call ack.call_id event.id (ack_by_user event ack (side_of call))

@@ -15,7 +15,7 @@ use Rattle.sip_common.specs.declared.command.UserCommand.TheVariants.{Invite, Pl
 use Rattle.sip_common.specs.declared.item.Item.TheVariants.{Up, User}
 use Rattle.sip_served.specs.declared.held_request.HeldRequest.{HeldRequest}
 use Rattle.sip_served.specs.Run.{event_taken}
-use Rattle.sip_served.specs.ServerSide.{empty_at}
+use Rattle.sip_served.specs.State.{empty_at}
 use Rattle.sip_served.specs.Step.{kind_taken, server_command_taken}
 use Rattle.sip_served.specs.Story.{ledger_of, request_of}
 use Rattle.sip_served.specs.Telling.{Stories, event_told}
@@ -24,17 +24,17 @@ use Rattle.sip_served.proofs.Stories.{event_on}
 use Rattle.sip_clients.specs.declared.event.Event.{Event}
 use Rattle.sip_calls.specs.declared.call.Call.{Call}
 use Rattle.sip_calls.specs.declared.calls.Calls.{Calls}
-use Rattle.sip_calls.specs.Call.{CallItem, call_step, command_taken, event_of, first_command_taken, new_call, ticked, up_taken}
+use Rattle.sip_calls.specs.Call.{CallItem, call_step, command_taken, event_of, first_command_taken, made_tag, new_call, ticked, up_taken}
 use Rattle.sip_calls.specs.HeldRequests.{requests_held}
 use Rattle.sip_calls.specs.Histories.{call_from}
-use Rattle.sip_calls.specs.RequestHistories.{FewUnacknowledged, HoldsItsStories, served_event, served_state, stories_from, stories_of, tag_of_kind}
+use Rattle.sip_calls.specs.RequestHistories.{FewUnacknowledged, HoldsItsStories, served_event, served_state, stories_from, stories_of}
 use Rattle.sip_calls.proofs.HeldRequests.{first_command, kept_requests, requests_of}
 
 -- ---- what an input makes of the requests is what it makes of the server side
 
 up_served : (call : Call) (event : Event) (up : AnUp) (k : Kind)
     → requests_of (up_taken call event up k).0
-    ≡ ((kind_taken (call.served).state (tag_of_kind event k) up k event.moment).0).requests
+    ≡ ((kind_taken call.served (made_tag event) up k event.moment).0).requests
 up_served call event up (kind.Request request reply_to) = refl
 up_served call event up (kind.Ack ack) = refl
 up_served call event up (kind.Response response) = refl
@@ -43,7 +43,7 @@ up_served call event up kind.Failed = refl
 
 command_served : (call : Call) (calls : Calls) (id : Id) (now : ℕ) (command : UserCommand)
     → requests_of (command_taken call (event_of calls id now) command).0
-    ≡ ((server_command_taken (call.served).state id command now).0).requests
+    ≡ ((server_command_taken call.served id command now).0).requests
 command_served call calls id now (Invite invite) = refl
 command_served call calls id now (PlainCommand plain) = refl
 command_served call calls id now (Request request) = refl

@@ -23,8 +23,7 @@ use Rattle.sip_common.proofs.ToldRequests.{shown as asked_in}
 use Rattle.sip_clients.proofs.NoRequests.{ack_command_asks, cancel_asks, invite_asks, lost_asks, plain_asks, prack_command_asks, request_asks, response_asks, tick_asks}
 use Rattle.sip_calls.specs.declared.call.Call.{Call}
 use Rattle.sip_calls.specs.declared.calls.Calls.{Calls}
-use Rattle.sip_calls.specs.Call.{CallItem}
-use Rattle.sip_calls.specs.Call.{call_step, command_taken, event_of, first_command_taken, new_call, tag_of_answers, up_taken}
+use Rattle.sip_calls.specs.Call.{CallItem, call_step, command_taken, event_of, first_command_taken, made_tag, new_call, up_taken}
 use Rattle.sip_calls.specs.Requests.{EachToldOnce, comes_up_by, tells_of}
 use Rattle.sip_calls.specs.Sides.{by_server, side_of, ticked}
 
@@ -56,11 +55,10 @@ module _ (id : Id) where
       → Few (up_taken call event up k).1 (is_request k (is_id id up.id))
   up_few call event up (kind.Request request reply_to) =
       let item = with_kind up (kind.Request request reply_to) in
-      told_often (call.served).state
-      (Takes (tag_of_answers event request) event.id item event.moment) id
+      told_often call.served (Takes (made_tag event) event.id item event.moment) id
   up_few call event up (kind.Ack ack) =
-      told_often (call.served).state
-      (Takes [] event.id (with_kind up (kind.Ack ack)) event.moment) id
+      let item = with_kind up (kind.Ack ack) in
+      told_often call.served (Takes (made_tag event) event.id item event.moment) id
   up_few call event up (kind.Response response) =
       few_of_none (up_taken call event up (kind.Response response)).1 false
       (response_asks event up.id up.call_id response (side_of call))
@@ -102,7 +100,7 @@ module _ (id : Id) where
       few_of_none (command_taken call event (Request request)).1
       false (request_asks event request (side_of call))
   command_few call event (Respond respond) =
-      told_often (call.served).state (Takes [] event.id (User (Respond respond)) event.moment) id
+      told_often call.served (Takes [] event.id (User (Respond respond)) event.moment) id
   command_few call event (Ack ack) =
       few_of_none (command_taken call event (Ack ack)).1
       false (ack_command_asks event ack (side_of call))
@@ -115,9 +113,9 @@ module _ (id : Id) where
 
   ticked_few : (call : Call) (now : ℕ) → Few (ticked call now).1 false
   ticked_few call now =
-      let first = by_server call (served.tick_taken (call.served).state now) in
+      let first = by_server call (served.tick_taken call.served now) in
       few_then_none first.1 (clients.clients_ticked (side_of first.0) now).1 false
-      (told_often (call.served).state (Ticks now) id) (tick_asks (side_of first.0) now)
+      (told_often call.served (Ticks now) id) (tick_asks (side_of first.0) now)
 
   -- ---- all of it
 

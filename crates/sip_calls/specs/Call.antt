@@ -3,17 +3,13 @@
 use Rattle.std.specs.Prelude.{ℕ, Bool, true, false, List, [], ◌∷◌, Option, None, Some, if◌then◌else◌}
 use Rattle.sip_message.specs.declared.addr.Addr.{Addr}
 use Rattle.sip_message.specs.declared.id.Id.{Id}
-use Rattle.sip_message.specs.declared.message.Message.{Message}
 use Rattle.sip_model.specs.Machine.{Machine, Timed}
 use Rattle.sip_transactions.specs.declared.output.Kind.{Kind}
 use Rattle.sip_transactions.specs.declared.output.Kind.TheVariants as kind
 use Rattle.sip_transactions.specs.declared.output.Up.{Up as AnUp}
-use Rattle.sip_served.specs.ServerSide.{empty_at}
-use Rattle.sip_served.specs.Acknowledgment.{ack_taken as acknowledged}
-use Rattle.sip_served.specs.Arrival.{new_request}
-use Rattle.sip_common.specs.Requests.{local_tag_of}
 use Rattle.sip_served.specs.Respond.{respond_taken}
-use Rattle.sip_served.specs.Step.{arrival_taken}
+use Rattle.sip_served.specs.State.{empty_at}
+use Rattle.sip_served.specs.Step.{kind_taken}
 use Rattle.sip_common.specs.declared.command.UserCommand.{UserCommand}
 use Rattle.sip_common.specs.declared.command.UserCommand.TheVariants.{Invite, Plain, Request, Respond, Ack, Prack, Cancel}
 use Rattle.sip_common.specs.declared.item.Item.{Item}
@@ -47,10 +43,7 @@ kept taken = (kept_call taken.0, taken.1)
 
 -- a call of which nothing is held yet
 abbrev pub new_call : Addr → Call
-new_call local = record {
-  served = record { broken = false; local = local; state = empty_at local };
-  clients = [];
-}
+new_call local = record { served = empty_at local; clients = [] }
 
 -- an event, and what its agent makes requests from
 abbrev pub event_of : Calls → Id → ℕ → Event
@@ -58,9 +51,14 @@ event_of calls id now = record { local = calls.local; seed = calls.seed; id = id
 
 -- ---- what comes up
 
--- the To tag of the answers to a request: its own, or that which its event makes
-abbrev pub tag_of_answers : Event → Message → List ℕ
-tag_of_answers event request = local_tag_of request (name_of event.seed event.id 0)
+-- the tag that an event makes for a request without a To tag
+abbrev pub made_tag : Event → List ℕ
+made_tag event = name_of event.seed event.id 0
+
+-- what comes up for the server side
+abbrev pub served_taken : Call → Event → AnUp → Kind → CallTaken
+served_taken call event up kind =
+    by_server call (kind_taken call.served (made_tag event) up kind event.moment)
 
 -- that a transaction is lost is told, and then what ends with its request ends
 abbrev pub lost_taken : Call → Id → ANotice → Bool → CallTaken
@@ -72,10 +70,8 @@ lost_taken call id notice timed_out =
 -- client side
 abbrev pub up_taken : Call → Event → AnUp → Kind → CallTaken
 up_taken call event up (kind.Request request reply_to) =
-    by_server call (arrival_taken (call.served).state up.call_id
-    (new_request up.key up.id request reply_to (tag_of_answers event request)) event.moment)
-up_taken call event up (kind.Ack ack) =
-    by_server call (acknowledged (call.served).state up.call_id ack)
+    served_taken call event up (kind.Request request reply_to)
+up_taken call event up (kind.Ack ack) = served_taken call event up (kind.Ack ack)
 up_taken call event up (kind.Response response) =
     by_clients call (response_taken event up.id up.call_id response (side_of call))
 up_taken call event up kind.Timeout = lost_taken call up.id (Timeout up.call_id up.id) true
@@ -108,7 +104,7 @@ command_taken call event (Plain plain) = (call, refused event.id plain.call_id C
 command_taken call event (Request request) =
     by_clients call (request_by_user event request (side_of call))
 command_taken call event (Respond respond) =
-    by_server call (respond_taken (call.served).state event.id respond event.moment)
+    by_server call (respond_taken call.served event.id respond event.moment)
 command_taken call event (Ack ack) = by_clients call (ack_by_user event ack (side_of call))
 command_taken call event (Prack prack) = by_clients call (prack_by_user event prack (side_of call))
 command_taken call event (Cancel cancel) =

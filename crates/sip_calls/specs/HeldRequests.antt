@@ -39,7 +39,7 @@ RequestsDiffer inputs = IsDistinct is_id (filter_map (λ timed. request_brought 
 -- those that are held
 abbrev pub requests_held : Option Call → List HeldRequest
 requests_held None = []
-requests_held (Some call) = ((call.served).state).requests
+requests_held (Some call) = (call.served).requests
 
 -- ---- the inputs that are about them
 

@@ -41,7 +41,7 @@ brought_by_kind call id kind.Failed name held = []
 abbrev pub brought_by_command : Call → UserCommand → List CallOut → DialogName → HeldDialog
     → List Happening
 brought_by_command call (Respond respond) outs name held =
-    answer_confirms (call.served).state respond outs name held
+    answer_confirms call.served respond outs name held
 brought_by_command call _ outs name held = []
 
 -- what an item does so
@@ -63,7 +63,7 @@ opening_by_kind call id _ = None
 
 -- that which a command of the user makes: a request, with the answer to it
 abbrev pub opening_by_command : Call → UserCommand → Option Opening
-opening_by_command call (Respond respond) = answer_opens (call.served).state respond
+opening_by_command call (Respond respond) = answer_opens call.served respond
 opening_by_command call _ = None
 
 -- that which an item makes

@@ -27,10 +27,10 @@ neither false y e = (refl, e)
 calm_tick : (now : ℕ) (call : Call) → is_due now (next_due call) ≡ false
     → ticked call now ≡ (call, [])
 calm_tick now call calm =
-    let parts = neither _ _ (sym (earlier_due now (served.next_server_due (call.served).state)
+    let parts = neither _ _ (sym (earlier_due now (served.next_server_due call.served)
     (clients.next_removal call.clients)) ∙ calm) in
-    let first : by_server call (served.tick_taken (call.served).state now) ≡ (call, []) =
-    ap (by_server call) (quiet_before (call.served).state now parts.0) in
+    let first : by_server call (served.tick_taken call.served now) ≡ (call, []) =
+    ap (by_server call) (quiet_before call.served now parts.0) in
     let second : by_clients call (clients.clients_ticked (side_of call) now) ≡ (call, []) =
     ap (by_clients call) (clients_quiet_before (side_of call) now parts.1) in
     (λ i. let done : CallTaken = first i in (

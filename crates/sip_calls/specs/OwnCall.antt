@@ -7,12 +7,11 @@ pub use Rattle.sip_served.specs.OwnCall.{IsStateOf}
 pub use Rattle.sip_clients.specs.OwnCall.{AreClientsOf}
 use Rattle.sip_calls.specs.declared.call.Call.{Call}
 use Rattle.sip_calls.specs.declared.calls.Calls.{Calls}
-use Rattle.sip_calls.specs.Call.{CallItem}
-use Rattle.sip_calls.specs.Call.{call_step}
+use Rattle.sip_calls.specs.Call.{CallItem, call_step}
 
 -- both sides of a call are of that Call-ID
 pub record AreSidesOf (call_id : List ℕ) (call : Call) : Type 0 where
-  pub state : IsStateOf call_id (call.served).state
+  pub state : IsStateOf call_id call.served
   pub clients : AreClientsOf call_id call.clients
 
 -- what is held of a call, if anything, is of that Call-ID

@@ -4,44 +4,28 @@ use Rattle.std.specs.Prelude.{◌≡◌, ℕ, List, [], ◌∷◌, map, Option, 
 use Rattle.std.specs.List.{AllByRecursion}
 use Rattle.sip_model.specs.Machine.{Timed}
 use Rattle.sip_reliable.specs.Ledger.{FewWait}
-use Rattle.sip_transactions.specs.declared.output.Kind.{Kind}
-use Rattle.sip_transactions.specs.declared.output.Kind.TheVariants as kind
-use Rattle.sip_common.specs.declared.item.Item.{Item}
-use Rattle.sip_common.specs.declared.item.Item.TheVariants.{Up, User}
 use Rattle.sip_served.specs.Run.{Event as ServedEvent, Takes, Ticks}
-use Rattle.sip_served.specs.ServerSide.{empty_at}
-use Rattle.sip_served.specs.State.{State}
+use Rattle.sip_served.specs.State.{State, empty_at}
 use Rattle.sip_served.specs.Story.{ledger_of, request_of}
 use Rattle.sip_served.specs.Telling.{Stories, event_told}
-use Rattle.sip_clients.specs.declared.event.Event.{Event}
 use Rattle.sip_calls.specs.declared.call.Call.{Call}
 use Rattle.sip_calls.specs.declared.calls.Calls.{Calls}
-use Rattle.sip_calls.specs.Call.{CallItem, call_step, event_of, tag_of_answers}
+use Rattle.sip_calls.specs.Call.{CallItem, call_step, event_of, made_tag}
 use Rattle.sip_calls.specs.HeldRequests.{requests_held}
 use Rattle.sip_calls.specs.Histories.{call_from}
 
 -- ---- one input
 
--- the To tag of the answers to a request that comes up
-abbrev pub tag_of_kind : Event → Kind → List ℕ
-tag_of_kind event (kind.Request request reply_to) = tag_of_answers event request
-tag_of_kind event _ = []
-
--- the same of an item
-abbrev pub tag_of_item : Event → Item → List ℕ
-tag_of_item event (Up up) = tag_of_kind event up.kind
-tag_of_item event (User command) = []
-
 -- what an input is to the server side
 abbrev pub served_event : Calls → Option CallItem → ℕ → ServedEvent
 served_event calls None now = Ticks now
 served_event calls (Some (id, item)) now =
-    Takes (tag_of_item (event_of calls id now) item) id item now
+    Takes (made_tag (event_of calls id now)) id item now
 
 -- the server side of a call
 abbrev pub served_state : Calls → Option Call → State
 served_state calls None = empty_at calls.local
-served_state calls (Some call) = (call.served).state
+served_state calls (Some call) = call.served
 
 -- ---- a list of inputs
 

@@ -15,20 +15,17 @@ CallTaken = Call × List CallOut
 
 -- the server side took something
 abbrev pub by_server : Call → ServedTaken → CallTaken
-by_server call taken = (record call { served = record call.served { state = taken.0 } }, taken.1)
+by_server call taken = (record call { served = taken.0 }, taken.1)
 
 -- what the client side sees: the dialogs and the client requests
 abbrev pub side_of : Call → Side
-side_of call = record { dialogs = ((call.served).state).dialogs; clients = call.clients }
+side_of call = record { dialogs = (call.served).dialogs; clients = call.clients }
 
 -- the client side took something
 abbrev pub by_clients : Call → ClientTaken → CallTaken
 by_clients call taken = (
   record call {
-    served = record call.served {
-      state = record
-          (call.served).state { dialogs = (taken.0).dialogs };
-    };
+    served = record call.served { dialogs = (taken.0).dialogs };
     clients = (taken.0).clients;
   },
   taken.1,
@@ -40,15 +37,15 @@ one_after_other done more = ((more done.0).0, done.1 ++ (more done.0).1)
 
 -- something is held
 abbrev pub holds_any : Call → Bool
-holds_any call = holds (call.served).state || not (length call.clients == 0)
+holds_any call = holds call.served || not (length call.clients == 0)
 
 -- first the server side, and then the client side
 abbrev pub ticked : Call → ℕ → CallTaken
 ticked call now =
-    one_after_other (by_server call (served.tick_taken (call.served).state now))
+    one_after_other (by_server call (served.tick_taken call.served now))
     (λ call. by_clients call (clients.clients_ticked (side_of call) now))
 
 -- the first moment at which something is due
 abbrev pub next_due : Call → Option ℕ
 next_due call =
-    earlier (served.next_server_due (call.served).state) (clients.next_removal call.clients)
+    earlier (served.next_server_due call.served) (clients.next_removal call.clients)

@@ -4,22 +4,18 @@ ghost use Rattle.std.specs.Prelude.{◌≡◌, ◌≤◌, ◌^◌, IfOk};
 ghost use Rattle.sip_clients.specs.Cancel.{cancel_by_user};
 ghost use Rattle.sip_clients.specs.Clients as clients;
 ghost use Rattle.sip_clients.specs.Tick.{clients_ticked};
-ghost use Rattle.sip_served.specs.Acknowledgment.{ack_taken};
-ghost use Rattle.sip_served.specs.Respond.{respond_taken};
-ghost use Rattle.sip_served.specs.Step.{arrival_taken};
-ghost use Rattle.sip_served.specs.Tick as served;
 ghost use Rattle.sip_calls.specs.Sides as spec;
 
 use sip_clients::{Clients, Event};
 use sip_message::{CallId, Id, Message};
-use sip_served::{CallOut, Cancel, DialogBody, DialogRequest, HeldRequest, Respond, Served};
+use sip_served::{CallOut, Cancel, DialogBody, DialogRequest, ServerSide};
 use sip_timers::earlier;
 use std::alloc::{AllocError, Global};
 
 /// All that is held under one Call-ID: the server requests and the dialogs, and the client
 /// requests.
 pub struct Call {
-    pub served: Served,
+    pub served: ServerSide,
     pub clients: Clients,
 }
 
@@ -38,77 +34,14 @@ impl Call {
         earlier(self.served.next_due(), self.clients.next_due())
     }
 
-    // ---- the server side
-
-    /// A request comes up, at the moment `now` in ms.
-    pub(crate) fn arrive(
-        &mut self,
-        call_id: CallId,
-        arrival: HeldRequest,
-        now: u64,
-    ) -> Result<Vec<CallOut>, AllocError>
-        requires { now ≤ 2 ^ 62 }
-        ensures { IfOk result (λ outs. (self.new, outs.items)
-            ≡ spec.by_server self.old
-            (arrival_taken (self.old.served).state call_id arrival now)) }
-    {
-        match self.served.arrive(call_id, arrival, now) {
-            Ok(outs) => Ok(outs),
-            Err(_) => Err(AllocError),
-        }
-    }
-
-    /// The ACK of a 2xx comes up.
-    pub(crate) fn acknowledge(
-        &mut self,
-        call_id: CallId,
-        ack: &Message,
-    ) -> Result<Vec<CallOut>, AllocError>
-        ensures { IfOk result (λ outs. (self.new, outs.items)
-            ≡ spec.by_server self.old (ack_taken (self.old.served).state call_id ack.now)) }
-    {
-        match self.served.ack(call_id, ack) {
-            Ok(outs) => Ok(outs),
-            Err(_) => Err(AllocError),
-        }
-    }
-
-    /// The user answers a request.
-    pub(crate) fn respond(
-        &mut self,
-        event: Event,
-        respond: Respond,
-    ) -> Result<Vec<CallOut>, AllocError>
-        requires { event.moment ≤ 2 ^ 62 }
-        ensures { IfOk result (λ outs. (self.new, outs.items)
-            ≡ spec.by_server self.old
-            (respond_taken (self.old.served).state event.id respond event.moment)) }
-    {
-        match self.served.respond(event.id, respond, event.moment) {
-            Ok(outs) => Ok(outs),
-            Err(_) => Err(AllocError),
-        }
-    }
-
     /// The moment `now`, in ms, has come: first for the server side.
     pub(crate) fn tick(&mut self, now: u64) -> Result<Vec<CallOut>, AllocError>
         requires { now ≤ 2 ^ 62 }
         ensures { IfOk result (λ outs. (self.new, outs.items) ≡ spec.ticked self.old now) }
     {
-        let mut outs = self.tick_server(now)?;
+        let mut outs = self.served.tick(now)?;
         outs.append(&mut self.tick_clients(now)?)?;
         Ok(outs)
-    }
-
-    fn tick_server(&mut self, now: u64) -> Result<Vec<CallOut>, AllocError>
-        requires { now ≤ 2 ^ 62 }
-        ensures { IfOk result (λ outs. (self.new, outs.items)
-            ≡ spec.by_server self.old (served.tick_taken (self.old.served).state now)) }
-    {
-        match self.served.tick(now) {
-            Ok(outs) => Ok(outs),
-            Err(_) => Err(AllocError),
-        }
     }
 
     // ---- the client side

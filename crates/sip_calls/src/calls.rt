@@ -1,7 +1,7 @@
 //! The machine of one call: what each of its inputs makes of it, and what it gives.
 
 ghost use Rattle.std.specs.Prelude.{◌≡◌, ◌≤◌, ◌^◌, IfOk, None, Some, if◌then◌else◌};
-ghost use Rattle.sip_common.specs.Notices.{refused};
+ghost use Rattle.sip_common.specs.Requests.{local_tag_of};
 ghost use Rattle.sip_calls.specs.Call as spec;
 ghost use Rattle.sip_calls.specs.Call.{call_due, call_machine, call_step};
 ghost use Rattle.sip_calls.specs.Idle.{call_ticks_are_idle};
@@ -9,11 +9,11 @@ ghost use Rattle.std.proofs.lemmas.Map.Lookups.{exact_bytes};
 
 use crate::call::Call;
 use sip_clients::{Clients, Event, made_name};
-use sip_common::outputs;
+use sip_common::outputs::refused;
 use sip_common::request::{is_inside, own_tag};
 use sip_message::{Addr, CallId, Id, Message, Token};
 use sip_model::StateMachine;
-use sip_served::{CallOut, HeldRequest, Item, Notice, Refusal, Served, UserCommand};
+use sip_served::{Arrival, CallOut, Item, Notice, Refusal, ServerSide, UserCommand};
 use sip_transactions::{Kind, Up};
 use std::alloc::{AllocError, Global};
 
@@ -142,7 +142,7 @@ impl Calls {
         ensures { result ≡ spec.new_call self.now.local }
     {
         Call {
-            served: Served::new(alloc, self.local),
+            served: ServerSide::new(alloc, self.local),
             clients: Clients::new(alloc),
         }
     }
@@ -203,10 +203,16 @@ fn take_up(alloc: Global, call: &mut Call, event: Event, up: Up) -> Result<Vec<C
     match kind {
         Kind::Request(request, reply_to) => {
             let tag = tag_of_answers(alloc, event, request.get())?;
-            let arrival = HeldRequest::new(alloc, key, id, request, reply_to, tag);
-            call.arrive(call_id, arrival, event.moment)
+            let arrival = Arrival {
+                id,
+                key,
+                request,
+                reply_to,
+                tag,
+            };
+            call.served.request(call_id, arrival, event.moment)
         }
-        Kind::Ack(ack) => call.acknowledge(call_id, ack.get()),
+        Kind::Ack(ack) => call.served.ack(call_id, ack.get()),
         Kind::Response(response) => call.response(event, id, call_id, response.into_inner()),
         Kind::Timeout => fail_request(alloc, call, id, Notice::Timeout { call_id, id }, true),
         Kind::Failed => fail_request(alloc, call, id, Notice::Failed { call_id, id }, false),
@@ -215,7 +221,7 @@ fn take_up(alloc: Global, call: &mut Call, event: Event, up: Up) -> Result<Vec<C
 
 // The To tag of the answers to a request: its own, or the one that its event makes.
 fn tag_of_answers(alloc: Global, event: Event, request: &Message) -> Result<Token, AllocError>
-    ensures { IfOk result (λ tag. tag ≡ spec.tag_of_answers event request.now) }
+    ensures { IfOk result (λ tag. tag ≡ local_tag_of request.now (spec.made_tag event)) }
 {
     match own_tag(alloc, request)? {
         Some(own) => Ok(own),
@@ -253,7 +259,10 @@ fn take_first_command(
     match &command {
         UserCommand::Invite(invite) => call.clients.invite(event, invite),
         UserCommand::Plain(plain) => call.clients.plain(event, plain),
-        _ => refuse(alloc, event, command.call_id(), Refusal::NoSuchCall),
+        _ => {
+            let call_id = command.call_id().clone()?;
+            refused(alloc, event.id, call_id, Refusal::NoSuchCall)
+        }
     }
 }
 
@@ -269,24 +278,16 @@ fn take_command(
         ≡ spec.command_taken call.old event command) }
 {
     match command {
-        UserCommand::Invite(invite) => { refuse(alloc, event, &invite.call_id, Refusal::CallInUse) }
-        UserCommand::Plain(plain) => refuse(alloc, event, &plain.call_id, Refusal::CallInUse),
+        UserCommand::Invite(invite) => {
+            refused(alloc, event.id, invite.call_id.clone()?, Refusal::CallInUse)
+        }
+        UserCommand::Plain(plain) => {
+            refused(alloc, event.id, plain.call_id.clone()?, Refusal::CallInUse)
+        }
         UserCommand::Request(request) => call.request(event, &request),
-        UserCommand::Respond(respond) => call.respond(event, respond),
+        UserCommand::Respond(respond) => call.served.respond(event.id, respond, event.moment),
         UserCommand::Ack(ack) => call.ack(event, &ack),
         UserCommand::Prack(prack) => call.prack(event, &prack),
         UserCommand::Cancel(cancel) => call.cancel(event, &cancel),
     }
-}
-
-// A command is refused.
-fn refuse(
-    alloc: Global,
-    event: Event,
-    call_id: &CallId,
-    refusal: Refusal,
-) -> Result<Vec<CallOut>, AllocError>
-    ensures { IfOk result (λ outs. outs.items ≡ refused event.id call_id.now refusal) }
-{
-    outputs::refused(alloc, event.id, call_id.clone()?, refusal)
 }

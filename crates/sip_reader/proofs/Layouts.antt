@@ -1,10 +1,10 @@
 -- The lines of a message are read as they lie in its text.
-use Rattle.std.proofs.Common.{◌≡◌, ◌⊎◌, inl, inr, ℕ, zero, suc, ◌-◌, ◌<◌, ◌≤◌, Bool, true, false, cond, eqb, ◌&&◌, List, [], ◌∷◌, ◌++◌, length, take, get_or, replicate, Option, Some, None, refl, sym, ap, subst, ◌∙◌, arith}
+use Rattle.std.proofs.Common.{◌≡◌, ◌⊎◌, inl, inr, ℕ, zero, suc, ◌-◌, ◌<◌, ◌≤◌, Bool, true, false, cond, eqb, ◌&&◌, List, [], ◌∷◌, ◌++◌, length, take, slice_index, replicate, Option, Some, None, refl, sym, ap, subst, ◌∙◌, arith}
 use Rattle.std.specs.List.{AllByRecursion}
 use Rattle.std.specs.Option.{option_map}
 use Rattle.std.specs.Str.Lines.{strip_carriage_return}
 use Rattle.std.proofs.lemmas.Bool.{eqb-true, eqb-false, and_parts, true≢false}
-use Rattle.std.proofs.lemmas.List.{length-append, length-take}
+use Rattle.std.proofs.lemmas.List.{length-append}
 use Rattle.std.proofs.lemmas.Option.{same_Some}
 use Rattle.sip_text.specs.Cut.{cut_at}
 use Rattle.sip_text.specs.Line.{line_at}
@@ -16,7 +16,7 @@ use Rattle.sip_headers.proofs.Folds.{one_line, no_line, whole_behind}
 use Rattle.sip_reader.specs.Layout.{IsFull, Lays}
 use Rattle.sip_reader.specs.SkippedEnds.{without_line_ends}
 use Rattle.sip_values.proofs.Cuts.{at_again}
-use Rattle.sip_values.proofs.Pieces.{map_some}
+use Rattle.sip_values.proofs.Pieces.{by_bool, map_some}
 
 -- ---- one line
 
@@ -102,15 +102,22 @@ section_again (line ∷ lines) text rest all is =
 
 -- ---- empty lines at the start
 
--- the text doesn't begin with a line end
-abbrev NoEnd : List ℕ → Type 0
-NoEnd text = (after : List ℕ) → (text ≡ 10 ∷ after) ⊎ (text ≡ 13 ∷ (10 ∷ after)) → ⊥
+-- the text begins with a line end
+abbrev HasEnd : List ℕ → List ℕ → Type 0
+HasEnd text after = (text ≡ 10 ∷ after) ⊎ (text ≡ 13 ∷ (10 ∷ after))
 
-strip_long : (b c : ℕ) (bs : List ℕ) (r : Bool)
-    → [] ≡ cond r (take (length (b ∷ (c ∷ bs)) - 1) (b ∷ (c ∷ bs))) (b ∷ (c ∷ bs)) → ⊥
-strip_long b c bs true e =
-    omega (arith, ap length e, length-take (length (b ∷ (c ∷ bs)) - 1) (b ∷ (c ∷ bs)))
-strip_long b c bs false e = absurd cc
+-- it doesn't
+abbrev NoEnd : List ℕ → Type 0
+NoEnd text = (after : List ℕ) → HasEnd text after → ⊥
+
+pub strips_later : (b c : ℕ) (cs : List ℕ)
+    → strip_carriage_return (b ∷ c ∷ cs) ≡ b ∷ strip_carriage_return (c ∷ cs)
+strips_later b c cs =
+    let long : length (b ∷ c ∷ cs) - 1 ≡ suc (length cs) = omega arith in
+    let less : length (c ∷ cs) - 1 ≡ length cs = omega arith in
+    rw (long, less) (elim (eqb (slice_index (c ∷ cs) (length cs)) 13) as (λ r.
+    cond r (b ∷ take (length cs) (c ∷ cs)) (b ∷ c ∷ cs)
+    ≡ b ∷ cond r (take (length cs) (c ∷ cs)) (c ∷ cs)) [ true ↦ refl | false ↦ refl ])
 
 strip_one : (b : ℕ) (r : Bool) → eqb b 13 ≡ r → [] ≡ cond r [] (b ∷ []) → b ≡ 13
 strip_one b true is e = eqb-true b 13 is
@@ -118,77 +125,21 @@ strip_one b false is e = absurd cc
 
 -- an empty line is LF or CR LF
 empty_part : (part after : List ℕ) → [] ≡ strip_carriage_return part
-    → (part ++ (10 ∷ after) ≡ 10 ∷ after) ⊎ (part ++ (10 ∷ after) ≡ 13 ∷ (10 ∷ after))
+    → HasEnd (part ++ (10 ∷ after)) after
 empty_part [] after e = inl refl
 empty_part (b ∷ []) after e = inr (ap (λ (c : ℕ). c ∷ (10 ∷ after)) (strip_one b (eqb b 13) refl e))
 empty_part (b ∷ (c ∷ bs)) after e =
-    absurd (strip_long b c bs (eqb (get_or (b ∷ (c ∷ bs)) (length (b ∷ (c ∷ bs)) - 1) 0) 13) e)
+    let none : [] ≡ b ∷ strip_carriage_return (c ∷ bs) = e ∙ strips_later b c bs in absurd cc
 
-empty_line : (text after : List ℕ) → IsLine text [] after
-    → (text ≡ 10 ∷ after) ⊎ (text ≡ 13 ∷ (10 ∷ after))
+empty_line : (text after : List ℕ) → IsLine text [] after → HasEnd text after
 empty_line text after is =
-    subst (λ (xs : List ℕ). (xs ≡ 10 ∷ after) ⊎ (xs ≡ 13 ∷ (10 ∷ after))) (sym is.parts)
-    (empty_part is.part after is.stripped)
+    subst (λ (xs : List ℕ). HasEnd xs after) (sym is.parts) (empty_part is.part after is.stripped)
 
-an_empty_line : (text after : List ℕ) → (text ≡ 10 ∷ after) ⊎ (text ≡ 13 ∷ (10 ∷ after))
-    → IsLine text [] after
+an_empty_line : (text after : List ℕ) → HasEnd text after → IsLine text [] after
 an_empty_line text after (inl e) = record { part = []; parts = e; one = refl; stripped = refl }
 an_empty_line text after (inr e) = record { part = 13 ∷ []; parts = e; one = refl; stripped = refl }
 
 -- ---- they are skipped
-
-abbrev Skipped : List ℕ → List (List ℕ) → List ℕ → Type 0
-Skipped text lines rest = (n : ℕ) × IsLines text (replicate n [] ++ lines) rest
-
-skip_one : (text after : List ℕ) (lines : List (List ℕ)) (rest : List ℕ) → IsLine text [] after
-    → Skipped after lines rest → Skipped text lines rest
-skip_one text after lines rest is more = (suc more.0, (after, is, more.1))
-
-last_one : (b : ℕ) (lines : List (List ℕ)) (rest : List ℕ) (r : Bool) → eqb b 10 ≡ r
-    → IsLines (cond r [] (b ∷ [])) lines rest → Skipped (b ∷ []) lines rest
-last_one b lines rest true is h =
-    skip_one (b ∷ []) [] lines rest
-    (an_empty_line (b ∷ []) [] (inl (ap (λ (c : ℕ). c ∷ []) (eqb-true b 10 is)))) (0, h)
-last_one b lines rest false is h = (0, h)
-
-after_cr : (b c : ℕ) (bs : List ℕ) (lines : List (List ℕ)) (rest : List ℕ) (r : Bool)
-    → (eqb b 13 && eqb c 10) ≡ r → (IsLines (without_line_ends bs) lines rest
-    → Skipped bs lines rest) → IsLines (cond r (without_line_ends bs) (b ∷ (c ∷ bs))) lines rest
-    → Skipped (b ∷ (c ∷ bs)) lines rest
-after_cr b c bs lines rest true is more h =
-    let both = and_parts (eqb b 13) (eqb c 10) is in
-    let begins : b ∷ (c ∷ bs) ≡ 13 ∷ (10 ∷ bs) =
-    ap (λ (x : ℕ). x ∷ (c ∷ bs)) (eqb-true b 13 both.0)
-    ∙ ap (λ (x : ℕ). 13 ∷ (x ∷ bs)) (eqb-true c 10 both.1) in
-    skip_one (b ∷ (c ∷ bs)) bs lines rest (an_empty_line (b ∷ (c ∷ bs)) bs (inr begins)) (more h)
-after_cr b c bs lines rest false is more h = (0, h)
-
-first_one : (b c : ℕ) (bs : List ℕ) (lines : List (List ℕ)) (rest : List ℕ) (r : Bool)
-    → eqb b 10 ≡ r → (IsLines (without_line_ends (c ∷ bs)) lines rest → Skipped (c ∷ bs) lines rest)
-    → (IsLines (without_line_ends bs) lines rest → Skipped bs lines rest)
-    → IsLines (cond r (without_line_ends (c ∷ bs))
-    (cond (eqb b 13 && eqb c 10) (without_line_ends bs) (b ∷ (c ∷ bs)))) lines rest
-    → Skipped (b ∷ (c ∷ bs)) lines rest
-first_one b c bs lines rest true is more further h =
-    skip_one (b ∷ (c ∷ bs)) (c ∷ bs) lines rest
-    (an_empty_line (b ∷ (c ∷ bs)) (c ∷ bs)
-    (inl (ap (λ (x : ℕ). x ∷ (c ∷ bs)) (eqb-true b 10 is)))) (more h)
-first_one b c bs lines rest false is more further h =
-    after_cr b c bs lines rest (eqb b 13 && eqb c 10) refl further h
-
-skip_takes : (text : List ℕ) (lines : List (List ℕ)) (rest : List ℕ)
-    → IsLines (without_line_ends text) lines rest → Skipped text lines rest
-skip_takes [] lines rest h = (0, h)
-skip_takes (b ∷ []) lines rest h = last_one b lines rest (eqb b 10) refl h
-skip_takes (b ∷ (c ∷ bs)) lines rest h =
-    first_one b c bs lines rest (eqb b 10) refl (skip_takes (c ∷ bs) lines rest)
-    (skip_takes bs lines rest) h
-
--- ---- and nothing else is
-
-ends_none : NoEnd []
-ends_none after (inl e) = absurd cc
-ends_none after (inr e) = absurd cc
 
 ends_one : (b : ℕ) → eqb b 10 ≡ false → NoEnd (b ∷ [])
 ends_one b other after (inl e) =
@@ -207,59 +158,88 @@ ends_more b c bs other not_both after (inr e) =
     true≢false (sym (ap (λ (x : ℕ). eqb x 13 && eqb 10 10) first ∙ refl)
     ∙ ap (λ (x : ℕ). eqb b 13 && eqb x 10) (sym second) ∙ not_both)
 
-done_one : (b : ℕ) (r : Bool) → eqb b 10 ≡ r → NoEnd (cond r [] (b ∷ []))
-done_one b true is = ends_none
-done_one b false is = ends_one b is
+ends_none : NoEnd []
+ends_none after (inl e) = absurd cc
+ends_none after (inr e) = absurd cc
 
-done_cr : (b c : ℕ) (bs : List ℕ) (r : Bool) → eqb b 10 ≡ false → (eqb b 13 && eqb c 10) ≡ r
-    → NoEnd (without_line_ends bs) → NoEnd (cond r (without_line_ends bs) (b ∷ (c ∷ bs)))
-done_cr b c bs true other is more = more
-done_cr b c bs false other is more = ends_more b c bs other is
+-- a text begins with a line end, or stays as it is
+abbrev BeginsOrStays : List ℕ → Type 0
+BeginsOrStays text = ((after : List ℕ) × HasEnd text after)
+    ⊎ (NoEnd text × (without_line_ends text ≡ text))
 
-done_first : (b c : ℕ) (bs : List ℕ) (r : Bool) → eqb b 10 ≡ r → NoEnd (without_line_ends (c ∷ bs))
-    → NoEnd (without_line_ends bs)
-    → NoEnd (cond r (without_line_ends (c ∷ bs))
-    (cond (eqb b 13 && eqb c 10) (without_line_ends bs) (b ∷ (c ∷ bs))))
-done_first b c bs true is more further = more
-done_first b c bs false is more further = done_cr b c bs (eqb b 13 && eqb c 10) is refl further
-
-skip_done : (text : List ℕ) → NoEnd (without_line_ends text)
-skip_done [] = ends_none
-skip_done (b ∷ []) = done_one b (eqb b 10) refl
-skip_done (b ∷ (c ∷ bs)) = done_first b c bs (eqb b 10) refl (skip_done (c ∷ bs)) (skip_done bs)
-
-kept_one : (b : ℕ) (r : Bool) → eqb b 10 ≡ r → NoEnd (b ∷ []) → cond r [] (b ∷ []) ≡ b ∷ []
-kept_one b true is none = absurd (none [] (inl (ap (λ (c : ℕ). c ∷ []) (eqb-true b 10 is))))
-kept_one b false is none = refl
-
-kept_cr : (b c : ℕ) (bs : List ℕ) (r : Bool) → (eqb b 13 && eqb c 10) ≡ r → NoEnd (b ∷ (c ∷ bs))
-    → cond r (without_line_ends bs) (b ∷ (c ∷ bs)) ≡ b ∷ (c ∷ bs)
-kept_cr b c bs true is none =
+begins_or_stays : (text : List ℕ) → BeginsOrStays text
+begins_or_stays [] = inr (ends_none, refl)
+begins_or_stays (b ∷ []) =
+    by_bool (eqb b 10) (λ _. BeginsOrStays (b ∷ []))
+    (λ lf. inl ([], inl (ap (λ (x : ℕ). x ∷ []) (eqb-true b 10 lf))))
+    (λ other. inr (ends_one b other, rw other refl))
+begins_or_stays (b ∷ (c ∷ bs)) =
+    by_bool (eqb b 10) (λ _. BeginsOrStays (b ∷ (c ∷ bs)))
+    (λ lf. inl (c ∷ bs, inl (ap (λ (x : ℕ). x ∷ (c ∷ bs)) (eqb-true b 10 lf))))
+    (λ other. by_bool (eqb b 13 && eqb c 10) (λ _. BeginsOrStays (b ∷ (c ∷ bs)))
+    (λ is.
     let both = and_parts (eqb b 13) (eqb c 10) is in
-    absurd (none bs (inr (ap (λ (x : ℕ). x ∷ (c ∷ bs)) (eqb-true b 13 both.0)
-    ∙ ap (λ (x : ℕ). 13 ∷ (x ∷ bs)) (eqb-true c 10 both.1))))
-kept_cr b c bs false is none = refl
-
-kept_first : (b c : ℕ) (bs : List ℕ) (r : Bool) → eqb b 10 ≡ r → NoEnd (b ∷ (c ∷ bs))
-    → cond r (without_line_ends (c ∷ bs))
-    (cond (eqb b 13 && eqb c 10) (without_line_ends bs) (b ∷ (c ∷ bs))) ≡ b ∷ (c ∷ bs)
-kept_first b c bs true is none =
-    absurd (none (c ∷ bs) (inl (ap (λ (x : ℕ). x ∷ (c ∷ bs)) (eqb-true b 10 is))))
-kept_first b c bs false is none = kept_cr b c bs (eqb b 13 && eqb c 10) refl none
+    inl (
+      bs,
+      inr (ap (λ (x : ℕ). x ∷ (c ∷ bs)) (eqb-true b 13 both.0)
+          ∙ ap (λ (x : ℕ). 13 ∷ (x ∷ bs)) (eqb-true c 10 both.1)),
+    ))
+    (λ not_both. inr (ends_more b c bs other not_both, rw (other, not_both) refl)))
 
 pub kept : (text : List ℕ) → NoEnd text → without_line_ends text ≡ text
-kept [] none = refl
-kept (b ∷ []) none = kept_one b (eqb b 10) refl none
-kept (b ∷ (c ∷ bs)) none = kept_first b c bs (eqb b 10) refl none
+kept text none =
+    elim (begins_or_stays text) as (λ _. without_line_ends text ≡ text) [
+      | inl (after, begins) ↦ absurd (none after begins)
+      | inr (_, same) ↦ same
+    ]
 
 skip_lf : (after : List ℕ) → without_line_ends (10 ∷ after) ≡ without_line_ends after
 skip_lf [] = refl
 skip_lf (c ∷ cs) = refl
 
-skip_line : (text after : List ℕ) → (text ≡ 10 ∷ after) ⊎ (text ≡ 13 ∷ (10 ∷ after))
+skip_line : (text after : List ℕ) → HasEnd text after
     → without_line_ends text ≡ without_line_ends after
 skip_line text after (inl e) = ap without_line_ends e ∙ skip_lf after
 skip_line text after (inr e) = ap without_line_ends e
+
+-- the empty lines that are skipped, and that no further one is
+record Skips (text : List ℕ) : Type 0 where
+  skipped : ℕ
+  before : (lines : List (List ℕ)) (rest : List ℕ) → IsLines (without_line_ends text) lines rest
+      → IsLines text (replicate skipped [] ++ lines) rest
+  done : NoEnd (without_line_ends text)
+
+skips_by : (text : List ℕ) → ((after : List ℕ) → length after < length text → Skips after)
+    → Skips text
+skips_by text further =
+    elim (begins_or_stays text) as (λ _. Skips text) [
+      | inl (after, begins) ↦
+          let line = an_empty_line text after begins in
+          let more = further after (after_shorter text [] after line) in
+          let same = skip_line text after begins in
+          record {
+            skipped = suc more.skipped;
+            before = λ lines rest is. (
+              after,
+              line,
+              more.before lines rest
+                  (subst (λ t. IsLines t lines rest) same is),
+            );
+            done = subst NoEnd (sym same) more.done;
+          }
+      | inr (none, same) ↦ record {
+        skipped = 0;
+        before = λ lines rest is. subst (λ t. IsLines t lines rest) same is;
+        done = subst NoEnd (sym same) none;
+      }
+    ]
+
+skips_within : (n : ℕ) (text : List ℕ) → length text ≤ n → Skips text
+skips_within zero text short = skips_by text (λ after lt. absurd (omega arith))
+skips_within (suc n) text short = skips_by text (λ after lt. skips_within n after (omega arith))
+
+skips : (text : List ℕ) → Skips text
+skips text = skips_within (length text) text (omega arith)
 
 -- a line that isn't empty doesn't begin with its end
 pub no_end : (text line after : List ℕ) → IsLine text line after → IsFull line → NoEnd text
@@ -268,7 +248,7 @@ no_end text line after is some_line other ends =
     let both : Some ([], other) ≡ Some (line, after) = sym empty ∙ line_again text line after is in
     some_line (ap (λ (p : List ℕ × List ℕ). p.0) (sym (same_Some _ _ both)))
 
-skip_again : (n : ℕ) (text start : List ℕ) (lines : List (List ℕ)) (rest : List ℕ) → IsFull start
+pub skip_again : (n : ℕ) (text start : List ℕ) (lines : List (List ℕ)) (rest : List ℕ) → IsFull start
     → IsLines text (replicate n [] ++ (start ∷ lines)) rest
     → IsLines (without_line_ends text) (start ∷ lines) rest
 skip_again zero text start lines rest some_line is =
@@ -285,7 +265,7 @@ skip_again (suc n) text start lines rest some_line is =
 begins_full : (text first after : List ℕ)
     → line_at (without_line_ends text) ≡ Some (first, after) → IsFull first
 begins_full text first after e none =
-    skip_done text after (empty_line (without_line_ends text) after
+    (skips text).done after (empty_line (without_line_ends text) after
     (subst (λ (xs : List ℕ). IsLine (without_line_ends text) xs after) none
     (line_takes (without_line_ends text) first after e)))
 
@@ -306,14 +286,14 @@ laid_takes text first after start lines rest e f =
     let m = map_some (λ (s : Section). (folded_onto first s.0, s.1)) (section_at after)
     (start ∷ lines, rest) f in
     let found = section_takes after m.0 m.1 in
-    let skipped = skip_takes text (first ∷ (m.0.0 ++ ([] ∷ []))) m.0.1 (after, line, found.0) in
+    let laid = first ∷ (m.0.0 ++ ([] ∷ [])) in
+    let skipped = skips text in
     record {
-      skipped = skipped.0;
+      skipped = skipped.skipped;
       first = first;
       more = m.0.0;
-      parts = subst (λ (xs : List ℕ).
-          IsLines text (replicate skipped.0 [] ++ (first ∷ (m.0.0 ++ ([] ∷ [])))) xs)
-          (ap (λ (s : Section). s.1) m.2) skipped.1;
+      parts = subst (λ (xs : List ℕ). IsLines text (replicate skipped.skipped [] ++ laid) xs)
+          (ap (λ (s : Section). s.1) m.2) (skipped.before laid m.0.1 (after, line, found.0));
       first_is = begins_full text first after e;
       more_are = found.1;
       whole = sym (ap (λ (s : Section). s.0) m.2);

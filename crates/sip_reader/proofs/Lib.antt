@@ -11,3 +11,4 @@ pub mod WrittenLines
 pub mod WrittenStarts
 pub mod EachHeader
 pub mod RoundTrip
+pub mod Unfolding

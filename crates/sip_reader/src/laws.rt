@@ -1,12 +1,16 @@
 //! Laws over the definitions of reading.
-ghost use Rattle.std.specs.Prelude.{◌≡◌, ◌≤◌, ℕ, IfOk, List, Ok, length};
+ghost use Rattle.std.specs.Prelude.{◌≡◌, ◌≤◌, ℕ, IfOk, List, [], ◌∷◌, ◌++◌, Ok, length, replicate};
+ghost use Rattle.sip_text.specs.Lines.{AreLines};
+ghost use Rattle.sip_text.specs.Unfolded.{unfolded};
 ghost use Rattle.sip_headers.specs.Faults.{Decides};
 ghost use Rattle.sip_message.specs.declared.fault.ReadFault.{ReadFault};
 ghost use Rattle.sip_message.specs.declared.message.Message.{Message};
 ghost use Rattle.sip_message.specs.Written.{written};
 ghost use Rattle.sip_reader.specs.Faults.{Condition, IsFirstFault, faults};
+ghost use Rattle.sip_reader.specs.Layout.{Lays};
 ghost use Rattle.sip_reader.specs.ReadMessage.{message_at};
 ghost use Rattle.sip_message.specs.Rules.{IsMessage};
+ghost use Rattle.sip_reader.specs.SkippedEnds.{without_line_ends};
 ghost use Rattle.sip_reader.specs.Spells.{Spells};
 
 /// A text spells at most one message.
@@ -31,4 +35,19 @@ pub fn no_fault_of_a_message()
 /// What is written for a message is read again as the same message, where it isn't too long.
 pub fn written_is_spelled()
     ensures { (m : Message) → IsMessage m → length (written m) ≤ 65535 → Spells m (written m) }
+{}
+
+/// The lines that are found in a text begin with those of its layout (RFC 3261, section 7).
+pub fn lines_are_laid()
+    ensures { (text start rest : List ℕ) (lines found : List (List ℕ))
+        → (lays : Lays text start lines rest) → AreLines found text
+        → (after : List (List ℕ)) × (found ≡ (replicate lays.skipped []
+        ++ (lays.first ∷ (lays.more ++ ([] ∷ [])))) ++ after) × AreLines after rest }
+{}
+
+/// Without its folds, the head of a message is the lines by which it is read, and the empty one
+/// that ends it (RFC 3261, section 7.3.1).
+pub fn folds_are_laid()
+    ensures { (head start : List ℕ) (lines : List (List ℕ)) → Lays head start lines []
+        → AreLines (start ∷ (lines ++ ([] ∷ []))) (unfolded (without_line_ends head)) }
 {}

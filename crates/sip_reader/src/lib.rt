@@ -8,6 +8,9 @@ mod reader;
 mod rules;
 mod start_reader;
 
-pub use laws::{no_fault_of_a_message, one_message, what_is_read, written_is_spelled};
+pub use laws::{
+    folds_are_laid, lines_are_laid, no_fault_of_a_message, one_message, what_is_read,
+    written_is_spelled,
+};
 pub use reader::{MAX_BYTES, read};
 pub use rules::keeps_rules;

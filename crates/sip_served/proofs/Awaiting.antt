@@ -17,6 +17,7 @@ use Rattle.sip_reliable.specs.declared.tick.Tick.TheVariants as tick
 use Rattle.sip_reliable.specs.Ledger.{send_answer, tick_answer}
 use Rattle.sip_transactions.specs.declared.input.Command.TheVariants as order
 use Rattle.sip_common.specs.declared.command.Respond.{Respond as Answer}
+use Rattle.sip_common.specs.declared.held_dialog.DialogLife.{DialogLife}
 use Rattle.sip_common.specs.declared.item.CallOut.{CallOut}
 use Rattle.sip_common.specs.declared.item.CallOut.TheVariants as out
 use Rattle.sip_common.specs.Ids.{is_id}
@@ -33,7 +34,7 @@ use Rattle.sip_served.specs.Awaiting.{awaits_by, has_success}
 use Rattle.sip_served.specs.Cancel.{request_terminated}
 use Rattle.sip_served.specs.Provisionals.{of_numbers}
 use Rattle.sip_served.specs.RequestLife.{Finishes, MakesDialog, RepeatsSuccess, request_happened, success_sent, went_on}
-use Rattle.sip_served.specs.Respond.{answer_to, answered, finished, if_so, is_of_dialog, is_reliable, is_sent_reliably, makes_dialog, may_be_reliable, sends_as, sent_as, sent_reliably, with_dialog, with_routes, with_rseq}
+use Rattle.sip_served.specs.Respond.{after_answer, answer_to, answered, finished, if_so, is_of_dialog, is_reliable, is_sent_reliably, makes_dialog, may_be_reliable, sends_as, sent_as, sent_reliably, with_routes, with_rseq}
 use Rattle.sip_served.specs.Tick.{provisionals_told, provisionals_ticked, request_ticked, success_answer, success_at_tick, success_goes, success_ticked, success_told}
 use Rattle.sip_served.specs.Unacknowledged.{at_tick}
 use Rattle.sip_served.proofs.Reading as reading
@@ -108,14 +109,15 @@ answer_as local held r =
     let plain = response_of held.request r.status r.reason held.tag in
     let routed = if_so (is_of_dialog held r.status) (with_routes local held.request) plain in
     let numbered = with_rseq (result_ok (send_answer held.ledger)) in
-    body_as (if_so (is_sent_reliably held r) numbered routed) r.body
-    ∙ so_as (is_sent_reliably held r) numbered (λ response. refl) routed
+    body_as (if_so (is_sent_reliably held r.status r.reliability) numbered routed) r.body
+    ∙ so_as (is_sent_reliably held r.status r.reliability) numbered (λ response. refl) routed
     ∙ so_as (is_of_dialog held r.status) (with_routes local held.request) (λ response. refl) plain
 
 never_both : (status : ℕ) → nat_lt status 200 ≡ true → nat_le 200 status ≡ false
 never_both status e = grind (arith, common_steps)
 
-pub reliable_not_final : (held : HeldRequest) (r : Answer) → is_sent_reliably held r ≡ true
+pub reliable_not_final : (held : HeldRequest) (r : Answer)
+    → is_sent_reliably held r.status r.reliability ≡ true
     → is_final r.status ≡ false
 reliable_not_final held r is =
     never_both r.status
@@ -165,7 +167,7 @@ module _ (r : Answer) (response : Message) (now : ℕ) (held : HeldRequest) wher
   by_final true is = finished_waits
   by_final false is = not_success false is refl
 
-  by_reliable : (b : Bool) → is_sent_reliably held r ≡ b
+  by_reliable : (b : Bool) → is_sent_reliably held r.status r.reliability ≡ b
       → awaits_ack (went_on (if b then sends_as (send_answer held.ledger) response now
       else (if is_final r.status then Finishes response r.status now ∷ [] else [])) held)
       ≡ waits_now (is_success r.status)
@@ -174,19 +176,19 @@ module _ (r : Answer) (response : Message) (now : ℕ) (held : HeldRequest) wher
       reliably_waits response now held
       ∙ not_success (is_final r.status) refl (reliable_not_final held r is)
 
-  answered_waits : awaits_ack (answered r response now held) ≡ waits_now (is_success r.status)
-  answered_waits = by_reliable (is_sent_reliably held r) refl
+  answered_waits : awaits_ack (answered r.status r.reliability response now held)
+      ≡ waits_now (is_success r.status)
+  answered_waits = by_reliable (is_sent_reliably held r.status r.reliability) refl
 
 given_waits : (response : Message) (event : Id) (r : Answer) (now : ℕ) (held : HeldRequest)
-    → awaits_ack (answered r response now (with_dialog event r held))
+    → awaits_ack (after_answer event r response now held)
     ≡ waits_now r response now held (is_success r.status)
 given_waits response event r now held =
-    elim (makes_dialog held r.status) as (λ b. awaits_ack (answered r response now (went_on (if b
-    then MakesDialog record { name = dialog_name held.request held.tag; born = event } ∷ []
-    else []) held)) ≡ waits_now r response now held (is_success r.status)) [
-      | true ↦ answered_waits r response now record held {
-        dialog = Some record { name = dialog_name held.request held.tag; born = event };
-      }
+    let made : DialogLife = record { name = dialog_name held.request held.tag; born = event } in
+    elim (makes_dialog held r.status) as (λ b. awaits_ack (answered r.status r.reliability response
+    now (went_on (if b then MakesDialog made ∷ [] else []) held))
+    ≡ waits_now r response now held (is_success r.status)) [
+      | true ↦ answered_waits r response now record held { dialog = Some made }
       | false ↦ answered_waits r response now held
     ]
 
@@ -272,7 +274,7 @@ module _ (invite : Id) where
     ended = λ dialog awaits. refl;
     refusal = λ call_id place refusal awaits. refl;
     cancel = λ call_id id awaits. refl;
-    dialog = λ held dialog. refl;
+    new = λ arrival dialog. no_wait (is_invite arrival.request);
     prack = λ call_id id rseq body own held. refl;
     other_prack = λ call_id id rseq body other awaits. refl;
     ack = λ call_id id body own held.

@@ -17,6 +17,7 @@ use Rattle.sip_dialog.specs.Opening.{ByRequest, Opening, opened}
 use Rattle.sip_transactions.specs.declared.input.Command.TheVariants as order
 use Rattle.sip_transactions.specs.declared.output.Kind.TheVariants.{Request}
 use Rattle.sip_transactions.specs.declared.output.Up.{Up}
+use Rattle.sip_served.specs.declared.arrival.Arrival.{Arrival}
 use Rattle.sip_served.specs.declared.arrival.ArrivalCase.{ArrivalCase}
 use Rattle.sip_served.specs.declared.arrival.ArrivalCase.TheVariants.{Merged, BadExtension, NoDialog, OutOfOrder, Acknowledges, AcknowledgesNothing, ForUser}
 use Rattle.sip_common.specs.declared.command.Respond.{Respond as Answer}
@@ -27,7 +28,7 @@ use Rattle.sip_common.specs.declared.item.CallOut.{CallOut}
 use Rattle.sip_common.specs.declared.item.CallOut.TheVariants as out
 use Rattle.sip_common.specs.declared.refusal.Refusal.{Refusal}
 use Rattle.sip_served.specs.Acknowledgment.{ack_noted, ack_taken, acknowledged_invite}
-use Rattle.sip_served.specs.Arrival.{by_case, bye_taken, case_inside, case_of, case_outside, is_merged, named_invite, new_request, noted, prack_case, request_held}
+use Rattle.sip_served.specs.Arrival.{arrival_of, by_case, bye_taken, case_inside, case_of, case_outside, is_merged, named_invite, noted, prack_case, request_held}
 use Rattle.sip_served.specs.Cancel.{by_cancelled, cancelled_request, is_unanswered_invite}
 use Rattle.sip_served.specs.Happenings.{accepts, answer_confirms, answer_opens, is_of_name, success_confirms}
 use Rattle.sip_common.specs.Dialogs.{confirmed, confirms, dialog_at, dialog_changed, early_ended, ended_at, is_early_of, is_named, takes, visited, visits, Dialogs}
@@ -81,7 +82,7 @@ bye_leads true state name outs apart = leads_removed name state.dialogs apart
 bye_leads false state name outs apart = leads_same state.dialogs apart
 
 case_leads : (case : ArrivalCase) (state : State) (call_id : List ℕ) (name : DialogName)
-    (arrival : HeldRequest)
+    (arrival : Arrival)
     → AreApart state.dialogs → Leads (case_life case arrival.request name) state.dialogs
     ((by_case case state call_id name arrival).0).dialogs
 case_leads Merged state call_id name arrival apart = leads_same state.dialogs apart
@@ -101,7 +102,7 @@ case_leads ForUser state call_id name arrival apart =
     (λ later. bye_leads (is_inside arrival.request && is_bye arrival.request) held name
     (ended_at name held.dialogs).1 later)
 
-cancel_leads : (state : State) (call_id : List ℕ) (arrival : HeldRequest) (now : ℕ)
+cancel_leads : (state : State) (call_id : List ℕ) (arrival : Arrival) (now : ℕ)
     (o : Option HeldRequest)
     → AreApart state.dialogs
     → Leads quiet state.dialogs ((by_cancelled state call_id arrival now o).0).dialogs
@@ -200,7 +201,7 @@ cancel_accepts request other held cancel =
     by_name true = refl
     by_name false = refl
 
-arrival_leads : (state : State) (call_id : List ℕ) (arrival : HeldRequest) (now : ℕ)
+arrival_leads : (state : State) (call_id : List ℕ) (arrival : Arrival) (now : ℕ)
     → AreApart state.dialogs
     → Leads (accepts arrival.request) state.dialogs
     ((arrival_taken state call_id arrival now).0).dialogs
@@ -225,7 +226,7 @@ pub request_leads : (state : State) (tag : List ℕ) (up : Up) (request : Messag
     → Leads (accepts request) state.dialogs
     ((kind_taken state tag up (Request request reply_to) now).0).dialogs
 request_leads state tag up request reply_to now apart =
-    arrival_leads state up.call_id (new_request up.key up.id request reply_to tag) now apart
+    arrival_leads state up.call_id (arrival_of up request reply_to tag) now apart
 
 pub ack_leads : (state : State) (call_id : List ℕ) (ack : Message) → AreApart state.dialogs
     → Leads quiet state.dialogs ((ack_taken state call_id ack).0).dialogs

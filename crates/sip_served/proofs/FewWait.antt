@@ -15,6 +15,7 @@ use Rattle.sip_reliable.proofs.Sounds.{few_wait as few_by, free, sound_given_up,
 use Rattle.sip_transactions.specs.declared.output.Kind.{Kind}
 use Rattle.sip_transactions.specs.declared.output.Kind.TheVariants.{Request, Ack, Response, Timeout, Failed}
 use Rattle.sip_transactions.specs.declared.output.Up.{Up}
+use Rattle.sip_served.specs.declared.arrival.Arrival.{Arrival}
 use Rattle.sip_served.specs.declared.arrival.ArrivalCase.{ArrivalCase}
 use Rattle.sip_served.specs.declared.arrival.ArrivalCase.TheVariants.{Merged, BadExtension, NoDialog, OutOfOrder, Acknowledges, AcknowledgesNothing, ForUser}
 use Rattle.sip_common.specs.declared.command.Respond.{Respond as Answer}
@@ -27,13 +28,12 @@ use Rattle.sip_common.specs.declared.item.Item.TheVariants as item
 use Rattle.sip_common.specs.declared.refusal.Refusal.{Refusal}
 use Rattle.sip_served.specs.Acknowledgment.{ack_noted, acknowledged_invite, success_ended}
 use Rattle.sip_served.specs.declared.held_request.SuccessEnd.TheVariants.{Acknowledged}
-use Rattle.sip_served.specs.Arrival.{new_request, first_rseq, by_case, case_of, noted, pracked, bye_taken}
+use Rattle.sip_served.specs.Arrival.{arrival_of, by_case, bye_taken, case_of, first_rseq, noted, pracked}
 use Rattle.sip_served.specs.Cancel.{by_cancelled, cancelled_request, is_unanswered_invite, request_terminated}
 use Rattle.sip_common.specs.Requests.{dialog_name, is_bye, is_cancel, is_inside, is_final}
-use Rattle.sip_served.specs.Respond.{answered, by_refusal, by_request, finished, makes_dialog, sent_as, refusal_for, with_dialog, is_sent_reliably}
+use Rattle.sip_served.specs.Respond.{after_answer, answered, by_refusal, by_request, finished, is_sent_reliably, makes_dialog, refusal_for, sent_as, with_dialog}
 use Rattle.sip_served.specs.Run.{Event, Takes, Ticks, FewWaitEach, event_taken, server_state_after}
-use Rattle.sip_served.specs.ServerSide.{empty_at}
-use Rattle.sip_served.specs.State.{State, has_id}
+use Rattle.sip_served.specs.State.{State, empty_at, has_id}
 use Rattle.sip_served.specs.Step.{arrival_taken, server_command_taken, kind_taken}
 use Rattle.sip_served.specs.Tick.{is_kept_at, provisionals_by, request_ticked, success_at_tick, success_ticked}
 use Rattle.sip_common.proofs.Each as each
@@ -58,14 +58,14 @@ sent_keeps None response now held is kept =
 sent_keeps (Some fault) response now held is kept = kept
 
 answered_keeps : (r : Answer) (response : Message) (now : ℕ) (held : HeldRequest) → IsKept held
-    → IsKept (answered r response now held)
+    → IsKept (answered r.status r.reliability response now held)
 answered_keeps r response now held kept =
-    by_bool (is_sent_reliably held r)
+    by_bool (is_sent_reliably held r.status r.reliability)
     (λ e. rw e (sent_keeps (send_fault held.ledger) response now held refl kept))
     (λ e. by_bool (is_final r.status) (λ f. rw (e, f) kept) (λ f. rw (e, f) kept))
 
 dialog_keeps : (event : Id) (r : Answer) (held : HeldRequest) → IsKept held
-    → IsKept (with_dialog event r held)
+    → IsKept (with_dialog event r.status held)
 dialog_keeps event r held kept =
     by_bool (makes_dialog held r.status) (λ e. rw e kept) (λ e. rw e kept)
 
@@ -107,23 +107,23 @@ bye_keeps request name state all =
     (λ e. rw e all)
 
 case_keeps : (case : ArrivalCase) (state : State) (call_id : List ℕ) (name : DialogName)
-    (arrival : HeldRequest) → IsKept arrival → IsKeptEach state
+    (arrival : Arrival) → IsKeptEach state
     → IsKeptEach (by_case case state call_id name arrival).0
-case_keeps Merged state call_id name arrival one all = all
-case_keeps BadExtension state call_id name arrival one all = all
-case_keeps NoDialog state call_id name arrival one all = all
-case_keeps OutOfOrder state call_id name arrival one all = all
-case_keeps (Acknowledges invite rseq) state call_id name arrival one all =
+case_keeps Merged state call_id name arrival all = all
+case_keeps BadExtension state call_id name arrival all = all
+case_keeps NoDialog state call_id name arrival all = all
+case_keeps OutOfOrder state call_id name arrival all = all
+case_keeps (Acknowledges invite rseq) state call_id name arrival all =
     first_changed IsKept (has_id invite) (pracked rseq) (pracked_keeps rseq)
     (noted state name arrival.request).requests (noted_keeps state name arrival.request all)
-case_keeps AcknowledgesNothing state call_id name arrival one all =
+case_keeps AcknowledgesNothing state call_id name arrival all =
     noted_keeps state name arrival.request all
-case_keeps ForUser state call_id name arrival one all =
+case_keeps ForUser state call_id name arrival all =
     bye_keeps arrival.request name _
     (each.both IsKept (noted state name arrival.request).requests _
-    (noted_keeps state name arrival.request all) (one, tt))
+    (noted_keeps state name arrival.request all) (sound_new first_rseq, tt))
 
-cancel_keeps : (state : State) (call_id : List ℕ) (arrival : HeldRequest) (now : ℕ)
+cancel_keeps : (state : State) (call_id : List ℕ) (arrival : Arrival) (now : ℕ)
     (o : Option HeldRequest) → IsKeptEach state
     → IsKeptEach (by_cancelled state call_id arrival now o).0
 cancel_keeps state call_id arrival now None all = all
@@ -133,16 +133,15 @@ cancel_keeps state call_id arrival now (Some held) all =
     (λ one kept. kept) state.requests all))
     (λ e. rw e all)
 
-arrival_keeps : (state : State) (call_id : List ℕ) (arrival : HeldRequest) (now : ℕ)
-    → IsKept arrival → IsKeptEach state
-    → IsKeptEach (arrival_taken state call_id arrival now).0
-arrival_keeps state call_id arrival now one all =
+arrival_keeps : (state : State) (call_id : List ℕ) (arrival : Arrival) (now : ℕ)
+    → IsKeptEach state → IsKeptEach (arrival_taken state call_id arrival now).0
+arrival_keeps state call_id arrival now all =
     let name = dialog_name arrival.request arrival.tag in
     by_bool (is_cancel arrival.request)
     (λ e. rw e (cancel_keeps state call_id arrival now
     (cancelled_request arrival.key state.requests) all))
     (λ e. rw e (case_keeps (case_of state.requests state.dialogs name arrival.request) state
-    call_id name arrival one all))
+    call_id name arrival all))
 
 ack_keeps : (state : State) (call_id : List ℕ) (ack : Message) (o : Option Id) → IsKeptEach state
     → IsKeptEach (ack_noted state call_id ack o).0
@@ -155,9 +154,9 @@ refusal_keeps : (state : State) (event : Id) (r : Answer) (now : ℕ) (held : He
     (o : Option Refusal) → IsKeptEach state → IsKeptEach (by_refusal state event r now held o).0
 refusal_keeps state event r now held (Some refusal) all = all
 refusal_keeps state event r now held None all =
-    first_changed IsKept (has_id r.id) (λ held. answered r _ now (with_dialog event r held))
-    (λ held one. answered_keeps r _ now (with_dialog event r held) (dialog_keeps event r held one))
-    state.requests all
+    first_changed IsKept (has_id r.id) (after_answer event r _ now)
+    (λ held one. answered_keeps r _ now (with_dialog event r.status held)
+    (dialog_keeps event r held one)) state.requests all
 
 respond_keeps : (state : State) (event : Id) (r : Answer) (now : ℕ) (o : Option HeldRequest)
     → IsKeptEach state → IsKeptEach (by_request state event r now o).0
@@ -168,8 +167,7 @@ respond_keeps state event r now (Some held) all =
 kind_keeps : (state : State) (tag : List ℕ) (up : Up) (kind : Kind) (now : ℕ)
     → IsKeptEach state → IsKeptEach (kind_taken state tag up kind now).0
 kind_keeps state tag up (Request request reply_to) now all =
-    arrival_keeps state up.call_id (new_request up.key up.id request reply_to tag) now
-    (sound_new first_rseq) all
+    arrival_keeps state up.call_id (arrival_of up request reply_to tag) now all
 kind_keeps state tag up (Ack ack) now all =
     ack_keeps state up.call_id ack (acknowledged_invite ack state.requests) all
 kind_keeps state tag up (Response response) now all = all

@@ -14,7 +14,7 @@ use Rattle.sip_common.specs.Requests.{is_inside}
 use Rattle.sip_common.proofs.Heard.{id_laws}
 use Rattle.sip_served.specs.declared.held_request.HeldRequest.{HeldRequest}
 use Rattle.sip_served.specs.Arrival.{noted}
-use Rattle.sip_served.specs.Respond.{answer_to, answered, answers, makes, with_dialog}
+use Rattle.sip_served.specs.Respond.{after_answer, answer_to, answers, makes, with_dialog}
 use Rattle.sip_served.specs.State.{State, ServedTaken, changed_at, has_id}
 use Rattle.sip_served.specs.Tick.{provisionals_go, request_ticked, success_ticked}
 use Rattle.sip_served.proofs.RequestLives.{lives_id, success_alone}
@@ -127,19 +127,16 @@ pub bye_requests : (b : Bool) (state : State) (dialogs : Dialogs) (outs : List C
 bye_requests true state dialogs outs = refl
 bye_requests false state dialogs outs = refl
 
-answered_id : (r : Answer) (response : Message) (now : ℕ) (held : HeldRequest)
-    → (answered r response now held).id ≡ held.id
-answered_id r response now held = lives_id (answers held r response now) held
-
 module _ (state : State) (event : Id) (r : Answer) (now : ℕ) (held : HeldRequest) where
   -- a request after the answer to this one
   abbrev pub change : HeldRequest → HeldRequest
-  change other = answered r (answer_to state.local held r) now (with_dialog event r other)
+  change = after_answer event r (answer_to state.local held r) now
 
   pub keeps : (other : HeldRequest) → (change other).id ≡ other.id
   keeps other =
-      answered_id r (answer_to state.local held r) now (with_dialog event r other)
-      ∙ lives_id (makes event other r) other
+      let made = with_dialog event r.status other in
+      lives_id (answers made r.status r.reliability (answer_to state.local held r) now) made
+      ∙ lives_id (makes event other r.status) other
 
 pub passed_id : (now : ℕ) (held : HeldRequest) → ((request_ticked now held).0).id ≡ held.id
 passed_id now held =

@@ -23,12 +23,13 @@ use Rattle.sip_common.specs.Ids.{is_id}
 use Rattle.sip_common.specs.Notices.{refused}
 use Rattle.sip_common.specs.Requests.{dialog_name, is_bye, is_cancel, is_inside}
 use Rattle.sip_common.proofs.Heard.{id_laws}
+use Rattle.sip_served.specs.declared.arrival.Arrival.{Arrival}
 use Rattle.sip_served.specs.declared.arrival.ArrivalCase.{ArrivalCase}
 use Rattle.sip_served.specs.declared.arrival.ArrivalCase.TheVariants.{Merged, BadExtension, NoDialog, OutOfOrder, Acknowledges, AcknowledgesNothing, ForUser}
 use Rattle.sip_served.specs.declared.held_request.HeldRequest.{HeldRequest}
 use Rattle.sip_served.specs.declared.held_request.SuccessEnd.TheVariants.{Acknowledged}
 use Rattle.sip_served.specs.Acknowledgment.{ack_noted, ack_taken, acknowledged_invite, success_ended}
-use Rattle.sip_served.specs.Arrival.{bye_taken, by_case, case_of, noted, pracked, request_held}
+use Rattle.sip_served.specs.Arrival.{bye_taken, by_case, case_of, held_first, noted, pracked, request_held}
 use Rattle.sip_served.specs.Cancel.{by_cancelled, cancelled_request, cancel_accepted, is_unanswered_invite, request_terminated, termination_told}
 use Rattle.sip_served.specs.Respond.{answer_given, answer_to, by_refusal, by_request, confirms_dialog, dialogs_answered, finished, made_dialog, makes_dialog, refusal_for, rejects, respond_taken}
 use Rattle.sip_served.specs.State.{State, ServedTaken, changed_at, has_id}
@@ -73,7 +74,7 @@ module _ {X : Type 0} (reading : Reading X) (invite : Id) (told : IsTold X readi
 
   -- ---- a request that comes up
 
-  module _ (arrival : HeldRequest) (requests : List HeldRequest)
+  module _ (arrival : Arrival) (requests : List HeldRequest)
       (fresh : find (has_id arrival.id) requests ≡ None) where
     -- it is answered, and nothing changes
     answer_follows : (given : List CallOut) (key : Key) (response : Message)
@@ -126,24 +127,23 @@ module _ {X : Type 0} (reading : Reading X) (invite : Id) (told : IsTold X readi
         by_found (Some there) = sym (silent (reading.read there))
 
   case_follows : (case : ArrivalCase) (state : State) (call_id : List ℕ) (name : DialogName)
-      (arrival : HeldRequest) → find (has_id arrival.id) state.requests ≡ None
-      → reading.read arrival ≡ reading.none
+      (arrival : Arrival) → find (has_id arrival.id) state.requests ≡ None
       → Follows reading invite state.requests
       ((by_case case state call_id name arrival).0).requests
       (by_case case state call_id name arrival).1
-  case_follows Merged state call_id name arrival fresh new =
+  case_follows Merged state call_id name arrival fresh =
       answer_follows arrival state.requests fresh
       (by_case Merged state call_id name arrival).1 _ _ refl
-  case_follows BadExtension state call_id name arrival fresh new =
+  case_follows BadExtension state call_id name arrival fresh =
       answer_follows arrival state.requests fresh
       (by_case BadExtension state call_id name arrival).1 _ _ refl
-  case_follows NoDialog state call_id name arrival fresh new =
+  case_follows NoDialog state call_id name arrival fresh =
       answer_follows arrival state.requests fresh
       (by_case NoDialog state call_id name arrival).1 _ _ refl
-  case_follows OutOfOrder state call_id name arrival fresh new =
+  case_follows OutOfOrder state call_id name arrival fresh =
       answer_follows arrival state.requests fresh
       (by_case OutOfOrder state call_id name arrival).1 _ _ refl
-  case_follows (Acknowledges of rseq) state call_id name arrival fresh new =
+  case_follows (Acknowledges of rseq) state call_id name arrival fresh =
       let outs = (by_case (Acknowledges of rseq) state call_id name arrival).1 in
       subst (λ requests. Follows reading invite state.requests
       (changed_at of (pracked rseq) requests) outs)
@@ -152,12 +152,12 @@ module _ {X : Type 0} (reading : Reading X) (invite : Id) (told : IsTold X readi
       (out.Notice (notice.Prack call_id of rseq arrival.request.body) ∷ []) refl
       (λ own. told.prack call_id of rseq arrival.request.body own)
       (λ other. told.other_prack call_id of rseq arrival.request.body other))
-  case_follows AcknowledgesNothing state call_id name arrival fresh new =
+  case_follows AcknowledgesNothing state call_id name arrival fresh =
       let outs = (by_case AcknowledgesNothing state call_id name arrival).1 in
       subst (λ requests. Follows reading invite state.requests requests outs)
       (sym (noted_requests state name arrival.request))
       (answer_follows arrival state.requests fresh outs _ _ refl)
-  case_follows ForUser state call_id name arrival fresh new =
+  case_follows ForUser state call_id name arrival fresh =
       let before = noted state name arrival.request in
       let first = request_held before call_id name arrival in
       let held = first.0 in
@@ -173,14 +173,14 @@ module _ {X : Type 0} (reading : Reading X) (invite : Id) (told : IsTold X readi
       subst (λ requests. Follows reading invite state.requests requests outs)
       (sym (bye_requests of_bye held ended.0 ended.1))
       (subst (λ requests. Follows reading invite state.requests
-      (requests ++ record arrival { dialog = own } ∷ []) outs)
+      (requests ++ held_first own arrival ∷ []) outs)
       (sym (noted_requests state name arrival.request))
-      (held_follows arrival state.requests fresh record arrival { dialog = own }
-      (told.dialog arrival own ∙ new) outs silent))
+      (held_follows arrival state.requests fresh (held_first own arrival)
+      (told.new arrival own) outs silent))
 
   -- ---- a CANCEL
 
-  cancel_follows : (state : State) (call_id : List ℕ) (arrival : HeldRequest) (now : ℕ)
+  cancel_follows : (state : State) (call_id : List ℕ) (arrival : Arrival) (now : ℕ)
       (o : Option HeldRequest) → find (has_id arrival.id) state.requests ≡ None
       → Follows reading invite state.requests
       ((by_cancelled state call_id arrival now o).0).requests
@@ -214,18 +214,18 @@ module _ {X : Type 0} (reading : Reading X) (invite : Id) (told : IsTold X readi
           ap (λ x. fold reading.by x ends) (told.cancel call_id held.id x)
           ∙ early_silent held.id state.dialogs x
 
-  pub arrival_follows : (state : State) (call_id : List ℕ) (arrival : HeldRequest) (now : ℕ)
-      → find (has_id arrival.id) state.requests ≡ None → reading.read arrival ≡ reading.none
+  pub arrival_follows : (state : State) (call_id : List ℕ) (arrival : Arrival) (now : ℕ)
+      → find (has_id arrival.id) state.requests ≡ None
       → Follows reading invite state.requests
       ((arrival_taken state call_id arrival now).0).requests
       (arrival_taken state call_id arrival now).1
-  arrival_follows state call_id arrival now fresh new =
+  arrival_follows state call_id arrival now fresh =
       let name = dialog_name arrival.request arrival.tag in
       by_bool (is_cancel arrival.request)
       (λ e. rw e (cancel_follows state call_id arrival now
       (cancelled_request arrival.key state.requests) fresh))
       (λ e. rw e (case_follows (case_of state.requests state.dialogs name arrival.request) state
-      call_id name arrival fresh new))
+      call_id name arrival fresh))
 
   -- ---- an ACK
 
@@ -265,7 +265,7 @@ module _ {X : Type 0} (reading : Reading X) (invite : Id) (told : IsTold X readi
         answer : CallOut
         answer = out.Command held.id (order.Answer held.key response)
 
-        ends : Silent reading (dialogs_answered event held r response state.dialogs).1
+        ends : Silent reading (dialogs_answered event held r.status response state.dialogs).1
         ends =
             let name = dialog_name held.request held.tag in
             dialogs_silent (makes_dialog held r.status) (confirms_dialog held r.status)

@@ -14,6 +14,7 @@ use Rattle.sip_transactions.specs.declared.output.Kind.{Kind}
 use Rattle.sip_transactions.specs.declared.output.Kind.TheVariants.{Request, Ack, Response, Timeout, Failed}
 use Rattle.sip_transactions.specs.declared.output.Up.{Up}
 use Rattle.sip_common.proofs.Starts.{early_starts, ended_starts, none_of_all, none_of_both, starts}
+use Rattle.sip_served.specs.declared.arrival.Arrival.{Arrival}
 use Rattle.sip_served.specs.declared.arrival.ArrivalCase.{ArrivalCase}
 use Rattle.sip_served.specs.declared.arrival.ArrivalCase.TheVariants.{Merged, BadExtension, NoDialog, OutOfOrder, Acknowledges, AcknowledgesNothing, ForUser}
 use Rattle.sip_common.specs.declared.command.Respond.{Respond as Answer}
@@ -28,7 +29,7 @@ use Rattle.sip_served.specs.declared.tick.SuccessDue.{SuccessDue}
 use Rattle.sip_served.specs.declared.tick.SuccessDue.TheVariants as repeat
 use Rattle.sip_served.specs.Provisionals.{of_numbers}
 use Rattle.sip_served.specs.Acknowledgment.{ack_noted, acknowledged_invite}
-use Rattle.sip_served.specs.Arrival.{new_request, by_case, case_of, noted, request_held}
+use Rattle.sip_served.specs.Arrival.{arrival_of, by_case, case_of, noted, request_held}
 use Rattle.sip_served.specs.Cancel.{by_cancelled, cancelled_request, is_unanswered_invite}
 use Rattle.sip_common.specs.Dialogs.{confirmed, dialog_changed, early_ended, ended_at, is_named, Dialogs}
 use Rattle.sip_common.specs.Requests.{dialog_name, is_bye, is_cancel, is_inside}
@@ -45,7 +46,7 @@ bye_starts true state outs after none = none
 bye_starts false state outs after none = refl
 
 case_starts : (case : ArrivalCase) (state : State) (call_id : List ℕ) (name : DialogName)
-    (arrival : HeldRequest) → starts (by_case case state call_id name arrival).1 ≡ []
+    (arrival : Arrival) → starts (by_case case state call_id name arrival).1 ≡ []
 case_starts Merged state call_id name arrival = refl
 case_starts BadExtension state call_id name arrival = refl
 case_starts NoDialog state call_id name arrival = refl
@@ -59,14 +60,14 @@ case_starts ForUser state call_id name arrival =
     (record before { dialogs = (ended_at name before.dialogs).0 })
     (ended_starts name before.dialogs)
 
-cancel_starts : (state : State) (call_id : List ℕ) (arrival : HeldRequest) (now : ℕ)
+cancel_starts : (state : State) (call_id : List ℕ) (arrival : Arrival) (now : ℕ)
     (o : Option HeldRequest) → starts (by_cancelled state call_id arrival now o).1 ≡ []
 cancel_starts state call_id arrival now None = refl
 cancel_starts state call_id arrival now (Some held) =
     by_bool (is_unanswered_invite held) (λ e. rw e (early_starts held.id state.dialogs))
     (λ e. rw e refl)
 
-arrival_starts : (state : State) (call_id : List ℕ) (arrival : HeldRequest) (now : ℕ)
+arrival_starts : (state : State) (call_id : List ℕ) (arrival : Arrival) (now : ℕ)
     → starts (arrival_taken state call_id arrival now).1 ≡ []
 arrival_starts state call_id arrival now =
     let name = dialog_name arrival.request arrival.tag in
@@ -79,7 +80,7 @@ arrival_starts state call_id arrival now =
 pub kind_starts : (state : State) (tag : List ℕ) (up : Up) (kind : Kind) (now : ℕ)
     → starts (kind_taken state tag up kind now).1 ≡ []
 kind_starts state tag up (Request request reply_to) now =
-    arrival_starts state up.call_id (new_request up.key up.id request reply_to tag) now
+    arrival_starts state up.call_id (arrival_of up request reply_to tag) now
 kind_starts state tag up (Ack ack) now = by_invite (acknowledged_invite ack state.requests)
   where
     by_invite : (o : Option Id) → starts (ack_noted state up.call_id ack o).1 ≡ []

@@ -17,11 +17,12 @@ use Rattle.sip_common.specs.Dialogs.{Dialogs, confirmed, dialog_at, dialog_chang
 use Rattle.sip_common.specs.Requests.{dialog_name, is_bye, is_cancel, is_inside}
 use Rattle.sip_common.proofs.Entries as entries
 use Rattle.sip_common.proofs.Heard.{AreApart, name_laws}
+use Rattle.sip_served.specs.declared.arrival.Arrival.{Arrival}
 use Rattle.sip_served.specs.declared.arrival.ArrivalCase.{ArrivalCase}
 use Rattle.sip_served.specs.declared.arrival.ArrivalCase.TheVariants.{Merged, BadExtension, NoDialog, OutOfOrder, Acknowledges, AcknowledgesNothing, ForUser}
 use Rattle.sip_served.specs.declared.held_request.HeldRequest.{HeldRequest}
 use Rattle.sip_served.specs.Acknowledgment.{ack_noted, ack_taken, acknowledged_invite}
-use Rattle.sip_served.specs.Arrival.{by_case, bye_taken, case_of, new_request, noted, request_held}
+use Rattle.sip_served.specs.Arrival.{arrival_of, by_case, bye_taken, case_of, noted, request_held}
 use Rattle.sip_served.specs.Cancel.{by_cancelled, cancelled_request, is_unanswered_invite}
 use Rattle.sip_served.specs.Respond.{answer_to, by_refusal, by_request, confirms_dialog, made_dialog, makes_dialog, refusal_for, rejects, respond_taken}
 use Rattle.sip_served.specs.State.{State, ServedTaken, has_id}
@@ -59,7 +60,7 @@ bye_same true state name outs apart = removed_same name state.dialogs apart
 bye_same false state name outs apart = same_owed state.dialogs
 
 case_same : (case : ArrivalCase) (state : State) (call_id : List ℕ) (name : DialogName)
-    (arrival : HeldRequest) → AreApart state.dialogs
+    (arrival : Arrival) → AreApart state.dialogs
     → OweSame state.dialogs ((by_case case state call_id name arrival).0).dialogs
 case_same Merged state call_id name arrival apart = same_owed state.dialogs
 case_same BadExtension state call_id name arrival apart = same_owed state.dialogs
@@ -77,7 +78,7 @@ case_same ForUser state call_id name arrival apart =
     (bye_same (is_inside arrival.request && is_bye arrival.request) held name
     (ended_at name held.dialogs).1 (noted_apart state name arrival.request apart))
 
-cancel_same : (state : State) (call_id : List ℕ) (arrival : HeldRequest) (now : ℕ)
+cancel_same : (state : State) (call_id : List ℕ) (arrival : Arrival) (now : ℕ)
     (o : Option HeldRequest) → AreApart state.dialogs
     → OweSame state.dialogs ((by_cancelled state call_id arrival now o).0).dialogs
 cancel_same state call_id arrival now None apart = same_owed state.dialogs
@@ -86,7 +87,7 @@ cancel_same state call_id arrival now (Some held) apart =
     (λ e. rw e (filtered_same (λ dialog. not (is_early_of held.id dialog)) state.dialogs apart))
     (λ e. rw e (same_owed state.dialogs))
 
-arrival_same : (state : State) (call_id : List ℕ) (arrival : HeldRequest) (now : ℕ)
+arrival_same : (state : State) (call_id : List ℕ) (arrival : Arrival) (now : ℕ)
     → AreApart state.dialogs
     → OweSame state.dialogs ((arrival_taken state call_id arrival now).0).dialogs
 arrival_same state call_id arrival now apart =
@@ -101,7 +102,7 @@ pub request_same : (state : State) (tag : List ℕ) (up : Up) (request : Message
     (now : ℕ) → AreApart state.dialogs
     → OweSame state.dialogs ((kind_taken state tag up (Request request reply_to) now).0).dialogs
 request_same state tag up request reply_to now apart =
-    arrival_same state up.call_id (new_request up.key up.id request reply_to tag) now apart
+    arrival_same state up.call_id (arrival_of up request reply_to tag) now apart
 
 pub ack_same : (state : State) (call_id : List ℕ) (ack : Message)
     → OweSame state.dialogs ((ack_taken state call_id ack).0).dialogs

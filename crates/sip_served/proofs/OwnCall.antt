@@ -13,6 +13,7 @@ use Rattle.sip_transactions.specs.declared.output.Kind.{Kind}
 use Rattle.sip_transactions.specs.declared.output.Kind.TheVariants.{Request, Ack, Response, Timeout, Failed}
 use Rattle.sip_transactions.specs.declared.output.Up.{Up}
 use Rattle.sip_common.proofs.OwnDialogs.{changed_dialog, early_own, ended_own, lived_keeps}
+use Rattle.sip_served.specs.declared.arrival.Arrival.{Arrival}
 use Rattle.sip_served.specs.declared.arrival.ArrivalCase.{ArrivalCase}
 use Rattle.sip_served.specs.declared.arrival.ArrivalCase.TheVariants.{Merged, BadExtension, NoDialog, OutOfOrder, Acknowledges, AcknowledgesNothing, ForUser}
 use Rattle.sip_common.specs.declared.command.Respond.{Respond as Answer}
@@ -30,17 +31,16 @@ use Rattle.sip_served.specs.declared.tick.SuccessDue.{SuccessDue}
 use Rattle.sip_served.specs.declared.tick.SuccessDue.TheVariants as repeat
 use Rattle.sip_served.specs.Acknowledgment.{ack_noted, acknowledged_invite, success_ended}
 use Rattle.sip_served.specs.declared.held_request.SuccessEnd.TheVariants.{Acknowledged}
-use Rattle.sip_served.specs.Arrival.{new_request, by_case, bye_taken, case_of, noted, pracked, request_held}
+use Rattle.sip_served.specs.Arrival.{arrival_of, by_case, bye_taken, case_of, noted, pracked, request_held}
 use Rattle.sip_served.specs.Cancel.{by_cancelled, cancelled_request, invite_terminated, is_unanswered_invite, request_terminated}
 use Rattle.sip_common.specs.Dialogs.{confirmed, confirms, is_named, visited, visits, Dialogs}
 use Rattle.sip_common.specs.OwnCall.{AreDialogsOf, AreNoticesOf, IsDialogOf, IsItemOf, IsKindOf, IsNoticeOf}
 use Rattle.sip_served.specs.OwnCall.{AreRequestsOf, IsEventOf, IsStateOf}
 use Rattle.sip_served.specs.Provisionals.{of_numbers}
 use Rattle.sip_common.specs.Requests.{dialog_name, is_bye, is_cancel, is_inside}
-use Rattle.sip_served.specs.Respond.{answer_to, answered, answers, by_refusal, by_request, confirms_dialog, dialogs_answered, finished, made_dialog, makes, makes_dialog, refusal_for, rejects, respond_taken, with_dialog}
+use Rattle.sip_served.specs.Respond.{after_answer, answer_to, answers, by_refusal, by_request, confirms_dialog, dialogs_answered, finished, made_dialog, makes, makes_dialog, refusal_for, rejects, respond_taken, with_dialog}
 use Rattle.sip_served.specs.Run.{Event, Takes, Ticks, event_taken}
-use Rattle.sip_served.specs.ServerSide.{empty_at}
-use Rattle.sip_served.specs.State.{State, ServedTaken, changed_at, followed, has_id}
+use Rattle.sip_served.specs.State.{State, ServedTaken, changed_at, empty_at, followed, has_id}
 use Rattle.sip_served.specs.Step.{arrival_taken, server_command_taken, server_item_taken, kind_taken}
 use Rattle.sip_common.specs.Command.{call_of_command}
 use Rattle.sip_served.specs.Tick.{is_kept_at, provisionals_go, provisionals_ticked, provisionals_told, request_ticked, success_answer, success_at_tick, success_ticked, success_told, tick_taken}
@@ -50,13 +50,12 @@ use Rattle.sip_served.proofs.RequestLives.{lives_request, success_alone}
 
 -- ---- one request, and one dialog, keeps its Call-ID
 
-answered_keeps : (r : Answer) (response : Message) (now : ℕ) (held : HeldRequest)
-    → (answered r response now held).request ≡ held.request
-answered_keeps r response now held = lives_request (answers held r response now) held
-
-with_dialog_keeps : (event : Id) (r : Answer) (held : HeldRequest)
-    → (with_dialog event r held).request ≡ held.request
-with_dialog_keeps event r held = lives_request (makes event held r) held
+answer_keeps : (event : Id) (r : Answer) (response : Message) (now : ℕ) (held : HeldRequest)
+    → (after_answer event r response now held).request ≡ held.request
+answer_keeps event r response now held =
+    let made = with_dialog event r.status held in
+    lives_request (answers made r.status r.reliability response now) made
+    ∙ lives_request (makes event held r.status) held
 
 success_keeps : (now : ℕ) (held : HeldRequest) (o : Option Success)
     → ((success_at_tick now held o).0).request ≡ held.request
@@ -114,8 +113,8 @@ module _ (call_id : List ℕ) where
       (λ e. rw e (record { requests = its.requests; dialogs = ended.0 }, ended.1))
       (λ e. rw e (its, tt))
 
-  held_is : (state : State) (its_call : List ℕ) (name : DialogName) (arrival : HeldRequest)
-      → its_call ≡ call_id → IsRequestOf arrival → IsStateOf call_id state
+  held_is : (state : State) (its_call : List ℕ) (name : DialogName) (arrival : Arrival)
+      → its_call ≡ call_id → arrival.request.call_id ≡ call_id → IsStateOf call_id state
       → IsTakenOf (request_held state its_call name arrival)
   held_is state its_call name arrival of_call of_request its = (
     record {
@@ -126,7 +125,8 @@ module _ (call_id : List ℕ) where
   )
 
   case_is : (case : ArrivalCase) (state : State) (its_call : List ℕ) (name : DialogName)
-      (arrival : HeldRequest) → its_call ≡ call_id → IsRequestOf arrival → IsStateOf call_id state
+      (arrival : Arrival) → its_call ≡ call_id → arrival.request.call_id ≡ call_id
+      → IsStateOf call_id state
       → IsTakenOf (by_case case state its_call name arrival)
   case_is Merged state its_call name arrival of_call of_request its = (its, (tt, tt))
   case_is BadExtension state its_call name arrival of_call of_request its = (its, (tt, tt))
@@ -164,7 +164,7 @@ module _ (call_id : List ℕ) where
         ended.1,
       )
 
-  cancel_is : (state : State) (its_call : List ℕ) (arrival : HeldRequest) (now : ℕ)
+  cancel_is : (state : State) (its_call : List ℕ) (arrival : Arrival) (now : ℕ)
       (o : Option HeldRequest) → its_call ≡ call_id → IsStateOf call_id state
       → IsTakenOf (by_cancelled state its_call arrival now o)
   cancel_is state its_call arrival now None of_call its = (its, (tt, tt))
@@ -175,8 +175,8 @@ module _ (call_id : List ℕ) where
       (λ e. rw e (terminated.0, (tt, (tt, (of_call, terminated.1)))))
       (λ e. rw e (its, (tt, tt)))
 
-  arrival_is : (state : State) (its_call : List ℕ) (arrival : HeldRequest) (now : ℕ)
-      → its_call ≡ call_id → IsRequestOf arrival → IsStateOf call_id state
+  arrival_is : (state : State) (its_call : List ℕ) (arrival : Arrival) (now : ℕ)
+      → its_call ≡ call_id → arrival.request.call_id ≡ call_id → IsStateOf call_id state
       → IsTakenOf (arrival_taken state its_call arrival now)
   arrival_is state its_call arrival now of_call of_request its =
       let name = dialog_name arrival.request arrival.tag in
@@ -203,8 +203,8 @@ module _ (call_id : List ℕ) where
 
   dialogs_is : (event : Id) (held : HeldRequest) (r : Answer) (response : Message)
       (dialogs : Dialogs) → IsRequestOf held → AreDialogsOf call_id dialogs
-      → AreDialogsOf call_id (dialogs_answered event held r response dialogs).0
-      × AreNoticesOf call_id (dialogs_answered event held r response dialogs).1
+      → AreDialogsOf call_id (dialogs_answered event held r.status response dialogs).0
+      × AreNoticesOf call_id (dialogs_answered event held r.status response dialogs).1
   dialogs_is event held r response dialogs of_request all =
       let name = dialog_name held.request held.tag in
       by_bool (makes_dialog held r.status)
@@ -232,10 +232,8 @@ module _ (call_id : List ℕ) where
       let response = answer_to state.local held r in
       let left = dialogs_is event held r response state.dialogs of_request its.dialogs in (
         record {
-          requests = request_changed r.id
-              (λ one. answered r response now (with_dialog event r one))
-              (λ one. answered_keeps r response now (with_dialog event r one)
-              ∙ with_dialog_keeps event r one) state.requests its.requests;
+          requests = request_changed r.id (after_answer event r response now)
+              (answer_keeps event r response now) state.requests its.requests;
           dialogs = left.0;
         },
         (tt, left.1),
@@ -318,7 +316,7 @@ module _ (call_id : List ℕ) where
       → up.call_id ≡ call_id → IsKindOf call_id kind → IsStateOf call_id state
       → IsTakenOf (kind_taken state tag up kind now)
   kind_is state tag up (Request request reply_to) now of_call of_request its =
-      arrival_is state up.call_id (new_request up.key up.id request reply_to tag) now of_call
+      arrival_is state up.call_id (arrival_of up request reply_to tag) now of_call
       of_request its
   kind_is state tag up (Ack ack) now of_call of_kind its =
       ack_is state up.call_id ack (acknowledged_invite ack state.requests) of_call its

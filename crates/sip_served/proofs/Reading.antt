@@ -16,12 +16,13 @@ use Rattle.sip_common.specs.declared.notice.Notice.TheVariants as notice
 use Rattle.sip_common.specs.declared.refusal.Refusal.{Refusal}
 use Rattle.sip_common.specs.Dialogs.{ended_notice}
 use Rattle.sip_common.specs.Ids.{is_id}
+use Rattle.sip_served.specs.declared.arrival.Arrival.{Arrival}
 use Rattle.sip_served.specs.declared.held_request.HeldRequest.{HeldRequest}
 use Rattle.sip_served.specs.declared.held_request.SuccessEnd.TheVariants.{Acknowledged}
 use Rattle.sip_served.specs.Acknowledgment.{success_ended}
-use Rattle.sip_served.specs.Arrival.{pracked}
+use Rattle.sip_served.specs.Arrival.{held_first, pracked}
 use Rattle.sip_served.specs.Cancel.{request_terminated}
-use Rattle.sip_served.specs.Respond.{answer_to, answered, finished, with_dialog}
+use Rattle.sip_served.specs.Respond.{after_answer, answer_to, finished}
 use Rattle.sip_served.specs.State.{changed_at, has_id}
 use Rattle.sip_served.specs.Tick.{request_ticked}
 use Rattle.sip_served.proofs.Found.{found_changed, same_found}
@@ -51,8 +52,9 @@ pub record IsTold (X : Type 0) (reading : Reading X) (invite : Id) : Type 0 wher
       → reading.by x (out.Notice (notice.Refused call_id place refusal)) ≡ x
   pub cancel : (call_id : List ℕ) (id : Id) (x : X)
       → reading.by x (out.Notice (notice.Cancel call_id id)) ≡ x
-  pub dialog : (held : HeldRequest) (dialog : Option DialogLife)
-      → reading.read record held { dialog = dialog } ≡ reading.read held
+  -- of a request that comes up nothing is said yet
+  pub new : (arrival : Arrival) (dialog : Option DialogLife)
+      → reading.read (held_first dialog arrival) ≡ reading.none
   -- a PRACK and an ACK
   pub prack : (call_id : List ℕ) (id : Id) (rseq : ℕ) (body : List ℕ) → is_id id invite ≡ true
       → (held : HeldRequest) → reading.read (pracked rseq held)
@@ -71,7 +73,7 @@ pub record IsTold (X : Type 0) (reading : Reading X) (invite : Id) : Type 0 wher
       ≡ reading.by (reading.read held) (out.Command id (order.Answer key (request_terminated of)))
   pub given : (id : Id) → is_id id invite ≡ true → (local : Addr) (key : Key) (event : Id)
       (r : Answer) (now : ℕ) (held : HeldRequest)
-      → reading.read (answered r (answer_to local held r) now (with_dialog event r held))
+      → reading.read (after_answer event r (answer_to local held r) now held)
       ≡ reading.by (reading.read held) (out.Command id (order.Answer key (answer_to local held r)))
   -- a tick
   pub ticked : (now : ℕ) (held : HeldRequest) → is_id held.id invite ≡ true

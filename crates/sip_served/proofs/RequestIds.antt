@@ -13,6 +13,7 @@ use Rattle.sip_common.specs.declared.refusal.Refusal.{Refusal}
 use Rattle.sip_common.specs.Dialogs.{ended_at}
 use Rattle.sip_common.specs.Ids.{is_id}
 use Rattle.sip_common.specs.Requests.{dialog_name, is_bye, is_cancel, is_inside}
+use Rattle.sip_served.specs.declared.arrival.Arrival.{Arrival}
 use Rattle.sip_served.specs.declared.arrival.ArrivalCase.{ArrivalCase}
 use Rattle.sip_served.specs.declared.arrival.ArrivalCase.TheVariants.{Merged, BadExtension, NoDialog, OutOfOrder, Acknowledges, AcknowledgesNothing, ForUser}
 use Rattle.sip_served.specs.declared.held_request.HeldRequest.{HeldRequest}
@@ -46,7 +47,7 @@ Adds id before after =
     (ids_of after ≡ ids_of before) ⊎ (ids_of after ≡ ids_of before ++ id ∷ [])
 
 case_adds : (case : ArrivalCase) (state : State) (call_id : List ℕ) (name : DialogName)
-    (arrival : HeldRequest)
+    (arrival : Arrival)
     → Adds arrival.id state.requests ((by_case case state call_id name arrival).0).requests
 case_adds Merged state call_id name arrival = inl refl
 case_adds BadExtension state call_id name arrival = inl refl
@@ -66,7 +67,7 @@ case_adds ForUser state call_id name arrival =
     ∙ ap (λ requests. ids_of requests ++ arrival.id ∷ [])
     (noted_requests state name arrival.request))
 
-cancel_adds : (state : State) (call_id : List ℕ) (arrival : HeldRequest) (now : ℕ)
+cancel_adds : (state : State) (call_id : List ℕ) (arrival : Arrival) (now : ℕ)
     (o : Option HeldRequest)
     → Adds arrival.id state.requests ((by_cancelled state call_id arrival now o).0).requests
 cancel_adds state call_id arrival now None = inl refl
@@ -76,7 +77,7 @@ cancel_adds state call_id arrival now (Some held) =
     state.requests)))
     (λ e. rw e (inl refl))
 
-pub arrival_adds : (state : State) (call_id : List ℕ) (arrival : HeldRequest) (now : ℕ)
+pub arrival_adds : (state : State) (call_id : List ℕ) (arrival : Arrival) (now : ℕ)
     → Adds arrival.id state.requests ((arrival_taken state call_id arrival now).0).requests
 arrival_adds state call_id arrival now =
     let name = dialog_name arrival.request arrival.tag in

@@ -29,7 +29,7 @@ use Rattle.sip_served.specs.declared.tick.SuccessDue.{SuccessDue}
 use Rattle.sip_served.specs.declared.tick.SuccessDue.TheVariants as repeat
 use Rattle.sip_served.specs.Arrival.{pracked}
 use Rattle.sip_served.specs.RequestLife.{Finishes, MakesDialog, went_on}
-use Rattle.sip_served.specs.Respond.{answer_to, answered, if_so, is_of_dialog, is_sent_reliably, makes_dialog, sends_as, sent_as, with_dialog, with_routes, with_rseq}
+use Rattle.sip_served.specs.Respond.{after_answer, answer_to, answered, if_so, is_of_dialog, is_sent_reliably, makes_dialog, sends_as, sent_as, with_routes, with_rseq}
 use Rattle.sip_served.specs.Tick.{provisionals_by, provisionals_ticked, provisionals_told, request_ticked, success_answer, success_at_tick, success_ticked, success_told}
 use Rattle.sip_served.specs.Unacknowledged.{awaited_rseqs, kept_rseqs, repeated_rseqs, with_number}
 use Rattle.sip_served.proofs.Awaiting.{reliable_not_final}
@@ -43,7 +43,7 @@ pub answer_start : (local : Addr) (held : HeldRequest) (r : Answer)
     → (answer_to local held r).start ≡ start.Response r.status r.reason
 unfolding with_body_of
 answer_start local held r =
-    by_body (is_sent_reliably held r) (is_of_dialog held r.status) r.body
+    by_body (is_sent_reliably held r.status r.reliability) (is_of_dialog held r.status) r.body
   where
     by_body : (reliable routed : Bool) (body : List ℕ)
         → (with_body_of (if_so reliable (with_rseq (result_ok (send_answer held.ledger)))
@@ -62,13 +62,14 @@ answer_start local held r =
 -- it has the next RSeq where it is sent reliably
 abbrev pub next_rseq : HeldRequest → Answer → Option ℕ
 next_rseq held r =
-    if is_sent_reliably held r then result_ok (send_answer held.ledger) else None
+    if is_sent_reliably held r.status r.reliability
+    then result_ok (send_answer held.ledger) else None
 
 pub answer_rseq : (local : Addr) (held : HeldRequest) (r : Answer)
     → (answer_to local held r).rseq ≡ next_rseq held r
 unfolding with_body_of
 answer_rseq local held r =
-    by_body (is_sent_reliably held r) (is_of_dialog held r.status) r.body
+    by_body (is_sent_reliably held r.status r.reliability) (is_of_dialog held r.status) r.body
   where
     by_body : (reliable routed : Bool) (body : List ℕ)
         → (with_body_of (if_so reliable (with_rseq (result_ok (send_answer held.ledger)))
@@ -108,9 +109,10 @@ module _ (r : Answer) (response : Message) (now : ℕ) (held : HeldRequest) wher
   awaits_sent None = append_mapped (λ (p : Provisional). p.number) held.ledger.waiting _
   awaits_sent (Some fault) = refl
 
-  pub keeps_answered : kept_rseqs (answered r response now held) ≡ said held r (kept_rseqs held)
+  pub keeps_answered : kept_rseqs (answered r.status r.reliability response now held)
+      ≡ said held r (kept_rseqs held)
   keeps_answered =
-      elim (is_sent_reliably held r) as (λ b. kept_rseqs (went_on (if b
+      elim (is_sent_reliably held r.status r.reliability) as (λ b. kept_rseqs (went_on (if b
       then sends_as (send_answer held.ledger) response now
       else (if is_final r.status then Finishes response r.status now ∷ [] else [])) held)
       ≡ with_number (if b then result_ok (send_answer held.ledger) else None) (kept_rseqs held)) [
@@ -120,10 +122,10 @@ module _ (r : Answer) (response : Message) (now : ℕ) (held : HeldRequest) wher
             [ true ↦ refl | false ↦ refl ]
       ]
 
-  pub awaits_answered : awaited_rseqs (answered r response now held)
+  pub awaits_answered : awaited_rseqs (answered r.status r.reliability response now held)
       ≡ said held r (awaited_rseqs held)
   awaits_answered =
-      elim (is_sent_reliably held r) as (λ b. awaited_rseqs (went_on (if b
+      elim (is_sent_reliably held r.status r.reliability) as (λ b. awaited_rseqs (went_on (if b
       then sends_as (send_answer held.ledger) response now
       else (if is_final r.status then Finishes response r.status now ∷ [] else [])) held)
       ≡ with_number (if b then result_ok (send_answer held.ledger) else None)
@@ -186,10 +188,11 @@ module _ (r : Answer) (response : Message) (now : ℕ) (held : HeldRequest) wher
       else with_number (if reliable then result_ok (send_answer held.ledger) else None)
       (repeated_rseqs held))
 
-  pub repeats_answered : RepeatsAfter (is_sent_reliably held r) (is_final r.status)
-  repeats_answered = by_reliable (is_sent_reliably held r) refl
+  pub repeats_answered : RepeatsAfter (is_sent_reliably held r.status r.reliability)
+      (is_final r.status)
+  repeats_answered = by_reliable (is_sent_reliably held r.status r.reliability) refl
     where
-      by_reliable : (b : Bool) → is_sent_reliably held r ≡ b
+      by_reliable : (b : Bool) → is_sent_reliably held r.status r.reliability ≡ b
           → RepeatsAfter b (is_final r.status)
       by_reliable true is =
           subst (RepeatsAfter true) (sym (reliable_not_final held r is))
@@ -203,13 +206,14 @@ pub given_as : (read : HeldRequest → List ℕ) (by : HeldRequest → List ℕ 
     → by record held { dialog = dialog } (read record held { dialog = dialog })
     ≡ by held (read held))
     → (response : Message) (event : Id) (r : Answer) (now : ℕ)
-    → ((held : HeldRequest) → read (answered r response now held) ≡ by held (read held))
+    → ((held : HeldRequest) → read (answered r.status r.reliability response now held)
+    ≡ by held (read held))
     → (held : HeldRequest)
-    → read (answered r response now (with_dialog event r held)) ≡ by held (read held)
+    → read (after_answer event r response now held) ≡ by held (read held)
 given_as read by same response event r now answers held =
     let made : DialogLife = record { name = dialog_name held.request held.tag; born = event } in
-    elim (makes_dialog held r.status) as (λ b. read (answered r response now (went_on (if b
-    then MakesDialog made ∷ [] else []) held)) ≡ by held (read held)) [
+    elim (makes_dialog held r.status) as (λ b. read (answered r.status r.reliability response now
+    (went_on (if b then MakesDialog made ∷ [] else []) held)) ≡ by held (read held)) [
       | true ↦ answers record held { dialog = Some made } ∙ same held (Some made)
       | false ↦ answers held
     ]

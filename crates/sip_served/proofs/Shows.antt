@@ -14,6 +14,7 @@ use Rattle.sip_transactions.specs.declared.output.Kind.{Kind}
 use Rattle.sip_transactions.specs.declared.output.Kind.TheVariants.{Request, Ack, Response, Timeout, Failed}
 use Rattle.sip_transactions.specs.declared.output.Up.{Up}
 use Rattle.sip_common.proofs.ToldRequests.{early_shown, end_shown, none_of_both, shown}
+use Rattle.sip_served.specs.declared.arrival.Arrival.{Arrival}
 use Rattle.sip_served.specs.declared.arrival.ArrivalCase.{ArrivalCase}
 use Rattle.sip_served.specs.declared.arrival.ArrivalCase.TheVariants.{Merged, BadExtension, NoDialog, OutOfOrder, Acknowledges, AcknowledgesNothing, ForUser}
 use Rattle.sip_common.specs.declared.command.Respond.{Respond as Answer}
@@ -29,7 +30,7 @@ use Rattle.sip_common.specs.declared.refusal.Refusal.{Refusal}
 use Rattle.sip_served.specs.declared.tick.SuccessDue.{SuccessDue}
 use Rattle.sip_served.specs.declared.tick.SuccessDue.TheVariants as repeat
 use Rattle.sip_served.specs.Acknowledgment.{ack_noted, acknowledged_invite}
-use Rattle.sip_served.specs.Arrival.{new_request, by_case, bye_taken, case_of}
+use Rattle.sip_served.specs.Arrival.{arrival_of, by_case, bye_taken, case_of}
 use Rattle.sip_served.specs.Cancel.{by_cancelled, cancelled_request, is_unanswered_invite}
 use Rattle.sip_common.specs.Dialogs.{Dialogs}
 use Rattle.sip_common.specs.Requests.{dialog_name, is_bye, is_cancel, is_inside}
@@ -87,7 +88,7 @@ bye_shows request name state =
     (λ e. rw e refl)
 
 case_shows : (case : ArrivalCase) (state : State) (call_id : List ℕ) (name : DialogName)
-    (arrival : HeldRequest)
+    (arrival : Arrival)
     → shown (by_case case state call_id name arrival).1 ≡ if_for_user arrival.id case
 case_shows Merged state call_id name arrival = refl
 case_shows BadExtension state call_id name arrival = refl
@@ -98,7 +99,7 @@ case_shows AcknowledgesNothing state call_id name arrival = refl
 case_shows ForUser state call_id name arrival =
     ap (λ rest. arrival.id ∷ rest) (bye_shows arrival.request name _)
 
-cancel_shows : (state : State) (call_id : List ℕ) (arrival : HeldRequest) (now : ℕ)
+cancel_shows : (state : State) (call_id : List ℕ) (arrival : Arrival) (now : ℕ)
     (o : Option HeldRequest) → shown (by_cancelled state call_id arrival now o).1 ≡ []
 cancel_shows state call_id arrival now None = refl
 cancel_shows state call_id arrival now (Some held) =
@@ -112,7 +113,7 @@ ack_shows state call_id ack None = refl
 ack_shows state call_id ack (Some invite) = refl
 
 answer_shows : (event : Id) (held : HeldRequest) (r : Answer) (response : Message)
-    (dialogs : Dialogs) → shown (dialogs_answered event held r response dialogs).1 ≡ []
+    (dialogs : Dialogs) → shown (dialogs_answered event held r.status response dialogs).1 ≡ []
 answer_shows event held r response dialogs =
     by_bool (makes_dialog held r.status) (λ e. rw e refl)
     (λ e. by_bool (confirms_dialog held r.status) (λ f. rw (e, f) refl)
@@ -133,14 +134,15 @@ respond_shows state event r now (Some held) =
     refusal_shows state event r now held (refusal_for state.dialogs r held)
 
 kind_shows : (state : State) (tag : List ℕ) (up : Up) (kind : Kind) (now : ℕ)
-    → shown (kind_taken state tag up kind now).1 ≡ for_user_of state tag up.id kind
+    → shown (kind_taken state tag up kind now).1 ≡ for_user_of state tag up kind
 kind_shows state tag up (Request request reply_to) now =
-    let arrival = new_request up.key up.id request reply_to tag in
+    let arrival = arrival_of up request reply_to tag in
+    let name = dialog_name request arrival.tag in
     by_bool (is_cancel request)
     (λ e. rw e (cancel_shows state up.call_id arrival now
     (cancelled_request up.key state.requests)))
-    (λ e. rw e (case_shows (case_of state.requests state.dialogs (dialog_name request tag) request)
-    state up.call_id (dialog_name request tag) arrival))
+    (λ e. rw e (case_shows (case_of state.requests state.dialogs name request)
+    state up.call_id name arrival))
 kind_shows state tag up (Ack ack) now =
     ack_shows state up.call_id ack (acknowledged_invite ack state.requests)
 kind_shows state tag up (Response response) now = refl
@@ -199,20 +201,21 @@ case_often p one AcknowledgesNothing b is = omega arith
 case_often p one ForUser true is = rw is (omega arith)
 case_often p one ForUser false is = rw is (omega arith)
 
-kind_often : (state : State) (id : Id) (tag : List ℕ) (one : Id) (kind : Kind)
-    → often (is_id id) (for_user_of state tag one kind) ≤ cond (is_request kind (is_id id one)) 1 0
-kind_often state id tag one (Request request reply_to) =
+kind_often : (state : State) (id : Id) (tag : List ℕ) (up : Up) (kind : Kind)
+    → often (is_id id) (for_user_of state tag up kind) ≤ cond (is_request kind (is_id id up.id)) 1 0
+kind_often state id tag up (Request request reply_to) =
+    let name = dialog_name request (arrival_of up request reply_to tag).tag in
     by_bool (is_cancel request) (λ e. rw e (omega arith))
-    (λ e. rw e (case_often (is_id id) one (case_of state.requests state.dialogs
-    (dialog_name request tag) request) (is_id id one) refl))
-kind_often state id tag one (Ack ack) = omega arith
-kind_often state id tag one (Response response) = omega arith
-kind_often state id tag one Timeout = omega arith
-kind_often state id tag one Failed = omega arith
+    (λ e. rw e (case_often (is_id id) up.id (case_of state.requests state.dialogs name request)
+    (is_id id up.id) refl))
+kind_often state id tag up (Ack ack) = omega arith
+kind_often state id tag up (Response response) = omega arith
+kind_often state id tag up Timeout = omega arith
+kind_often state id tag up Failed = omega arith
 
 event_often : (state : State) (id : Id) (event : Event)
     → often (is_id id) (ids_for_user state event) ≤ cond (brings id event) 1 0
-event_often state id (Takes tag one (item.Up up) now) = kind_often state id tag up.id up.kind
+event_often state id (Takes tag one (item.Up up) now) = kind_often state id tag up up.kind
 event_often state id (Takes tag one (item.User c) now) = omega arith
 event_often state id (Ticks now) = omega arith
 

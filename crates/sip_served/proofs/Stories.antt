@@ -16,17 +16,18 @@ use Rattle.sip_common.specs.declared.command.UserCommand.TheVariants as command
 use Rattle.sip_common.specs.declared.held_dialog.DialogName.{DialogName}
 use Rattle.sip_common.specs.declared.item.Item.TheVariants as item
 use Rattle.sip_common.specs.declared.refusal.Refusal.{Refusal}
-use Rattle.sip_common.specs.Dialogs.{ended_at, own_dialog}
+use Rattle.sip_common.specs.Dialogs.{ended_at}
 use Rattle.sip_common.specs.Requests.{dialog_name, is_bye, is_cancel, is_inside}
+use Rattle.sip_served.specs.declared.arrival.Arrival.{Arrival}
 use Rattle.sip_served.specs.declared.arrival.ArrivalCase.{ArrivalCase}
 use Rattle.sip_served.specs.declared.arrival.ArrivalCase.TheVariants.{Merged, BadExtension, NoDialog, OutOfOrder, Acknowledges, AcknowledgesNothing, ForUser}
 use Rattle.sip_served.specs.declared.held_request.HeldRequest.{HeldRequest}
 use Rattle.sip_served.specs.declared.held_request.SuccessEnd.TheVariants.{Acknowledged}
 use Rattle.sip_served.specs.Acknowledgment.{ack_noted, acknowledged_invite}
-use Rattle.sip_served.specs.Arrival.{by_case, case_of, in_its_dialog, new_request, noted, request_held}
+use Rattle.sip_served.specs.Arrival.{arrival_of, by_case, case_of, in_its_dialog, noted, request_held}
 use Rattle.sip_served.specs.Cancel.{by_cancelled, cancelled_request, is_unanswered_invite, request_terminated, terminates}
 use Rattle.sip_served.specs.RequestLife.{RequestHappening, EndsSuccess, TakesPrack, went_on}
-use Rattle.sip_served.specs.Respond.{answer_given, answer_to, answered, by_refusal, by_request, refusal_for, with_dialog}
+use Rattle.sip_served.specs.Respond.{after_answer, answer_given, answer_to, by_refusal, by_request, refusal_for}
 use Rattle.sip_served.specs.Run.{Event, Takes, Ticks, event_taken}
 use Rattle.sip_served.specs.State.{State, changed_at, has_id}
 use Rattle.sip_served.specs.Step.{arrival_taken, kind_taken, server_command_taken}
@@ -50,37 +51,31 @@ one_happens id more fits requests stories told =
     ∙ sym (changed_mapped request_of (has_id id) (went_on more) (goes_on more)
     (λ story. all_happen more story (fits (request_of story))) stories)
 
--- a request, as it came up
-abbrev as_new : HeldRequest → HeldRequest
-as_new held = new_request held.key held.id held.request held.reply_to held.tag
-
 module _ (state : State) (stories : Stories) (told : AreTold state.requests stories) where
-  case_told : (case : ArrivalCase) (call_id : List ℕ) (name : DialogName) (arrival : HeldRequest)
-      → arrival ≡ as_new arrival
+  case_told : (case : ArrivalCase) (call_id : List ℕ) (name : DialogName) (arrival : Arrival)
       → AreTold ((by_case case state call_id name arrival).0).requests
       (told_by_case case state name arrival stories)
-  case_told Merged call_id name arrival new = told
-  case_told BadExtension call_id name arrival new = told
-  case_told NoDialog call_id name arrival new = told
-  case_told OutOfOrder call_id name arrival new = told
-  case_told (Acknowledges invite rseq) call_id name arrival new =
+  case_told Merged call_id name arrival = told
+  case_told BadExtension call_id name arrival = told
+  case_told NoDialog call_id name arrival = told
+  case_told OutOfOrder call_id name arrival = told
+  case_told (Acknowledges invite rseq) call_id name arrival =
       one_happens invite (TakesPrack rseq ∷ []) (λ held. (tt, tt))
       (noted state name arrival.request).requests stories
       (noted_requests state name arrival.request ∙ told)
-  case_told AcknowledgesNothing call_id name arrival new =
+  case_told AcknowledgesNothing call_id name arrival =
       noted_requests state name arrival.request ∙ told
-  case_told ForUser call_id name arrival new =
+  case_told ForUser call_id name arrival =
       let before = noted state name arrival.request in
       let held = (request_held before call_id name arrival).0 in
-      let dialog = own_dialog arrival.request name before.dialogs in
       bye_requests (is_inside arrival.request && is_bye arrival.request) held
       (ended_at name held.dialogs).0 (ended_at name held.dialogs).1
       ∙ (λ i. (noted_requests state name arrival.request ∙ told) i
-      ++ record (new i) { dialog = dialog } ∷ [])
+      ++ in_its_dialog before.dialogs name arrival ∷ [])
       ∙ sym (append_mapped request_of stories
       (record { arrival = in_its_dialog before.dialogs name arrival; life = [] } ∷ []))
 
-  cancel_told : (call_id : List ℕ) (arrival : HeldRequest) (now : ℕ) (o : Option HeldRequest)
+  cancel_told : (call_id : List ℕ) (arrival : Arrival) (now : ℕ) (o : Option HeldRequest)
       → AreTold ((by_cancelled state call_id arrival now o).0).requests
       (told_by_cancel now o stories)
   cancel_told call_id arrival now None = told
@@ -90,16 +85,16 @@ module _ (state : State) (stories : Stories) (told : AreTold state.requests stor
       (λ held. (tt, tt)) state.requests stories told))
       (λ e. rw e told)
 
-  arrival_on : (call_id : List ℕ) (arrival : HeldRequest) (now : ℕ) → arrival ≡ as_new arrival
+  arrival_on : (call_id : List ℕ) (arrival : Arrival) (now : ℕ)
       → AreTold ((arrival_taken state call_id arrival now).0).requests
       (arrival_told state arrival now stories)
-  arrival_on call_id arrival now new =
+  arrival_on call_id arrival now =
       let name = dialog_name arrival.request arrival.tag in
       by_bool (is_cancel arrival.request)
       (λ e. rw e (cancel_told call_id arrival now
       (cancelled_request arrival.key state.requests)))
       (λ e. rw e (case_told (case_of state.requests state.dialogs name arrival.request) call_id name
-      arrival new))
+      arrival))
 
   ack_on : (call_id : List ℕ) (ack : Message) (o : Option Id)
       → AreTold ((ack_noted state call_id ack o).0).requests
@@ -114,7 +109,7 @@ module _ (state : State) (stories : Stories) (told : AreTold state.requests stor
       → AreTold ((kind_taken state tag up kind now).0).requests
       (kind_told state tag up kind now stories)
   kind_on tag up (Request request reply_to) now =
-      arrival_on up.call_id (new_request up.key up.id request reply_to tag) now refl
+      arrival_on up.call_id (arrival_of up request reply_to tag) now
   kind_on tag up (Ack ack) now = ack_on up.call_id ack (acknowledged_invite ack state.requests)
   kind_on tag up (Response response) now = told
   kind_on tag up Timeout now = told
@@ -129,7 +124,7 @@ module _ (state : State) (stories : Stories) (told : AreTold state.requests stor
     answer_on event r now held found unrefused =
         let response = answer_to state.local held r in
         let more = answer_happens event r response now held in
-        let change = λ (one : HeldRequest). answered r response now (with_dialog event r one) in
+        let change = after_answer event r response now in
         let fits = answer_fits event r response now held
         (numbered_by state.dialogs r held unrefused) in
         ap (changed_at r.id change) told

@@ -36,7 +36,7 @@ use Rattle.sip_served.specs.declared.tick.SuccessDue.TheVariants as repeat
 use Rattle.sip_served.specs.Arrival.{first_rseq}
 use Rattle.sip_served.specs.Provisionals.{without_rseq}
 use Rattle.sip_served.specs.RequestLife.{RequestHappening, EndsSuccess, Finishes, GivesUpProvisionals, MakesDialog, RepeatsProvisionals, RepeatsSuccess, SendsReliably, TakesPrack, next_retransmission, request_happened, success_sent, went_on}
-use Rattle.sip_served.specs.Respond.{answered, answers, has_ended, is_of_dialog, is_reliable, is_sent_reliably, is_user_status, makes, makes_dialog, may_be_reliable, refusal_for, refusal_of_fault, sends_as, with_dialog}
+use Rattle.sip_served.specs.Respond.{after_answer, answers, has_ended, is_of_dialog, is_reliable, is_sent_reliably, is_user_status, makes, makes_dialog, may_be_reliable, refusal_for, refusal_of_fault, sends_as, with_dialog}
 use Rattle.sip_served.specs.Story.{RequestStory, SuccessStory, dialog_by, goes_on, is_prack_of, next_sending, removal_by, request_of, success_by, success_of, to_provisionals, unacknowledged}
 use Rattle.sip_served.specs.Tick.{provisionals_go, provisionals_ticked, request_passes, request_ticked, success_answer, success_at_tick, success_goes, success_passes}
 use Rattle.sip_served.proofs.FewWait.{IsKept}
@@ -276,7 +276,8 @@ unused false false false false false o other none is = absurd (true≢false (sym
 
 -- a reliable answer has a number
 abbrev pub Numbered : Answer → HeldRequest → Type 0
-Numbered r held = is_sent_reliably held r ≡ true → send_fault held.ledger ≡ None
+Numbered r held =
+    is_sent_reliably held r.status r.reliability ≡ true → send_fault held.ledger ≡ None
 
 pub numbered_by : (dialogs : Dialogs) (r : Answer) (held : HeldRequest)
     → refusal_for dialogs r held ≡ None → Numbered r held
@@ -284,11 +285,11 @@ numbered_by dialogs r held none =
     unused (not (is_user_status r.status)) (is_some held.removal) (is_reliable r.reliability
     && not (may_be_reliable held r.status)) (is_of_dialog held r.status
     && has_ended dialogs held)
-    (is_sent_reliably held r) (send_fault held.ledger) _ none
+    (is_sent_reliably held r.status r.reliability) (send_fault held.ledger) _ none
 
 module _ (event : Id) (r : Answer) (response : Message) (now : ℕ) (held : HeldRequest) where
   abbrev pub answer_happens : List RequestHappening
-  answer_happens = makes event held r ++ answers held r response now
+  answer_happens = makes event held r.status ++ answers held r.status r.reliability response now
 
   sends_fit : (one : HeldRequest) → one.ledger ≡ held.ledger → send_fault held.ledger ≡ None
       → AllFit one (sends_as (send_answer held.ledger) response now)
@@ -297,37 +298,37 @@ module _ (event : Id) (r : Answer) (response : Message) (now : ℕ) (held : Held
       (ap (λ (l : Ledger). l.next) (sym same), tt)
 
   answers_fit : (one : HeldRequest) → one.ledger ≡ held.ledger → Numbered r held
-      → AllFit one (answers held r response now)
+      → AllFit one (answers held r.status r.reliability response now)
   answers_fit one same has_number =
-      by_bool (is_sent_reliably held r) (λ e. rw e (sends_fit one same (has_number e)))
+      by_bool (is_sent_reliably held r.status r.reliability)
+      (λ e. rw e (sends_fit one same (has_number e)))
       (λ e. by_bool (is_final r.status) (λ f. rw (e, f) (tt, tt)) (λ f. rw (e, f) tt))
+
+  abbrev made : DialogLife
+  made = record { name = dialog_name held.request held.tag; born = event }
 
   pub answer_fits : Numbered r held → AllFit held answer_happens
   answer_fits has_number =
-      elim (makes_dialog held r.status) as (λ b. AllFit held ((if b
-      then MakesDialog record { name = dialog_name held.request held.tag; born = event } ∷ []
-      else []) ++ answers held r response now)) [
-        | true ↦ (
-          tt,
-          answers_fit record held {
-            dialog = Some record { name = dialog_name held.request held.tag; born = event };
-          } refl has_number,
-        )
+      elim (makes_dialog held r.status) as (λ b. AllFit held
+      ((if b then MakesDialog made ∷ [] else [])
+      ++ answers held r.status r.reliability response now)) [
+        | true ↦ (tt, answers_fit record held { dialog = Some made } refl has_number)
         | false ↦ answers_fit held refl has_number
       ]
 
   -- whether it makes a dialog or not, the rest is the same
-  answers_same : answers (with_dialog event r held) r response now ≡ answers held r response now
+  answers_same : answers (with_dialog event r.status held) r.status r.reliability response now
+      ≡ answers held r.status r.reliability response now
   answers_same =
-      elim (makes_dialog held r.status) as (λ b. answers (went_on (if b
-      then MakesDialog record { name = dialog_name held.request held.tag; born = event } ∷ []
-      else []) held) r response now ≡ answers held r response now) [ true ↦ refl | false ↦ refl ]
+      elim (makes_dialog held r.status) as (λ b. answers
+      (went_on (if b then MakesDialog made ∷ [] else []) held) r.status r.reliability response now
+      ≡ answers held r.status r.reliability response now) [ true ↦ refl | false ↦ refl ]
 
-  pub answer_whole : went_on answer_happens held
-      ≡ answered r response now (with_dialog event r held)
+  pub answer_whole : went_on answer_happens held ≡ after_answer event r response now held
   answer_whole =
-      fold_on request_happened held (makes event held r) (answers held r response now)
-      ∙ ap (λ more. went_on more (with_dialog event r held)) (sym answers_same)
+      fold_on request_happened held (makes event held r.status)
+      (answers held r.status r.reliability response now)
+      ∙ ap (λ more. went_on more (with_dialog event r.status held)) (sym answers_same)
 
 -- ---- a tick
 

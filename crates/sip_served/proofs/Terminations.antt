@@ -7,6 +7,7 @@ use Rattle.sip_message.specs.declared.id.Id.{Id}
 use Rattle.sip_message.specs.declared.message.Message.{Message}
 use Rattle.sip_message.specs.Message.{with_body_of}
 use Rattle.sip_transactions.specs.declared.input.Command.TheVariants.{Answer}
+use Rattle.sip_common.specs.declared.command.Reliability.TheVariants.{Plain}
 use Rattle.sip_served.specs.declared.held_request.HeldRequest.{HeldRequest}
 use Rattle.sip_common.specs.declared.item.CallOut.{CallOut}
 use Rattle.sip_common.specs.declared.item.CallOut.TheVariants.{Command}
@@ -36,30 +37,23 @@ module _ (event : Id) (call_id : List ℕ) (held : HeldRequest) where
   same_response local invite = rw invite refl
 
   same_dialogs : (response : Message) (dialogs : Dialogs) → is_invite held.request ≡ true
-      → dialogs_answered event held (user_termination call_id held.id) response dialogs
-      ≡ early_ended held.id dialogs
+      → dialogs_answered event held 487 response dialogs ≡ early_ended held.id dialogs
   same_dialogs response dialogs invite = rw invite refl
 
-  makes_none : (one : HeldRequest)
-      → with_dialog event (user_termination call_id held.id) one ≡ one
+  makes_none : (one : HeldRequest) → with_dialog event 487 one ≡ one
   makes_none one = by_bool (is_invite one.request) (λ e. rw e refl) (λ e. rw e refl)
 
   is_final : (response : Message) (now : ℕ) (one : HeldRequest)
-      → answered (user_termination call_id held.id) response now one
-      ≡ finished response 487 now one
+      → answered 487 Plain response now one ≡ finished response 487 now one
   is_final response now one = ap (λ life. went_on life one) one_answer
     where
-      one_answer : answers one (user_termination call_id held.id) response now
-          ≡ Finishes response 487 now ∷ []
+      one_answer : answers one 487 Plain response now ≡ Finishes response 487 now ∷ []
       one_answer = by_bool (is_invite one.request) (λ e. rw e refl) (λ e. rw e refl)
 
   same_change : (response : Message) (now : ℕ) (one : HeldRequest)
-      → answered (user_termination call_id held.id) response now
-      (with_dialog event (user_termination call_id held.id) one)
-      ≡ finished response 487 now one
+      → answered 487 Plain response now (with_dialog event 487 one) ≡ finished response 487 now one
   same_change response now one =
-      ap (answered (user_termination call_id held.id) response now) (makes_none one)
-      ∙ is_final response now one
+      ap (answered 487 Plain response now) (makes_none one) ∙ is_final response now one
 
   abbrev left : State → ℕ → Message → Dialogs × List CallOut → ServedTaken
   left state now response dialogs = (
@@ -75,8 +69,7 @@ module _ (event : Id) (call_id : List ℕ) (held : HeldRequest) where
       ≡ left state now (request_terminated held) (early_ended held.id state.dialogs)
   given state now invite =
       let response = answer_to state.local held (user_termination call_id held.id) in
-      let dialogs =
-      dialogs_answered event held (user_termination call_id held.id) response state.dialogs in
+      let dialogs = dialogs_answered event held 487 response state.dialogs in
       (λ i. (
         record state {
           requests = changed_at held.id (λ one. same_change response now one i) state.requests;

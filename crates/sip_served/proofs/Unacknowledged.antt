@@ -57,7 +57,7 @@ module _ (invite : Id) where
     ended = λ dialog numbers. refl;
     refusal = λ call_id place refusal numbers. refl;
     cancel = λ call_id id numbers. refl;
-    dialog = λ held dialog. refl;
+    new = λ arrival dialog. refl;
     prack = λ call_id id rseq body own held.
         sym (ap (λ b. without_number (if b then Some rseq else None) (kept_rseqs held)) own
         ∙ filter_mapped (λ (one : NumberedResponse). one.number) (λ one. not (one == rseq))
@@ -104,7 +104,7 @@ module _ (invite : Id) where
     ended = λ dialog numbers. refl;
     refusal = λ call_id place refusal numbers. refl;
     cancel = λ call_id id numbers. refl;
-    dialog = λ held dialog. refl;
+    new = λ arrival dialog. refl;
     prack = λ call_id id rseq body own held.
         sym (ap (λ b. without_number (if b then Some rseq else None) (awaited_rseqs held)) own
         ∙ filter_mapped (λ (p : Provisional). p.number) (λ one. not (one == rseq))
@@ -157,7 +157,7 @@ module _ (invite : Id) where
     ended = λ dialog numbers. refl;
     refusal = λ call_id place refusal numbers. refl;
     cancel = λ call_id id numbers. refl;
-    dialog = λ held dialog. refl;
+    new = λ arrival dialog. refl;
     prack = λ call_id id rseq body own held.
         repeats_pracked rseq held
         ∙ sym (ap (λ b. without_number (if b then Some rseq else None) (repeated_rseqs held)) own);

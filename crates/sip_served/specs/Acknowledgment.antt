@@ -10,7 +10,7 @@ use Rattle.sip_served.specs.declared.held_request.SuccessEnd.{SuccessEnd}
 use Rattle.sip_served.specs.declared.held_request.SuccessEnd.TheVariants.{Acknowledged}
 use Rattle.sip_common.specs.declared.item.CallOut.TheVariants.{Notice}
 use Rattle.sip_common.specs.declared.notice.Notice.TheVariants.{Ack}
-use Rattle.sip_common.specs.Requests.{is_invite, local_tag_of}
+use Rattle.sip_common.specs.Requests.{is_invite}
 use Rattle.sip_served.specs.RequestLife.{EndsSuccess, went_on}
 use Rattle.sip_served.specs.State.{State, ServedTaken, changed_at, quiet}
 
@@ -23,7 +23,7 @@ awaits_ack held =
 -- the ACK is of the dialog and the number of the request
 abbrev pub is_ack_of : Message → HeldRequest → Bool
 is_ack_of ack held =
-    str_eq_ignore_ascii_case (tag_of ack.to) (local_tag_of held.request held.tag)
+    str_eq_ignore_ascii_case (tag_of ack.to) held.tag
     && str_eq_ignore_ascii_case (tag_of ack.from) (tag_of held.request.from)
     && (ack.cseq.number == held.request.cseq.number)
 

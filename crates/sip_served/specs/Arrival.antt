@@ -7,15 +7,17 @@ use Rattle.std.specs.Str.{bytes_eq, str_eq_ignore_ascii_case}
 use Rattle.sip_message.specs.declared.addr.Addr.{Addr}
 use Rattle.sip_message.specs.declared.header.Header.{Header}
 use Rattle.sip_message.specs.declared.id.Id.{Id}
-use Rattle.sip_message.specs.declared.key.Key.{Key}
 use Rattle.sip_message.specs.declared.message.Message.{Message}
 use Rattle.sip_message.specs.declared.rack.RAck.{RAck}
 use Rattle.sip_message.specs.Party.{tag_of}
 use Rattle.sip_message.specs.Response.{response_of}
 use Rattle.sip_reliable.specs.Ledger.{ledger_after, waits_for}
 use Rattle.sip_transactions.specs.declared.input.Command.TheVariants.{Answer}
+use Rattle.sip_transactions.specs.declared.output.Up.{Up}
+use Rattle.sip_served.specs.declared.arrival.Arrival.{Arrival}
 use Rattle.sip_served.specs.declared.arrival.ArrivalCase.{ArrivalCase}
 use Rattle.sip_served.specs.declared.arrival.ArrivalCase.TheVariants.{Merged, BadExtension, NoDialog, OutOfOrder, Acknowledges, AcknowledgesNothing, ForUser}
+use Rattle.sip_common.specs.declared.held_dialog.DialogLife.{DialogLife}
 use Rattle.sip_common.specs.declared.held_dialog.DialogName.{DialogName}
 use Rattle.sip_common.specs.declared.held_dialog.HeldDialog.{HeldDialog}
 use Rattle.sip_served.specs.declared.held_request.HeldRequest.{HeldRequest}
@@ -29,23 +31,32 @@ use Rattle.sip_common.specs.Ids.{is_id}
 use Rattle.sip_served.specs.RequestLife.{TakesPrack, went_on}
 use Rattle.sip_served.specs.State.{State, ServedTaken, changed_at, followed, quiet}
 
--- ---- what is held of it
+-- ---- what comes up, and what is held of it
 
 -- the RSeq of the first reliable provisional response to a request
 abbrev pub first_rseq : ℕ
 first_rseq = 1
 
--- as it comes up: in no dialog, and no answer to it was sent; `tag` is the To tag made for one
--- without
-abbrev pub new_request : Key → Id → Message → Addr → List ℕ → HeldRequest
-new_request key id request reply_to tag = record {
-  id = id;
-  key = key;
+-- as a transaction hands it up: the To tag of its answers is its own, or where it has none `tag`
+abbrev pub arrival_of : Up → Message → Addr → List ℕ → Arrival
+arrival_of up request reply_to tag = record {
+  id = up.id;
+  key = up.key;
   request = request;
   reply_to = reply_to;
-  tag = tag;
-  dialog = None;
-  ledger = ledger_after first_rseq (supports_100rel request) [];
+  tag = local_tag_of request tag;
+}
+
+-- as it is held first: no answer to it was sent
+abbrev pub held_first : Option DialogLife → Arrival → HeldRequest
+held_first dialog arrival = record {
+  id = arrival.id;
+  key = arrival.key;
+  request = arrival.request;
+  reply_to = arrival.reply_to;
+  tag = arrival.tag;
+  dialog = dialog;
+  ledger = ledger_after first_rseq (supports_100rel arrival.request) [];
   provisionals = [];
   success = None;
   removal = None;
@@ -108,11 +119,11 @@ case_of requests dialogs name request =
 -- ---- what the agent answers by itself
 
 -- the command by which a response goes to the transaction of the request
-abbrev pub command_for : HeldRequest → Message → CallOut
+abbrev pub command_for : Arrival → Message → CallOut
 command_for arrival response = Command arrival.id (Answer arrival.key response)
 
 -- the agent answers by itself
-abbrev pub answered_with : HeldRequest → ℕ → List ℕ → List CallOut
+abbrev pub answered_with : Arrival → ℕ → List ℕ → List CallOut
 answered_with arrival status reason =
     command_for arrival (response_of arrival.request status reason arrival.tag) ∷ []
 
@@ -126,7 +137,7 @@ abbrev pub with_header : Header → Message → Message
 with_header header message = record message { others = message.others ++ header ∷ [] }
 
 -- the options that the agent doesn't know are named (RFC 3261, section 8.2.2.3)
-abbrev pub refused_extension : HeldRequest → List CallOut
+abbrev pub refused_extension : Arrival → List CallOut
 refused_extension arrival =
     command_for arrival
     (with_header (unsupported (filter is_unknown_option arrival.request.require))
@@ -134,7 +145,7 @@ refused_extension arrival =
     ∷ []
 
 -- the agent answers 481
-abbrev pub no_such_dialog : HeldRequest → List CallOut
+abbrev pub no_such_dialog : Arrival → List CallOut
 no_such_dialog arrival = answered_with arrival 481 (codes "Call/Transaction Does Not Exist")
 
 -- ---- a PRACK that names a response which waits for it
@@ -144,7 +155,7 @@ abbrev pub pracked : ℕ → HeldRequest → HeldRequest
 pracked rseq held = went_on (TakesPrack rseq ∷ []) held
 
 -- a PRACK for a response that waits: it gets 200, and the user is told
-abbrev pub prack_taken : State → List ℕ → HeldRequest → Id → ℕ → ServedTaken
+abbrev pub prack_taken : State → List ℕ → Arrival → Id → ℕ → ServedTaken
 prack_taken state call_id arrival invite rseq = (
   record state { requests = changed_at invite (pracked rseq) state.requests },
   command_for arrival (response_of arrival.request 200 (codes "OK") arrival.tag)
@@ -154,18 +165,18 @@ prack_taken state call_id arrival invite rseq = (
 -- ---- a request for the user
 
 -- the user is told of a request
-abbrev pub request_notice : List ℕ → HeldRequest → ANotice
+abbrev pub request_notice : List ℕ → Arrival → ANotice
 request_notice call_id arrival =
-    Request call_id arrival.id arrival.request.cseq.method
-    (local_tag_of arrival.request arrival.tag) (tag_of arrival.request.from) arrival.request.body
+    Request call_id arrival.id arrival.request.cseq.method arrival.tag
+    (tag_of arrival.request.from) arrival.request.body
 
 -- a request in the dialog of this name, where it came in one
-abbrev pub in_its_dialog : Dialogs → DialogName → HeldRequest → HeldRequest
+abbrev pub in_its_dialog : Dialogs → DialogName → Arrival → HeldRequest
 in_its_dialog dialogs name arrival =
-    record arrival { dialog = own_dialog arrival.request name dialogs }
+    held_first (own_dialog arrival.request name dialogs) arrival
 
 -- it is held so
-abbrev pub request_held : State → List ℕ → DialogName → HeldRequest → ServedTaken
+abbrev pub request_held : State → List ℕ → DialogName → Arrival → ServedTaken
 request_held state call_id name arrival = (
   record state { requests = state.requests ++ in_its_dialog state.dialogs name arrival ∷ [] },
   Notice (request_notice call_id arrival) ∷ [],
@@ -182,7 +193,7 @@ bye_taken request name state =
     else quiet state
 
 -- a request for the user is held; a BYE ends its dialog
-abbrev pub for_user : State → List ℕ → DialogName → HeldRequest → ServedTaken
+abbrev pub for_user : State → List ℕ → DialogName → Arrival → ServedTaken
 for_user state call_id name arrival =
     followed (request_held state call_id name arrival) (bye_taken arrival.request name)
 
@@ -196,7 +207,7 @@ noted state name request =
     else state
 
 -- what becomes of it, case by case
-abbrev pub by_case : ArrivalCase → State → List ℕ → DialogName → HeldRequest → ServedTaken
+abbrev pub by_case : ArrivalCase → State → List ℕ → DialogName → Arrival → ServedTaken
 by_case Merged state call_id name arrival =
     (state, answered_with arrival 482 (codes "Loop Detected"))
 by_case BadExtension state call_id name arrival = (state, refused_extension arrival)
@@ -211,7 +222,7 @@ by_case ForUser state call_id name arrival =
     for_user (noted state name arrival.request) call_id name arrival
 
 -- a request of a transaction of this Call-ID
-abbrev pub request_taken : State → List ℕ → HeldRequest → ServedTaken
+abbrev pub request_taken : State → List ℕ → Arrival → ServedTaken
 request_taken state call_id arrival =
     let name = dialog_name arrival.request arrival.tag in
     by_case (case_of state.requests state.dialogs name arrival.request) state call_id name arrival

@@ -6,15 +6,17 @@ use Rattle.sip_message.specs.declared.key.Key.{Key}
 use Rattle.sip_message.specs.declared.key.Key.TheVariants.{Server}
 use Rattle.sip_message.specs.declared.message.Message.{Message}
 use Rattle.sip_message.specs.Response.{response_of}
+use Rattle.sip_transactions.specs.declared.input.Command.TheVariants.{Answer}
 use Rattle.sip_common.specs.declared.command.Reliability.TheVariants.{Plain}
 use Rattle.sip_common.specs.declared.command.Respond.{Respond}
+use Rattle.sip_served.specs.declared.arrival.Arrival.{Arrival}
 use Rattle.sip_served.specs.declared.held_request.HeldRequest.{HeldRequest}
 use Rattle.sip_common.specs.declared.item.CallOut.{CallOut}
-use Rattle.sip_common.specs.declared.item.CallOut.TheVariants.{Notice}
+use Rattle.sip_common.specs.declared.item.CallOut.TheVariants.{Command, Notice}
 use Rattle.sip_common.specs.declared.notice.Notice.TheVariants.{Cancel}
 use Rattle.sip_served.specs.Arrival.{command_for, no_such_dialog}
 use Rattle.sip_common.specs.Dialogs.{early_ended}
-use Rattle.sip_common.specs.Requests.{is_invite, local_tag_of}
+use Rattle.sip_common.specs.Requests.{is_invite}
 use Rattle.sip_served.specs.RequestLife.{RequestHappening, Finishes, went_on}
 use Rattle.sip_served.specs.State.{State, ServedTaken, changed_at, followed}
 
@@ -38,20 +40,20 @@ is_unanswered_invite held = is_invite held.request && is_none held.removal
 
 -- ---- what is answered
 
--- the 200 to the CANCEL has the local tag of that request
-abbrev pub cancel_accepted : HeldRequest → HeldRequest → CallOut
+-- the 200 to the CANCEL has the To tag of the answers to that request
+abbrev pub cancel_accepted : Arrival → HeldRequest → CallOut
 cancel_accepted arrival held =
-    command_for arrival
-    (response_of arrival.request 200 (codes "OK") (local_tag_of held.request held.tag))
+    command_for arrival (response_of arrival.request 200 (codes "OK") held.tag)
 
 -- the final response to the INVITE
 abbrev pub request_terminated : HeldRequest → Message
 request_terminated held = response_of held.request 487 (codes "Request Terminated") held.tag
 
 -- first the CANCEL is answered and then the INVITE, and the user is told
-abbrev pub termination_told : List ℕ → HeldRequest → HeldRequest → Message → List CallOut
+abbrev pub termination_told : List ℕ → Arrival → HeldRequest → Message → List CallOut
 termination_told call_id arrival held response =
-    cancel_accepted arrival held ∷ command_for held response ∷ Notice (Cancel call_id held.id) ∷ []
+    cancel_accepted arrival held ∷ Command held.id (Answer held.key response)
+    ∷ Notice (Cancel call_id held.id) ∷ []
 
 -- ---- what becomes of the INVITE
 
@@ -83,7 +85,7 @@ user_termination call_id invite = record {
 -- ---- all of it
 
 -- a CANCEL of the request that is held gets 200, and an unanswered INVITE gets 487; of none 481
-abbrev pub by_cancelled : State → List ℕ → HeldRequest → ℕ → Option HeldRequest → ServedTaken
+abbrev pub by_cancelled : State → List ℕ → Arrival → ℕ → Option HeldRequest → ServedTaken
 by_cancelled state call_id arrival now None = (state, no_such_dialog arrival)
 by_cancelled state call_id arrival now (Some held) =
     let response = request_terminated held in
@@ -93,6 +95,6 @@ by_cancelled state call_id arrival now (Some held) =
     else (state, cancel_accepted arrival held ∷ [])
 
 -- A CANCEL is never held, and no dialog notes it.
-abbrev pub cancel_taken : State → List ℕ → HeldRequest → ℕ → ServedTaken
+abbrev pub cancel_taken : State → List ℕ → Arrival → ℕ → ServedTaken
 cancel_taken state call_id arrival now =
     by_cancelled state call_id arrival now (cancelled_request arrival.key state.requests)

@@ -4,13 +4,14 @@ use Rattle.std.specs.List.{filter_map}
 use Rattle.sip_message.specs.declared.id.Id.{Id}
 use Rattle.sip_transactions.specs.declared.output.Kind.{Kind}
 use Rattle.sip_transactions.specs.declared.output.Kind.TheVariants.{Request}
+use Rattle.sip_transactions.specs.declared.output.Up.{Up}
 use Rattle.sip_served.specs.declared.arrival.ArrivalCase.{ArrivalCase}
 use Rattle.sip_served.specs.declared.arrival.ArrivalCase.TheVariants.{ForUser}
 use Rattle.sip_common.specs.declared.item.Item.TheVariants.{Up as FromBelow}
 use Rattle.sip_common.specs.Ids.{is_id}
 use Rattle.sip_common.specs.Notices.{request_told_by}
 use Rattle.sip_common.specs.Requests.{dialog_name, is_cancel}
-use Rattle.sip_served.specs.Arrival.{case_of}
+use Rattle.sip_served.specs.Arrival.{arrival_of, case_of}
 use Rattle.sip_served.specs.Run.{Event, Takes, event_taken}
 use Rattle.sip_served.specs.State.{State}
 
@@ -28,14 +29,15 @@ abbrev pub if_for_user : Id → ArrivalCase → List Id
 if_for_user id ForUser = id ∷ []
 if_for_user id _ = []
 
-abbrev pub for_user_of : State → List ℕ → Id → Kind → List Id
-for_user_of state tag id (Request request reply_to) =
+abbrev pub for_user_of : State → List ℕ → Up → Kind → List Id
+for_user_of state tag up (Request request reply_to) =
+    let name = dialog_name request (arrival_of up request reply_to tag).tag in
     if is_cancel request then []
-    else if_for_user id (case_of state.requests state.dialogs (dialog_name request tag) request)
-for_user_of state tag id _ = []
+    else if_for_user up.id (case_of state.requests state.dialogs name request)
+for_user_of state tag up _ = []
 
 abbrev pub ids_for_user : State → Event → List Id
-ids_for_user state (Takes tag id (FromBelow up) now) = for_user_of state tag up.id up.kind
+ids_for_user state (Takes tag id (FromBelow up) now) = for_user_of state tag up up.kind
 ids_for_user state _ = []
 
 -- the request of an id comes up

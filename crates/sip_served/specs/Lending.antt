@@ -13,9 +13,9 @@ use Rattle.sip_common.specs.contracts.held_dialog.DialogName as dialog_name
 use Rattle.sip_common.specs.contracts.held_dialog.DialogNameHash.TheImpl as name_hash
 use Rattle.sip_common.specs.contracts.held_dialog.DialogNamePartialEq.TheImpl as name_eq
 use Rattle.sip_common.specs.contracts.held_dialog.HeldDialog as held_dialog
-use Rattle.sip_served.specs.contracts.holdings.Holdings as holdings
 use Rattle.sip_served.specs.contracts.served.Served as served
-use Rattle.sip_served.specs.ServerSide.{ServerSide}
+use Rattle.sip_served.specs.contracts.server_side.ServerSide as server_side
+use Rattle.sip_served.specs.Served.{ServedState}
 use Rattle.sip_served.specs.State.{State}
 
 -- the map of the held dialogs, as the logic holds it
@@ -28,11 +28,12 @@ dialogs_row =
     (copied.ghosts fold_hasher.the_row) builder.no_dict) hasher.ghosts allocator.ghosts
 
 -- it holds the dialogs that were left behind the reference, and all else is as it was
-abbrev pub HoldingsLend : MutBor State → MutBor dialogs_row.Denot → Fml
-HoldingsLend s r =
-    Lends holdings.the_row dialogs_row s r (λ dialogs. record s.now { dialogs = dialogs.entries })
+abbrev pub SideLends : MutBor State → MutBor dialogs_row.Denot → Fml
+SideLends s r =
+    Lends server_side.the_row dialogs_row s r
+    (λ dialogs. record s.now { dialogs = dialogs.entries })
 
-abbrev pub ServedLends : MutBor ServerSide → MutBor dialogs_row.Denot → Fml
+abbrev pub ServedLends : MutBor ServedState → MutBor dialogs_row.Denot → Fml
 ServedLends s r =
     Lends served.the_row dialogs_row s r
     (λ dialogs. record s.now { state = record s.now.state { dialogs = dialogs.entries } })

@@ -8,7 +8,7 @@ pub mod Provisionals
 pub mod RequestLife
 pub mod Respond
 pub mod Run
-pub mod ServerSide
+pub mod Served
 pub mod ForUser
 pub mod Happenings
 pub mod State

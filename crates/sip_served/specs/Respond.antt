@@ -49,10 +49,9 @@ may_be_reliable held status =
     is_invite held.request && is_provisional status && supports_100rel held.request
 
 -- It is sent reliably where that was asked for, and always where the INVITE requires it.
-abbrev pub is_sent_reliably : HeldRequest → Respond → Bool
-is_sent_reliably held respond =
-    may_be_reliable held respond.status
-    && (is_reliable respond.reliability || requires_100rel held.request)
+abbrev pub is_sent_reliably : HeldRequest → ℕ → Reliability → Bool
+is_sent_reliably held status reliability =
+    may_be_reliable held status && (is_reliable reliability || requires_100rel held.request)
 
 -- it makes or confirms a dialog, or is one of a dialog
 abbrev pub is_of_dialog : HeldRequest → ℕ → Bool
@@ -72,7 +71,8 @@ refusal_of_fault send.NumbersUsedUp = SequenceUsedUp
 -- another reliable response may be sent, or with a 2xx none that has a body waits
 abbrev pub reliable_refusal : HeldRequest → Respond → Option Refusal
 reliable_refusal held respond =
-    if is_sent_reliably held respond then option_map refusal_of_fault (send_fault held.ledger)
+    if is_sent_reliably held respond.status respond.reliability
+    then option_map refusal_of_fault (send_fault held.ledger)
     else (if is_success respond.status && list_any (λ p. p.has_body) held.ledger.waiting
     then Some ReliablePending
     else None)
@@ -110,7 +110,8 @@ if_so so change message = if so then change message else message
 abbrev pub answer_to : Addr → HeldRequest → Respond → Message
 answer_to local held respond =
     with_body_of
-    (if_so (is_sent_reliably held respond) (with_rseq (result_ok (send_answer held.ledger)))
+    (if_so (is_sent_reliably held respond.status respond.reliability)
+    (with_rseq (result_ok (send_answer held.ledger)))
     (if_so (is_of_dialog held respond.status) (with_routes local held.request)
     (response_of held.request respond.status respond.reason held.tag)))
     respond.body
@@ -123,15 +124,16 @@ sends_as (Ok number) response now = SendsReliably number response now ∷ []
 sends_as (Err fault) response now = []
 
 -- what happens to the request: a reliable provisional response goes out, or the final one
-abbrev pub answers : HeldRequest → Respond → Message → ℕ → List RequestHappening
-answers held respond response now =
-    if is_sent_reliably held respond then sends_as (send_answer held.ledger) response now
-    else (if is_final respond.status then Finishes response respond.status now ∷ []
-    else [])
+abbrev pub answers : HeldRequest → ℕ → Reliability → Message → ℕ → List RequestHappening
+answers held status reliability response now =
+    if is_sent_reliably held status reliability
+    then sends_as (send_answer held.ledger) response now
+    else (if is_final status then Finishes response status now ∷ [] else [])
 
 -- the held request after that
-abbrev pub answered : Respond → Message → ℕ → HeldRequest → HeldRequest
-answered respond response now held = went_on (answers held respond response now) held
+abbrev pub answered : ℕ → Reliability → Message → ℕ → HeldRequest → HeldRequest
+answered status reliability response now held =
+    went_on (answers held status reliability response now) held
 
 -- after a reliable provisional response
 abbrev pub sent_as : Result ℕ SendFault → Message → ℕ → HeldRequest → HeldRequest
@@ -174,27 +176,30 @@ abbrev pub rejects : HeldRequest → ℕ → Bool
 rejects held status = is_invite held.request && nat_le 300 status
 
 -- the dialogs after it: one more, one confirmed, or the early ones of a rejected INVITE ended
-abbrev pub dialogs_answered : Id → HeldRequest → Respond → Message → Dialogs
-    → Dialogs × List CallOut
-dialogs_answered event held respond response dialogs =
+abbrev pub dialogs_answered : Id → HeldRequest → ℕ → Message → Dialogs → Dialogs × List CallOut
+dialogs_answered event held status response dialogs =
     let name = dialog_name held.request held.tag in
-    if makes_dialog held respond.status
-    then (insert_entry is_named dialogs name (made_dialog event held respond.status), [])
-    else (if confirms_dialog held respond.status
-    then (dialog_changed name (confirmed response) dialogs, [])
-    else (if rejects held respond.status then early_ended held.id dialogs
+    if makes_dialog held status
+    then (insert_entry is_named dialogs name (made_dialog event held status), [])
+    else (if confirms_dialog held status then (dialog_changed name (confirmed response) dialogs, [])
+    else (if rejects held status then early_ended held.id dialogs
     else (dialogs, [])))
 
 -- what happens to its request: the dialog that is made is its own
-abbrev pub makes : Id → HeldRequest → Respond → List RequestHappening
-makes event held respond =
-    if makes_dialog held respond.status
+abbrev pub makes : Id → HeldRequest → ℕ → List RequestHappening
+makes event held status =
+    if makes_dialog held status
     then MakesDialog record { name = dialog_name held.request held.tag; born = event } ∷ []
     else []
 
 -- the held request after that
-abbrev pub with_dialog : Id → Respond → HeldRequest → HeldRequest
-with_dialog event respond held = went_on (makes event held respond) held
+abbrev pub with_dialog : Id → ℕ → HeldRequest → HeldRequest
+with_dialog event status held = went_on (makes event held status) held
+
+-- the held request after an answer
+abbrev pub after_answer : Id → Respond → Message → ℕ → HeldRequest → HeldRequest
+after_answer event respond response now held =
+    answered respond.status respond.reliability response now (with_dialog event respond.status held)
 
 -- ---- all of it
 
@@ -204,9 +209,9 @@ abbrev pub answer_given_at : ((HeldRequest → HeldRequest) → List HeldRequest
     → ℕ → HeldRequest → ServedTaken
 answer_given_at changed state event respond now held =
     let response = answer_to state.local held respond in
-    let dialogs = dialogs_answered event held respond response state.dialogs in (
+    let dialogs = dialogs_answered event held respond.status response state.dialogs in (
       record state {
-        requests = changed (λ held. answered respond response now (with_dialog event respond held));
+        requests = changed (after_answer event respond response now);
         dialogs = dialogs.0;
       },
       Command held.id (Answer held.key response) ∷ dialogs.1,

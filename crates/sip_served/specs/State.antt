@@ -14,6 +14,10 @@ pub record State : Type 0 where
   pub requests : List HeldRequest
   pub dialogs : Dialogs
 
+-- nothing is held, at this address
+abbrev pub empty_at : Addr → State
+empty_at local = record { local = local; requests = []; dialogs = [] }
+
 -- what is held after something happened, and what is told of it
 abbrev pub ServedTaken : Type 0
 ServedTaken = State × List CallOut

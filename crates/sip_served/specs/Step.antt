@@ -4,20 +4,20 @@ use Rattle.sip_message.specs.declared.id.Id.{Id}
 use Rattle.sip_transactions.specs.declared.output.Kind.{Kind}
 use Rattle.sip_transactions.specs.declared.output.Kind.TheVariants.{Request, Ack, Response, Timeout, Failed}
 use Rattle.sip_transactions.specs.declared.output.Up.{Up}
-use Rattle.sip_served.specs.declared.held_request.HeldRequest.{HeldRequest}
+use Rattle.sip_served.specs.declared.arrival.Arrival.{Arrival}
 use Rattle.sip_common.specs.declared.command.UserCommand.{UserCommand}
 use Rattle.sip_common.specs.declared.command.UserCommand.TheVariants as command
 use Rattle.sip_common.specs.declared.item.Item.{Item}
 use Rattle.sip_common.specs.declared.item.Item.TheVariants as item
 use Rattle.sip_served.specs.Acknowledgment.{ack_taken}
-use Rattle.sip_served.specs.Arrival.{new_request, request_taken}
+use Rattle.sip_served.specs.Arrival.{arrival_of, request_taken}
 use Rattle.sip_served.specs.Cancel.{cancel_taken}
 use Rattle.sip_common.specs.Requests.{is_cancel}
 use Rattle.sip_served.specs.Respond.{respond_taken}
 use Rattle.sip_served.specs.State.{State, ServedTaken, quiet}
 
 -- a CANCEL is a case of its own before all others
-abbrev pub arrival_taken : State → List ℕ → HeldRequest → ℕ → ServedTaken
+abbrev pub arrival_taken : State → List ℕ → Arrival → ℕ → ServedTaken
 arrival_taken state call_id arrival now =
     if is_cancel arrival.request then cancel_taken state call_id arrival now
     else request_taken state call_id arrival
@@ -26,7 +26,7 @@ arrival_taken state call_id arrival now =
 -- side are the requests and the ACKs.
 abbrev pub kind_taken : State → List ℕ → Up → Kind → ℕ → ServedTaken
 kind_taken state tag up (Request request reply_to) now =
-    arrival_taken state up.call_id (new_request up.key up.id request reply_to tag) now
+    arrival_taken state up.call_id (arrival_of up request reply_to tag) now
 kind_taken state tag up (Ack ack) now = ack_taken state up.call_id ack
 kind_taken state tag up (Response response) now = quiet state
 kind_taken state tag up Timeout now = quiet state

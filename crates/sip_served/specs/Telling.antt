@@ -12,12 +12,13 @@ use Rattle.sip_common.specs.declared.held_dialog.DialogName.{DialogName}
 use Rattle.sip_common.specs.declared.item.Item.{Item}
 use Rattle.sip_common.specs.declared.item.Item.TheVariants as item
 use Rattle.sip_common.specs.Requests.{dialog_name, is_cancel}
+use Rattle.sip_served.specs.declared.arrival.Arrival.{Arrival}
 use Rattle.sip_served.specs.declared.arrival.ArrivalCase.{ArrivalCase}
 use Rattle.sip_served.specs.declared.arrival.ArrivalCase.TheVariants.{Acknowledges, ForUser}
 use Rattle.sip_served.specs.declared.held_request.HeldRequest.{HeldRequest}
 use Rattle.sip_served.specs.declared.held_request.SuccessEnd.TheVariants.{Acknowledged}
 use Rattle.sip_served.specs.Acknowledgment.{acknowledged_invite}
-use Rattle.sip_served.specs.Arrival.{case_of, in_its_dialog, new_request, noted}
+use Rattle.sip_served.specs.Arrival.{arrival_of, case_of, in_its_dialog, noted}
 use Rattle.sip_served.specs.Cancel.{cancelled_request, is_unanswered_invite, request_terminated, terminates}
 use Rattle.sip_served.specs.RequestLife.{RequestHappening, EndsSuccess, TakesPrack}
 use Rattle.sip_served.specs.Respond.{answer_to, answers, makes, refusal_for}
@@ -35,7 +36,7 @@ abbrev pub happens_to : Id → List RequestHappening → Stories → Stories
 happens_to id more stories = changed_first (λ story. has_id id story.arrival) (goes_on more) stories
 
 -- a request that comes up, other than a CANCEL: one for the user is held
-abbrev pub told_by_case : ArrivalCase → State → DialogName → HeldRequest → Stories → Stories
+abbrev pub told_by_case : ArrivalCase → State → DialogName → Arrival → Stories → Stories
 told_by_case (Acknowledges invite rseq) state name arrival stories =
     happens_to invite (TakesPrack rseq ∷ []) stories
 told_by_case ForUser state name arrival stories =
@@ -52,7 +53,7 @@ told_by_cancel now (Some held) stories =
     else stories
 
 -- a request that comes up
-abbrev pub arrival_told : State → HeldRequest → ℕ → Stories → Stories
+abbrev pub arrival_told : State → Arrival → ℕ → Stories → Stories
 arrival_told state arrival now stories =
     let name = dialog_name arrival.request arrival.tag in
     if is_cancel arrival.request
@@ -63,7 +64,7 @@ arrival_told state arrival now stories =
 -- what a transaction hands up
 abbrev pub kind_told : State → List ℕ → Up → Kind → ℕ → Stories → Stories
 kind_told state tag up (Request request reply_to) now stories =
-    arrival_told state (new_request up.key up.id request reply_to tag) now stories
+    arrival_told state (arrival_of up request reply_to tag) now stories
 kind_told state tag up (Ack ack) now stories =
     option_map_or (λ invite. happens_to invite (EndsSuccess Acknowledged ∷ []) stories)
     (acknowledged_invite ack state.requests) stories
@@ -73,8 +74,9 @@ kind_told state tag up _ now stories = stories
 abbrev pub answer_told : State → Id → Respond → ℕ → Stories → HeldRequest → Stories
 answer_told state event respond now stories held =
     if is_some (refusal_for state.dialogs respond held) then stories
-    else happens_to respond.id (makes event held respond
-    ++ answers held respond (answer_to state.local held respond) now) stories
+    else happens_to respond.id (makes event held respond.status
+    ++ answers held respond.status respond.reliability
+    (answer_to state.local held respond) now) stories
 
 -- an item of the event of this id
 abbrev pub item_told : State → List ℕ → Id → Item → ℕ → Stories → Stories

@@ -10,7 +10,7 @@ ghost use Rattle.sip_served.specs.declared.held_request.SuccessEnd.TheVariants.{
 
 use crate::held_request::{HeldRequest, SuccessEnd};
 use crate::requests::place_of;
-use sip_common::request::{is_invite, local_tag};
+use sip_common::request::is_invite;
 use sip_message::{Id, Message};
 use sip_reliable::Outbound;
 use sip_text::token_eq;
@@ -43,7 +43,7 @@ fn is_awaited(held: &HeldRequest) -> bool
 fn is_ack_of(ack: &Message, held: &HeldRequest) -> bool
     ensures { result ≡ spec.is_ack_of ack.now held.now }
 {
-    token_eq(ack.to.tag(), local_tag(held.request.get(), &held.tag))
+    token_eq(ack.to.tag(), held.tag.as_slice())
         && token_eq(ack.from.tag(), held.request.get().from.tag())
         && ack.cseq.number == held.request.get().cseq.number
 }

@@ -1,4 +1,4 @@
-//! A request that comes up: which case it is.
+//! A request that comes up, and which case it is.
 
 ghost use Rattle.std.specs.Prelude.{◌≡◌, find, option_map};
 ghost use Rattle.std.specs.List.{list_any};
@@ -10,8 +10,21 @@ use crate::held_request::HeldRequest;
 use sip_common::dialogs::takes;
 use sip_common::request::{is_bye, is_inside, is_invite, is_prack, is_unknown_option};
 use sip_common::{DialogName, Dialogs, HeldDialog};
-use sip_message::{Id, Message, RAck};
-use sip_text::token_eq;
+use sip_message::{Addr, Id, Key, Message, RAck, Token};
+use sip_text::{Boxed, token_eq};
+
+/// A request that comes up.
+#[derive(Drop)]
+pub struct Arrival {
+    pub id: Id,
+    /// The key of its transaction.
+    pub key: Key,
+    pub request: Boxed<Message>,
+    /// Where its answers go.
+    pub reply_to: Addr,
+    /// The To tag of its answers: its own, or where it has none a made one.
+    pub tag: Token,
+}
 
 /// What a request that comes up, other than a CANCEL, is (RFC 3261, sections 8.2 and 12.2.2).
 #[derive(Clone, Copy)]

@@ -3,18 +3,18 @@
 ghost use Rattle.std.specs.Prelude.{◌≡◌, ◌≤◌, ◌^◌, IfOk, OnOk};
 ghost use Rattle.std.specs.Option.{option_copied};
 ghost use Rattle.sip_served.specs.Cancel as spec;
-ghost use Rattle.sip_common.specs.Requests.{local_tag_of};
 ghost use Rattle.sip_served.specs.Respond.{finished};
 ghost use Rattle.sip_served.specs.State.{changed_at};
 
+use crate::arrival::Arrival;
 use crate::held_request::HeldRequest;
 use crate::outputs::{command_for, ok_with_tag};
 use crate::requests::place_of;
 use crate::respond::finish;
 use sip_common::outputs::one;
-use sip_common::request::{is_invite, own_tag};
+use sip_common::request::is_invite;
 use sip_common::{CallOut, Notice};
-use sip_message::{CallId, Id, Key, Message, Reason, StatusCode, Token, response_to};
+use sip_message::{CallId, Id, Key, Message, Reason, StatusCode, response_to};
 use sip_text::Text;
 use std::alloc::{AllocError, Global};
 
@@ -69,23 +69,12 @@ pub(crate) fn is_unanswered_invite(held: &HeldRequest) -> bool
 /// The 200 to a CANCEL, with the tag of the request that it names.
 pub(crate) fn cancel_accepted(
     alloc: Global,
-    arrival: &HeldRequest,
+    arrival: &Arrival,
     held: &HeldRequest,
 ) -> Result<CallOut, AllocError>
     ensures { IfOk result (λ out. out ≡ spec.cancel_accepted arrival.now held.now) }
 {
-    let tag = tag_of_answers(alloc, held)?;
-    ok_with_tag(alloc, arrival, &tag)
-}
-
-// The tag that the answers to a held request carry in To.
-fn tag_of_answers(alloc: Global, held: &HeldRequest) -> Result<Token, AllocError>
-    ensures { IfOk result (λ tag. tag ≡ local_tag_of held.now.request held.now.tag) }
-{
-    match own_tag(alloc, held.request.get())? {
-        Some(own) => Ok(own),
-        None => held.tag.clone(),
-    }
+    ok_with_tag(alloc, arrival, &held.tag)
 }
 
 /// The 487 to an INVITE that a CANCEL names.
@@ -102,7 +91,7 @@ pub(crate) fn request_terminated(alloc: Global, held: &HeldRequest) -> Result<Me
 pub(crate) fn termination_told(
     alloc: Global,
     call_id: CallId,
-    arrival: &HeldRequest,
+    arrival: &Arrival,
     held: &HeldRequest,
     response: &Message,
 ) -> Result<Vec<CallOut>, AllocError>
@@ -110,7 +99,7 @@ pub(crate) fn termination_told(
         ≡ spec.termination_told call_id arrival.now held.now response.now) }
 {
     let mut outs = one(alloc, cancel_accepted(alloc, arrival, held)?)?;
-    outs.push(command_for(alloc, held, response.clone()?)?)?;
+    outs.push(command_for(alloc, held.id, &held.key, response.clone()?)?)?;
     outs.push(CallOut::Notice(Notice::Cancel {
         call_id,
         id: held.id,

@@ -1,8 +1,9 @@
 //! A server request that is held.
 
 ghost use Rattle.std.specs.Prelude.{◌≡◌};
-ghost use Rattle.sip_served.specs.Arrival.{new_request};
+ghost use Rattle.sip_served.specs.Arrival.{held_first};
 
+use crate::arrival::Arrival;
 use crate::provisionals::Provisionals;
 use sip_common::DialogLife;
 use sip_common::request::supports_100rel;
@@ -22,7 +23,7 @@ pub struct HeldRequest {
     pub request: Boxed<Message>,
     /// Where its answers go.
     pub reply_to: Addr,
-    /// The To tag that its responses get where the request has none.
+    /// The To tag of its answers.
     pub tag: Token,
     /// The dialog that it came in, or that its answer made.
     pub dialog: Option<DialogLife>,
@@ -37,17 +38,17 @@ pub struct HeldRequest {
 }
 
 impl HeldRequest {
-    /// A request as it comes up: in no dialog, and no answer to it was sent. Takes no memory.
-    pub fn new(
-        alloc: Global,
-        key: Key,
-        id: Id,
-        request: Boxed<Message>,
-        reply_to: Addr,
-        tag: Token,
-    ) -> HeldRequest
-        ensures { result ≡ new_request key id request reply_to tag }
+    /// A request that came up in this dialog, if any: no answer to it was sent. Takes no memory.
+    pub(crate) fn new(alloc: Global, arrival: Arrival, dialog: Option<DialogLife>) -> HeldRequest
+        ensures { result ≡ held_first dialog arrival }
     {
+        let Arrival {
+            id,
+            key,
+            request,
+            reply_to,
+            tag,
+        } = arrival;
         let ledger = Outbound::new(FIRST_RSEQ, supports_100rel(request.get()));
         HeldRequest {
             id,
@@ -55,7 +56,7 @@ impl HeldRequest {
             request,
             reply_to,
             tag,
-            dialog: None,
+            dialog,
             ledger,
             provisionals: Provisionals::new(alloc),
             success: None,

@@ -6,16 +6,17 @@ mod acknowledgment;
 mod arrival;
 mod cancel;
 mod held_request;
-mod holdings;
 mod laws;
 mod outputs;
 mod provisionals;
 mod requests;
 mod respond;
 mod served;
+mod server_side;
 mod tick;
 mod unsupported;
 
+pub use arrival::Arrival;
 pub use held_request::{HeldRequest, Retransmission, Success, SuccessEnd};
 pub use laws::{
     a_cancel_answers_as_the_user_would, each_notice_is_of_its_call, each_request_is_told_once,
@@ -23,6 +24,7 @@ pub use laws::{
 };
 pub use provisionals::{NumberedResponse, Provisionals};
 pub use served::Served;
+pub use server_side::ServerSide;
 pub use sip_common::{
     CallOut, Cancel, Debt, DialogBody, DialogLife, DialogName, DialogRequest, Dialogs, HeldDialog,
     Invite, Item, Notice, Plain, ProvisionalSupport, Refusal, Reliability, Respond, UserCommand,

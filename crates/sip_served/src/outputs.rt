@@ -5,13 +5,14 @@ ghost use Rattle.sip_message.specs.Response.{response_of};
 ghost use Rattle.sip_parts.specs.Reason.{is_reason};
 ghost use Rattle.sip_served.specs.Arrival as arrived;
 ghost use Rattle.sip_common.specs.Requests.{is_unknown_option};
+ghost use Rattle.sip_common.specs.declared.item.CallOut.TheVariants as call_out;
+ghost use Rattle.sip_transactions.specs.declared.input.Command.TheVariants.{Answer};
 
-use crate::held_request::HeldRequest;
+use crate::arrival::Arrival;
 use crate::unsupported::unsupported;
 use sip_common::outputs::one;
-use sip_common::request::local_tag;
 use sip_common::{CallOut, Notice};
-use sip_message::{CallId, Header, Message, Reason, StatusCode, Token, response_to};
+use sip_message::{CallId, Header, Id, Key, Message, Reason, StatusCode, Token, response_to};
 use sip_text::{Boxed, Text};
 use sip_transactions::Command;
 use std::alloc::{AllocError, Global};
@@ -19,19 +20,20 @@ use std::alloc::{AllocError, Global};
 /// The command by which a response goes to the transaction of its request.
 pub(crate) fn command_for(
     alloc: Global,
-    request: &HeldRequest,
+    id: Id,
+    key: &Key,
     response: Message,
 ) -> Result<CallOut, AllocError>
-    ensures { IfOk result (λ out. out ≡ arrived.command_for request.now response) }
+    ensures { IfOk result (λ out. out ≡ call_out.Command id (Answer key.now response)) }
 {
-    let key = request.key.clone()?;
+    let key = key.clone()?;
     let message = Boxed::new(alloc, response)?;
-    Ok(CallOut::Command(request.id, Command::Answer { key, message }))
+    Ok(CallOut::Command(id, Command::Answer { key, message }))
 }
 
 fn response_with(
     alloc: Global,
-    arrival: &HeldRequest,
+    arrival: &Arrival,
     status: u16,
     reason: &[u8],
     tag: &Token,
@@ -50,7 +52,7 @@ fn response_with(
 /// The agent's own answer to a request.
 pub(crate) fn reply(
     alloc: Global,
-    arrival: &HeldRequest,
+    arrival: &Arrival,
     status: u16,
     reason: &[u8],
 ) -> Result<CallOut, AllocError>
@@ -61,13 +63,13 @@ pub(crate) fn reply(
         (response_of arrival.now.request status reason.now arrival.now.tag)) }
 {
     let response = response_with(alloc, arrival, status, reason, &arrival.tag)?;
-    command_for(alloc, arrival, response)
+    command_for(alloc, arrival.id, &arrival.key, response)
 }
 
 /// The agent's own answer to a request, alone.
 pub(crate) fn answered_with(
     alloc: Global,
-    arrival: &HeldRequest,
+    arrival: &Arrival,
     status: u16,
     reason: &[u8],
 ) -> Result<Vec<CallOut>, AllocError>
@@ -81,10 +83,7 @@ pub(crate) fn answered_with(
 }
 
 /// The 482 to a request that came on another way too (RFC 3261, section 8.2.2.2).
-pub(crate) fn loop_detected(
-    alloc: Global,
-    arrival: &HeldRequest,
-) -> Result<Vec<CallOut>, AllocError>
+pub(crate) fn loop_detected(alloc: Global, arrival: &Arrival) -> Result<Vec<CallOut>, AllocError>
     ensures { IfOk result (λ outs. outs.items
         ≡ arrived.answered_with arrival.now 482 (codes "Loop Detected")) }
 {
@@ -92,7 +91,7 @@ pub(crate) fn loop_detected(
 }
 
 /// The 500 to a request whose number is out of order (RFC 3261, section 12.2.2).
-pub(crate) fn out_of_order(alloc: Global, arrival: &HeldRequest) -> Result<Vec<CallOut>, AllocError>
+pub(crate) fn out_of_order(alloc: Global, arrival: &Arrival) -> Result<Vec<CallOut>, AllocError>
     ensures { IfOk result (λ outs. outs.items
         ≡ arrived.answered_with arrival.now 500 (codes "Server Internal Error")) }
 {
@@ -101,17 +100,14 @@ pub(crate) fn out_of_order(alloc: Global, arrival: &HeldRequest) -> Result<Vec<C
 
 /// The 481 to a request for a dialog that isn't held, to a PRACK for nothing that waits for it, or
 /// to a CANCEL of no held request.
-pub(crate) fn no_such_dialog(
-    alloc: Global,
-    arrival: &HeldRequest,
-) -> Result<Vec<CallOut>, AllocError>
+pub(crate) fn no_such_dialog(alloc: Global, arrival: &Arrival) -> Result<Vec<CallOut>, AllocError>
     ensures { IfOk result (λ outs. outs.items ≡ arrived.no_such_dialog arrival.now) }
 {
     answered_with(alloc, arrival, 481, b"Call/Transaction Does Not Exist")
 }
 
 /// The 200 to a PRACK.
-pub(crate) fn ok(alloc: Global, arrival: &HeldRequest) -> Result<CallOut, AllocError>
+pub(crate) fn ok(alloc: Global, arrival: &Arrival) -> Result<CallOut, AllocError>
     ensures { IfOk result (λ out. out ≡ arrived.command_for arrival.now
         (response_of arrival.now.request 200 (codes "OK") arrival.now.tag)) }
 {
@@ -121,31 +117,29 @@ pub(crate) fn ok(alloc: Global, arrival: &HeldRequest) -> Result<CallOut, AllocE
 /// The 200 to a request, with this tag in To where the request has none.
 pub(crate) fn ok_with_tag(
     alloc: Global,
-    arrival: &HeldRequest,
+    arrival: &Arrival,
     tag: &Token,
 ) -> Result<CallOut, AllocError>
     ensures { IfOk result (λ out. out ≡ arrived.command_for arrival.now
         (response_of arrival.now.request 200 (codes "OK") tag.now)) }
 {
     let response = response_with(alloc, arrival, 200, b"OK", tag)?;
-    command_for(alloc, arrival, response)
+    command_for(alloc, arrival.id, &arrival.key, response)
 }
 
 /// The 420 to a request that requires options that the agent doesn't know; it names them (RFC 3261,
 /// section 8.2.2.3).
-pub(crate) fn bad_extension(
-    alloc: Global,
-    arrival: &HeldRequest,
-) -> Result<Vec<CallOut>, AllocError>
+pub(crate) fn bad_extension(alloc: Global, arrival: &Arrival) -> Result<Vec<CallOut>, AllocError>
     ensures { IfOk result (λ outs. outs.items ≡ arrived.refused_extension arrival.now) }
 {
+    let response = bad_extension_response(alloc, arrival)?;
     one(
         alloc,
-        command_for(alloc, arrival, bad_extension_response(alloc, arrival)?)?,
+        command_for(alloc, arrival.id, &arrival.key, response)?,
     )
 }
 
-fn bad_extension_response(alloc: Global, arrival: &HeldRequest) -> Result<Message, AllocError>
+fn bad_extension_response(alloc: Global, arrival: &Arrival) -> Result<Message, AllocError>
     ensures { IfOk result (λ response. response
         ≡ arrived.with_header (arrived.unsupported
         (filter is_unknown_option arrival.now.request.require))
@@ -167,7 +161,7 @@ fn add_header(response: &mut Message, header: Header) -> Result<(), AllocError>
 pub(crate) fn notice_of_request(
     alloc: Global,
     call_id: CallId,
-    arrival: &HeldRequest,
+    arrival: &Arrival,
 ) -> Result<Notice, AllocError>
     ensures { IfOk result (λ notice. notice ≡ arrived.request_notice call_id arrival.now) }
 {
@@ -176,7 +170,7 @@ pub(crate) fn notice_of_request(
         call_id,
         id: arrival.id,
         method: request.cseq.method.clone()?,
-        local_tag: Text::copy_of(alloc, local_tag(request, &arrival.tag))?,
+        local_tag: Text::copy_of(alloc, arrival.tag.as_slice())?,
         remote_tag: Text::copy_of(alloc, request.from.tag())?,
         body: request.body.clone()?,
     })

@@ -1,6 +1,6 @@
 //! The answer of the user to a held server request.
 
-ghost use Rattle.std.specs.Prelude.{◌≡◌, ◌≤◌, ◌^◌, IfOk, OnOk, codes};
+ghost use Rattle.std.specs.Prelude.{◌≡◌, ◌≤◌, ◌^◌, IfOk, OnOk, Some, codes};
 ghost use Rattle.indexmap.specs.IndexMap.{insert_entry};
 ghost use Rattle.sip_common.specs.Dialogs.{is_named};
 ghost use Rattle.sip_common.specs.Requests.{dialog_name};
@@ -65,12 +65,12 @@ fn may_be_reliable(held: &HeldRequest, status: u16) -> bool
     is_invite(held.request.get()) && is_provisional(status) && supports_100rel(held.request.get())
 }
 
-/// Whether the answer is sent reliably.
-pub(crate) fn is_sent_reliably(held: &HeldRequest, respond: &Respond) -> bool
-    ensures { result ≡ spec.is_sent_reliably held.now respond.now }
+// Whether the answer is sent reliably.
+fn is_sent_reliably(held: &HeldRequest, status: u16, reliability: Reliability) -> bool
+    ensures { result ≡ spec.is_sent_reliably held.now status reliability }
 {
-    may_be_reliable(held, respond.status)
-        && (is_reliable(respond.reliability) || requires_100rel(held.request.get()))
+    may_be_reliable(held, status)
+        && (is_reliable(reliability) || requires_100rel(held.request.get()))
 }
 
 fn is_reliable(reliability: Reliability) -> bool
@@ -101,7 +101,7 @@ fn has_ended(dialogs: &Dialogs, held: &HeldRequest) -> bool
 fn reliable_refusal(held: &HeldRequest, respond: &Respond) -> Option<Refusal>
     ensures { result ≡ spec.reliable_refusal held.now respond.now }
 {
-    if is_sent_reliably(held, respond) {
+    if is_sent_reliably(held, respond.status, respond.reliability) {
         return held.ledger.next_number().err().map(refusal_of_fault);
     }
     if is_success(respond.status) && held.ledger.body_waits() {
@@ -126,22 +126,21 @@ pub(crate) fn answer_to(
     alloc: Global,
     local: Addr,
     held: &HeldRequest,
-    respond: &Respond,
+    respond: Respond,
 ) -> Result<Message, AllocError>
-    requires low { 101 ≤ respond.now.status }
-    requires high { respond.now.status ≤ 699 }
-    ensures { IfOk result (λ response. response ≡ spec.answer_to local held.now respond.now) }
+    requires low { 101 ≤ respond.status }
+    requires high { respond.status ≤ 699 }
+    ensures { IfOk result (λ response. response ≡ spec.answer_to local held.now respond) }
 {
     let status = StatusCode::from_code(respond.status);
-    let reason = respond.reason.clone()?;
-    let mut response = response_to(alloc, held.request.get(), status, reason, &held.tag)?;
+    let mut response = response_to(alloc, held.request.get(), status, respond.reason, &held.tag)?;
     if is_of_dialog(held, respond.status) {
         set_routes(alloc, local, held.request.get(), &mut response)?;
     }
-    if is_sent_reliably(held, respond) {
+    if is_sent_reliably(held, respond.status, respond.reliability) {
         set_rseq(alloc, held.ledger.next_number().ok(), &mut response)?;
     }
-    response.with_body(alloc, respond.body.clone()?)
+    response.with_body(alloc, respond.body)
 }
 
 fn set_routes(
@@ -181,17 +180,18 @@ fn option_100rel(alloc: Global) -> Result<Token, AllocError>
 pub(crate) fn note_answer(
     alloc: Global,
     held: &mut HeldRequest,
-    respond: &Respond,
+    status: u16,
+    reliability: Reliability,
     response: &Message,
     now: u64,
 ) -> Result<(), AllocError>
     requires { now ≤ 2 ^ 62 }
-    ensures { OnOk result (held.new ≡ spec.answered respond.now response.now now held.old) }
+    ensures { OnOk result (held.new ≡ spec.answered status reliability response.now now held.old) }
 {
-    if is_sent_reliably(held, respond) {
+    if is_sent_reliably(held, status, reliability) {
         send_reliably(alloc, held, response, now)
-    } else if is_final(respond.status) {
-        finish(alloc, held, response, respond.status, now)
+    } else if is_final(status) {
+        finish(alloc, held, response, status, now)
     } else {
         Ok(())
     }
@@ -249,37 +249,39 @@ fn success_sent(response: Boxed<Message>, now: u64) -> Success
     }
 }
 
-/// The dialogs after an answer, and the ends that are told.
-pub(crate) fn dialogs_answered(
+/// The dialogs after an answer, and the ends that are told. A dialog that the answer makes is that
+/// of its request.
+pub(crate) fn answer_dialogs(
     alloc: Global,
     dialogs: &mut Dialogs,
     event: Id,
-    held: &HeldRequest,
-    respond: &Respond,
+    held: &mut HeldRequest,
+    status: u16,
     response: &Message,
 ) -> Result<Vec<CallOut>, AllocError>
-    requires low { 101 ≤ respond.now.status }
-    requires high { respond.now.status ≤ 699 }
-    ensures { IfOk result (λ outs. (dialogs.new.entries, outs.items)
-        ≡ spec.dialogs_answered event held.now respond.now response.now dialogs.old.entries) }
+    requires low { 101 ≤ status }
+    requires high { status ≤ 699 }
+    ensures dialogs { IfOk result (λ outs. (dialogs.new.entries, outs.items)
+        ≡ spec.dialogs_answered event held.old status response.now dialogs.old.entries) }
+    ensures request { IfOk result (λ outs. held.new ≡ spec.with_dialog event status held.old) }
 {
-    if makes_dialog(held, respond.status) {
-        make_dialog(alloc, dialogs, event, held, respond.status)?;
+    if makes_dialog(held, status) {
+        make_dialog(alloc, dialogs, event, held, status)?;
         return Ok(Vec::new(alloc));
     }
-    if confirms_dialog(held, respond.status) {
+    if confirms_dialog(held, status) {
         let name = dialog_name(alloc, held.request.get(), &held.tag)?;
         confirm(dialogs, &name, response)?;
         return Ok(Vec::new(alloc));
     }
-    if rejects(held, respond.status) {
+    if rejects(held, status) {
         return end_early(alloc, dialogs, held.id);
     }
     Ok(Vec::new(alloc))
 }
 
-/// Whether an answer of this status makes a dialog.
-pub(crate) fn makes_dialog(held: &HeldRequest, status: u16) -> bool
+// Whether an answer of this status makes a dialog.
+fn makes_dialog(held: &HeldRequest, status: u16) -> bool
     ensures { result ≡ spec.makes_dialog held.now status }
 {
     is_of_dialog(held, status) && !is_inside(held.request.get()) && held.dialog.is_none()
@@ -301,18 +303,22 @@ fn make_dialog(
     alloc: Global,
     dialogs: &mut Dialogs,
     event: Id,
-    held: &HeldRequest,
+    held: &mut HeldRequest,
     status: u16,
 ) -> Result<(), AllocError>
     requires low { 101 ≤ status }
     requires high { status ≤ 699 }
-    ensures { OnOk result (dialogs.new.entries
-        ≡ insert_entry is_named dialogs.old.entries (dialog_name held.now.request held.now.tag)
-        (spec.made_dialog event held.now status)) }
+    ensures dialogs { OnOk result (dialogs.new.entries
+        ≡ insert_entry is_named dialogs.old.entries (dialog_name held.old.request held.old.tag)
+        (spec.made_dialog event held.old status)) }
+    ensures request { OnOk result (held.new ≡ record held.old {
+      dialog = Some record { name = dialog_name held.old.request held.old.tag; born = event };
+    }) }
 {
     let name = dialog_name(alloc, held.request.get(), &held.tag)?;
     let made = made_dialog(alloc, event, held, StatusCode::from_code(status))?;
-    dialogs.insert(name, made)?;
+    dialogs.insert(name.clone()?, made)?;
+    held.dialog = Some(DialogLife { name, born: event });
     Ok(())
 }
 
@@ -333,20 +339,4 @@ fn made_dialog(
         heard: Inbound::new(),
         owed: Series::new(alloc),
     })
-}
-
-/// The dialog that an answer makes is that of its request.
-pub(crate) fn note_dialog(
-    alloc: Global,
-    held: &mut HeldRequest,
-    event: Id,
-    respond: &Respond,
-) -> Result<(), AllocError>
-    ensures { OnOk result (held.new ≡ spec.with_dialog event respond.now held.old) }
-{
-    if makes_dialog(held, respond.status) {
-        let name = dialog_name(alloc, held.request.get(), &held.tag)?;
-        held.dialog = Some(DialogLife { name, born: event });
-    }
-    Ok(())
 }

@@ -80,7 +80,8 @@ fn tick_success(
     match success_answer(success.get(), now) {
         SuccessDue::Nothing => Ok(()),
         SuccessDue::Again => {
-            outs.push(command_for(alloc, held, success.get().response.get().clone()?)?)?;
+            let response = success.get().response.get().clone()?;
+            outs.push(command_for(alloc, held.id, &held.key, response)?)?;
             repeat_success(held, now);
             Ok(())
         }
@@ -184,7 +185,8 @@ fn send_again(
 {
     for one in held.provisionals.as_slice() {
         if is_among(numbers, one.number) {
-            outs.push(command_for(alloc, held, one.response.get().clone()?)?)?;
+            let response = one.response.get().clone()?;
+            outs.push(command_for(alloc, held.id, &held.key, response)?)?;
         }
     }
     Ok(())

@@ -1,5 +1,5 @@
 -- A sort of keys that differ gives the one list in which they rise.
-use Rattle.std.proofs.Common.{◌≡◌, ◌+◌, ◌≤◌, ◌<◌, false, List, [], ◌∷◌, ◌⊎◌, inl, inr, refl, sym, ap, subst, ◌∙◌, arith, All, get_or}
+use Rattle.std.proofs.Common.{◌≡◌, ◌+◌, ◌≤◌, ◌<◌, false, List, [], ◌∷◌, ◌⊎◌, inl, inr, refl, sym, ap, subst, ◌∙◌, arith, get_or}
 use Rattle.std.specs.List.{AllByRecursion, IsDistinct}
 use Rattle.std.specs.List.Sorted.{IsPermutation, IsSorted, IsStrictlySortedBy}
 use Rattle.std.specs.Ordering.{is_eq, is_lt, eq_by_cmp, ordering_reverse}
@@ -8,14 +8,10 @@ use Rattle.std.specs.declared.cmp.Ordering.{Ordering}
 use Rattle.std.specs.declared.cmp.Ordering.TheVariants.{Less, Equal}
 use Rattle.std.proofs.lemmas.Bool.{false≢true}
 use Rattle.std.proofs.lemmas.Cmp.{tied_itself}
-use Rattle.std.proofs.lemmas.List.Elements.{All-head, All-tail, All-cons}
+use Rattle.std.proofs.lemmas.List.Elements.{All-from_recursion, recursion_from_All}
 use Rattle.std.proofs.lemmas.List.Sorted.{IsPermutation-sym, IsPermutation-trans, All-permutation}
 use Rattle.std.proofs.lemmas.Map.Keys.{sorted_head, sorted_tail, sorted_from_all_adjacent, apart_from_distinct, IsDistinct-from_sorted, IsDistinct-IsPermutation}
 use Rattle.sip_timers.proofs.Dues.{by_ordering}
-
-by_recursion : {X : Type 0} (P : X → Type 0) (xs : List X) → All P xs → AllByRecursion P xs
-by_recursion P [] every = tt
-by_recursion P (x ∷ xs) every = (All-head P x xs every, by_recursion P xs (All-tail P x xs every))
 
 -- the element is one of the list
 abbrev Among : {X : Type 0} → X → List X → Type 0
@@ -32,7 +28,7 @@ at_among P (y ∷ ys) x every among =
       | inr further ↦ at_among P ys x every.1 further
     ]
 
-weaker : {X : Type 0} {P Q : X → Type 0} → ((x : X) → P x → Q x) → (xs : List X)
+pub weaker : {X : Type 0} {P Q : X → Type 0} → ((x : X) → P x → Q x) → (xs : List X)
     → AllByRecursion P xs → AllByRecursion Q xs
 weaker f [] every = tt
 weaker f (x ∷ xs) every = (f x every.0, weaker f xs every.1)
@@ -40,10 +36,6 @@ weaker f (x ∷ xs) every = (f x every.0, weaker f xs every.1)
 all_among : {X : Type 0} (xs : List X) → AllByRecursion (λ x. Among x xs) xs
 all_among [] = tt
 all_among {X} (x ∷ xs) = (inl refl, weaker (λ y there. inr there) xs (all_among xs))
-
-from_recursion : {X : Type 0} (P : X → Type 0) (xs : List X) → AllByRecursion P xs → All P xs
-from_recursion P [] every = λ k d below. absurd (omega arith)
-from_recursion P (x ∷ xs) every = All-cons P x xs every.0 (from_recursion P xs every.1)
 
 module _ {K : Type 0} {cmp : K → K → Ordering} (total : IsTotalOrder cmp) where
   less_itself : (x : K) → cmp x x ≡ Less → ⊥
@@ -121,12 +113,12 @@ module _ {K : Type 0} {cmp : K → K → Ordering} (total : IsTotalOrder cmp) wh
   same_sorted all keys sorted rises taken ordered is_sorted =
       let same : IsPermutation all sorted = IsPermutation-trans all keys sorted taken ordered in
       let ys_in : AllByRecursion (λ z. Among z all) sorted =
-      by_recursion (λ z. Among z all) sorted
+      recursion_from_All (λ z. Among z all) sorted
       (All-permutation (λ z. Among z all) all sorted same
-      (from_recursion (λ z. Among z all) all (all_among all))) in
+      (All-from_recursion (λ z. Among z all) all (all_among all))) in
       let xs_in : AllByRecursion (λ z. Among z sorted) all =
-      by_recursion (λ z. Among z sorted) all
+      recursion_from_All (λ z. Among z sorted) all
       (All-permutation (λ z. Among z sorted) sorted all (IsPermutation-sym all sorted same)
-      (from_recursion (λ z. Among z sorted) sorted (all_among sorted))) in
+      (All-from_recursion (λ z. Among z sorted) sorted (all_among sorted))) in
       same_elements all sorted rises (rises_if_distinct all sorted
       (IsDistinct-from_sorted cmp all rises) same is_sorted) ys_in xs_in

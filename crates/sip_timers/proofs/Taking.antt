@@ -1,152 +1,170 @@
--- Lemmas on taking out what is due, one key after another.
-use Rattle.std.proofs.Common.{◌≡◌, ℕ, suc, ◌+◌, ◌≤◌, ◌<◌, Bool, true, false, cond, List, [], ◌∷◌, ◌++◌, Some, None, refl, sym, ap, subst, ◌∙◌, arith}
-use Rattle.std.specs.Prelude.{nat_lt, nat_le, filter}
-use Rattle.std.specs.List.{slice_get}
-use Rattle.std.specs.List.Sorted.{IsPermutation, IsStrictlySortedBy}
-use Rattle.std.specs.Cmp.{IsTotalOrder, eq_by_cmp_equiv}
+-- Lemmas on taking the entries of keys that are due out of a queue.
+use Rattle.std.proofs.Common.{◌≡◌, ℕ, ◌≤◌, true, false, cond, ◌||◌, List, [], ◌∷◌, ◌++◌, Some, refl, sym, ap, ◌∙◌, length, take, drop}
+use Rattle.std.specs.Prelude.{nat_lt, nat_le}
+use Rattle.std.specs.List.{list_any, AllByRecursion}
+use Rattle.std.specs.List.Sorted.{IsStrictlySortedBy}
+use Rattle.std.specs.Option.{unwrap_or}
+use Rattle.std.specs.Ordering.{is_eq, ordering_reverse}
+use Rattle.std.specs.Cmp.{IsTotalOrder, eq_by_cmp_equiv, Equal-is}
 use Rattle.std.specs.BTreeMap.{is_at}
-use Rattle.std.specs.Map.{lookup, lookup_key, remove_entry, keys_of}
+use Rattle.std.specs.Map.{lookup_key, remove_entry, keys_of}
 use Rattle.std.specs.declared.cmp.Ordering.{Ordering}
-use Rattle.std.proofs.lemmas.Bool.{lt-ltb, le-ltb, le-leb, lt-leb}
-use Rattle.std.proofs.lemmas.Option.{same_Some}
-use Rattle.std.proofs.lemmas.List.{append-nil}
-use Rattle.std.proofs.lemmas.List.Sorted.{IsPermutation-refl, IsPermutation-cons, IsPermutation-trans, IsPermutation-middle, IsPermutation-pop_more}
-use Rattle.std.proofs.lemmas.Map.Keys.{sorted_tail, IsDistinct-from_sorted}
-use Rattle.std.proofs.lemmas.Map.Entries.{lookup_from_place}
-use Rattle.sip_timers.specs.Queue.{moment, due_keys, later}
-use Rattle.sip_timers.specs.Index.{due_cmp, IsIndexOf, TakesFirst}
-use Rattle.sip_timers.proofs.Dues.{by_bool, due_count, first_due, rest_due, none_due, there_at}
+use Rattle.std.specs.declared.cmp.Ordering.TheVariants.{Less, Equal}
+use Rattle.std.proofs.lemmas.Bool.{false≢true, lt-ltb, le-ltb, leb-true, leb-false, or_parts}
+use Rattle.std.proofs.lemmas.Cmp.{tied_itself, alike_right}
+use Rattle.std.proofs.lemmas.List.{drop_all, take_all, append-nil}
+use Rattle.std.proofs.lemmas.Map.{lookup-none}
+use Rattle.std.proofs.lemmas.Map.Keys.{sorted_head, sorted_tail, IsDistinct-from_sorted}
+use Rattle.std.proofs.lemmas.Map.Entries.{none_below_head, none_past_head}
+use Rattle.sip_timers.specs.Queue.{moment, is_due, due_keys, later}
+use Rattle.sip_timers.proofs.Dues.{by_bool, by_ordering}
+use Rattle.sip_timers.proofs.Sorts.{weaker}
 
--- ---- an entry that is due leaves
+-- the map's own keys in place of those that are taken out, one after another
+abbrev pub own_keys : {K : Type 0} → (K → K → Ordering) → List K → List (K × ℕ) → List K
+own_keys cmp [] entries = []
+own_keys cmp (k ∷ ks) entries =
+    unwrap_or (lookup_key (is_at (cmp k)) entries) k
+    ∷ own_keys cmp ks (remove_entry (is_at (cmp k)) entries)
 
-module _ {K : Type 0} (test : K → Bool) (now at : ℕ) (due : at ≤ now) (key : K) where
-  due_leaves : (es : List (K × ℕ)) → lookup_key test es ≡ Some key → lookup test es ≡ Some at
-      → IsPermutation (due_keys now es) (key ∷ due_keys now (remove_entry test es))
-  due_leaves [] found armed = let none : None ≡ Some at = armed in cc
-  due_leaves (e ∷ es) found armed =
-      by_bool (test e.0)
-      (λ here.
-      let first : e.0 ≡ key =
-      same_Some e.0 key (sym (ap (λ b. cond b (Some e.0) (lookup_key test es)) here) ∙ found) in
-      let its : e.1 ≡ at =
-      same_Some e.1 at (sym (ap (λ b. cond b (Some e.1) (lookup test es)) here) ∙ armed) in
-      let is_due : nat_le e.1 now ≡ true = le-leb e.1 now (omega arith) in
-      rw (here, is_due) (rw first (IsPermutation-refl (key ∷ due_keys now es))))
-      (λ apart.
-      let rest : IsPermutation (due_keys now es) (key ∷ due_keys now (remove_entry test es)) =
-      due_leaves es (sym (ap (λ b. cond b (Some e.0) (lookup_key test es)) apart) ∙ found)
-      (sym (ap (λ b. cond b (Some e.1) (lookup test es)) apart) ∙ armed) in
-      rw apart
-      (by_bool (nat_le e.1 now)
-      (λ is_due. rw is_due (IsPermutation-trans (e.0 ∷ due_keys now es)
-      (e.0 ∷ key ∷ due_keys now (remove_entry test es))
-      (key ∷ e.0 ∷ due_keys now (remove_entry test es))
-      (IsPermutation-cons e.0 (due_keys now es) (key ∷ due_keys now (remove_entry test es)) rest)
-      (IsPermutation-middle (e.0 ∷ []) key (due_keys now (remove_entry test es)))))
-      (λ is_later. rw is_later rest)))
+-- what is left then
+abbrev pub without : {K : Type 0} → (K → K → Ordering) → List K → List (K × ℕ) → List (K × ℕ)
+without cmp [] entries = entries
+without cmp (k ∷ ks) entries = without cmp ks (remove_entry (is_at (cmp k)) entries)
 
-  later_stays : (es : List (K × ℕ)) → lookup test es ≡ Some at
-      → later now (remove_entry test es) ≡ later now es
-  later_stays [] armed = refl
-  later_stays (e ∷ es) armed =
-      by_bool (test e.0)
-      (λ here.
-      let its : e.1 ≡ at =
-      same_Some e.1 at (sym (ap (λ b. cond b (Some e.1) (lookup test es)) here) ∙ armed) in
-      let not_later : nat_lt now e.1 ≡ false = le-ltb now e.1 (omega arith) in
-      rw (here, not_later))
-      (λ apart.
-      let rest : later now (remove_entry test es) ≡ later now es =
-      later_stays es (sym (ap (λ b. cond b (Some e.1) (lookup test es)) apart) ∙ armed) in
-      rw apart (by_bool (nat_lt now e.1) (λ after. rw after (ap (λ left. e ∷ left) rest))
-      (λ before. rw before rest)))
+module _ {K : Type 0} {cmp : K → K → Ordering} (total : IsTotalOrder cmp) where
+  none_past : (q : K) (ks : List K) → AllByRecursion (λ k. cmp q k ≡ Less) ks
+      → list_any (is_at (cmp q)) ks ≡ false
+  none_past q [] below = refl
+  none_past q (k ∷ ks) below =
+      ap (λ o. is_eq o || list_any (is_at (cmp q)) ks) below.0 ∙ none_past q ks below.1
 
--- where each entry is later, none is due
-none_left : {K : Type 0} (now : ℕ) (es : List (K × ℕ))
-    → ((i : ℕ) (e : K × ℕ) → slice_get es i ≡ Some e → now < e.1)
-    → (due_keys now es ≡ []) × (later now es ≡ es)
-none_left now [] every = (refl, refl)
-none_left {K} now (e ∷ es) every =
-    let rest : (due_keys now es ≡ []) × (later now es ≡ es) =
-    none_left now es (λ i f at. every (suc i) f at) in
-    let after : now < e.1 = every 0 e refl in
-    let not_due : nat_le e.1 now ≡ false = lt-leb e.1 now after in
-    let is_later : nat_lt now e.1 ≡ true = lt-ltb now e.1 after in (
-      ap (λ b. keys_of (cond b (e ∷ filter (λ (f : K × ℕ). nat_le f.1 now) es)
-          (filter (λ (f : K × ℕ). nat_le f.1 now) es))) not_due ∙ rest.0,
-      ap (λ b. cond b (e ∷ later now es) (later now es)) is_later ∙ ap (λ left. e ∷ left) rest.1,
+  past_first : (q k : K) (ks : List K) → IsStrictlySortedBy cmp (k ∷ ks) → cmp q k ≡ Less
+      → list_any (is_at (cmp q)) (k ∷ ks) ≡ false
+  past_first q k ks rises less =
+      none_past q (k ∷ ks) (
+        less,
+        weaker (λ z after. total.trans q k z less after) ks (sorted_head cmp k ks rises),
+      )
+
+  past_tied : (q k : K) (ks : List K) → IsStrictlySortedBy cmp (k ∷ ks) → cmp q k ≡ Equal
+      → list_any (is_at (cmp q)) ks ≡ false
+  past_tied q k ks rises tied =
+      none_past q ks
+      (weaker (λ z after. total.congr q k z tied ∙ after) ks (sorted_head cmp k ks rises))
+
+  -- an entry that none of the keys finds stays
+  stays : (e : K × ℕ) (ks : List K) → list_any (is_at (cmp e.0)) ks ≡ false → (es : List (K × ℕ))
+      → (own_keys cmp ks (e ∷ es) ≡ own_keys cmp ks es)
+      × (without cmp ks (e ∷ es) ≡ e ∷ without cmp ks es)
+  stays e [] apart es = (refl, refl)
+  stays e (k ∷ ks) apart es =
+      let parts = or_parts (is_at (cmp e.0) k) (list_any (is_at (cmp e.0)) ks) apart in
+      let misses : is_at (cmp k) e.0 ≡ false = (eq_by_cmp_equiv total).symm k e.0 ∙ parts.0 in
+      let further = stays e ks parts.1 (remove_entry (is_at (cmp k)) es) in (
+        rw misses (ap (λ own. unwrap_or (lookup_key (is_at (cmp k)) es) k ∷ own) further.0),
+        rw misses further.1,
+      )
+
+  -- the keys that are found are those that are due
+  abbrev AreDue : ℕ → List K → List (K × ℕ) → Type 0
+  AreDue now ks es = (q : K) → list_any (is_at (cmp q)) ks ≡ is_due now (moment cmp es q)
+
+  module _ (now : ℕ) (e : K × ℕ) (es : List (K × ℕ))
+      (in_order : IsStrictlySortedBy cmp (keys_of (e ∷ es))) where
+    first_due : is_due now (moment cmp (e ∷ es) e.0) ≡ nat_le e.1 now
+    first_due =
+        ap (λ o. is_due now (cond (is_eq o) (Some e.1) (moment cmp es e.0))) (tied_itself total e.0)
+
+    not_further : (q : K) → is_at (cmp q) e.0 ≡ true → is_due now (moment cmp es q) ≡ false
+    not_further q tied =
+        ap (is_due now) (lookup-none (is_at (cmp q)) es (none_past_head (eq_by_cmp_equiv total) q e es
+        (IsDistinct-from_sorted cmp (keys_of (e ∷ es)) in_order) tied))
+
+    -- the first entry isn't due
+    due_further : (ks : List K) → AreDue now ks (e ∷ es) → nat_le e.1 now ≡ false
+        → AreDue now ks es
+    due_further ks same waits q =
+        same q ∙ by_bool (is_at (cmp q) e.0)
+        (λ here.
+        ap (λ b. is_due now (cond b (Some e.1) (moment cmp es q))) here ∙ waits
+        ∙ sym (not_further q here))
+        (λ apart. ap (λ b. is_due now (cond b (Some e.1) (moment cmp es q))) apart)
+
+    passes : (ks : List K) → AreDue now ks (e ∷ es) → nat_le e.1 now ≡ false
+        → (own_keys cmp ks es ≡ due_keys now es) × (without cmp ks es ≡ later now es)
+        → (own_keys cmp ks (e ∷ es) ≡ due_keys now (e ∷ es))
+        × (without cmp ks (e ∷ es) ≡ later now (e ∷ es))
+    passes ks same waits further =
+        let kept = stays e ks (same e.0 ∙ first_due ∙ waits) es in
+        let after : nat_lt now e.1 ≡ true = lt-ltb now e.1 (leb-false e.1 now waits) in
+        (rw waits (kept.0 ∙ further.0), rw after (kept.1 ∙ ap (λ left. e ∷ left) further.1))
+
+    -- it is, and the first key finds it
+    module _ (k : K) (ks : List K) (rises : IsStrictlySortedBy cmp (k ∷ ks))
+        (same : AreDue now (k ∷ ks) (e ∷ es)) (due : nat_le e.1 now ≡ true) where
+      first_tied : cmp k e.0 ≡ Equal
+      first_tied =
+          by_ordering (cmp k e.0)
+          (λ less. absurd (false≢true
+          (sym (ap (is_due now) (lookup-none (is_at (cmp k)) (e ∷ es)
+          (none_below_head total k e es in_order less)))
+          ∙ sym (same k)
+          ∙ ap (λ o. is_eq o || list_any (is_at (cmp k)) ks) (tied_itself total k))))
+          (λ equal. equal)
+          (λ greater. absurd (false≢true
+          (sym (past_first e.0 k ks rises (total.antisymm e.0 k ∙ ap ordering_reverse greater))
+          ∙ same e.0 ∙ first_due ∙ due)))
+
+      others_due : AreDue now ks es
+      others_due q =
+          let alike : cmp q k ≡ cmp q e.0 = alike_right total k e.0 q first_tied in
+          by_bool (is_at (cmp q) e.0)
+          (λ here.
+          past_tied q k ks rises (alike ∙ (Equal-is (cmp q e.0)).0 here)
+          ∙ sym (not_further q here))
+          (λ apart.
+          sym (ap (λ b. b || list_any (is_at (cmp q)) ks) (ap is_eq alike ∙ apart)) ∙ same q
+          ∙ ap (λ b. is_due now (cond b (Some e.1) (moment cmp es q))) apart)
+
+      finds : (own_keys cmp ks es ≡ due_keys now es) × (without cmp ks es ≡ later now es)
+          → (own_keys cmp (k ∷ ks) (e ∷ es) ≡ due_keys now (e ∷ es))
+          × (without cmp (k ∷ ks) (e ∷ es) ≡ later now (e ∷ es))
+      finds others =
+          let here : is_at (cmp k) e.0 ≡ true = ap is_eq first_tied in
+          let past : nat_lt now e.1 ≡ false = le-ltb now e.1 (leb-true e.1 now due) in
+          (rw (here, due) (ap (λ own. e.0 ∷ own) others.0), rw (here, past) others.1)
+
+  -- taking those out gives the keys that are due, and leaves what is later
+  pub takes_due : (now : ℕ) (es : List (K × ℕ)) (ks : List K) → IsStrictlySortedBy cmp ks
+      → IsStrictlySortedBy cmp (keys_of es) → AreDue now ks es
+      → (own_keys cmp ks es ≡ due_keys now es) × (without cmp ks es ≡ later now es)
+  takes_due now [] [] rises in_order same = (refl, refl)
+  takes_due now [] (k ∷ ks) rises in_order same = absurd (false≢true (sym (same k)
+      ∙ ap (λ o. is_eq o || list_any (is_at (cmp k)) ks) (tied_itself total k)))
+  takes_due now (e ∷ es) [] rises in_order same =
+      by_bool (nat_le e.1 now)
+      (λ due. absurd (false≢true (same e.0 ∙ first_due now e es in_order ∙ due)))
+      (λ waits. passes now e es in_order [] same waits
+      (takes_due now es [] rises (sorted_tail cmp e.0 (keys_of es) in_order)
+      (due_further now e es in_order [] same waits)))
+  takes_due now (e ∷ es) (k ∷ ks) rises in_order same =
+      by_bool (nat_le e.1 now)
+      (λ due. finds now e es in_order k ks rises same due
+      (takes_due now es ks (sorted_tail cmp k ks rises)
+      (sorted_tail cmp e.0 (keys_of es) in_order)
+      (others_due now e es in_order k ks rises same due)))
+      (λ waits. passes now e es in_order (k ∷ ks) same waits
+      (takes_due now es (k ∷ ks) rises (sorted_tail cmp e.0 (keys_of es) in_order)
+      (due_further now e es in_order (k ∷ ks) same waits)))
+
+-- when no key is left
+pub all_taken : {K : Type 0} (cmp : K → K → Ordering) (keys : List K) (i : ℕ) → length keys ≤ i
+    → (entries : List (K × ℕ)) → (keys ≡ take i keys ++ own_keys cmp (drop i keys) entries)
+    × (entries ≡ without cmp (drop i keys) entries)
+all_taken cmp keys i end entries =
+    let none = sym (drop_all i keys end) in (
+      sym (append-nil (take i keys) ∙ take_all i keys end)
+          ∙ ap (λ more. take i keys ++ own_keys cmp more entries) none,
+      ap (λ more. without cmp more entries) none,
     )
-
--- ---- the loop
-
--- the keys taken out so far, and what is left of the entries and of the index
-pub record Taking {K : Type 0} (cmp : K → K → Ordering) (now : ℕ) (all : List (K × ℕ))
-    (taken count : ℕ) (keys : List K) (entries : List (K × ℕ)) (dues : List (ℕ × K)) : Type 0 where
-  pub index : IsIndexOf cmp (moment cmp entries) dues
-  pub ordered : IsStrictlySortedBy cmp (keys_of entries)
-  pub dues_ordered : IsStrictlySortedBy (due_cmp cmp) dues
-  pub left : taken + due_count now dues ≡ count
-  pub given : IsPermutation (due_keys now all) (keys ++ due_keys now entries)
-  pub kept : later now entries ≡ later now all
-
-module _ {K : Type 0} {cmp : K → K → Ordering} (total : IsTotalOrder cmp) (now : ℕ)
-    (all : List (K × ℕ)) where
-  pub taking_next : (taken count : ℕ) (keys : List K) (entries : List (K × ℕ)) (dues : List (ℕ × K))
-      → Taking cmp now all taken count keys entries dues → taken < count
-      → (key : K) (fewer : List (K × ℕ)) (rest : List (ℕ × K))
-      → TakesFirst cmp entries dues key fewer rest → IsIndexOf cmp (moment cmp fewer) rest
-      → IsStrictlySortedBy cmp (keys_of fewer)
-      → (more : List K) → more ≡ keys ++ key ∷ []
-      → Taking cmp now all (taken + 1) count more fewer rest
-  taking_next taken count keys entries dues so_far some key fewer rest takes index ordered more
-      pushed =
-      let d : ℕ × K = takes.0 in
-      let whole : taken + due_count now (d ∷ rest) ≡ count =
-      subst (λ (ds : List (ℕ × K)). taken + due_count now ds ≡ count) takes.1 so_far.left in
-      let has : 0 < due_count now (d ∷ rest) = omega arith in
-      let one_less : due_count now (d ∷ rest) ≡ suc (due_count now rest) =
-      rest_due now d rest has in
-      let sorted : IsStrictlySortedBy (due_cmp cmp) (d ∷ rest) =
-      subst (IsStrictlySortedBy (due_cmp cmp)) takes.1 so_far.dues_ordered in
-      let due : d.0 ≤ now = first_due now d rest has in
-      let leaves : IsPermutation (due_keys now entries) (key ∷ due_keys now fewer) =
-      subst (λ (es : List (K × ℕ)). IsPermutation (due_keys now entries) (key ∷ due_keys now es))
-      (sym takes.4) (due_leaves (is_at (cmp d.1)) now d.0 due key entries takes.2 takes.3) in
-      record {
-        index = index;
-        ordered = ordered;
-        dues_ordered = sorted_tail (due_cmp cmp) d rest sorted;
-        left = omega arith;
-        given = subst (λ (ks : List K). IsPermutation (due_keys now all) (ks ++ due_keys now fewer))
-            (sym pushed)
-            (IsPermutation-pop_more (due_keys now all) keys (due_keys now entries)
-            (due_keys now fewer) key so_far.given leaves);
-        kept = ap (later now) takes.4 ∙ later_stays
-            (is_at (cmp d.1)) now d.0 due key entries takes.3 ∙ so_far.kept;
-      }
-
-  all_left_later : (taken count : ℕ) (keys : List K) (entries : List (K × ℕ)) (dues : List (ℕ × K))
-      → Taking cmp now all taken count keys entries dues → count ≤ taken
-      → (due_keys now entries ≡ []) × (later now entries ≡ entries)
-  all_left_later taken count keys entries dues so_far end =
-      let none : due_count now dues ≡ 0 = let left = so_far.left in omega arith in
-      none_left now entries (λ i e at.
-      let armed : moment cmp entries e.0 ≡ Some e.1 =
-      lookup_from_place (eq_by_cmp_equiv total) entries i e.0 e.1
-      (IsDistinct-from_sorted cmp (keys_of entries) so_far.ordered) at in
-      none_due cmp now dues so_far.dues_ordered none e.1 e.0
-      (there_at total (moment cmp entries) dues so_far.index e.1 e.0 armed))
-
-  pub taking_left : (taken count : ℕ) (keys : List K) (entries : List (K × ℕ)) (dues : List (ℕ × K))
-      → Taking cmp now all taken count keys entries dues → count ≤ taken → entries ≡ later now all
-  taking_left taken count keys entries dues so_far end =
-      sym (all_left_later taken count keys entries dues so_far end).1 ∙ so_far.kept
-
-  pub taking_given : (taken count : ℕ) (keys : List K) (entries : List (K × ℕ))
-      (dues : List (ℕ × K)) → Taking cmp now all taken count keys entries dues → count ≤ taken
-      → IsPermutation (due_keys now all) keys
-  taking_given taken count keys entries dues so_far end =
-      subst (λ (ks : List K). IsPermutation (due_keys now all) ks)
-      (ap (λ ks. keys ++ ks) (all_left_later taken count keys entries dues so_far end).0
-      ∙ append-nil keys)
-      so_far.given

@@ -1,11 +1,9 @@
 -- The index of a timer queue: each armed key beside its moment, in any order.
-use Rattle.std.specs.Prelude.{◌≡◌, ℕ, Bool, false, List, ◌∷◌, Option, None, Some, ◌==◌, cond}
+use Rattle.std.specs.Prelude.{◌≡◌, ℕ, Bool, false, List, Option, None, Some, ◌==◌, cond}
 use Rattle.std.specs.Ordering.{is_eq, ordering_then, nat_cmp}
 use Rattle.std.specs.BTreeMap.{is_at}
-use Rattle.std.specs.Map.{lookup_key, remove_entry}
 use Rattle.std.specs.List.{list_any}
 use Rattle.std.specs.declared.cmp.Ordering.{Ordering}
-use Rattle.sip_timers.specs.Queue.{moment}
 
 -- moments beside keys are in the order of the moments, and those of one moment in the order of the
 -- keys
@@ -31,12 +29,3 @@ IsIndexOf {K} cmp moments dues =
 abbrev pub with_moment : {K : Type 0} → (K → K → Ordering) → (K → Option ℕ) → K → Option ℕ
     → K → Option ℕ
 with_moment cmp moments key moment q = cond (is_at (cmp key) q) moment (moments q)
-
--- the first of the index leaves it and the queue, which gives its own key
-abbrev pub TakesFirst : {K : Type 0} → (K → K → Ordering) → List (K × ℕ) → List (ℕ × K) → K
-    → List (K × ℕ) → List (ℕ × K) → Type 0
-TakesFirst {K} cmp entries dues key left rest = (due : ℕ × K)
-    × (dues ≡ due ∷ rest)
-    × (lookup_key (is_at (cmp due.1)) entries ≡ Some key)
-    × (moment cmp entries due.1 ≡ Some due.0)
-    × (left ≡ remove_entry (is_at (cmp due.1)) entries)

@@ -1,16 +1,15 @@
-//! A queue of timers: a map from keys to due moments, and an index from the moments to their keys.
+//! A queue of timers: a map from keys to due moments, and the schedule of its keys.
 
-ghost use Rattle.std.specs.Prelude.{◌≡◌, ◌≢◌, ℕ, ◌<◌, ◌≤◌, [], Some, None, All, min, nat_le, length, if◌then◌else◌, OnOk, OnErr, IfOk, IfSome, IfNone};
-ghost use Rattle.std.specs.List.{reduce, list_any, take_while};
-ghost use Rattle.std.specs.BTreeMap.{is_at, insert_entry, IsOrdered};
-ghost use Rattle.std.specs.Map.{keys_of, values_of, remove_entry};
+ghost use Rattle.std.specs.Prelude.{◌≡◌, ◌≢◌, ◌≤◌, [], Some, None, All, min, if◌then◌else◌, OnOk, OnErr, IfOk, IfSome, IfNone};
+ghost use Rattle.std.specs.List.{reduce, list_any};
+ghost use Rattle.std.specs.BTreeMap.{is_at, insert_entry};
+ghost use Rattle.std.specs.Map.{values_of, remove_entry};
 ghost use Rattle.std.specs.List.Sorted.{IsStrictlySortedBy};
 ghost use Rattle.sip_timers.specs.Queue.{moment, due_keys, later, is_due, if_later, IsClonedAlike};
-ghost use Rattle.sip_timers.specs.Index.{due_cmp, IsIndexOf, TakesFirst};
 
-use crate::NoMemory;
+use crate::{NoMemory, Schedule};
 use std::alloc::Global;
-use std::collections::{BTreeMap, BTreeSet};
+use std::collections::BTreeMap;
 use std::marker::Model;
 
 /// A finite map from keys to the moments, in milliseconds, at which they are due.
@@ -18,10 +17,8 @@ use std::marker::Model;
 /// Contracts see it as the list of its entries in the order of the keys.
 #[derive(Drop)]
 pub struct Queue<K: Ord + Clone> {
-    alloc: Global,
     moments: BTreeMap<K, u64>,
-    // The index: each key beside its moment, the earliest first.
-    dues: BTreeSet<(u64, K)>,
+    dues: Schedule<K>,
 }
 
 impl<K: Ord + Clone> Model for Queue<K> {
@@ -35,7 +32,7 @@ impl<K: Ord + Clone> Model for Queue<K> {
     ghost view = { λ q. q.moments.entries };
 
     ghost invariant = { λ q. IsOrdered K.cmp q.moments
-        × IsIndexOf K.cmp (moment K.cmp q.moments.entries) q.dues.keys };
+        × IsIndexOf K.cmp (moment K.cmp q.moments.entries) q.dues };
 }
 
 impl<K: Ord + Clone + Drop> Queue<K> {
@@ -44,9 +41,8 @@ impl<K: Ord + Clone + Drop> Queue<K> {
         ensures { result ≡ [] }
     {
         Queue {
-            alloc,
             moments: BTreeMap::new(alloc),
-            dues: BTreeSet::new(alloc),
+            dues: Schedule::new(alloc),
         }
     }
 
@@ -83,44 +79,12 @@ impl<K: Ord + Clone + Drop> Queue<K> {
             ≡ (if is_at (K.cmp key) q then Some due else moment K.cmp self.old q)) }
         ensures err { OnErr result (self.new ≡ self.old) }
     {
-        match former {
-            None => self.add(key, due),
-            Some(former) => self.move_from(key, former, due),
-        }
-    }
-
-    // Arms a key that isn't there.
-    fn add(&mut self, key: K, due: u64) -> Result<(), NoMemory>
-        requires alike { IsClonedAlike K.is_clone key }
-        requires absent { moment K.cmp self.old key ≡ None }
-        ensures ok { OnOk result (self.new ≡ insert_entry K.cmp self.old key due) }
-        ensures moments { OnOk result ((q : K) → moment K.cmp self.new q
-            ≡ (if is_at (K.cmp key) q then Some due else moment K.cmp self.old q)) }
-        ensures err { OnErr result (self.new ≡ self.old) }
-    {
-        self.dues.insert((due, key.clone()?))?;
+        let key = self.dues.replace(key, former, due)?;
         if let Err(refused) = self.moments.insert(key, due) {
             let (key, due) = refused.value;
-            self.dues.remove(&(due, key));
+            self.dues.disarm(key, due);
             return Err(NoMemory);
         }
-        Ok(())
-    }
-
-    // Gives an armed key another moment.
-    fn move_from(&mut self, key: K, former: u64, due: u64) -> Result<(), NoMemory>
-        requires alike { IsClonedAlike K.is_clone key }
-        requires armed { moment K.cmp self.old key ≡ Some former }
-        requires other { former ≢ due }
-        ensures ok { OnOk result (self.new ≡ insert_entry K.cmp self.old key due) }
-        ensures moments { OnOk result ((q : K) → moment K.cmp self.new q
-            ≡ (if is_at (K.cmp key) q then Some due else moment K.cmp self.old q)) }
-        ensures err { OnErr result (self.new ≡ self.old) }
-    {
-        self.dues.insert((due, key.clone()?))?;
-        let before = (former, key);
-        self.dues.remove(&before);
-        self.moments.insert(before.1, due)?;
         Ok(())
     }
 
@@ -131,7 +95,7 @@ impl<K: Ord + Clone + Drop> Queue<K> {
             ≡ (if is_at (K.cmp key.now) q then None else moment K.cmp self.old q) }
     {
         if let Some((key, due)) = self.moments.remove_entry(key) {
-            self.dues.remove(&(due, key));
+            self.dues.disarm(key, due);
         }
     }
 
@@ -152,7 +116,7 @@ impl<K: Ord + Clone + Drop> Queue<K> {
         ensures of_a_key { IfSome result (λ due. (q : K) × (moment K.cmp self.now q ≡ Some due)) }
         ensures none_armed { IfNone result ((q : K) → moment K.cmp self.now q ≡ None) }
     {
-        Some(self.dues.first()?.0)
+        self.dues.next_due()
     }
 
     /// Takes out all keys that are due at `now` or were before, and gives them in their order.
@@ -173,38 +137,13 @@ impl<K: Ord + Clone + Drop> Queue<K> {
         ensures moments { OnOk result ((q : K)
             → moment K.cmp self.new q ≡ if_later now (moment K.cmp self.old q)) }
     {
-        let count = count_due(&self.dues, now);
-        let mut keys = Vec::with_capacity(self.alloc, count)?;
-        for _ in 0..count {
-            keys.push_reserved(take_first(&mut self.moments, &mut self.dues));
+        // The schedule has copies of the keys, so each gives way to the key of the map.
+        let mut keys = self.dues.take_due(now)?;
+        for key in keys.iter_mut() {
+            if let Some((own, _)) = self.moments.remove_entry(&*key) {
+                *key = own;
+            }
         }
-        keys.sort_unstable();
         Ok(keys)
     }
-}
-
-/// How many keys are due at `now` or were before. It looks at these and at the next.
-pub(crate) fn count_due<K: Ord>(dues: &BTreeSet<(u64, K)>, now: u64) -> usize
-    ensures count { result ≡ length (take_while (λ due. nat_le due.0 now) dues.now.keys) }
-    ensures ordered { IsStrictlySortedBy (due_cmp K.cmp) dues.now.keys }
-{
-    dues.iter().take_while(|due| due.0 <= now).count()
-}
-
-// Takes out the key that is due first.
-fn take_first<K: Ord + Drop>(moments: &mut BTreeMap<K, u64>, dues: &mut BTreeSet<(u64, K)>) -> K
-    requires index { IsIndexOf K.cmp (moment K.cmp moments.old.entries) dues.old.keys }
-    requires some { 0 < length dues.old.keys }
-    ensures first { TakesFirst K.cmp moments.old.entries dues.old.keys
-        result moments.new.entries dues.new.keys }
-    ensures index { IsIndexOf K.cmp (moment K.cmp moments.new.entries) dues.new.keys }
-    ensures ordered { IsOrdered K.cmp moments.new }
-{
-    let Some((_, first)) = dues.pop_first() else {
-        unreachable!()
-    };
-    let Some((key, _)) = moments.remove_entry(&first) else {
-        unreachable!()
-    };
-    key
 }

@@ -1,14 +1,13 @@
 //! The moments at which keys are due, where whoever holds a key knows its moment.
 
-ghost use Rattle.std.specs.Prelude.{◌≡◌, ℕ, ◌≤◌, [], Option, Some, None, OnOk, OnErr, IfOk, IfSome, IfNone};
-ghost use Rattle.std.specs.List.{list_any};
+ghost use Rattle.std.specs.Prelude.{◌≡◌, ◌≢◌, ℕ, ◌≤◌, [], Option, Some, None, nat_le, length, OnOk, OnErr, IfOk, IfSome, IfNone};
+ghost use Rattle.std.specs.List.{list_any, take_while};
 ghost use Rattle.std.specs.BTreeMap.{is_at};
 ghost use Rattle.std.specs.List.Sorted.{IsStrictlySortedBy};
-ghost use Rattle.sip_timers.specs.Queue.{is_due, if_later};
-ghost use Rattle.sip_timers.specs.Index.{IsIndexOf, with_moment};
+ghost use Rattle.sip_timers.specs.Queue.{is_due, if_later, IsClonedAlike};
+ghost use Rattle.sip_timers.specs.Index.{due_cmp, IsIndexOf, with_moment};
 
 use crate::NoMemory;
-use crate::queue::count_due;
 use std::alloc::Global;
 use std::collections::BTreeSet;
 use std::marker::Model;
@@ -76,9 +75,12 @@ impl<K: Ord + Drop> Schedule<K> {
     ///
     /// `NoMemory`, and then the key is due no longer.
     pub fn rearm(&mut self, key: K, former: u64, due: u64) -> Result<(), NoMemory>
-        ensures { OnOk result ((moments : K → Option ℕ) → IsIndexOf K.cmp moments self.old
+        ensures ok { OnOk result ((moments : K → Option ℕ) → IsIndexOf K.cmp moments self.old
             → moments key ≡ Some former
             → IsIndexOf K.cmp (with_moment K.cmp moments key (Some due)) self.new) }
+        ensures err { OnErr result ((moments : K → Option ℕ) → IsIndexOf K.cmp moments self.old
+            → moments key ≡ Some former
+            → IsIndexOf K.cmp (with_moment K.cmp moments key None) self.new) }
     {
         let place = (former, key);
         self.dues.remove(&place);
@@ -121,4 +123,34 @@ impl<K: Ord + Drop> Schedule<K> {
         keys.sort_unstable();
         Ok(keys)
     }
+}
+
+impl<K: Ord + Clone + Drop> Schedule<K> {
+    // Makes a copy of a key due, in place of the key at `former`, and gives the key back. The copy
+    // goes in first, so that want of memory changes nothing.
+    pub(crate) fn replace(&mut self, key: K, former: Option<u64>, due: u64) -> Result<K, NoMemory>
+        requires alike { IsClonedAlike K.is_clone key }
+        requires other { former ≢ Some due }
+        ensures ok { OnOk result ((moments : K → Option ℕ) → IsIndexOf K.cmp moments self.old
+            → moments key ≡ former
+            → IsIndexOf K.cmp (with_moment K.cmp moments key (Some due)) self.new) }
+        ensures key { IfOk result (λ given. given ≡ key) }
+        ensures err { OnErr result (self.new ≡ self.old) }
+    {
+        self.dues.insert((due, key.clone()?))?;
+        let Some(former) = former else {
+            return Ok(key);
+        };
+        let before = (former, key);
+        self.dues.remove(&before);
+        Ok(before.1)
+    }
+}
+
+// How many keys are due at `now` or were before. It looks at these and at the next.
+fn count_due<K: Ord>(dues: &BTreeSet<(u64, K)>, now: u64) -> usize
+    ensures count { result ≡ length (take_while (λ due. nat_le due.0 now) dues.now.keys) }
+    ensures ordered { IsStrictlySortedBy (due_cmp K.cmp) dues.now.keys }
+{
+    dues.iter().take_while(|due| due.0 <= now).count()
 }

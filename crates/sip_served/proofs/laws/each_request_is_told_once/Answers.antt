@@ -1,4 +1,4 @@
-use Rattle.sip_served.specs.ServerSide.{empty_at}
+use Rattle.sip_served.specs.State.{empty_at}
 use Rattle.sip_served.proofs.Shows.{event_shows, never_oftener}
 use Rattle.sip_served.proofs.laws.each_request_is_told_once.Goals as goal
 

@@ -1,7 +1,7 @@
 use Rattle.std.proofs.Common.{Some, sym, ◌∙◌, ap, ℕ}
 use Rattle.std.specs.Map.{keys_of}
 use Rattle.std.specs.List.Sorted.{IsStrictlySortedBy}
-use Rattle.sip_timers.proofs.Dues.{insert_same}
+use Rattle.sip_timers.proofs.Moments.{insert_same}
 use Rattle.sip_timers.proofs.queue.Queue.arm.Goals as goal
 
 pub returns-in-Some-clause-ok : goal.returns-in-Some-clause-ok

@@ -1,4 +1,4 @@
-//! What the server side of one Call-ID holds, and what each item makes of it.
+//! The server side of one Call-ID: what it holds, and what each item makes of it.
 
 ghost use Rattle.std.specs.Prelude.{◌≡◌, ◌<◌, ◌≤◌, ◌^◌, ◌∷◌, IfOk, OnOk, Some, filter, length, slice_set};
 ghost use Rattle.sip_served.specs.Acknowledgment.{ack_taken};
@@ -11,7 +11,7 @@ ghost use Rattle.sip_served.specs.Tick.{tick_taken, next_server_due, is_kept_at}
 ghost use Rattle.sip_served.specs.declared.held_request.HeldRequest.{HeldRequest};
 
 use crate::acknowledgment::{acknowledge, acknowledged_invite, prack};
-use crate::arrival::{ArrivalCase, case_of};
+use crate::arrival::{Arrival, ArrivalCase, case_of};
 use crate::cancel::{
     cancel_accepted, cancelled_request, is_unanswered_invite, request_terminated, terminate,
     termination_told,
@@ -21,12 +21,12 @@ use crate::outputs::{
     bad_extension, loop_detected, no_such_dialog, notice_of_request, ok, out_of_order,
 };
 use crate::requests::place_of;
-use crate::respond::{answer_to, dialogs_answered, note_answer, note_dialog, refusal_for};
+use crate::respond::{answer_dialogs, answer_to, note_answer, refusal_for};
 use crate::tick::{is_kept, next_due, tick_requests};
 use indexmap::IndexMap;
 use sip_common::dialogs::{end, end_early, own_dialog, visit};
 use sip_common::outputs::{joined, one, refused, tell};
-use sip_common::request::{dialog_name, is_bye, is_cancel, is_inside};
+use sip_common::request::{dialog_name, is_bye, is_cancel, is_inside, own_tag};
 use sip_common::{CallOut, DialogName, Dialogs, Item, Notice, Refusal, Respond, UserCommand};
 use sip_message::{Addr, CallId, Id, Message, Token};
 use sip_text::Boxed;
@@ -35,17 +35,17 @@ use std::alloc::{AllocError, Global};
 use std::marker::Model;
 
 /// The held requests in the order in which they came up, and the held dialogs in the order in which
-/// they were made.
+/// they were made (RFC 3261, sections 8.2, 9.2, 12 and 13.3; RFC 3262, section 3).
 ///
-/// Where a method answers an error, it is not known what is held.
-pub(crate) struct Holdings {
+/// Where a call met want of memory, it is not known what is held.
+pub struct ServerSide {
     alloc: Global,
     local: Addr,
     requests: Vec<HeldRequest>,
     dialogs: Dialogs,
 }
 
-impl Model for Holdings {
+impl Model for ServerSide {
     ghost use Rattle.sip_served.specs.State.{State};
 
     ghost Value = { State };
@@ -57,16 +57,17 @@ impl Model for Holdings {
     } };
 }
 
-impl Holdings {
+impl ServerSide {
     ghost use Rattle.std.specs.Borrow.{sem};
-    ghost use Rattle.sip_served.specs.Lending.{HoldingsLend};
-    ghost use Rattle.sip_served.specs.ServerSide.{empty_at};
-    ghost use Rattle.sip_served.specs.State.{State};
+    ghost use Rattle.sip_served.specs.Lending.{SideLends};
+    ghost use Rattle.sip_served.specs.State.{State, empty_at};
 
-    pub(crate) fn new(alloc: Global, local: Addr) -> Holdings
+    /// The server side of a Call-ID under which nothing is held, at the address `local`. Takes no
+    /// memory.
+    pub fn new(alloc: Global, local: Addr) -> ServerSide
         ensures { result ≡ empty_at local }
     {
-        Holdings {
+        ServerSide {
             alloc,
             local,
             requests: Vec::new(alloc),
@@ -74,23 +75,40 @@ impl Holdings {
         }
     }
 
-    pub(crate) fn holds(&self) -> bool
+    /// The agent's own address. Takes no memory.
+    pub(crate) fn local(&self) -> Addr
+        ensures { result ≡ self.now.local }
+    {
+        self.local
+    }
+
+    /// Whether any request or dialog is held. Takes no memory.
+    pub fn holds(&self) -> bool
         ensures { result ≡ step.holds self.now }
     {
         !self.requests.is_empty() || !self.dialogs.is_empty()
     }
 
-    pub(crate) fn next_due(&self) -> Option<u64>
+    /// The first moment, in ms, at which a tick does something, if there is one. Takes no memory.
+    pub fn next_due(&self) -> Option<u64>
         ensures { result ≡ next_server_due self.now }
     {
         next_due(self.requests.as_slice())
     }
 
-    pub(crate) fn dialogs(&mut self) -> &mut Dialogs
-        ensures* writes_back { sem 𝓛 (HoldingsLend self.entry result) }
+    /// The held dialogs, for writing. Takes no memory.
+    pub fn dialogs(&mut self) -> &mut Dialogs
+        ensures* writes_back { sem 𝓛 (SideLends self.entry result) }
         ensures value { result.now.entries ≡ self.old.dialogs }
     {
         &mut self.dialogs
+    }
+
+    /// Lets go of all that is held. Takes no memory.
+    pub(crate) fn clear(&mut self, local: Addr)
+        ensures { self.new ≡ empty_at local }
+    {
+        *self = ServerSide::new(self.alloc, local);
     }
 
     /// An item of the event of this id, at the moment `now` in ms. `tag` is the To tag that the
@@ -127,19 +145,31 @@ impl Holdings {
         } = up;
         match kind {
             Kind::Request(request, reply_to) => {
-                let arrival = HeldRequest::new(self.alloc, key, id, request, reply_to, tag);
-                self.arrive(call_id, arrival, now)
+                let tag = own_tag(self.alloc, request.get())?.unwrap_or(tag);
+                let arrival = Arrival {
+                    id,
+                    key,
+                    request,
+                    reply_to,
+                    tag,
+                };
+                self.request(call_id, arrival, now)
             }
             Kind::Ack(ack) => self.ack(call_id, ack.get()),
             Kind::Response(_) | Kind::Timeout | Kind::Failed => Ok(Vec::new(self.alloc)),
         }
     }
 
-    /// A request comes up, at the moment `now` in ms. A CANCEL is a case of its own.
-    pub(crate) fn arrive(
+    /// Takes a request that comes up, at the moment `now` in ms (RFC 3261, sections 8.2, 9.2 and
+    /// 12.2.2). The Call-ID is that of its transaction.
+    ///
+    /// # Errors
+    ///
+    /// Want of memory.
+    pub fn request(
         &mut self,
         call_id: CallId,
-        arrival: HeldRequest,
+        arrival: Arrival,
         now: u64,
     ) -> Result<Vec<CallOut>, AllocError>
         requires { now ≤ 2 ^ 62 }
@@ -149,7 +179,7 @@ impl Holdings {
         if is_cancel(arrival.request.get()) {
             self.cancel(call_id, &arrival, now)
         } else {
-            self.request(call_id, arrival)
+            self.take_request(call_id, arrival)
         }
     }
 
@@ -157,7 +187,7 @@ impl Holdings {
     fn cancel(
         &mut self,
         call_id: CallId,
-        arrival: &HeldRequest,
+        arrival: &Arrival,
         now: u64,
     ) -> Result<Vec<CallOut>, AllocError>
         requires { now ≤ 2 ^ 62 }
@@ -192,7 +222,11 @@ impl Holdings {
     }
 
     // Any other request.
-    fn request(&mut self, call_id: CallId, arrival: HeldRequest) -> Result<Vec<CallOut>, AllocError>
+    fn take_request(
+        &mut self,
+        call_id: CallId,
+        arrival: Arrival,
+    ) -> Result<Vec<CallOut>, AllocError>
         ensures { IfOk result (λ outs. (self.new, outs.items)
             ≡ arrived.request_taken self.old call_id arrival) }
     {
@@ -211,7 +245,7 @@ impl Holdings {
         case: ArrivalCase,
         call_id: CallId,
         name: DialogName,
-        arrival: HeldRequest,
+        arrival: Arrival,
     ) -> Result<Vec<CallOut>, AllocError>
         ensures { IfOk result (λ outs. (self.new, outs.items)
             ≡ arrived.by_case case self.old call_id name arrival) }
@@ -250,7 +284,7 @@ impl Holdings {
     fn prack(
         &mut self,
         call_id: CallId,
-        arrival: &HeldRequest,
+        arrival: &Arrival,
         invite: Id,
         rseq: u32,
     ) -> Result<Vec<CallOut>, AllocError>
@@ -273,7 +307,7 @@ impl Holdings {
         &mut self,
         call_id: CallId,
         name: DialogName,
-        arrival: HeldRequest,
+        arrival: Arrival,
     ) -> Result<Vec<CallOut>, AllocError>
         ensures { IfOk result (λ outs. (self.new, outs.items)
             ≡ arrived.for_user self.old call_id name arrival) }
@@ -292,23 +326,29 @@ impl Holdings {
         &mut self,
         call_id: CallId,
         name: &DialogName,
-        mut arrival: HeldRequest,
+        arrival: Arrival,
     ) -> Result<Vec<CallOut>, AllocError>
         ensures { IfOk result (λ outs. (self.new, outs.items)
             ≡ arrived.request_held self.old call_id name.now arrival) }
     {
         let notice = notice_of_request(self.alloc, call_id, &arrival)?;
-        arrival.dialog = own_dialog(&self.dialogs, arrival.request.get(), name)?;
+        let dialog = own_dialog(&self.dialogs, arrival.request.get(), name)?;
         // Most calls hold one request, and a list that grows by itself begins with four places.
         if self.requests.is_empty() {
             self.requests.reserve_exact(1)?;
         }
-        self.requests.push(arrival)?;
+        self.requests
+            .push(HeldRequest::new(self.alloc, arrival, dialog))?;
         tell(self.alloc, notice)
     }
 
-    /// An ACK comes up.
-    pub(crate) fn ack(&mut self, call_id: CallId, ack: &Message) -> Result<Vec<CallOut>, AllocError>
+    /// Takes the ACK of a 2xx, which comes up (RFC 3261, section 13.3.1.4). The Call-ID is that of
+    /// its transaction.
+    ///
+    /// # Errors
+    ///
+    /// Want of memory.
+    pub fn ack(&mut self, call_id: CallId, ack: &Message) -> Result<Vec<CallOut>, AllocError>
         ensures { IfOk result (λ outs. (self.new, outs.items)
             ≡ ack_taken self.old call_id ack.now) }
     {
@@ -325,9 +365,14 @@ impl Holdings {
         tell(self.alloc, notice)
     }
 
-    /// The user answers a request, in the event of this id, at the moment `now` in ms.
+    /// Takes an answer of the user, in the event of this id, at the moment `now` in ms (RFC 3261,
+    /// sections 8.2.6, 12.1.1 and 13.3.1).
+    ///
+    /// # Errors
+    ///
+    /// Want of memory.
     #[tactic(auto, using(std::proofs::lemmas::Option::slice_get_read))]
-    pub(crate) fn respond(
+    pub fn respond(
         &mut self,
         event: Id,
         respond: Respond,
@@ -365,26 +410,25 @@ impl Holdings {
             (λ change. slice_set self.old.requests index (change held)) self.old event respond
             now held) }
     {
+        let (status, reliability) = (respond.status, respond.reliability);
         let held = &mut self.requests[index];
-        let response = answer_to(self.alloc, self.local, held, &respond)?;
-        let ends = dialogs_answered(
-            self.alloc,
-            &mut self.dialogs,
-            event,
-            held,
-            &respond,
-            &response,
-        )?;
         let (id, key) = (held.id, held.key.clone()?);
-        note_dialog(self.alloc, held, event, &respond)?;
-        note_answer(self.alloc, held, &respond, &response, now)?;
+        let response = answer_to(self.alloc, self.local, held, respond)?;
+        let dialogs = &mut self.dialogs;
+        let ends = answer_dialogs(self.alloc, dialogs, event, held, status, &response)?;
+        note_answer(self.alloc, held, status, reliability, &response, now)?;
         let message = Boxed::new(self.alloc, response)?;
         let command = CallOut::Command(id, Command::Answer { key, message });
         joined(one(self.alloc, command)?, ends)
     }
 
-    /// The moment `now`, in ms, has come.
-    pub(crate) fn tick(&mut self, now: u64) -> Result<Vec<CallOut>, AllocError>
+    /// Does what is due at the moment `now`, in ms (RFC 3261, section 13.3.1.4; RFC 3262, section
+    /// 3).
+    ///
+    /// # Errors
+    ///
+    /// Want of memory.
+    pub fn tick(&mut self, now: u64) -> Result<Vec<CallOut>, AllocError>
         requires { now ≤ 2 ^ 62 }
         ensures { IfOk result (λ outs. (self.new, outs.items) ≡ tick_taken self.old now) }
     {
@@ -402,9 +446,9 @@ fn remove_over(requests: &mut Vec<HeldRequest>, now: u64)
     requests.retain(|held| is_kept(held, now));
 }
 
-impl Drop for Holdings {
+impl Drop for ServerSide {
     fn drop(self) {
-        let Holdings {
+        let ServerSide {
             alloc: _,
             local: _,
             requests: _,

@@ -6,7 +6,7 @@ use Rattle.sip_served.specs.declared.held_request.HeldRequest.{HeldRequest}
 use Rattle.sip_served.specs.Respond.{answer_given_at, refusal_for, respond_taken}
 use Rattle.sip_served.specs.State.{State, changed_at, has_id}
 use Rattle.sip_served.proofs.Changes.{given, ok_mapped}
-use Rattle.sip_served.proofs.holdings.Holdings.respond.Goals as goal
+use Rattle.sip_served.proofs.server_side.ServerSide.respond.Goals as goal
 
 pub returns-in-None : goal.returns-in-None
 returns-in-None c =

@@ -1,0 +1,17 @@
+-- What `Served` shows.
+use Rattle.std.specs.Prelude.{Bool, true, List}
+use Rattle.sip_common.specs.declared.item.CallOut.{CallOut}
+use Rattle.sip_served.specs.State.{State, ServedTaken, empty_at}
+
+-- whether a call met want of memory, and what is held
+pub record ServedState : Type 0 where
+  pub broken : Bool
+  pub state : State
+
+-- after want of memory nothing is held, at the same address
+abbrev pub lost : ServedState → ServedState
+lost served = record { broken = true; state = empty_at (served.state).local }
+
+-- what was taken is held
+abbrev pub after : ServedState → ServedTaken → ServedState × List CallOut
+after served taken = (record served { state = taken.0 }, taken.1)
