@@ -1,42 +1,81 @@
-//! Examples: public calls of the core that take memory and that no case runs, with the answer
-//! compared.
+//! Examples: each public call of the core that takes memory once, with its answer compared.
 //!
 //! Each example ends as it is to be, or says that memory was refused and left all as it is to be
 //! then. Where a call that was refused memory changes nothing, the example makes it again.
 
 mod calls;
+mod dialogs;
 mod files;
+mod lines;
 mod messages;
+mod pieces;
 mod queues;
+mod rounds;
 mod server_side;
 mod texts;
 mod transactions;
 mod worked;
 
+use crate::refusals::SHARDS;
 use crate::stop::{Stop, check};
 use crate::tally::tell;
+use files::FirstFails;
 use sip_calls::CallShard;
+use sip_message::Spread;
+use sip_round::Agent;
 use sip_served::Served;
+use sip_text::Series;
 use sip_timers::Queue;
 use sip_transactions::Shard;
 use std::alloc::Global;
 use std::thread::Threads;
-use worked::{LOCAL, SEED};
+use worked::{CONFIG, LOCAL, SEED};
 
 /// The names of the examples, in the order of their numbers.
-const NAMES: [&str; 12] = [
+const NAMES: [&str; 43] = [
     "unfold",
     "lines",
     "split_values",
     "params",
+    "numbers",
+    "token_eq",
+    "byte_order",
+    "Text",
+    "Series",
     "Queue",
+    "Queue::arm",
+    "Queue::take_due",
+    "Queue::disarm",
     "write",
+    "response_to",
+    "ack_for",
+    "cancel_for",
+    "stamp_source",
+    "key_of",
+    "Message::clone",
+    "Cut",
+    "Dialog::next_request",
+    "Dialog::ack",
+    "Dialog::from_response",
+    "Dialog::from_request",
+    "Dialog::refresh",
     "Shard::receive",
+    "Shard::command",
     "Shard::failed",
     "Served",
-    "CallShard",
-    "write_round",
+    "CallShard::item",
+    "CallShard::tick",
+    "run_pieces",
+    "run",
+    "Agent::run_round",
+    "Agent::reshard",
+    "Agent::new",
+    "Agent::live",
     "replay",
+    "write_round",
+    "read_command_line",
+    "send_all",
+    "Desk",
 ];
 
 // The example of this number.
@@ -46,16 +85,51 @@ fn example<T: Threads + Sync>(threads: &T, alloc: Global, number: usize) -> Resu
         1 => texts::two_lines(alloc),
         2 => texts::two_values(alloc),
         3 => texts::two_parameters(alloc),
-        4 => queues::keys_are_due(&mut Queue::new(alloc)),
-        5 => messages::headers_in_their_order(alloc),
-        6 => transactions::a_request_is_answered(alloc, &mut Shard::new(alloc, LOCAL)),
-        7 => transactions::a_request_is_not_sent(alloc, &mut Shard::new(alloc, LOCAL)),
-        8 => server_side::a_request_is_told_and_answered(alloc, &mut Served::new(alloc, LOCAL)),
-        9 => calls::a_request_is_told_and_answered(alloc, &mut CallShard::new(alloc, LOCAL, SEED)),
-        10 => files::a_round_is_written(alloc),
-        11 => files::a_file_is_replayed(threads, alloc),
+        4 => texts::numbers(),
+        5 => texts::tokens_without_case(),
+        6 => texts::texts_in_order(),
+        7 => texts::a_text_grows(alloc),
+        8 => texts::a_series_grows(alloc, &mut Series::new(alloc)),
+        9 => queues::the_later_moment_counts(&mut Queue::new(alloc)),
+        10 => queues::a_key_is_armed_again(&mut Queue::new(alloc)),
+        11 => queues::at_one_moment_in_the_order_of_keys(&mut Queue::new(alloc)),
+        12 => queues::what_is_disarmed_is_not_due(&mut Queue::new(alloc)),
+        13 => messages::headers_in_their_order(alloc),
+        14 => messages::a_response(alloc),
+        15 => messages::an_ack_of_a_rejection(alloc),
+        16 => messages::a_cancel(alloc),
+        17 => messages::the_source_is_noted(alloc),
+        18 => messages::keys(alloc),
+        19 => messages::a_copy(alloc),
+        20 => messages::names_are_cut(),
+        21 => dialogs::the_next_request(alloc),
+        22 => dialogs::an_ack(alloc),
+        23 => dialogs::an_early_dialog_is_confirmed(alloc),
+        24 => dialogs::a_callee_keeps_its_target(alloc),
+        25 => dialogs::a_target_is_refreshed(alloc),
+        26 => transactions::a_request_is_answered(alloc, &mut Shard::new(alloc, LOCAL)),
+        27 => transactions::a_request_goes_out(alloc, &mut Shard::new(alloc, LOCAL)),
+        28 => transactions::a_request_is_not_sent(alloc, &mut Shard::new(alloc, LOCAL)),
+        29 => server_side::a_request_is_told_and_answered(alloc, &mut Served::new(alloc, LOCAL)),
+        30 => calls::a_request_is_told_and_answered(alloc, &mut CallShard::new(alloc, LOCAL, SEED)),
+        31 => calls::a_call_is_set_up(alloc, &mut CallShard::new(alloc, LOCAL, SEED)),
+        32 => pieces::squares_in_order(threads, alloc),
+        33 => rounds::rounds_are_run(threads, alloc),
+        34 => rounds::a_datagram_is_told(threads, alloc, &mut agent(alloc)?),
+        35 => rounds::moved_while_a_timer_runs(threads, alloc, &mut agent(alloc)?),
+        36 => rounds::nothing_is_moved(&mut agent(alloc)?),
+        37 => rounds::a_failed_client_is_gone(threads, alloc, &mut agent(alloc)?),
+        38 => files::a_file_is_replayed(threads, alloc),
+        39 => files::a_round_is_written(alloc),
+        40 => files::a_command_is_read(alloc),
+        41 => files::a_failed_send_is_told(alloc, &mut FirstFails::default()),
+        42 => lines::a_line_is_settled(alloc),
         _ => Err(Stop::Words),
     }
+}
+
+fn agent(alloc: Global) -> Result<Agent<Spread>, Stop> {
+    Ok(Agent::new(alloc, CONFIG, SHARDS, Spread)?)
 }
 
 /// Runs the example of this name.

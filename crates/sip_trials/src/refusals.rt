@@ -9,9 +9,10 @@ use sip_round::{Agent, Output, Round, RoundFault};
 use std::alloc::Global;
 use std::thread::Threads;
 
-const SHARDS: usize = 2;
+/// In how many shards, and on how many workers, an agent does it.
+pub const SHARDS: usize = 2;
 
-const WORKERS: usize = 2;
+pub const WORKERS: usize = 2;
 
 /// Runs the script round by round, and each round again that was refused memory where its agent
 /// stands.
@@ -34,9 +35,13 @@ pub fn round_by_round<R: Threads + Sync>(
     check(write_outputs(alloc, &told)?.as_slice() == script.outputs.as_slice())
 }
 
-// The outputs of a round. Where it was refused memory and the agent stands, the same round gives
-// them; where the agent is broken, it has to be so from then on.
-fn outputs_of<R: Threads + Sync>(
+/// The outputs of a round. Where it was refused memory and the agent stands, the same round gives
+/// them; where the agent is broken, it has to be so from then on.
+///
+/// # Errors
+///
+/// As of an example.
+pub fn outputs_of<R: Threads + Sync>(
     rt: &R,
     agent: &mut Agent<Spread>,
     round: &Round,

@@ -1,5 +1,7 @@
 //! Why a trial stopped.
 
+use sip_desk::Unfinished;
+use sip_dialog::DialogFault;
 use sip_files::{EventsFault, ReplayFault};
 use sip_message::ReadFault;
 use sip_round::RoundFault;
@@ -127,6 +129,18 @@ impl From<sip_round::NoMemory> for Stop {
     }
 }
 
+impl From<sip_desk::NoMemory> for Stop {
+    fn from(_error: sip_desk::NoMemory) -> Stop {
+        Stop::NoMemory
+    }
+}
+
+impl From<Unfinished> for Stop {
+    fn from(_error: Unfinished) -> Stop {
+        Stop::Different
+    }
+}
+
 impl From<TextFault> for Stop {
     fn from(fault: TextFault) -> Stop {
         match fault {
@@ -140,6 +154,15 @@ impl From<ReadFault> for Stop {
     fn from(fault: ReadFault) -> Stop {
         match fault {
             ReadFault::NoMemory => Stop::NoMemory,
+            _ => Stop::Different,
+        }
+    }
+}
+
+impl From<DialogFault> for Stop {
+    fn from(fault: DialogFault) -> Stop {
+        match fault {
+            DialogFault::NoMemory => Stop::NoMemory,
             _ => Stop::Different,
         }
     }

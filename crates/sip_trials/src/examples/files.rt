@@ -1,11 +1,14 @@
-//! Event files and output files.
+//! Event files and output files, and what is sent.
 
-use crate::examples::worked::{CONFIG, EVENTS, OUTPUTS};
+use crate::examples::worked::{CONFIG, EVENTS, OUTPUTS, PEER, token};
 use crate::open::Open;
 use crate::stop::{Stop, check};
-use sip_files::{read_events, replay, write_head, write_round};
-use sip_message::Spread;
-use sip_round::Round;
+use sip_files::{read_command_line, read_events, replay, write_head, write_round};
+use sip_message::{Addr, Key, Spread};
+use sip_round::{Event, Output, Round};
+use sip_served::UserCommand;
+use sip_text::Text;
+use sip_udp::{Outlet, send_all};
 use std::alloc::{AllocError, Global};
 use std::thread::Threads;
 
@@ -39,4 +42,70 @@ fn text_of(alloc: Global, rounds: &[Round]) -> Result<Vec<u8>, AllocError> {
         text.extend_from_slice(&write_round(alloc, round)?)?;
     }
     Ok(text)
+}
+
+pub fn a_command_is_read(alloc: Global) -> Result<(), Stop> {
+    check(is_cancel(&read_command_line(alloc, b"cancel c2 9.4")?))?;
+    check(read_command_line(alloc, b"cancel c2")?.is_none())
+}
+
+fn is_cancel(command: &Option<UserCommand>) -> bool {
+    match command {
+        Some(UserCommand::Cancel(cancel)) => {
+            cancel.id.round == 9
+                && cancel.id.place == 4
+                && cancel.call_id.as_slice() == b"c2".as_slice()
+        }
+        _ => false,
+    }
+}
+
+/// An outlet whose first send fails, and which counts what it is asked.
+#[derive(Default, Drop)]
+pub struct FirstFails {
+    asked: u64,
+}
+
+impl Outlet for FirstFails {
+    ghost use Rattle.std.specs.Prelude.{None};
+
+    ghost asked = { λ _. None };
+
+    fn send(&mut self, _to: Addr, _bytes: &[u8]) -> bool {
+        self.asked = self.asked.saturating_add(1);
+        self.asked > 1
+    }
+}
+
+// Sends a datagram of a transaction.
+fn send(alloc: Global) -> Result<Output, Stop> {
+    let key = Key::client(alloc, b"z9hG4bKi", token(alloc, b"INVITE")?)?;
+    Ok(Output::Send {
+        key: Some(key),
+        to: PEER,
+        bytes: Text::copy_of(alloc, b"x")?,
+    })
+}
+
+pub fn a_failed_send_is_told(alloc: Global, outlet: &mut FirstFails) -> Result<(), Stop> {
+    let failed = sent(alloc, outlet, &[send(alloc)?, send(alloc)?])?;
+    check(outlet.asked == 2 && is_of_branch(&failed, b"z9hg4bki"))
+}
+
+// Without memory nothing is sent.
+fn sent(alloc: Global, outlet: &mut FirstFails, outputs: &[Output]) -> Result<Vec<Event>, Stop> {
+    match send_all(alloc, outlet, outputs) {
+        Ok(failed) => Ok(failed),
+        Err(AllocError) => {
+            check(outlet.asked == 0)?;
+            Ok(send_all(alloc, outlet, outputs)?)
+        }
+    }
+}
+
+fn is_of_branch(failed: &[Event], branch: &[u8]) -> bool {
+    match failed {
+        [Event::Failed(key)] => key.branch() == branch,
+        _ => false,
+    }
 }

@@ -1,9 +1,11 @@
-//! Messages, and their text.
+//! Messages: what is made of them, and their text.
 
-use crate::examples::worked::message;
+use crate::examples::worked::{OK, OPTIONS, message, success_to, token};
 use crate::stop::{Stop, check};
-use sip_message::write;
-use std::alloc::Global;
+use sip_message::{
+    Addr, Cut, First, Key, Message, Spread, ack_for, cancel_for, key_of, stamp_source, write,
+};
+use std::alloc::{AllocError, Global};
 
 /// A request with two hops, two routes and two options of each kind, its headers in another order
 /// than they are written, some under their compact names.
@@ -53,9 +55,157 @@ Content-Length: 2\r
 \r
 ab";
 
-// What was read is copied, and the copy is written.
+/// A response that rejects it.
+const REJECTION: &[u8] = b"SIP/2.0 486 X\r
+Via: SIP/2.0/UDP 192.0.2.1:5060;rport;branch=z9hG4bKi\r
+Via: SIP/2.0/UDP h;branch=z9hG4bKo\r
+From: <sip:a@192.0.2.1>;tag=l1\r
+To: \"B\" <sip:b@192.0.2.9>;tag=x\r
+Call-ID: c2\r
+CSeq: 5 INVITE\r
+\r
+";
+
+const ACK: &[u8] = b"ACK sip:b@192.0.2.9 SIP/2.0\r
+Via: SIP/2.0/UDP 192.0.2.1:5060;rport;branch=z9hG4bKi\r
+Max-Forwards: 70\r
+From: <sip:a@192.0.2.1>;tag=l1\r
+To: \"B\" <sip:b@192.0.2.9>;tag=x\r
+Call-ID: c2\r
+CSeq: 5 ACK\r
+Route: <sip:p1;lr>\r
+Route: <sip:p2;lr>\r
+Content-Length: 0\r
+\r
+";
+
+const CANCEL: &[u8] = b"CANCEL sip:b@192.0.2.9 SIP/2.0\r
+Via: SIP/2.0/UDP 192.0.2.1:5060;rport;branch=z9hG4bKi\r
+Max-Forwards: 70\r
+From: <sip:a@192.0.2.1>;tag=l1\r
+To: \"B\" <sip:b@192.0.2.9>\r
+Call-ID: c2\r
+CSeq: 5 CANCEL\r
+Route: <sip:p1;lr>\r
+Route: <sip:p2;lr>\r
+Content-Length: 0\r
+\r
+";
+
+/// A request whose sender asks for its port.
+const ASKING: &[u8] = b"OPTIONS sip:192.0.2.1 SIP/2.0\r
+Via: SIP/2.0/UDP 10.0.0.1;rport;branch=z9hG4bKa1\r
+From: <sip:a@192.0.2.9>;tag=f1\r
+To: <sip:192.0.2.1>\r
+Call-ID: c1\r
+CSeq: 7 OPTIONS\r
+Content-Length: 0\r
+\r
+";
+
+const STAMPED: &[u8] = b"OPTIONS sip:192.0.2.1 SIP/2.0\r
+Via: SIP/2.0/UDP 10.0.0.1;rport=7000;branch=z9hG4bKa1;received=192.0.2.9\r
+From: <sip:a@192.0.2.9>;tag=f1\r
+To: <sip:192.0.2.1>\r
+Call-ID: c1\r
+CSeq: 7 OPTIONS\r
+Content-Length: 0\r
+\r
+";
+
+/// Where it comes from.
+const SOURCE: Addr = Addr {
+    ip: [192, 0, 2, 9],
+    port: 7000,
+};
+
+// A message has this text.
+pub fn is_written(alloc: Global, message: &Message, text: &[u8]) -> Result<(), Stop> {
+    check(write(alloc, message)?.as_slice() == text)
+}
+
 pub fn headers_in_their_order(alloc: Global) -> Result<(), Stop> {
-    let request = message(alloc, SCRAMBLED)?;
-    let copy = request.clone()?;
-    check(write(alloc, &copy)?.as_slice() == WRITTEN)
+    is_written(alloc, &message(alloc, SCRAMBLED)?, WRITTEN)
+}
+
+pub fn a_copy(alloc: Global) -> Result<(), Stop> {
+    is_copied(alloc, &message(alloc, SCRAMBLED)?)
+}
+
+fn is_copied(alloc: Global, request: &Message) -> Result<(), Stop> {
+    is_written(alloc, &request.clone()?, WRITTEN)
+}
+
+pub fn a_response(alloc: Global) -> Result<(), Stop> {
+    is_answered(alloc, &message(alloc, OPTIONS)?)
+}
+
+fn is_answered(alloc: Global, request: &Message) -> Result<(), Stop> {
+    is_written(alloc, &success_to(alloc, request)?, OK)
+}
+
+pub fn an_ack_of_a_rejection(alloc: Global) -> Result<(), Stop> {
+    is_rejected(alloc, &message(alloc, SCRAMBLED)?)
+}
+
+fn is_rejected(alloc: Global, request: &Message) -> Result<(), Stop> {
+    is_acknowledged(alloc, request, &message(alloc, REJECTION)?)
+}
+
+fn is_acknowledged(alloc: Global, request: &Message, response: &Message) -> Result<(), Stop> {
+    is_written(alloc, &ack_for(alloc, request, response)?, ACK)
+}
+
+pub fn a_cancel(alloc: Global) -> Result<(), Stop> {
+    is_cancelled(alloc, &message(alloc, SCRAMBLED)?)
+}
+
+fn is_cancelled(alloc: Global, request: &Message) -> Result<(), Stop> {
+    is_written(alloc, &cancel_for(alloc, request)?, CANCEL)
+}
+
+pub fn the_source_is_noted(alloc: Global) -> Result<(), Stop> {
+    is_stamped(alloc, &mut message(alloc, ASKING)?)
+}
+
+// Without memory the request stays as it is.
+fn is_stamped(alloc: Global, request: &mut Message) -> Result<(), Stop> {
+    let address = match stamp_source(alloc, request, SOURCE) {
+        Ok(address) => address,
+        Err(AllocError) => {
+            is_written(alloc, request, ASKING)?;
+            stamp_source(alloc, request, SOURCE)?
+        }
+    };
+    check(address == SOURCE)?;
+    is_written(alloc, request, STAMPED)
+}
+
+// A branch is compared without case, and a response has its client's key.
+pub fn keys(alloc: Global) -> Result<(), Stop> {
+    has_key(alloc, OPTIONS, &asked_key(alloc)?)?;
+    has_key(alloc, REJECTION, &rejected_key(alloc)?)
+}
+
+fn has_key(alloc: Global, text: &[u8], key: &Key) -> Result<(), Stop> {
+    check(key_of(alloc, &message(alloc, text)?)? == *key)
+}
+
+fn asked_key(alloc: Global) -> Result<Key, Stop> {
+    let method = token(alloc, b"OPTIONS")?;
+    Ok(Key::server(alloc, b"Z9HG4BKA1", b"192.0.2.9", 5060, method)?)
+}
+
+fn rejected_key(alloc: Global) -> Result<Key, Stop> {
+    Ok(Key::client(alloc, b"z9hG4bKi", token(alloc, b"INVITE")?)?)
+}
+
+// 97 and 98 are 195, and 6 above 27 times 7.
+pub fn names_are_cut() -> Result<(), Stop> {
+    check(
+        Spread.shard(b"ab", 7) == 6
+            && Spread.shard(b"", 7) == 0
+            && First.shard(b"ab", 7) == 0
+            && First.shard(b"", 7) == 0,
+    )
 }

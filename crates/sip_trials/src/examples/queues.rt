@@ -34,18 +34,31 @@ fn takes(queue: &mut Queue<u8>, now: u64, keys: &[u8]) -> Result<(), Stop> {
     check(due.as_slice() == keys)
 }
 
-// The later moment of a key counts; at one moment keys come in their order; a key that isn't there
-// is disarmed without an effect, and what is disarmed isn't due.
-pub fn keys_are_due(queue: &mut Queue<u8>) -> Result<(), Stop> {
+pub fn the_later_moment_counts(queue: &mut Queue<u8>) -> Result<(), Stop> {
     arm(queue, &[(A, 5), (B, 3), (A, 7)])?;
     check(queue.next_due() == Some(3))?;
-    takes(queue, 5, b"b")?;
-    arm(queue, &[(B, 7), (C, 9)])?;
-    takes(queue, 8, b"ab")?;
-    arm(queue, &[(A, 9)])?;
+    takes(queue, 7, b"ab")?;
+    takes(queue, 7, b"")
+}
+
+pub fn a_key_is_armed_again(queue: &mut Queue<u8>) -> Result<(), Stop> {
+    arm(queue, &[(A, 5), (A, 9)])?;
+    check(queue.next_due() == Some(9))?;
+    takes(queue, 5, b"")?;
+    takes(queue, 9, b"a")
+}
+
+pub fn at_one_moment_in_the_order_of_keys(queue: &mut Queue<u8>) -> Result<(), Stop> {
+    arm(queue, &[(B, 1), (C, 2), (A, 2)])?;
+    takes(queue, 2, b"abc")?;
+    check(queue.next_due().is_none())
+}
+
+// A key that isn't there is disarmed without an effect.
+pub fn what_is_disarmed_is_not_due(queue: &mut Queue<u8>) -> Result<(), Stop> {
+    arm(queue, &[(A, 5), (B, 6)])?;
+    queue.disarm(&A);
     queue.disarm(&C);
-    queue.disarm(&B);
-    check(queue.moment(&C).is_none() && queue.next_due() == Some(9))?;
-    takes(queue, 9, b"a")?;
-    takes(queue, 9, b"")
+    check(queue.moment(&A).is_none() && queue.next_due() == Some(6))?;
+    takes(queue, 9, b"b")
 }

@@ -20,6 +20,16 @@ Content-Length: 0\r
 \r
 ";
 
+/// Its response.
+const COMING: &[u8] = b"SIP/2.0 200 OK\r
+Via: SIP/2.0/UDP 192.0.2.1:5060;rport;branch=z9hG4bKc1\r
+From: <sip:a@192.0.2.1>;tag=l1\r
+To: <sip:b@192.0.2.9>;tag=x\r
+Call-ID: c3\r
+CSeq: 1 OPTIONS\r
+\r
+";
+
 // What a shard says; where it was refused memory, it has to be broken.
 fn said(shard: &mut Shard, outs: Result<Vec<Out>, ShardFault>) -> Result<Vec<Out>, Stop> {
     match outs {
@@ -104,9 +114,24 @@ fn start(alloc: Global) -> Result<Command, Stop> {
     })
 }
 
-pub fn a_request_is_not_sent(alloc: Global, shard: &mut Shard) -> Result<(), Stop> {
+// The request goes out.
+fn is_started(alloc: Global, shard: &mut Shard) -> Result<(), Stop> {
     let outs = shard.command(ID, start(alloc)?, 0);
+    check(sends(&said(shard, outs)?, GOING))
+}
+
+// It goes out again, until its response comes.
+pub fn a_request_goes_out(alloc: Global, shard: &mut Shard) -> Result<(), Stop> {
+    is_started(alloc, shard)?;
+    let outs = shard.tick(500);
     check(sends(&said(shard, outs)?, GOING))?;
+    let outs = received(alloc, shard, COMING, 600)?;
+    check(matches!(told(&outs), Some(Kind::Response(_))))?;
+    check(shard.state_of(&started_key(alloc)?) == Some(State::Completed))
+}
+
+pub fn a_request_is_not_sent(alloc: Global, shard: &mut Shard) -> Result<(), Stop> {
+    is_started(alloc, shard)?;
     fails(shard, &started_key(alloc)?)
 }
 

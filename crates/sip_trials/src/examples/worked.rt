@@ -1,13 +1,14 @@
 //! Messages, addresses and parts that several examples use.
 
 use crate::stop::{Stop, check};
+use sip_dialog::Branch;
 use sip_files::write_output;
-use sip_message::{Addr, CallId, Id, Message, Reason, StatusCode, Token, Uri, response_to, write};
+use sip_message::{Addr, CallId, Id, Message, Reason, StatusCode, Token, Uri, response_to};
 use sip_reader::read;
 use sip_round::{Config, Output};
 use sip_served::{CallOut, Item, Notice, Reliability, Respond, UserCommand};
 use sip_text::Text;
-use std::alloc::{AllocError, Global};
+use std::alloc::Global;
 
 pub const LOCAL: Addr = Addr {
     ip: [192, 0, 2, 1],
@@ -89,6 +90,14 @@ pub fn token(alloc: Global, text: &[u8]) -> Result<Token, Stop> {
     Token::new(Text::copy_of(alloc, text)?).ok_or(Stop::Different)
 }
 
+pub fn branch(alloc: Global, text: &[u8]) -> Result<Branch, Stop> {
+    Branch::new(token(alloc, text)?).ok_or(Stop::Different)
+}
+
+pub fn uri(alloc: Global, text: &[u8]) -> Result<Uri, Stop> {
+    Uri::new(Text::copy_of(alloc, text)?).ok_or(Stop::Different)
+}
+
 pub fn call_id(alloc: Global, text: &[u8]) -> Result<CallId, Stop> {
     CallId::new(Text::copy_of(alloc, text)?).ok_or(Stop::Different)
 }
@@ -97,12 +106,14 @@ pub fn reason(alloc: Global, text: &[u8]) -> Result<Reason, Stop> {
     Reason::new(Text::copy_of(alloc, text)?).ok_or(Stop::Different)
 }
 
+pub fn status(code: u16) -> Result<StatusCode, Stop> {
+    StatusCode::new(code).ok_or(Stop::Different)
+}
+
 /// The 200 to a request.
 pub fn success_to(alloc: Global, request: &Message) -> Result<Message, Stop> {
     let tag = token(alloc, NAME)?;
-    let status = StatusCode::new(200).ok_or(Stop::Different)?;
-    let reason = reason(alloc, b"OK")?;
-    Ok(response_to(alloc, request, status, reason, &tag)?)
+    Ok(response_to(alloc, request, status(200)?, reason(alloc, b"OK")?, &tag)?)
 }
 
 /// The user's 200 to the request.

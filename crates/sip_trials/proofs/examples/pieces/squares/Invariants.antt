@@ -1,0 +1,6 @@
+use Rattle.std.proofs.Common.{◌≡◌, length}
+use Rattle.sip_workers.specs.Ran.{IsNumbered}
+use Rattle.sip_trials.proofs.examples.pieces.squares.Given as goal
+
+abbrev pub invariant-loop-k : goal.invariant-loop-k
+invariant-loop-k l = (length l.pieces.items ≡ l.k) × IsNumbered l.pieces.items

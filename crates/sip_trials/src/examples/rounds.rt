@@ -1,0 +1,163 @@
+//! Agents: rounds, moves to other numbers of shards, and what they do without memory.
+
+ghost use Rattle.std.specs.Prelude.{◌<◌, ◌≤◌};
+
+use crate::examples::worked::{EVENTS, OPTIONS, OUTPUTS, PEER};
+use crate::open::Open;
+use crate::refusals::{SHARDS, WORKERS, outputs_of};
+use crate::stop::{Stop, check};
+use sip_files::{read_events, write_outputs};
+use sip_message::Spread;
+use sip_round::{Agent, Event, Output, Round, RoundFault, run};
+use sip_text::{Series, Text};
+use std::alloc::Global;
+use std::thread::Threads;
+
+/// The event file of an INVITE, without an answer.
+const INVITE: &[u8] = b"sip-events 1
+local 192.0.2.1:5060
+round 0
+invite c2 192.0.2.9:5060 sip:b@192.0.2.9 sip:a@192.0.2.1 sip:b@192.0.2.9 none -
+";
+
+/// The event file of an INVITE that can't be sent, and its output file.
+const UNSENT: &[u8] = b"sip-events 1
+local 192.0.2.1:5060
+round 0
+invite c2 192.0.2.9:5060 sip:b@192.0.2.9 sip:a@192.0.2.1 sip:b@192.0.2.9 none -
+round 10
+failed client z9hG4bK000000000000000000000000000000010bee7079f INVITE
+";
+
+/// The moments at which the INVITE goes out again.
+const REPEATS: [u64; 6] = [500, 1_500, 3_500, 7_500, 15_500, 31_500];
+
+pub fn rounds_are_run<R: Threads + Sync>(rt: &R, alloc: Global) -> Result<(), Stop> {
+    let (config, rounds) = read_events(alloc, EVENTS)?;
+    let rounds = rounds.as_slice();
+    match run(rt, alloc, config, SHARDS, WORKERS, Spread, &Open, rounds) {
+        Ok(made) => are_written(alloc, rounds, made),
+        Err(_) => Err(Stop::NoMemory),
+    }
+}
+
+// The outputs of these rounds are those of the output file.
+fn are_written(alloc: Global, rounds: &[Round], made: Vec<Vec<Output>>) -> Result<(), Stop> {
+    let mut told = Vec::with_capacity(alloc, rounds.len())?;
+    for (round, outputs) in rounds.iter().zip(made) {
+        told.push((round.moment, outputs))?;
+    }
+    check(write_outputs(alloc, &told)?.as_slice() == OUTPUTS)
+}
+
+// Moves all to so many shards. Where that was refused memory and the agent stands, it holds as much
+// as before, and the same move succeeds.
+fn moves(agent: &mut Agent<Spread>, shards: usize) -> Result<(), Stop>
+    requires some { 0 < shards }
+    requires most { shards ≤ 256 }
+{
+    let live = agent.live();
+    match agent.reshard(shards) {
+        Ok(()) => Ok(()),
+        Err(RoundFault::NoMemory { broken: false }) => {
+            check(agent.live() == live)?;
+            Ok(agent.reshard(shards)?)
+        }
+        Err(RoundFault::NoMemory { broken: true }) => {
+            check(agent.reshard(shards) == Err(RoundFault::Broken))?;
+            check(agent.live() == (0, 0))?;
+            Err(Stop::Broken)
+        }
+        Err(_) => Err(Stop::Different),
+    }
+}
+
+// An agent that holds nothing is moved.
+pub fn nothing_is_moved(agent: &mut Agent<Spread>) -> Result<(), Stop> {
+    moves(agent, 7)?;
+    check(agent.live() == (0, 0) && agent.next_due().is_none())
+}
+
+// A round of one datagram.
+fn datagram(alloc: Global) -> Result<Round, Stop> {
+    let bytes = Text::copy_of(alloc, OPTIONS)?;
+    let mut events = Series::new(alloc);
+    events.push(Event::Datagram { from: PEER, bytes })?;
+    Ok(Round { moment: 0, events })
+}
+
+// A round without events.
+fn quiet(alloc: Global, moment: u64) -> Round {
+    Round {
+        moment,
+        events: Series::new(alloc),
+    }
+}
+
+// A round sends once, and does nothing more.
+fn sends<R: Threads + Sync>(rt: &R, agent: &mut Agent<Spread>, round: &Round) -> Result<(), Stop> {
+    let outputs = outputs_of(rt, agent, round)?;
+    check(matches!(outputs.as_slice(), [Output::Send { .. }]))
+}
+
+// A round gives one notice, and does nothing more.
+fn tells<R: Threads + Sync>(rt: &R, agent: &mut Agent<Spread>, round: &Round) -> Result<(), Stop> {
+    let outputs = outputs_of(rt, agent, round)?;
+    check(matches!(outputs.as_slice(), [Output::Notice(_)]))
+}
+
+pub fn a_datagram_is_told<R: Threads + Sync>(
+    rt: &R,
+    alloc: Global,
+    agent: &mut Agent<Spread>,
+) -> Result<(), Stop> {
+    tells(rt, agent, &datagram(alloc)?)?;
+    check(agent.live() == (1, 1))
+}
+
+pub fn moved_while_a_timer_runs<R: Threads + Sync>(
+    rt: &R,
+    alloc: Global,
+    agent: &mut Agent<Spread>,
+) -> Result<(), Stop> {
+    let (_, rounds) = read_events(alloc, INVITE)?;
+    times_out(rt, alloc, agent, rounds.first().ok_or(Stop::Different)?)
+}
+
+// The INVITE goes out at each of its moments, and then times out.
+fn times_out<R: Threads + Sync>(
+    rt: &R,
+    alloc: Global,
+    agent: &mut Agent<Spread>,
+    round: &Round,
+) -> Result<(), Stop> {
+    sends(rt, agent, round)?;
+    for moment in REPEATS {
+        sends(rt, agent, &quiet(alloc, moment))?;
+        moves_at(agent, moment)?;
+        check(agent.live() == (1, 1))?;
+    }
+    tells(rt, agent, &quiet(alloc, 32_000))?;
+    check(agent.live() == (0, 0))
+}
+
+// At two of its moments all is moved.
+fn moves_at(agent: &mut Agent<Spread>, moment: u64) -> Result<(), Stop> {
+    match moment {
+        500 => moves(agent, 64),
+        3_500 => moves(agent, 1),
+        _ => Ok(()),
+    }
+}
+
+pub fn a_failed_client_is_gone<R: Threads + Sync>(
+    rt: &R,
+    alloc: Global,
+    agent: &mut Agent<Spread>,
+) -> Result<(), Stop> {
+    let (_, rounds) = read_events(alloc, UNSENT)?;
+    for round in rounds.as_slice() {
+        check(outputs_of(rt, agent, round)?.len() == 1)?;
+    }
+    check(agent.live() == (0, 0))
+}
