@@ -7,7 +7,7 @@ use sip_text::Text;
 use std::alloc::Global;
 
 /// The tag that answers get.
-const TAG: &[u8] = b"000000000000000000000000000000010bee7079f";
+pub const TAG: &[u8] = b"000000000000000000000000000000010bee7079f";
 
 const REASON: &[u8] = b"OK";
 
@@ -21,8 +21,7 @@ const OK: u16 = 200;
 pub fn read_often(alloc: Global, text: &[u8], times: u64) -> Result<[u64; 2], Stop> {
     let mut messages: u64 = 0;
     for _ in 0..times {
-        let message = message_of(alloc, text)?;
-        if !message.method().as_slice().is_empty() {
+        if !message(alloc, text)?.method().as_slice().is_empty() {
             messages = messages.saturating_add(1);
         }
     }
@@ -36,41 +35,52 @@ pub fn read_often(alloc: Global, text: &[u8], times: u64) -> Result<[u64; 2], St
 ///
 /// `Different`, where the text spells none, and want of memory.
 pub fn answer_often(alloc: Global, text: &[u8], times: u64) -> Result<[u64; 2], Stop> {
-    let tag = token_of(alloc, TAG)?;
-    let mut bytes: u64 = 0;
+    answered(alloc, text, times, &token(alloc, TAG)?)
+}
+
+fn answered(alloc: Global, text: &[u8], times: u64, tag: &Token) -> Result<[u64; 2], Stop> {
+    let length = answer_to(alloc, text, tag)?.len() as u64;
     for _ in 0..times {
-        let written = answer_to(alloc, text, &tag)?;
-        bytes = bytes.saturating_add(written.len() as u64);
+        check(answer_to(alloc, text, tag)?.len() as u64 == length)?;
     }
-    let one = answer_to(alloc, text, &tag)?;
-    message_of(alloc, &one)?;
-    let length = one.len() as u64;
-    check(bytes == times.saturating_mul(length))?;
+    message(alloc, &answer_to(alloc, text, tag)?)?;
     Ok([times, length])
 }
 
+// The text of the 200 to a request.
 fn answer_to(alloc: Global, text: &[u8], tag: &Token) -> Result<Vec<u8>, Stop> {
-    let request = message_of(alloc, text)?;
-    let (Some(status), Some(reason)) = (
-        StatusCode::new(OK),
-        Reason::new(Text::copy_of(alloc, REASON)?),
-    ) else {
-        return Err(Stop::Different);
-    };
-    let answer = response_to(alloc, &request, status, reason, tag)?;
-    Ok(write(alloc, &answer)?)
+    written_answer(alloc, &message(alloc, text)?, tag)
 }
 
-fn message_of(alloc: Global, text: &[u8]) -> Result<Message, Stop> {
-    match read(alloc, text) {
-        Ok(message) => Ok(message),
-        Err(_) => Err(Stop::Different),
-    }
+fn written_answer(alloc: Global, request: &Message, tag: &Token) -> Result<Vec<u8>, Stop> {
+    Ok(write(alloc, &success_to(alloc, request, tag)?)?)
 }
 
-fn token_of(alloc: Global, text: &[u8]) -> Result<Token, Stop> {
-    match Token::new(Text::copy_of(alloc, text)?) {
-        Some(token) => Ok(token),
-        None => Err(Stop::Different),
-    }
+/// The 200 to a request.
+///
+/// # Errors
+///
+/// Want of memory.
+pub fn success_to(alloc: Global, request: &Message, tag: &Token) -> Result<Message, Stop> {
+    let status = StatusCode::new(OK).ok_or(Stop::Different)?;
+    let reason = Reason::new(Text::copy_of(alloc, REASON)?).ok_or(Stop::Different)?;
+    Ok(response_to(alloc, request, status, reason, tag)?)
+}
+
+/// The message that a text spells.
+///
+/// # Errors
+///
+/// `Different` where it spells none, and want of memory.
+pub fn message(alloc: Global, text: &[u8]) -> Result<Message, Stop> {
+    Ok(read(alloc, text)?)
+}
+
+/// The token that a text spells.
+///
+/// # Errors
+///
+/// `Different` where it spells none, and want of memory.
+pub fn token(alloc: Global, text: &[u8]) -> Result<Token, Stop> {
+    Token::new(Text::copy_of(alloc, text)?).ok_or(Stop::Different)
 }

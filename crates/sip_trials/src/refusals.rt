@@ -2,7 +2,7 @@
 
 use crate::open::Open;
 use crate::script::Script;
-use crate::stop::{Stop, check};
+use crate::stop::{Stop, broken_where, check};
 use sip_files::write_outputs;
 use sip_message::Spread;
 use sip_round::{Agent, Output, Round, RoundFault};
@@ -59,10 +59,10 @@ pub fn outputs_of<R: Threads + Sync>(
 // Whether an agent that was refused memory is broken.
 fn broken<R: Threads + Sync>(rt: &R, agent: &mut Agent<Spread>, round: &Round) -> Stop {
     let again = agent.run_round(rt, round, WORKERS, &Open);
-    let is_broken = matches!(again, Err(RoundFault::Broken));
-    if is_broken && agent.reshard(SHARDS) == Err(RoundFault::Broken) && agent.live() == (0, 0) {
-        Stop::Broken
-    } else {
-        Stop::Different
-    }
+    broken_where(matches!(again, Err(RoundFault::Broken)) && has_left(agent))
+}
+
+/// Whether an agent moves nothing, and holds nothing.
+pub fn has_left(agent: &mut Agent<Spread>) -> bool {
+    agent.reshard(SHARDS) == Err(RoundFault::Broken) && agent.live() == (0, 0)
 }

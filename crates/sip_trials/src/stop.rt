@@ -105,6 +105,15 @@ pub fn expect(stop: Stop, holds: bool) -> Result<(), Stop> {
     if holds { Ok(()) } else { Err(stop) }
 }
 
+/// Why something stopped that was refused memory, which has to be broken from then on.
+pub fn broken_where(is_broken: bool) -> Stop {
+    if is_broken {
+        Stop::Broken
+    } else {
+        Stop::Different
+    }
+}
+
 impl From<AllocError> for Stop {
     fn from(_error: AllocError) -> Stop {
         Stop::NoMemory

@@ -2,18 +2,20 @@
 
 ghost use Rattle.std.specs.Prelude.{◌≤◌, ◌^◌};
 
-use crate::examples::server_side::request_up;
-use crate::examples::worked::{ID, PEER, TOLD, answer, call_id, is_line, message, uri};
-use crate::stop::{Stop, check};
+use crate::examples::worked::{ID, OPTIONS, PEER, RESPOND, TOLD, asked, is_line, up};
+use crate::stop::{Stop, broken_where, check};
 use sip_calls::CallShard;
-use sip_message::{Id, Message, key_of};
-use sip_served::{CallOut, Invite, Item, ProvisionalSupport, UserCommand};
-use sip_text::{Boxed, Text};
-use sip_transactions::{Command, Kind, ShardFault, Up};
+use sip_message::Id;
+use sip_served::{CallOut, Item};
+use sip_transactions::{Command, ShardFault};
 use std::alloc::Global;
 
 /// The event of a 200.
 const LATER: Id = Id { round: 1, place: 1 };
+
+/// A call that the user starts, as a line of an event file.
+const INVITE: &[u8] =
+    b"invite c2 192.0.2.9:5060 sip:b@192.0.2.9 sip:a@192.0.2.1 sip:b@192.0.2.9 none -";
 
 /// A 200 to the INVITE that a call sends.
 const SUCCESS: &[u8] = b"SIP/2.0 200 OK\r
@@ -36,13 +38,13 @@ fn said(
 ) -> Result<Vec<CallOut>, Stop> {
     match outs {
         Ok(outs) => Ok(outs),
-        Err(ShardFault::NoMemory) => {
-            check(shard.live() == 0)?;
-            check(matches!(shard.tick(0), Err(ShardFault::Broken)))?;
-            Err(Stop::Broken)
-        }
+        Err(ShardFault::NoMemory) => Err(broken_where(is_broken(shard))),
         Err(ShardFault::Broken) => Err(Stop::Different),
     }
+}
+
+fn is_broken(shard: &mut CallShard) -> bool {
+    shard.live() == 0 && matches!(shard.tick(0), Err(ShardFault::Broken))
 }
 
 // What an item gives.
@@ -62,62 +64,42 @@ fn is_quiet(shard: &mut CallShard, now: u64, live: usize) -> Result<(), Stop>
 }
 
 pub fn a_request_is_told_and_answered(alloc: Global, shard: &mut CallShard) -> Result<(), Stop> {
-    is_line(alloc, given(shard, ID, request_up(alloc)?, 0)?, TOLD)?;
-    let outs = given(shard, LATER, answer(alloc)?, 10)?;
-    check(matches!(
-        outs.as_slice(),
-        [CallOut::Command(ID, Command::Answer { .. })]
-    ))?;
+    is_line(alloc, given(shard, ID, up(alloc, OPTIONS)?, 0)?, TOLD)?;
+    check(is_answer(&given(shard, LATER, asked(alloc, RESPOND)?, 10)?))?;
     check(shard.live() == 1)?;
     is_quiet(shard, 32_010, 0)
 }
 
-// A call that the user starts.
-fn invite(alloc: Global) -> Result<Item, Stop> {
-    Ok(Item::User(UserCommand::Invite(Invite {
-        call_id: call_id(alloc, b"c2")?,
-        address: PEER,
-        request_uri: uri(alloc, b"sip:b@192.0.2.9")?,
-        from: uri(alloc, b"sip:a@192.0.2.1")?,
-        to: uri(alloc, b"sip:b@192.0.2.9")?,
-        support: ProvisionalSupport::None,
-        body: Text::copy_of(alloc, b"")?,
-    })))
+fn is_answer(outs: &[CallOut]) -> bool {
+    matches!(outs, [CallOut::Command(ID, Command::Answer { .. })])
 }
 
-// The 200, as the transaction of the INVITE hands it up.
-fn success_up(alloc: Global) -> Result<Item, Stop> {
-    let response: Message = message(alloc, SUCCESS)?;
-    Ok(Item::Up(Up {
-        key: key_of(alloc, &response)?,
-        id: ID,
-        call_id: response.call_id.clone()?,
-        kind: Kind::Response(Boxed::new(alloc, response)?),
-    }))
+// The INVITE goes out, its 200 is told and acknowledged; and 64 T1 later its dialog is still there.
+pub fn a_call_is_set_up(alloc: Global, shard: &mut CallShard) -> Result<(), Stop> {
+    check(is_started(&given(shard, ID, asked(alloc, INVITE)?, 0)?))?;
+    is_acknowledged(alloc, given(shard, LATER, up(alloc, SUCCESS)?, 100)?)?;
+    is_quiet(shard, 32_100, 1)
 }
 
 // Whether the INVITE goes to the peer.
-fn is_sent(outs: &[CallOut]) -> bool {
+fn is_started(outs: &[CallOut]) -> bool {
     match outs {
         [CallOut::Command(id, Command::Start { to, .. })] => *id == ID && *to == PEER,
         _ => false,
     }
 }
 
-// Whether an ACK goes to the peer.
-fn is_acknowledged(out: Option<CallOut>) -> bool {
-    match out {
-        Some(CallOut::Direct { to, .. }) => to == PEER,
-        _ => false,
-    }
+// The 200 is told, and an ACK goes to the peer.
+fn is_acknowledged(alloc: Global, mut outs: Vec<CallOut>) -> Result<(), Stop> {
+    let is_sent = ends_in_ack(&outs);
+    outs.truncate(1);
+    check(is_sent)?;
+    is_line(alloc, outs, TOLD_SUCCESS)
 }
 
-// The INVITE goes out, its 200 is told and acknowledged; and 64 T1 later its dialog is still there.
-pub fn a_call_is_set_up(alloc: Global, shard: &mut CallShard) -> Result<(), Stop> {
-    let outs = given(shard, ID, invite(alloc)?, 0)?;
-    check(is_sent(&outs))?;
-    let mut outs = given(shard, LATER, success_up(alloc)?, 100)?;
-    check(is_acknowledged(outs.pop()))?;
-    is_line(alloc, outs, TOLD_SUCCESS)?;
-    is_quiet(shard, 32_100, 1)
+fn ends_in_ack(outs: &[CallOut]) -> bool {
+    match outs {
+        [_, CallOut::Direct { to, .. }] => *to == PEER,
+        _ => false,
+    }
 }

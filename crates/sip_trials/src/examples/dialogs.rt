@@ -1,10 +1,11 @@
 //! Dialogs of both sides, and the messages that they make.
 
 use crate::examples::messages::is_written;
-use crate::examples::worked::{LOCAL, PEER, branch, message, status, token, uri};
+use crate::examples::worked::{LOCAL, PEER};
+use crate::messages::{message, token};
 use crate::stop::{Stop, check};
-use sip_dialog::{Dialog, DialogFault, DialogState};
-use sip_message::{Addr, Message};
+use sip_dialog::{Branch, Dialog, DialogFault, DialogState};
+use sip_message::{Addr, Message, StatusCode, Uri};
 use sip_text::Text;
 use std::alloc::Global;
 
@@ -107,8 +108,16 @@ fn called(alloc: Global, request: &Message, response: &[u8]) -> Result<Dialog, S
 
 // The dialog of the INVITE that comes.
 fn callee(alloc: Global) -> Result<Dialog, Stop> {
-    let tag = token(alloc, b"t1")?;
-    Ok(Dialog::from_request(alloc, &message(alloc, COMING)?, tag, status(183)?)?)
+    opened(alloc, &message(alloc, COMING)?)
+}
+
+fn opened(alloc: Global, request: &Message) -> Result<Dialog, Stop> {
+    let status = StatusCode::new(183).ok_or(Stop::Different)?;
+    Ok(Dialog::from_request(alloc, request, token(alloc, b"t1")?, status)?)
+}
+
+fn branch(alloc: Global) -> Result<Branch, Stop> {
+    Branch::new(token(alloc, b"z9hG4bKb")?).ok_or(Stop::Different)
 }
 
 // The next request. Without memory the dialog stays as it is.
@@ -129,7 +138,7 @@ fn try_next(
     method: &[u8],
     body: &[u8],
 ) -> Result<Message, Stop> {
-    let (method, branch) = (token(alloc, method)?, branch(alloc, b"z9hG4bKb")?);
+    let (method, branch) = (token(alloc, method)?, branch(alloc)?);
     Ok(dialog.next_request(method, Text::copy_of(alloc, body)?, branch, LOCAL)?)
 }
 
@@ -138,8 +147,13 @@ fn is_next(alloc: Global, dialog: &mut Dialog, method: &[u8], number: u32) -> Re
     check(next(alloc, dialog, method, b"")?.cseq.number == number)
 }
 
+// Confirms it.
+fn confirm(alloc: Global, dialog: &mut Dialog, response: &[u8]) -> Result<(), Stop> {
+    is_confirmed(dialog, &message(alloc, response)?)
+}
+
 // Without memory the dialog stays early.
-fn confirm(dialog: &mut Dialog, response: &Message) -> Result<(), Stop> {
+fn is_confirmed(dialog: &mut Dialog, response: &Message) -> Result<(), Stop> {
     if dialog.confirm(response).is_err() {
         check(dialog.state() == DialogState::Early)?;
         dialog.confirm(response)?;
@@ -162,7 +176,7 @@ pub fn an_ack(alloc: Global) -> Result<(), Stop> {
 
 fn acknowledges(alloc: Global, dialog: &Dialog) -> Result<(), Stop> {
     let body = Text::copy_of(alloc, b"")?;
-    let ack = dialog.ack(1, body, branch(alloc, b"z9hG4bKb")?, LOCAL)?;
+    let ack = dialog.ack(1, body, branch(alloc)?, LOCAL)?;
     is_written(alloc, &ack, ACK)
 }
 
@@ -173,11 +187,8 @@ pub fn an_early_dialog_is_confirmed(alloc: Global) -> Result<(), Stop> {
 // An early dialog makes no INVITE; a confirmed one does, with routes and target of its 200.
 fn becomes_confirmed(alloc: Global, dialog: &mut Dialog) -> Result<(), Stop> {
     check(try_next(alloc, dialog, b"INVITE", b"").is_err())?;
-    confirm(dialog, &message(alloc, SUCCESS)?)?;
-    check(
-        dialog.route_set().len() == 2
-            && dialog.target().as_slice() == b"sip:b@10.0.0.5:5070".as_slice(),
-    )?;
+    confirm(alloc, dialog, SUCCESS)?;
+    check(dialog.route_set().len() == 2 && has_target(dialog, b"sip:b@10.0.0.5:5070"))?;
     is_next(alloc, dialog, b"INVITE", 2)
 }
 
@@ -189,12 +200,15 @@ pub fn a_callee_keeps_its_target(alloc: Global) -> Result<(), Stop> {
 fn keeps_its_target(alloc: Global, dialog: &mut Dialog) -> Result<(), Stop> {
     dialog.accept(9)?;
     is_next(alloc, dialog, b"INFO", 1)?;
-    confirm(dialog, &message(alloc, ANSWER)?)?;
-    check(dialog.accept(9) == Err(DialogFault::OutOfOrder))?;
+    confirm(alloc, dialog, ANSWER)?;
+    check(is_refused(dialog, 9))?;
     is_next(alloc, dialog, b"INFO", 2)?;
-    check(
-        dialog.route_set().is_empty() && dialog.target().as_slice() == b"sip:a@10.0.0.6".as_slice(),
-    )
+    check(dialog.route_set().is_empty() && has_target(dialog, b"sip:a@10.0.0.6"))
+}
+
+// A request of this number comes too late.
+fn is_refused(dialog: &mut Dialog, number: u32) -> bool {
+    matches!(dialog.accept(number), Err(DialogFault::OutOfOrder))
 }
 
 pub fn a_target_is_refreshed(alloc: Global) -> Result<(), Stop> {
@@ -203,13 +217,19 @@ pub fn a_target_is_refreshed(alloc: Global) -> Result<(), Stop> {
 
 // Where the next hop has no address, requests go where it is said.
 fn is_refreshed(alloc: Global, dialog: &mut Dialog) -> Result<(), Stop> {
-    dialog.refresh(uri(alloc, b"sip:n@10.0.0.6")?)?;
-    check(
-        dialog.target().as_slice() == b"sip:n@10.0.0.6".as_slice()
-            && dialog.hop(PEER).ip == [10, 0, 0, 6],
-    )?;
-    dialog.refresh(uri(alloc, b"sip:b@example.org")?)?;
+    refresh(alloc, dialog, b"sip:n@10.0.0.6")?;
+    check(has_target(dialog, b"sip:n@10.0.0.6") && dialog.hop(PEER).ip == [10, 0, 0, 6])?;
+    refresh(alloc, dialog, b"sip:b@example.org")?;
     check(dialog.hop(PEER) == PEER)?;
     dialog.end();
     check(dialog.state() == DialogState::Ended)
+}
+
+fn refresh(alloc: Global, dialog: &mut Dialog, text: &[u8]) -> Result<(), Stop> {
+    let uri = Uri::new(Text::copy_of(alloc, text)?).ok_or(Stop::Different)?;
+    Ok(dialog.refresh(uri)?)
+}
+
+fn has_target(dialog: &Dialog, target: &[u8]) -> bool {
+    dialog.target().as_slice() == target
 }

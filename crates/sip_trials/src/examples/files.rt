@@ -1,6 +1,7 @@
 //! Event files and output files, and what is sent.
 
-use crate::examples::worked::{CONFIG, EVENTS, OUTPUTS, PEER, token};
+use crate::examples::worked::{CONFIG, EVENTS, OUTPUTS, PEER};
+use crate::messages::token;
 use crate::open::Open;
 use crate::stop::{Stop, check};
 use sip_files::{read_command_line, read_events, replay, write_head, write_round};

@@ -1,9 +1,10 @@
 //! Messages: what is made of them, and their text.
 
-use crate::examples::worked::{OK, OPTIONS, message, success_to, token};
+use crate::examples::worked::{OK, OPTIONS, key_in};
+use crate::messages::{TAG, message, success_to, token};
 use crate::stop::{Stop, check};
 use sip_message::{
-    Addr, Cut, First, Key, Message, Spread, ack_for, cancel_for, key_of, stamp_source, write,
+    Addr, Cut, First, Key, Message, Spread, Token, ack_for, cancel_for, stamp_source, write,
 };
 use std::alloc::{AllocError, Global};
 
@@ -141,7 +142,11 @@ pub fn a_response(alloc: Global) -> Result<(), Stop> {
 }
 
 fn is_answered(alloc: Global, request: &Message) -> Result<(), Stop> {
-    is_written(alloc, &success_to(alloc, request)?, OK)
+    answers(alloc, request, &token(alloc, TAG)?)
+}
+
+fn answers(alloc: Global, request: &Message, tag: &Token) -> Result<(), Stop> {
+    is_written(alloc, &success_to(alloc, request, tag)?, OK)
 }
 
 pub fn an_ack_of_a_rejection(alloc: Global) -> Result<(), Stop> {
@@ -183,12 +188,8 @@ fn is_stamped(alloc: Global, request: &mut Message) -> Result<(), Stop> {
 
 // A branch is compared without case, and a response has its client's key.
 pub fn keys(alloc: Global) -> Result<(), Stop> {
-    has_key(alloc, OPTIONS, &asked_key(alloc)?)?;
-    has_key(alloc, REJECTION, &rejected_key(alloc)?)
-}
-
-fn has_key(alloc: Global, text: &[u8], key: &Key) -> Result<(), Stop> {
-    check(key_of(alloc, &message(alloc, text)?)? == *key)
+    check(key_in(alloc, OPTIONS)? == asked_key(alloc)?)?;
+    check(key_in(alloc, REJECTION)? == rejected_key(alloc)?)
 }
 
 fn asked_key(alloc: Global) -> Result<Key, Stop> {

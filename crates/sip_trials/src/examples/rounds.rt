@@ -4,8 +4,8 @@ ghost use Rattle.std.specs.Prelude.{◌<◌, ◌≤◌};
 
 use crate::examples::worked::{EVENTS, OPTIONS, OUTPUTS, PEER};
 use crate::open::Open;
-use crate::refusals::{SHARDS, WORKERS, outputs_of};
-use crate::stop::{Stop, check};
+use crate::refusals::{SHARDS, WORKERS, has_left, outputs_of};
+use crate::stop::{Stop, broken_where, check};
 use sip_files::{read_events, write_outputs};
 use sip_message::Spread;
 use sip_round::{Agent, Event, Output, Round, RoundFault, run};
@@ -63,11 +63,7 @@ fn moves(agent: &mut Agent<Spread>, shards: usize) -> Result<(), Stop>
             check(agent.live() == live)?;
             Ok(agent.reshard(shards)?)
         }
-        Err(RoundFault::NoMemory { broken: true }) => {
-            check(agent.reshard(shards) == Err(RoundFault::Broken))?;
-            check(agent.live() == (0, 0))?;
-            Err(Stop::Broken)
-        }
+        Err(RoundFault::NoMemory { broken: true }) => Err(broken_where(has_left(agent))),
         Err(_) => Err(Stop::Different),
     }
 }

@@ -2,55 +2,53 @@
 
 ghost use Rattle.std.specs.Prelude.{◌≤◌, ◌^◌};
 
-use crate::examples::worked::{ID, NAME, OPTIONS, PEER, TOLD, answer, is_line, message, token};
-use crate::stop::{Stop, check};
-use sip_message::key_of;
+use crate::examples::worked::{ID, OPTIONS, RESPOND, TOLD, asked, is_line, up};
+use crate::messages::{TAG, token};
+use crate::stop::{Stop, broken_where, check};
 use sip_served::{CallOut, Item, Served};
-use sip_text::Boxed;
-use sip_transactions::{Kind, ShardFault, Up};
+use sip_transactions::ShardFault;
 use std::alloc::Global;
 
 /// A tick at this moment does nothing more: the request has ended.
 const LATE: u64 = 99_000;
 
-/// The request, as a transaction hands it up.
-pub fn request_up(alloc: Global) -> Result<Item, Stop> {
-    let request = message(alloc, OPTIONS)?;
-    Ok(Item::Up(Up {
-        key: key_of(alloc, &request)?,
-        id: ID,
-        call_id: request.call_id.clone()?,
-        kind: Kind::Request(Boxed::new(alloc, request)?, PEER),
-    }))
-}
-
 // What it says; where it was refused memory, it has to be broken.
 fn said(served: &mut Served, outs: Result<Vec<CallOut>, ShardFault>) -> Result<Vec<CallOut>, Stop> {
     match outs {
         Ok(outs) => Ok(outs),
-        Err(ShardFault::NoMemory) => {
-            check(!served.holds() && served.next_due().is_none())?;
-            check(matches!(served.tick(0), Err(ShardFault::Broken)))?;
-            Err(Stop::Broken)
-        }
+        Err(ShardFault::NoMemory) => Err(broken_where(is_broken(served))),
         Err(ShardFault::Broken) => Err(Stop::Different),
     }
+}
+
+fn is_broken(served: &mut Served) -> bool {
+    !served.holds()
+        && served.next_due().is_none()
+        && matches!(served.tick(0), Err(ShardFault::Broken))
 }
 
 // What an item of the first event gives.
 fn given(alloc: Global, served: &mut Served, item: Item, now: u64) -> Result<Vec<CallOut>, Stop>
     requires { now ≤ 2 ^ 62 }
 {
-    let outs = served.item(token(alloc, NAME)?, ID, item, now);
+    let outs = served.item(token(alloc, TAG)?, ID, item, now);
     said(served, outs)
 }
 
 pub fn a_request_is_told_and_answered(alloc: Global, served: &mut Served) -> Result<(), Stop> {
     check(!served.holds() && served.next_due().is_none())?;
-    is_line(alloc, given(alloc, served, request_up(alloc)?, 0)?, TOLD)?;
-    let outs = given(alloc, served, answer(alloc)?, 10)?;
-    check(matches!(outs.as_slice(), [CallOut::Command(ID, _)]))?;
+    is_line(alloc, given(alloc, served, up(alloc, OPTIONS)?, 0)?, TOLD)?;
+    check(is_answer(&given(alloc, served, asked(alloc, RESPOND)?, 10)?))?;
     check(served.holds() && served.next_due() == Some(32_010))?;
+    is_over(served)
+}
+
+fn is_answer(outs: &[CallOut]) -> bool {
+    matches!(outs, [CallOut::Command(ID, _)])
+}
+
+fn is_over(served: &mut Served) -> Result<(), Stop> {
     let outs = served.tick(LATE);
-    check(said(served, outs)?.is_empty() && !served.holds() && served.dialogs().is_empty())
+    check(said(served, outs)?.is_empty())?;
+    check(!served.holds() && served.dialogs().is_empty())
 }

@@ -2,9 +2,10 @@
 
 ghost use Rattle.std.specs.Prelude.{◌≤◌, ◌^◌};
 
-use crate::examples::worked::{ID, OK, OPTIONS, PEER, call_id, message, success_to, token};
-use crate::stop::{Stop, check};
-use sip_message::{Key, key_of};
+use crate::examples::worked::{ID, OK, OPTIONS, PEER, key_in};
+use crate::messages::{message, token};
+use crate::stop::{Stop, broken_where, check};
+use sip_message::Key;
 use sip_text::Boxed;
 use sip_transactions::{Command, Kind, Out, Shard, ShardFault, State, Up};
 use std::alloc::Global;
@@ -34,13 +35,13 @@ CSeq: 1 OPTIONS\r
 fn said(shard: &mut Shard, outs: Result<Vec<Out>, ShardFault>) -> Result<Vec<Out>, Stop> {
     match outs {
         Ok(outs) => Ok(outs),
-        Err(ShardFault::NoMemory) => {
-            check(shard.live() == 0)?;
-            check(matches!(shard.tick(0), Err(ShardFault::Broken)))?;
-            Err(Stop::Broken)
-        }
+        Err(ShardFault::NoMemory) => Err(broken_where(is_broken(shard))),
         Err(ShardFault::Broken) => Err(Stop::Different),
     }
+}
+
+fn is_broken(shard: &mut Shard) -> bool {
+    shard.live() == 0 && matches!(shard.tick(0), Err(ShardFault::Broken))
 }
 
 // What a message that comes gives.
@@ -77,26 +78,29 @@ fn sends(outs: &[Out], text: &[u8]) -> bool {
 
 // The answer to the request, as a command.
 fn answer(alloc: Global) -> Result<Command, Stop> {
-    let request = message(alloc, OPTIONS)?;
     Ok(Command::Answer {
-        key: key_of(alloc, &request)?,
-        message: Boxed::new(alloc, success_to(alloc, &request)?)?,
+        key: key_in(alloc, OPTIONS)?,
+        message: Boxed::new(alloc, message(alloc, OK)?)?,
     })
 }
 
 pub fn a_request_is_answered(alloc: Global, shard: &mut Shard) -> Result<(), Stop> {
     let outs = received(alloc, shard, OPTIONS, 0)?;
     check(matches!(told(&outs), Some(Kind::Request(_, _))))?;
-    let outs = shard.command(ID, answer(alloc)?, 10);
-    check(sends(&said(shard, outs)?, OK))?;
+    is_commanded(shard, answer(alloc)?, OK)?;
     is_completed(alloc, shard)
+}
+
+// A command of the first event sends just this.
+fn is_commanded(shard: &mut Shard, command: Command, text: &[u8]) -> Result<(), Stop> {
+    let outs = shard.command(ID, command, 10);
+    check(sends(&said(shard, outs)?, text))
 }
 
 // The answer is sent again, until 64 T1 have passed.
 fn is_completed(alloc: Global, shard: &mut Shard) -> Result<(), Stop> {
     check(sends(&received(alloc, shard, OPTIONS, 20)?, OK))?;
-    let key = key_of(alloc, &message(alloc, OPTIONS)?)?;
-    check(shard.state_of(&key) == Some(State::Completed))?;
+    check(shard.state_of(&key_in(alloc, OPTIONS)?) == Some(State::Completed))?;
     is_quiet(shard, 32_009, 1)?;
     is_quiet(shard, 32_010, 0)
 }
@@ -105,38 +109,41 @@ fn started_key(alloc: Global) -> Result<Key, Stop> {
     Ok(Key::client(alloc, b"z9hG4bKc1", token(alloc, b"OPTIONS")?)?)
 }
 
+// The request that goes out, as a command.
 fn start(alloc: Global) -> Result<Command, Stop> {
+    let message = Boxed::new(alloc, message(alloc, GOING)?)?;
     Ok(Command::Start {
         key: started_key(alloc)?,
-        call_id: call_id(alloc, b"c3")?,
-        message: Boxed::new(alloc, message(alloc, GOING)?)?,
+        call_id: message.get().call_id.clone()?,
+        message,
         to: PEER,
     })
 }
 
-// The request goes out.
-fn is_started(alloc: Global, shard: &mut Shard) -> Result<(), Stop> {
-    let outs = shard.command(ID, start(alloc)?, 0);
-    check(sends(&said(shard, outs)?, GOING))
-}
-
 // It goes out again, until its response comes.
 pub fn a_request_goes_out(alloc: Global, shard: &mut Shard) -> Result<(), Stop> {
-    is_started(alloc, shard)?;
-    let outs = shard.tick(500);
-    check(sends(&said(shard, outs)?, GOING))?;
+    is_commanded(shard, start(alloc)?, GOING)?;
+    is_sent_again(shard, 510)?;
     let outs = received(alloc, shard, COMING, 600)?;
     check(matches!(told(&outs), Some(Kind::Response(_))))?;
     check(shard.state_of(&started_key(alloc)?) == Some(State::Completed))
 }
 
+// A tick sends the request.
+fn is_sent_again(shard: &mut Shard, now: u64) -> Result<(), Stop>
+    requires { now ≤ 2 ^ 62 }
+{
+    let outs = shard.tick(now);
+    check(sends(&said(shard, outs)?, GOING))
+}
+
 pub fn a_request_is_not_sent(alloc: Global, shard: &mut Shard) -> Result<(), Stop> {
-    is_started(alloc, shard)?;
+    is_commanded(shard, start(alloc)?, GOING)?;
     fails(shard, &started_key(alloc)?)
 }
 
 fn fails(shard: &mut Shard, key: &Key) -> Result<(), Stop> {
-    let outs = shard.failed(ID, key, 10);
+    let outs = shard.failed(ID, key, 20);
     check(matches!(told(&said(shard, outs)?), Some(Kind::Failed)))?;
     check(shard.live() == 0 && shard.state_of(key).is_none())
 }
