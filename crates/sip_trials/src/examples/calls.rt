@@ -91,9 +91,8 @@ fn is_started(outs: &[CallOut]) -> bool {
 
 // The 200 is told, and an ACK goes to the peer.
 fn is_acknowledged(alloc: Global, mut outs: Vec<CallOut>) -> Result<(), Stop> {
-    let is_sent = ends_in_ack(&outs);
+    check(ends_in_ack(&outs))?;
     outs.truncate(1);
-    check(is_sent)?;
     is_line(alloc, outs, TOLD_SUCCESS)
 }
 
