@@ -445,11 +445,7 @@ struct Talked {
 }
 
 // Runs a listener and a caller by their words.
-fn run_both<T: Threads + Host + AllocGlobal>(
-    rt: &T,
-    alloc: Global,
-    to: Addr,
-) -> Result<Talked, Fail> {
+fn run_both(rt: &HostRuntime, alloc: Global, to: Addr) -> Result<Talked, Fail> {
     let body = format!(in alloc; "/tmp/ua-body-{}", to.port)?;
     let record = format!(in alloc; "/tmp/ua-record-{}", to.port)?;
     fs::write(rt, body.as_str(), BODY)?;
