@@ -1,12 +1,11 @@
-//! All cases of a folder.
+//! Stored cases: what `ua` is run on, and what it is to write.
 
-use crate::case::Case;
-use crate::fault::TrialFault;
-use crate::tally::Tally;
-use sip_program::Host;
+use crate::stop::{Stop, check};
+use crate::tally::tell;
+use sip_program::{Host, ua};
+use std::alloc::{AllocError, Global};
 use std::fs::{self, DirEntry};
-use std::io::{self, Write};
-use std::rt::Files;
+use std::io;
 use std::thread::Threads;
 
 /// Runs the cases of a folder, which has a folder for each topic, in the order of their names, and
@@ -14,52 +13,166 @@ use std::thread::Threads;
 ///
 /// # Errors
 ///
-/// A file that is missing or can't be read, an output that fails, and want of memory.
-pub fn cases_of<R, W>(rt: &R, folder: &str, output: &mut W) -> Result<Tally, TrialFault>
-where
-    R: AllocGlobal + Threads + Host + Clone + Drop,
-    W: Write,
-{
-    let mut cases: u64 = 0;
+/// `Different` where one differs; a file that is missing or can't be read, an output that fails,
+/// and want of memory.
+pub fn run_cases<T: Threads + Host>(
+    rt: &HostRuntime,
+    threads: &T,
+    folder: &str,
+) -> Result<(), Stop> {
+    let names = case_names(rt, folder)?;
     let mut differ: u64 = 0;
-    for name in case_names(rt, folder)? {
-        let case = Case::read(rt, folder, name.as_str())?;
-        if let Some(difference) = case.difference(rt)? {
-            writeln!(output, "{name}: {difference}")?;
+    for name in names.iter() {
+        if !is_right(rt, threads, folder, name.as_str())? {
             differ = differ.saturating_add(1);
         }
-        cases = cases.saturating_add(1);
     }
-    Ok(Tally::Cases { cases, differ })
+    tell(rt, &[(names.len() as u64, "cases"), (differ, "differ")])?;
+    check(differ == 0)
 }
 
 // The names of all cases, TOPIC/NAME, in order.
-fn case_names<R: Files + AllocGlobal + Clone + Drop>(
-    rt: &R,
-    folder: &str,
-) -> io::Result<Vec<String>> {
+fn case_names(rt: &HostRuntime, folder: &str) -> io::Result<Vec<String>> {
     let mut names = Vec::new(rt.alloc());
     for topic in fs::read_dir(rt, folder)? {
-        let topic = topic?;
-        if topic.file_type()?.is_dir() {
-            push_names(rt, &topic, &mut names)?;
-        }
+        push_topic(rt, &topic?, &mut names)?;
     }
     names.sort()?;
     Ok(names)
 }
 
-// Adds the names of the cases of a topic.
-fn push_names<R: Files + AllocGlobal + Clone + Drop>(
-    rt: &R,
-    topic: &DirEntry<R>,
+// Adds the names of the cases of a topic, where it is a folder.
+fn push_topic(
+    rt: &HostRuntime,
+    topic: &DirEntry<HostRuntime>,
     names: &mut Vec<String>,
 ) -> io::Result<()> {
-    for file in fs::read_dir(rt, topic.path())? {
-        let file = file?;
-        if let Some(name) = file.file_name().strip_suffix(".events") {
-            names.push(format!(in rt.alloc(); "{}/{name}", topic.file_name())?)?;
+    if topic.file_type()?.is_dir() {
+        for file in fs::read_dir(rt, topic.path())? {
+            push_name(rt.alloc(), topic.file_name(), file?.file_name(), names)?;
         }
     }
     Ok(())
+}
+
+// Adds the name of the case whose input this file is.
+fn push_name(
+    alloc: Global,
+    topic: &str,
+    file: &str,
+    names: &mut Vec<String>,
+) -> Result<(), AllocError> {
+    match file.strip_suffix(".events") {
+        Some(name) => Ok(names.push(format!(in alloc; "{topic}/{name}")?)?),
+        None => Ok(()),
+    }
+}
+
+// Whether a case writes what it is to; else says from where on it differs.
+fn is_right<T: Threads + Host>(
+    rt: &HostRuntime,
+    threads: &T,
+    folder: &str,
+    name: &str,
+) -> Result<bool, Stop> {
+    let written = written_by(rt, threads, folder, name)?;
+    let expected = expected_of(rt, folder, name)?;
+    let is_same = written.as_slice() == expected.as_slice();
+    if !is_same {
+        let line = first_difference(&written, &expected);
+        println!(rt; "{name} differs from line {line} on")?;
+    }
+    Ok(is_same)
+}
+
+// What `ua` writes on NAME.events.
+fn written_by<T: Threads + Host>(
+    rt: &HostRuntime,
+    threads: &T,
+    folder: &str,
+    name: &str,
+) -> Result<Vec<u8>, Stop> {
+    let words = words_of(rt, folder, name)?;
+    let events = file_of(rt, folder, name, "events")?;
+    run(
+        threads,
+        rt.alloc(),
+        str::from_utf8(&words).ok().ok_or(Stop::Device)?,
+        &events,
+    )
+}
+
+// The output file of a run that ends well and tells nothing; else the status, then what is told on
+// standard error, then what is written.
+fn run<T: Threads + Host>(
+    threads: &T,
+    alloc: Global,
+    words: &str,
+    mut events: &[u8],
+) -> Result<Vec<u8>, Stop> {
+    let words: Vec<&str> = words.lines().collect(alloc)?;
+    let (mut output, mut errors) = (Vec::new(alloc), Vec::new(alloc));
+    let status = ua(
+        threads,
+        alloc,
+        &words,
+        &mut events,
+        &mut output,
+        &mut errors,
+    );
+    if status == 0 && errors.is_empty() {
+        return Ok(output);
+    }
+    Ok(fault_of(alloc, status, &errors, &output)?)
+}
+
+fn fault_of(
+    alloc: Global,
+    status: u8,
+    errors: &[u8],
+    output: &[u8],
+) -> Result<Vec<u8>, AllocError> {
+    let mut fault = format!(in alloc; "{status}\n")?.into_bytes();
+    fault.extend_from_slice(errors)?;
+    fault.extend_from_slice(output)?;
+    Ok(fault)
+}
+
+// The words of `ua`, one a line and without its own name: NAME.args, or `replay`.
+fn words_of(rt: &HostRuntime, folder: &str, name: &str) -> io::Result<Vec<u8>> {
+    match file_of(rt, folder, name, "args") {
+        Err(error) if error.kind() == io::ErrorKind::NotFound => {
+            Ok(Vec::from_slice(rt.alloc(), b"replay")?)
+        }
+        read => read,
+    }
+}
+
+// NAME.outputs, or NAME.fault, whose first line is the status and the others what is told.
+fn expected_of(rt: &HostRuntime, folder: &str, name: &str) -> io::Result<Vec<u8>> {
+    match file_of(rt, folder, name, "outputs") {
+        Err(error) if error.kind() == io::ErrorKind::NotFound => {
+            file_of(rt, folder, name, "fault")
+        }
+        read => read,
+    }
+}
+
+fn file_of(rt: &HostRuntime, folder: &str, name: &str, kind: &str) -> io::Result<Vec<u8>> {
+    let path = format!(in rt.alloc(); "{folder}/{name}.{kind}")?;
+    fs::read(rt, path.as_str())
+}
+
+// The number of the first line, from 1, in which two texts differ.
+fn first_difference(written: &[u8], expected: &[u8]) -> u64 {
+    let mut line: u64 = 1;
+    for (one, other) in written.iter().zip(expected) {
+        if one != other {
+            break;
+        }
+        if *one == b'\n' {
+            line = line.saturating_add(1);
+        }
+    }
+    line
 }

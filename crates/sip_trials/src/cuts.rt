@@ -1,9 +1,8 @@
 //! A script in many numbers of shards and workers, by both cuts, moved between its rounds or not.
 
-use crate::fault::TrialFault;
 use crate::open::Open;
 use crate::script::Script;
-use crate::tally::Tally;
+use crate::stop::Stop;
 use sip_files::write_outputs;
 use sip_message::{Cut, First, Spread};
 use sip_round::{Agent, Config, Output, Round, RoundFault};
@@ -40,7 +39,8 @@ pub struct Runs<'a, R> {
     differ: u64,
 }
 
-/// Runs the script in each of the ways, and so often in the widest one.
+/// Runs the script in each of the ways, and so often in the widest one: how many runs there were,
+/// and how many of them differ.
 ///
 /// # Errors
 ///
@@ -50,7 +50,7 @@ pub fn cuts_of<R: Threads + Sync>(
     alloc: Global,
     script: &Script,
     times: u64,
-) -> Result<Tally, TrialFault> {
+) -> Result<[u64; 2], Stop> {
     let (config, rounds) = script.rounds(alloc)?;
     let mut runs = Runs {
         rt,
@@ -74,15 +74,12 @@ pub fn cuts_of<R: Threads + Sync>(
             Spread,
         )?;
     }
-    Ok(Tally::Runs {
-        runs: runs.count,
-        differ: runs.differ,
-    })
+    Ok([runs.count, runs.differ])
 }
 
 impl<'a, R: Threads + Sync> Runs<'a, R> {
     // In so many shards, on each number of workers.
-    fn in_shards(&mut self, shards: usize) -> Result<(), TrialFault> {
+    fn in_shards(&mut self, shards: usize) -> Result<(), Stop> {
         for workers in 1..=MOST_WORKERS {
             self.by_both_cuts(Way {
                 shards,
@@ -98,20 +95,20 @@ impl<'a, R: Threads + Sync> Runs<'a, R> {
         Ok(())
     }
 
-    fn by_both_cuts(&mut self, way: Way) -> Result<(), TrialFault> {
+    fn by_both_cuts(&mut self, way: Way) -> Result<(), Stop> {
         self.one(way, Spread)?;
         self.one(way, First)
     }
 
     // One run, and whether it gives the output file.
-    fn one<C: Cut + Drop>(&mut self, way: Way, cut: C) -> Result<(), TrialFault> {
+    fn one<C: Cut + Drop>(&mut self, way: Way, cut: C) -> Result<(), Stop> {
         let Way {
             shards,
             workers,
             moves,
         } = way;
         if shards == 0 || shards > MOST_SHARDS || workers == 0 || workers > MOST_WORKERS {
-            return Err(TrialFault::Words);
+            return Err(Stop::Words);
         }
         let mut agent = Agent::new(self.alloc, self.config, shards, cut)?;
         let mut told: Vec<(u64, Vec<Output>)> = Vec::new(self.alloc);

@@ -1,11 +1,10 @@
 //! Readers, writers and outlets that fail at one of their calls, each of them in turn.
 
-use crate::fault::TrialFault;
 use crate::open::Open;
 use crate::script::Script;
-use crate::tally::{Tally, expect};
-use sip_files::{ReplayFault, replay};
+use crate::stop::{Stop, check};
 use sip_message::{Addr, Spread};
+use sip_program::{Host, ua};
 use sip_round::{Agent, Event, Round};
 use sip_text::Series;
 use sip_udp::{Outlet, send_all};
@@ -16,9 +15,18 @@ use std::thread::Threads;
 /// How many bytes a device takes or gives at once.
 const CHUNK: usize = 512;
 
+/// In how many shards, and on how many workers, the script is run.
 const SHARDS: usize = 2;
 
 const WORKERS: usize = 2;
+
+/// The same, as words of `ua`.
+const WORDS: [&str; 5] = ["replay", "--shards", "2", "--workers", "2"];
+
+/// The statuses that `ua` ends in.
+const SUCCESS: u8 = 0;
+
+const FAILED_DEVICE: u8 = 4;
 
 /// How many times a device is made at most.
 const MOST_TURNS: u64 = 100_000;
@@ -99,109 +107,117 @@ impl Outlet for Lossy {
     }
 }
 
-/// Fails each read, each write and each send of the script in turn.
+/// Fails each read, each write and each send of the script in turn: how many there were of each.
 ///
 /// # Errors
 ///
-/// `Count` where one isn't told as it is to be, and want of memory.
-pub fn devices_of<R: Threads + Sync>(
-    rt: &R,
+/// `Different` where one isn't told as it is to be, and want of memory.
+pub fn devices_of<T: Threads + Host>(
+    threads: &T,
     alloc: Global,
     script: &Script,
-) -> Result<Tally, TrialFault> {
-    Ok(Tally::Devices {
-        reads: failed_reads(rt, alloc, script)?,
-        writes: failed_writes(rt, alloc, script)?,
-        sends: failed_sends(rt, alloc, script)?,
-    })
+) -> Result<[u64; 3], Stop> {
+    Ok([
+        failed_reads(threads, alloc, script)?,
+        failed_writes(threads, alloc, script)?,
+        failed_sends(threads, alloc, script)?,
+    ])
 }
 
-// How many reads there are, each of which was failed: the fault is told, and nothing written.
-fn failed_reads<R: Threads + Sync>(
-    rt: &R,
+// How many reads there are, each of which was failed.
+fn failed_reads<T: Threads + Host>(
+    threads: &T,
     alloc: Global,
     script: &Script,
-) -> Result<u64, TrialFault> {
+) -> Result<u64, Stop> {
     for calls_left in 0..MOST_TURNS {
-        let mut reader = Failing {
-            calls_left,
-            input: &script.events,
-            output: Vec::new(alloc),
-        };
-        let mut output = Vec::new(alloc);
-        let end = replay(
-            rt,
-            alloc,
-            &mut reader,
-            &mut output,
-            SHARDS,
-            WORKERS,
-            Spread,
-            &Open,
-        );
-        if end.is_ok() {
-            is_whole(&output, script)?;
+        if read_to_end(threads, alloc, script, calls_left)? {
             return Ok(calls_left);
         }
-        is_told(end, ReplayFault::Input)?;
-        expect("bytes written", 0, output.len() as u64)?;
     }
-    Err(TrialFault::Words)
+    Err(Stop::Different)
 }
 
-// How many writes there are: the fault is told, and the front of the output file is written.
-fn failed_writes<R: Threads + Sync>(
-    rt: &R,
+// Whether no read failed; where one did, that is told, and nothing written.
+fn read_to_end<T: Threads + Host>(
+    threads: &T,
     alloc: Global,
     script: &Script,
-) -> Result<u64, TrialFault> {
+    calls_left: u64,
+) -> Result<bool, Stop> {
+    let mut reader = Failing {
+        calls_left,
+        input: &script.events,
+        output: Vec::new(alloc),
+    };
+    let mut output = Vec::new(alloc);
+    let is_whole = replayed(
+        threads,
+        alloc,
+        &mut reader,
+        &mut output,
+        b"ua: input failed\n",
+    )?;
+    let wanted = if is_whole {
+        script.outputs.as_slice()
+    } else {
+        b""
+    };
+    check(output.as_slice() == wanted)?;
+    Ok(is_whole)
+}
+
+// How many writes there are, each of which was failed.
+fn failed_writes<T: Threads + Host>(
+    threads: &T,
+    alloc: Global,
+    script: &Script,
+) -> Result<u64, Stop> {
     for calls_left in 0..MOST_TURNS {
-        let mut writer = Failing {
-            calls_left,
-            input: b"",
-            output: Vec::new(alloc),
-        };
-        let input = &mut script.events.as_slice();
-        let end = replay(
-            rt,
-            alloc,
-            input,
-            &mut writer,
-            SHARDS,
-            WORKERS,
-            Spread,
-            &Open,
-        );
-        if end.is_ok() {
-            is_whole(&writer.output, script)?;
+        if written_to_end(threads, alloc, script, calls_left)? {
             return Ok(calls_left);
         }
-        is_told(end, ReplayFault::Output)?;
-        let is_front = script.outputs.starts_with(writer.output.as_slice());
-        expect("fronts written", 1, u64::from(is_front))?;
     }
-    Err(TrialFault::Words)
+    Err(Stop::Different)
 }
 
-fn is_whole(output: &[u8], script: &Script) -> Result<(), TrialFault> {
-    let is_same = output == script.outputs.as_slice();
-    expect("right output files", 1, u64::from(is_same))
+// Whether no write failed; where one did, that is told, and the front of the output file written.
+fn written_to_end<T: Threads + Host>(
+    threads: &T,
+    alloc: Global,
+    script: &Script,
+    calls_left: u64,
+) -> Result<bool, Stop> {
+    let mut writer = Failing {
+        calls_left,
+        input: b"",
+        output: Vec::new(alloc),
+    };
+    let input = &mut script.events.as_slice();
+    let is_whole = replayed(threads, alloc, input, &mut writer, b"ua: output failed\n")?;
+    check(script.outputs.starts_with(writer.output.as_slice()))?;
+    check(!is_whole || writer.output.len() == script.outputs.len())?;
+    Ok(is_whole)
 }
 
-fn is_told(end: Result<(), ReplayFault>, fault: ReplayFault) -> Result<(), TrialFault> {
-    match end {
-        Err(told) if told == fault => Ok(()),
-        Err(ReplayFault::NoMemory) => Err(TrialFault::NoMemory),
-        _ => expect("faults told", 1, 0),
+// Whether `ua` replays to its end; else it has to tell this, and nothing more.
+fn replayed<T: Threads + Host, R: Read, W: Write>(
+    threads: &T,
+    alloc: Global,
+    input: &mut R,
+    output: &mut W,
+    fault: &[u8],
+) -> Result<bool, Stop> {
+    let mut errors = Vec::new(alloc);
+    match ua(threads, alloc, &WORDS, input, output, &mut errors) {
+        SUCCESS => Ok(true),
+        FAILED_DEVICE if errors.as_slice() == fault => Ok(false),
+        _ => Err(Stop::Different),
     }
 }
 
 // How many sends there are: what failed comes into the next round, and at last nothing is held.
-fn failed_sends<R: Threads + Sync>(
-    rt: &R,
-    alloc: Global,
-    script: &Script,
-) -> Result<u64, TrialFault> {
+fn failed_sends<R: Threads + Sync>(rt: &R, alloc: Global, script: &Script) -> Result<u64, Stop> {
     for sends_left in 0..MOST_TURNS {
         let mut outlet = Lossy {
             sends_left,
@@ -212,7 +228,7 @@ fn failed_sends<R: Threads + Sync>(
             return Ok(sends_left);
         }
     }
-    Err(TrialFault::Words)
+    Err(Stop::Different)
 }
 
 // Runs the script, whose sends go through the outlet, to its end.
@@ -221,7 +237,7 @@ fn send_script<R: Threads + Sync>(
     alloc: Global,
     script: &Script,
     outlet: &mut Lossy,
-) -> Result<(), TrialFault> {
+) -> Result<(), Stop> {
     let (config, rounds) = script.rounds(alloc)?;
     let mut agent = Agent::new(alloc, config, SHARDS, Spread)?;
     let mut failed = Vec::new(alloc);
@@ -233,9 +249,7 @@ fn send_script<R: Threads + Sync>(
         let round = Round { moment, events };
         failed = send_round(rt, alloc, &mut agent, round, failed, outlet)?;
     }
-    let (transactions, calls) = agent.live();
-    let held = u64::try_from(transactions.saturating_add(calls)).unwrap_or(u64::MAX);
-    expect("held at the end", 0, held)
+    check(agent.live() == (0, 0))
 }
 
 // Runs a round, with the failures of the one before at its end, sends, and gives the failures.
@@ -246,7 +260,7 @@ fn send_round<R: Threads + Sync>(
     round: Round,
     failed: Vec<Event>,
     outlet: &mut Lossy,
-) -> Result<Vec<Event>, TrialFault> {
+) -> Result<Vec<Event>, Stop> {
     let Round { moment, mut events } = round;
     for event in failed {
         events.push(event)?;

@@ -16,87 +16,155 @@ mod texts;
 mod transactions;
 mod worked;
 
-use crate::stop::Stop;
-pub use rounds::outputs_of;
+use crate::refusals::SHARDS;
+use crate::stop::{Stop, check};
+use crate::tally::tell;
+use files::FirstFails;
+use sip_calls::CallShard;
+use sip_message::Spread;
+use sip_round::Agent;
+use sip_served::Served;
+use sip_text::Series;
+use sip_timers::Queue;
+use sip_transactions::Shard;
 use std::alloc::Global;
 use std::thread::Threads;
+use worked::{CONFIG, LOCAL, SEED};
 
-/// The examples that are asked for, and what came of them.
-#[derive(Drop)]
-pub struct Examples<'a> {
-    only: Option<&'a str>,
-    name: &'static str,
-    count: u64,
-    failures: u64,
-    differ: Vec<&'static str>,
-    last: Result<(), Stop>,
+/// The names of the examples, in the order of their numbers.
+const NAMES: [&str; 43] = [
+    "unfold",
+    "lines",
+    "split_values",
+    "params",
+    "numbers",
+    "token_eq",
+    "byte_order",
+    "Text",
+    "Series",
+    "Queue",
+    "Queue::arm",
+    "Queue::take_due",
+    "Queue::disarm",
+    "write",
+    "response_to",
+    "ack_for",
+    "cancel_for",
+    "stamp_source",
+    "key_of",
+    "Message::clone",
+    "Cut",
+    "Dialog::next_request",
+    "Dialog::ack",
+    "Dialog::from_response",
+    "Dialog::from_request",
+    "Dialog::refresh",
+    "Shard::receive",
+    "Shard::command",
+    "Shard::failed",
+    "Served",
+    "CallShard::item",
+    "CallShard::tick",
+    "run_pieces",
+    "run",
+    "Agent::run_round",
+    "Agent::reshard",
+    "Agent::new",
+    "Agent::live",
+    "replay",
+    "write_round",
+    "read_command_line",
+    "send_all",
+    "Desk",
+];
+
+// The example of this number.
+fn example<T: Threads + Sync>(threads: &T, alloc: Global, number: usize) -> Result<(), Stop> {
+    match number {
+        0 => texts::a_fold_is_one_space(alloc),
+        1 => texts::two_lines(alloc),
+        2 => texts::two_values(alloc),
+        3 => texts::two_parameters(alloc),
+        4 => texts::numbers(),
+        5 => texts::tokens_without_case(),
+        6 => texts::texts_in_order(),
+        7 => texts::a_text_grows(alloc),
+        8 => texts::a_series_grows(alloc, &mut Series::new(alloc)),
+        9 => queues::the_later_moment_counts(&mut Queue::new(alloc)),
+        10 => queues::a_key_is_armed_again(&mut Queue::new(alloc)),
+        11 => queues::at_one_moment_in_the_order_of_keys(&mut Queue::new(alloc)),
+        12 => queues::what_is_disarmed_is_not_due(&mut Queue::new(alloc)),
+        13 => messages::headers_in_their_order(alloc),
+        14 => messages::a_response(alloc),
+        15 => messages::an_ack_of_a_rejection(alloc),
+        16 => messages::a_cancel(alloc),
+        17 => messages::the_source_is_noted(alloc),
+        18 => messages::keys(alloc),
+        19 => messages::a_copy(alloc),
+        20 => messages::names_are_cut(),
+        21 => dialogs::the_next_request(alloc),
+        22 => dialogs::an_ack(alloc),
+        23 => dialogs::an_early_dialog_is_confirmed(alloc),
+        24 => dialogs::a_callee_keeps_its_target(alloc),
+        25 => dialogs::a_target_is_refreshed(alloc),
+        26 => transactions::a_request_is_answered(alloc, &mut Shard::new(alloc, LOCAL)),
+        27 => transactions::a_request_goes_out(alloc, &mut Shard::new(alloc, LOCAL)),
+        28 => transactions::a_request_is_not_sent(alloc, &mut Shard::new(alloc, LOCAL)),
+        29 => server_side::a_request_is_told_and_answered(alloc, &mut Served::new(alloc, LOCAL)),
+        30 => calls::a_request_is_told_and_answered(alloc, &mut CallShard::new(alloc, LOCAL, SEED)),
+        31 => calls::a_call_is_set_up(alloc, &mut CallShard::new(alloc, LOCAL, SEED)),
+        32 => pieces::squares_in_order(threads, alloc),
+        33 => rounds::rounds_are_run(threads, alloc),
+        34 => rounds::a_datagram_is_told(threads, alloc, &mut agent(alloc)?),
+        35 => rounds::moved_while_a_timer_runs(threads, alloc, &mut agent(alloc)?),
+        36 => rounds::nothing_is_moved(&mut agent(alloc)?),
+        37 => rounds::a_failed_client_is_gone(threads, alloc, &mut agent(alloc)?),
+        38 => files::a_file_is_replayed(threads, alloc),
+        39 => files::a_round_is_written(alloc),
+        40 => files::a_command_is_read(alloc),
+        41 => files::a_failed_send_is_told(alloc, &mut FirstFails::default()),
+        42 => lines::a_line_is_settled(alloc),
+        _ => Err(Stop::Words),
+    }
 }
 
-impl<'a> Examples<'a> {
-    /// Before the first: the one of this name is asked for, or all are.
-    pub fn new(alloc: Global, only: Option<&'a str>) -> Examples<'a> {
-        Examples {
-            only,
-            name: "",
-            count: 0,
-            failures: 0,
-            differ: Vec::new(alloc),
-            last: Ok(()),
-        }
-    }
-
-    /// Whether the example of this name, which comes next, is asked for.
-    pub fn wants(&mut self, name: &'static str) -> bool {
-        self.name = name;
-        match self.only {
-            Some(only) => only == name,
-            None => true,
-        }
-    }
-
-    /// Notes what came of the example that came next; where there is no memory for its name, it
-    /// is counted alone.
-    pub fn note(&mut self, end: Result<(), Stop>) {
-        self.count = self.count.saturating_add(1);
-        self.last = end;
-        if end.is_err() {
-            self.failures = self.failures.saturating_add(1);
-            let _ = self.differ.push(self.name);
-        }
-    }
-
-    /// How many were run.
-    pub fn count(&self) -> u64 {
-        self.count
-    }
-
-    /// How many of them didn't end as they are to.
-    pub fn failures(&self) -> u64 {
-        self.failures
-    }
-
-    /// Their names.
-    pub fn differ(&self) -> &[&'static str] {
-        self.differ.as_slice()
-    }
-
-    /// What came of the last one that was run.
-    pub fn last(&self) -> Result<(), Stop> {
-        self.last
-    }
+fn agent(alloc: Global) -> Result<Agent<Spread>, Stop> {
+    Ok(Agent::new(alloc, CONFIG, SHARDS, Spread)?)
 }
 
-/// Runs the examples that are asked for.
-pub fn run_examples<R: Threads + Sync>(rt: &R, alloc: Global, examples: &mut Examples<'_>) {
-    texts::of_texts(alloc, examples);
-    queues::of_queues(alloc, examples);
-    messages::of_messages(alloc, examples);
-    dialogs::of_dialogs(alloc, examples);
-    transactions::of_transactions(alloc, examples);
-    server_side::of_server_side(alloc, examples);
-    calls::of_calls(alloc, examples);
-    pieces::of_pieces(rt, alloc, examples);
-    rounds::of_rounds(rt, alloc, examples);
-    files::of_files(rt, alloc, examples);
-    lines::of_lines(alloc, examples);
+/// Runs the example of this name.
+///
+/// # Errors
+///
+/// `Different` where its answer is another than the right one, `NoMemory` and `Broken` where memory
+/// was refused and what stays is as it is to be, `Words` where there is no such example.
+pub fn run_example<T: Threads + Sync>(
+    rt: &HostRuntime,
+    threads: &T,
+    name: &str,
+) -> Result<(), Stop> {
+    for (number, known) in NAMES.iter().enumerate() {
+        if *known == name {
+            example(threads, rt.alloc(), number)?;
+            return Ok(println!(rt; "right")?);
+        }
+    }
+    Err(Stop::Words)
+}
+
+/// Runs all examples, and writes the name of each that differs.
+///
+/// # Errors
+///
+/// `Different` where one differs, and an output that fails.
+pub fn run_examples<T: Threads + Sync>(rt: &HostRuntime, threads: &T) -> Result<(), Stop> {
+    let mut differ: u64 = 0;
+    for (number, name) in NAMES.iter().enumerate() {
+        if example(threads, rt.alloc(), number).is_err() {
+            println!(rt; "{name} differs")?;
+            differ = differ.saturating_add(1);
+        }
+    }
+    tell(rt, &[(NAMES.len() as u64, "examples"), (differ, "differ")])?;
+    check(differ == 0)
 }

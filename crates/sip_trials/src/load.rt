@@ -1,9 +1,8 @@
 //! An agent under load: requests come, are told to the user, are answered and end.
 
-use crate::fault::TrialFault;
 use crate::open::Open;
 use crate::options::options_of;
-use crate::tally::{Served, expect};
+use crate::stop::{Stop, check, expect};
 use sip_message::{Addr, Reason, Spread};
 use sip_round::{Agent, Config, Event, Output, Round};
 use sip_served::{Notice, Reliability, Respond, UserCommand};
@@ -56,9 +55,9 @@ impl Load {
     /// # Errors
     ///
     /// `Words` for numbers of shards or workers that there can't be, and want of memory.
-    pub fn new(alloc: Global, shards: usize, workers: usize) -> Result<Load, TrialFault> {
+    pub fn new(alloc: Global, shards: usize, workers: usize) -> Result<Load, Stop> {
         if shards == 0 || shards > MOST_SHARDS {
-            return Err(TrialFault::Words);
+            return Err(Stop::Words);
         }
         Ok(Load {
             alloc,
@@ -83,7 +82,7 @@ impl Load {
         rt: &R,
         moment: u64,
         requests: u64,
-    ) -> Result<(), TrialFault> {
+    ) -> Result<(), Stop> {
         let round = Round {
             moment,
             events: self.events(requests)?,
@@ -99,20 +98,20 @@ impl Load {
     ///
     /// # Errors
     ///
-    /// A round that is refused, want of memory, and `Count` where something comes.
-    pub fn idle_round<R: Threads + Sync>(&mut self, rt: &R, moment: u64) -> Result<(), TrialFault> {
+    /// A round that is refused, want of memory, and `Different` where something comes.
+    pub fn idle_round<R: Threads + Sync>(&mut self, rt: &R, moment: u64) -> Result<(), Stop> {
         let round = Round {
             moment,
             events: Series::from_vec(Vec::new(self.alloc)),
         };
         let outputs = self.run(rt, &round)?;
-        expect("outputs", 0, outputs.len() as u64)
+        check(outputs.is_empty())
     }
 
-    fn run<R: Threads + Sync>(&mut self, rt: &R, round: &Round) -> Result<Vec<Output>, TrialFault> {
+    fn run<R: Threads + Sync>(&mut self, rt: &R, round: &Round) -> Result<Vec<Output>, Stop> {
         let workers = self.workers;
         if workers == 0 || workers > MOST_WORKERS {
-            return Err(TrialFault::Words);
+            return Err(Stop::Words);
         }
         let outputs = self.agent.run_round(rt, round, workers, &Open)?;
         self.rounds = self.rounds.saturating_add(1);
@@ -125,9 +124,9 @@ impl Load {
     ///
     /// `Words` for a number of shards that there can't be, an agent that refuses, and want of
     /// memory.
-    pub fn reshard(&mut self, shards: usize) -> Result<(), TrialFault> {
+    pub fn reshard(&mut self, shards: usize) -> Result<(), Stop> {
         if shards == 0 || shards > MOST_SHARDS {
-            return Err(TrialFault::Words);
+            return Err(Stop::Words);
         }
         Ok(self.agent.reshard(shards)?)
     }
@@ -136,32 +135,25 @@ impl Load {
     ///
     /// # Errors
     ///
-    /// `Count` where that isn't so.
-    pub fn is_held(&self, held: u64) -> Result<(), TrialFault> {
-        let (transactions, calls) = self.agent.live();
-        let transactions = u64::try_from(transactions).unwrap_or(u64::MAX);
-        let calls = u64::try_from(calls).unwrap_or(u64::MAX);
-        expect("transactions held", held, transactions)?;
-        expect("calls held", held, calls)
+    /// `Held` where that isn't so.
+    pub fn is_held(&self, held: u64) -> Result<(), Stop> {
+        let held = u128::from(held);
+        expect(Stop::Held, self.agent.live() == (held, held))
     }
 
-    /// What came of the requests.
+    /// What came of the requests: how many were told, answered, have ended and are held, and how
+    /// many rounds passed.
     ///
     /// # Errors
     ///
-    /// `Count`, where the user wasn't told of each request, not each was answered, or not as many
-    /// are held as are to be.
-    pub fn served(&self, held: u64) -> Result<Served, TrialFault> {
+    /// `Untold`, `Unanswered` and `Held`, where the user wasn't told of each request, not each was
+    /// answered, or not as many are held as are to be.
+    pub fn served(&self, held: u64) -> Result<[u64; 5], Stop> {
         self.is_held(held)?;
-        expect("requests told", self.made, self.told)?;
-        expect("answers", self.made, self.answered)?;
-        Ok(Served {
-            told: self.told,
-            answered: self.answered,
-            ended: self.made.saturating_sub(held),
-            held,
-            rounds: self.rounds,
-        })
+        expect(Stop::Untold, self.told == self.made)?;
+        expect(Stop::Unanswered, self.answered == self.made)?;
+        let ended = self.made.saturating_sub(held);
+        Ok([self.told, self.answered, ended, held, self.rounds])
     }
 
     // The events of the next round.
@@ -175,7 +167,7 @@ impl Load {
     }
 
     // Counts an output, and answers a request that the user is told of.
-    fn take(&mut self, output: &Output) -> Result<(), TrialFault> {
+    fn take(&mut self, output: &Output) -> Result<(), Stop> {
         match output {
             Output::Send { bytes, .. } => {
                 if is_answer(bytes.as_slice()) {

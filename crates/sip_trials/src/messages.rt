@@ -1,86 +1,86 @@
 //! Messages that are read and answered.
 
-use crate::fault::TrialFault;
-use crate::tally::{Tally, expect};
+use crate::stop::{Stop, check};
 use sip_message::{Message, Reason, StatusCode, Token, response_to, write};
 use sip_reader::read;
 use sip_text::Text;
 use std::alloc::Global;
 
 /// The tag that answers get.
-const TAG: &[u8] = b"000000000000000000000000000000010bee7079f";
+pub const TAG: &[u8] = b"000000000000000000000000000000010bee7079f";
 
 const REASON: &[u8] = b"OK";
 
 const OK: u16 = 200;
 
-/// Reads a text so often.
+/// Reads a text so often: how often, and its bytes.
 ///
 /// # Errors
 ///
-/// `Message`, where the text spells none, and want of memory.
-pub fn read_often(alloc: Global, text: &[u8], times: u64) -> Result<Tally, TrialFault> {
+/// `Different`, where the text spells none, and want of memory.
+pub fn read_often(alloc: Global, text: &[u8], times: u64) -> Result<[u64; 2], Stop> {
     let mut messages: u64 = 0;
     for _ in 0..times {
-        let message = message_of(alloc, text)?;
-        if !message.method().as_slice().is_empty() {
+        if !message(alloc, text)?.method().as_slice().is_empty() {
             messages = messages.saturating_add(1);
         }
     }
-    expect("messages read", times, messages)?;
-    Ok(Tally::Read {
-        messages,
-        bytes: text.len() as u64,
-    })
+    check(messages == times)?;
+    Ok([messages, text.len() as u64])
 }
 
-/// Reads a text so often, and each time makes its 200 and writes it.
+/// Reads a text so often, and each time makes its 200 and writes it: how often, and its bytes.
 ///
 /// # Errors
 ///
-/// `Message`, where the text spells none, and want of memory.
-pub fn answer_often(alloc: Global, text: &[u8], times: u64) -> Result<Tally, TrialFault> {
-    let tag = token_of(alloc, TAG)?;
-    let mut bytes: u64 = 0;
+/// `Different`, where the text spells none, and want of memory.
+pub fn answer_often(alloc: Global, text: &[u8], times: u64) -> Result<[u64; 2], Stop> {
+    answered(alloc, text, times, &token(alloc, TAG)?)
+}
+
+fn answered(alloc: Global, text: &[u8], times: u64, tag: &Token) -> Result<[u64; 2], Stop> {
+    let length = answer_to(alloc, text, tag)?.len() as u64;
     for _ in 0..times {
-        let written = answer_to(alloc, text, &tag)?;
-        bytes = bytes.saturating_add(written.len() as u64);
+        check(answer_to(alloc, text, tag)?.len() as u64 == length)?;
     }
-    let one = answer_to(alloc, text, &tag)?;
-    message_of(alloc, &one)?;
-    expect(
-        "bytes written",
-        times.saturating_mul(one.len() as u64),
-        bytes,
-    )?;
-    Ok(Tally::Answered {
-        answers: times,
-        bytes: one.len() as u64,
-    })
+    message(alloc, &answer_to(alloc, text, tag)?)?;
+    Ok([times, length])
 }
 
-fn answer_to(alloc: Global, text: &[u8], tag: &Token) -> Result<Vec<u8>, TrialFault> {
-    let request = message_of(alloc, text)?;
-    let (Some(status), Some(reason)) = (
-        StatusCode::new(OK),
-        Reason::new(Text::copy_of(alloc, REASON)?),
-    ) else {
-        return Err(TrialFault::Message);
-    };
-    let answer = response_to(alloc, &request, status, reason, tag)?;
-    Ok(write(alloc, &answer)?)
+// The text of the 200 to a request.
+fn answer_to(alloc: Global, text: &[u8], tag: &Token) -> Result<Vec<u8>, Stop> {
+    written_answer(alloc, &message(alloc, text)?, tag)
 }
 
-fn message_of(alloc: Global, text: &[u8]) -> Result<Message, TrialFault> {
-    match read(alloc, text) {
-        Ok(message) => Ok(message),
-        Err(_) => Err(TrialFault::Message),
-    }
+fn written_answer(alloc: Global, request: &Message, tag: &Token) -> Result<Vec<u8>, Stop> {
+    Ok(write(alloc, &success_to(alloc, request, tag)?)?)
 }
 
-fn token_of(alloc: Global, text: &[u8]) -> Result<Token, TrialFault> {
-    match Token::new(Text::copy_of(alloc, text)?) {
-        Some(token) => Ok(token),
-        None => Err(TrialFault::Message),
-    }
+/// The 200 to a request.
+///
+/// # Errors
+///
+/// Want of memory.
+pub fn success_to(alloc: Global, request: &Message, tag: &Token) -> Result<Message, Stop> {
+    let status = StatusCode::new(OK).ok_or(Stop::Different)?;
+    let reason = Reason::new(Text::copy_of(alloc, REASON)?).ok_or(Stop::Different)?;
+    Ok(response_to(alloc, request, status, reason, tag)?)
+}
+
+/// The message that a text spells.
+///
+/// # Errors
+///
+/// `Different` where it spells none, and want of memory.
+pub fn message(alloc: Global, text: &[u8]) -> Result<Message, Stop> {
+    Ok(read(alloc, text)?)
+}
+
+/// The token that a text spells.
+///
+/// # Errors
+///
+/// `Different` where it spells none, and want of memory.
+pub fn token(alloc: Global, text: &[u8]) -> Result<Token, Stop> {
+    Token::new(Text::copy_of(alloc, text)?).ok_or(Stop::Different)
 }

@@ -1,59 +1,18 @@
-//! One thing done, of which memory may be refused: the answer is right, or says so.
+//! The script, of which memory may be refused: the answer is right, or says so.
 
-use crate::examples::{Examples, outputs_of, run_examples};
-use crate::fault::TrialFault;
+use crate::open::Open;
 use crate::script::Script;
-use crate::stop::check;
-use crate::tally::Tally;
+use crate::stop::{Stop, broken_where, check};
 use sip_files::write_outputs;
 use sip_message::Spread;
-use sip_round::Agent;
+use sip_round::{Agent, Output, Round, RoundFault};
 use std::alloc::Global;
-use std::io::Write;
 use std::thread::Threads;
 
-const SHARDS: usize = 2;
+/// In how many shards, and on how many workers, an agent does it.
+pub const SHARDS: usize = 2;
 
-/// Runs the example of this name.
-///
-/// # Errors
-///
-/// `Differ` where the answer is another than the right one, `NoMemory` and `Broken` where memory
-/// was refused and what stays is as it is to be, `Words` where there is no such example.
-pub fn example_of<R: Threads + Sync>(
-    rt: &R,
-    alloc: Global,
-    name: &str,
-) -> Result<Tally, TrialFault> {
-    let mut examples = Examples::new(alloc, Some(name));
-    run_examples(rt, alloc, &mut examples);
-    if examples.count() == 0 {
-        return Err(TrialFault::Words);
-    }
-    examples.last()?;
-    Ok(Tally::Right)
-}
-
-/// Runs all examples, and writes the name of each that differs.
-///
-/// # Errors
-///
-/// An output that fails, and want of memory.
-pub fn examples_of<R, W>(rt: &R, output: &mut W) -> Result<Tally, TrialFault>
-where
-    R: AllocGlobal + Threads + Sync,
-    W: Write,
-{
-    let mut examples = Examples::new(rt.alloc(), None);
-    run_examples(rt, rt.alloc(), &mut examples);
-    for name in examples.differ() {
-        writeln!(output, "{name} differs")?;
-    }
-    Ok(Tally::Examples {
-        examples: examples.count(),
-        differ: examples.failures(),
-    })
-}
+pub const WORKERS: usize = 2;
 
 /// Runs the script round by round, and each round again that was refused memory where its agent
 /// stands.
@@ -65,7 +24,7 @@ pub fn round_by_round<R: Threads + Sync>(
     rt: &R,
     alloc: Global,
     script: &Script,
-) -> Result<Tally, TrialFault> {
+) -> Result<(), Stop> {
     let (config, rounds) = script.rounds(alloc)?;
     let mut agent = Agent::new(alloc, config, SHARDS, Spread)?;
     let mut told = Vec::new(alloc);
@@ -73,7 +32,37 @@ pub fn round_by_round<R: Threads + Sync>(
         let outputs = outputs_of(rt, &mut agent, round)?;
         told.push((round.moment, outputs))?;
     }
-    let file = write_outputs(alloc, &told)?;
-    check(file.as_slice() == script.outputs.as_slice())?;
-    Ok(Tally::Right)
+    check(write_outputs(alloc, &told)?.as_slice() == script.outputs.as_slice())
+}
+
+/// The outputs of a round. Where it was refused memory and the agent stands, the same round gives
+/// them; where the agent is broken, it has to be so from then on.
+///
+/// # Errors
+///
+/// As of an example.
+pub fn outputs_of<R: Threads + Sync>(
+    rt: &R,
+    agent: &mut Agent<Spread>,
+    round: &Round,
+) -> Result<Vec<Output>, Stop> {
+    match agent.run_round(rt, round, WORKERS, &Open) {
+        Ok(outputs) => Ok(outputs),
+        Err(RoundFault::NoMemory { broken: false }) => {
+            Ok(agent.run_round(rt, round, WORKERS, &Open)?)
+        }
+        Err(RoundFault::NoMemory { broken: true }) => Err(broken(rt, agent, round)),
+        Err(_) => Err(Stop::Different),
+    }
+}
+
+// Whether an agent that was refused memory is broken.
+fn broken<R: Threads + Sync>(rt: &R, agent: &mut Agent<Spread>, round: &Round) -> Stop {
+    let again = agent.run_round(rt, round, WORKERS, &Open);
+    broken_where(matches!(again, Err(RoundFault::Broken)) && has_left(agent))
+}
+
+/// Whether an agent moves nothing, and holds nothing.
+pub fn has_left(agent: &mut Agent<Spread>) -> bool {
+    agent.reshard(SHARDS) == Err(RoundFault::Broken) && agent.live() == (0, 0)
 }

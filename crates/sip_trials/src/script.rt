@@ -1,12 +1,11 @@
 //! An event file, and the output file that it gives.
 
-use crate::fault::TrialFault;
+use crate::stop::Stop;
 use sip_files::read_events;
 use sip_round::{Config, Round};
 use sip_text::Series;
 use std::alloc::Global;
 use std::fs;
-use std::rt::Files;
 
 /// The name of the script of forty transactions, in the folder of the cases.
 const NAME: &str = "keys/forty-keys";
@@ -24,7 +23,7 @@ impl Script {
     /// # Errors
     ///
     /// A file that is missing or can't be read, and want of memory.
-    pub fn read<R: Files + AllocGlobal>(rt: &R, folder: &str) -> Result<Script, TrialFault> {
+    pub fn read(rt: &HostRuntime, folder: &str) -> Result<Script, Stop> {
         let events = format!(in rt.alloc(); "{folder}/{NAME}.events")?;
         let outputs = format!(in rt.alloc(); "{folder}/{NAME}.outputs")?;
         Ok(Script {
@@ -37,8 +36,8 @@ impl Script {
     ///
     /// # Errors
     ///
-    /// `Script` where the text is no event file, and want of memory.
-    pub fn rounds(&self, alloc: Global) -> Result<(Config, Series<Round>), TrialFault> {
+    /// `Different` where the text is no event file, and want of memory.
+    pub fn rounds(&self, alloc: Global) -> Result<(Config, Series<Round>), Stop> {
         Ok(read_events(alloc, &self.events)?)
     }
 }

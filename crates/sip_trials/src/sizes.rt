@@ -1,17 +1,12 @@
 //! Large numbers: what is held in one shard, shards, workers, and events of a round.
 
-use crate::fault::TrialFault;
 use crate::load::{CONFIG, Load, MOST_SHARDS, MOST_WORKERS};
 use crate::open::Open;
 use crate::options::options_of;
-use crate::tally::{Tally, expect};
-use sip_calls::CallShard;
-use sip_message::{Id, Message, Spread};
-use sip_reader::read;
+use crate::stop::{Stop, expect};
+use sip_message::Spread;
 use sip_round::{Agent, Event, Output, Round};
-use sip_served::Item;
 use sip_text::Series;
-use sip_transactions::{Out, Shard};
 use std::alloc::{AllocError, Global};
 use std::thread::Threads;
 
@@ -24,74 +19,34 @@ const LIFE: u64 = 32_000;
 /// How many requests come in a round to the most shards and workers.
 const REQUESTS: u64 = 1_000;
 
+/// How many rounds there are of which each begins what ends so many rounds later, and how long each
+/// takes.
+const SHORT_ROUNDS: u64 = 20_000;
+
+const ROUND: u64 = 100;
+
 /// How many events a round has at most, and how many of them are different requests.
 const MOST_EVENTS: u64 = 65_536;
 
 const REQUESTS_AT_MOST: u64 = 512;
 
 /// Holds much in one shard, moves it to the most shards and back, runs rounds in the most shards on
-/// the most workers, and a round of the most events.
+/// the most workers, and a round of the most events: how much is held, how many shards, workers and
+/// events there are.
 ///
 /// # Errors
 ///
-/// `Count` where not all is told, answered, sent and ended; a round that is refused; and want of
-/// memory.
-pub fn sizes_of<R: Threads + Sync>(rt: &R, alloc: Global) -> Result<Tally, TrialFault> {
-    held_in_shards(alloc)?;
+/// `Untold`, `Unanswered` and `Held` where not all is told, answered, sent and ended; a round that
+/// is refused; and want of memory.
+pub fn sizes_of<R: Threads + Sync>(rt: &R, alloc: Global) -> Result<[u64; 4], Stop> {
     held_in_one_shard(rt, alloc)?;
     most_shards(rt, alloc)?;
+    many_rounds(rt, alloc)?;
     most_events(rt, alloc)?;
-    Ok(Tally::Sizes {
-        held: HELD,
-        shards: MOST_SHARDS,
-        workers: MOST_WORKERS,
-        events: MOST_EVENTS,
-    })
+    Ok([HELD, MOST_SHARDS as u64, MOST_WORKERS as u64, MOST_EVENTS])
 }
 
-// As much in a shard of transactions, and in a shard of calls.
-fn held_in_shards(alloc: Global) -> Result<(), TrialFault> {
-    let mut transactions = Shard::new(alloc, CONFIG.local);
-    let mut calls = CallShard::new(alloc, CONFIG.local, CONFIG.seed);
-    for number in 0..HELD {
-        come_up(alloc, &mut transactions, &mut calls, number)?;
-    }
-    expect("transactions of a shard", HELD, transactions.live() as u64)?;
-    expect("calls of a shard", HELD, calls.live() as u64)
-}
-
-// The request of this number comes, and comes up.
-fn come_up(
-    alloc: Global,
-    transactions: &mut Shard,
-    calls: &mut CallShard,
-    number: u64,
-) -> Result<(), TrialFault> {
-    let id = Id {
-        round: number,
-        place: 1,
-    };
-    let request = request_of(alloc, number)?;
-    for out in transactions.receive(id, request, CONFIG.local, 0)? {
-        if let Out::Up(up) = out {
-            calls.item(id, Item::Up(up), 0)?;
-        }
-    }
-    Ok(())
-}
-
-fn request_of(alloc: Global, number: u64) -> Result<Message, TrialFault> {
-    match options_of(alloc, number)? {
-        Event::Datagram { bytes, .. } => {
-            read(alloc, bytes.as_slice())
-                .ok()
-                .ok_or(TrialFault::Message)
-        }
-        _ => Err(TrialFault::Message),
-    }
-}
-
-fn held_in_one_shard<R: Threads + Sync>(rt: &R, alloc: Global) -> Result<(), TrialFault> {
+fn held_in_one_shard<R: Threads + Sync>(rt: &R, alloc: Global) -> Result<(), Stop> {
     let mut load = Load::new(alloc, 1, 1)?;
     load.round(rt, 0, HELD)?;
     load.is_held(HELD)?;
@@ -105,7 +60,7 @@ fn held_in_one_shard<R: Threads + Sync>(rt: &R, alloc: Global) -> Result<(), Tri
     Ok(())
 }
 
-fn most_shards<R: Threads + Sync>(rt: &R, alloc: Global) -> Result<(), TrialFault> {
+fn most_shards<R: Threads + Sync>(rt: &R, alloc: Global) -> Result<(), Stop> {
     let mut load = Load::new(alloc, MOST_SHARDS, MOST_WORKERS)?;
     load.round(rt, 0, REQUESTS)?;
     load.round(rt, 0, 0)?;
@@ -115,8 +70,21 @@ fn most_shards<R: Threads + Sync>(rt: &R, alloc: Global) -> Result<(), TrialFaul
     Ok(())
 }
 
+// What has ended is no longer held: a request is answered in the next round, and held from its own
+// round on to the one before 64 T1 have passed.
+fn many_rounds<R: Threads + Sync>(rt: &R, alloc: Global) -> Result<(), Stop> {
+    let most = LIFE / ROUND + 1;
+    let mut load = Load::new(alloc, 3, 1)?;
+    for number in 0..SHORT_ROUNDS {
+        load.round(rt, number.saturating_mul(ROUND), 1)?;
+        load.is_held(most.min(number.saturating_add(1)))?;
+    }
+    load.reshard(7)?;
+    load.is_held(most)
+}
+
 // The same requests come again and again in one round: each is told once.
-fn most_events<R: Threads + Sync>(rt: &R, alloc: Global) -> Result<(), TrialFault> {
+fn most_events<R: Threads + Sync>(rt: &R, alloc: Global) -> Result<(), Stop> {
     let mut agent = Agent::new(alloc, CONFIG, 1, Spread)?;
     let events = many_events(alloc)?;
     let outputs = agent.run_round(rt, &Round { moment: 0, events }, 1, &Open)?;
@@ -124,7 +92,7 @@ fn most_events<R: Threads + Sync>(rt: &R, alloc: Global) -> Result<(), TrialFaul
         .iter()
         .filter(|output| matches!(output, Output::Notice(_)))
         .count();
-    expect("requests told", REQUESTS_AT_MOST, told as u64)
+    expect(Stop::Untold, told as u64 == REQUESTS_AT_MOST)
 }
 
 fn many_events(alloc: Global) -> Result<Series<Event>, AllocError> {

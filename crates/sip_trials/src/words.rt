@@ -1,111 +1,109 @@
 //! The words of the command line.
 
+use std::convert::AsStr;
+
 /// The greatest number that a word may be: numbers stand in names as seven digits.
 const MAX_COUNT: u64 = 9_999_999;
 
-/// How many rounds of [`crate::work::REQUESTS_OF_ROUND`] there may be at most.
-const MAX_ROUNDS: u64 = 999;
+/// How many numbers follow a word at most.
+const MOST_NUMBERS: usize = 3;
 
 /// What is tried.
 #[derive(Clone, Copy)]
-pub enum Task<'a> {
+pub enum Task {
     /// The stored cases of a folder.
-    Cases {
-        folder: &'a str,
-    },
+    Cases,
     /// The message of a file is read so often.
-    Read {
-        file: &'a str,
-        times: u64,
-    },
+    Read,
     /// It is read, and its 200 is made and written.
-    Answer {
-        file: &'a str,
-        times: u64,
-    },
+    Answer,
     /// So many transactions are held, and so many more come at the same rate.
-    Transactions {
-        held: u64,
-        more: u64,
-    },
+    Transactions,
     /// So many transactions are held while so many rounds without events pass.
-    Idle {
-        held: u64,
-        rounds: u64,
-    },
-    /// So many large rounds.
-    Rounds {
-        rounds: u64,
-        shards: usize,
-        workers: usize,
-    },
+    Idle,
+    /// So many large rounds, in so many shards, on so many workers.
+    Rounds,
     /// All examples.
     Examples,
     /// The example of this name alone. Memory may be refused.
-    Example {
-        name: &'a str,
-    },
+    Example,
     /// The script of a folder of cases, round by round. Memory may be refused.
-    RoundByRound {
-        folder: &'a str,
-    },
+    RoundByRound,
     /// The script in each number of shards and workers, and so often in many.
-    Cuts {
-        folder: &'a str,
-        times: u64,
-    },
+    Cuts,
     /// The script over devices that fail.
-    Devices {
-        folder: &'a str,
-    },
+    Devices,
     /// Large numbers of all that there is.
     Sizes,
 }
 
-/// What the words ask for, without the program's own name.
-pub fn task_of<'a>(words: &[&'a str]) -> Option<Task<'a>> {
-    match words {
-        [name, folder] if *name == "cases" => Some(Task::Cases { folder: *folder }),
-        [name, file, times] if *name == "read" => Some(Task::Read {
-            file: *file,
-            times: number(*times, MAX_COUNT)?,
-        }),
-        [name, file, times] if *name == "answer" => Some(Task::Answer {
-            file: *file,
-            times: number(*times, MAX_COUNT)?,
-        }),
-        [name, held, more] if *name == "transactions" => Some(Task::Transactions {
-            held: number(*held, MAX_COUNT)?,
-            more: number(*more, MAX_COUNT)?,
-        }),
-        [name, held, rounds] if *name == "idle" => Some(Task::Idle {
-            held: number(*held, MAX_COUNT)?,
-            rounds: number(*rounds, MAX_COUNT)?,
-        }),
-        [name, rounds, shards, workers] if *name == "rounds" => Some(Task::Rounds {
-            rounds: number(*rounds, MAX_ROUNDS)?,
-            shards: shards.parse().ok()?,
-            workers: workers.parse().ok()?,
-        }),
-        [name] if *name == "examples" => Some(Task::Examples),
-        [name, example] if *name == "example" => Some(Task::Example { name: *example }),
-        [name, folder] if *name == "round_by_round" => Some(Task::RoundByRound { folder: *folder }),
-        [name, folder, times] if *name == "cuts" => Some(Task::Cuts {
-            folder: *folder,
-            times: number(*times, MAX_COUNT)?,
-        }),
-        [name, folder] if *name == "devices" => Some(Task::Devices { folder: *folder }),
-        [name] if *name == "sizes" => Some(Task::Sizes),
-        _ => None,
-    }
+/// The word of each task, whether a text follows it, and how many numbers do then.
+const FORMS: [(&str, Task, bool, usize); 12] = [
+    ("cases", Task::Cases, true, 0),
+    ("read", Task::Read, true, 1),
+    ("answer", Task::Answer, true, 1),
+    ("transactions", Task::Transactions, false, 2),
+    ("idle", Task::Idle, false, 2),
+    ("rounds", Task::Rounds, false, 3),
+    ("examples", Task::Examples, false, 0),
+    ("example", Task::Example, true, 0),
+    ("round_by_round", Task::RoundByRound, true, 0),
+    ("cuts", Task::Cuts, true, 1),
+    ("devices", Task::Devices, true, 0),
+    ("sizes", Task::Sizes, false, 0),
+];
+
+/// A task, and what it is asked for with.
+#[derive(Clone, Copy)]
+pub struct Asked<'a> {
+    pub task: Task,
+    /// A file, a folder or a name.
+    pub text: &'a str,
+    pub numbers: [u64; MOST_NUMBERS],
 }
 
-// The number that a word is, from 1 to the most.
-fn number(word: &str, most: u64) -> Option<u64> {
-    let number = word.parse().ok()?;
-    if (1..=most).contains(&number) {
-        Some(number)
-    } else {
-        None
+/// What the words ask for, without the program's own name.
+pub fn asked_by<'a, S: AsStr>(words: &'a [S]) -> Option<Asked<'a>> {
+    let (word, rest) = words.split_first()?;
+    for (known, task, has_text, count) in FORMS {
+        if word.as_str() == known {
+            return with_words(task, has_text, count, rest);
+        }
     }
+    None
+}
+
+// A task with a text, where it has one, and so many numbers.
+fn with_words<'a, S: AsStr>(
+    task: Task,
+    has_text: bool,
+    count: usize,
+    words: &'a [S],
+) -> Option<Asked<'a>> {
+    let (text, numbers) = if has_text {
+        let (text, numbers) = words.split_first()?;
+        (text.as_str(), numbers)
+    } else {
+        ("", words)
+    };
+    if numbers.len() != count {
+        return None;
+    }
+    Some(Asked {
+        task,
+        text,
+        numbers: numbers_of(numbers)?,
+    })
+}
+
+// The numbers that the words are, from 1 to the most.
+fn numbers_of<S: AsStr>(words: &[S]) -> Option<[u64; MOST_NUMBERS]> {
+    let mut numbers = [1; MOST_NUMBERS];
+    for (number, word) in numbers.iter_mut().zip(words) {
+        *number = word.as_str().parse().ok()?;
+        if *number == 0 || *number > MAX_COUNT {
+            return None;
+        }
+    }
+    Some(numbers)
 }

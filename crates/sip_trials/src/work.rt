@@ -1,20 +1,20 @@
 //! What each task does.
 
-use crate::cases::cases_of;
+use crate::cases::run_cases;
 use crate::cuts::cuts_of;
 use crate::devices::devices_of;
-use crate::fault::TrialFault;
+use crate::examples::{run_example, run_examples};
 use crate::load::Load;
 use crate::messages::{answer_often, read_often};
-use crate::refusals::{example_of, examples_of, round_by_round};
+use crate::refusals::round_by_round;
 use crate::script::Script;
 use crate::sizes::sizes_of;
-use crate::tally::Tally;
-use crate::words::Task;
+use crate::stop::{Stop, check};
+use crate::tally::tell;
+use crate::words::{Asked, Task};
 use sip_program::Host;
 use std::alloc::Global;
 use std::fs;
-use std::io::Write;
 use std::thread::Threads;
 
 /// How long a transaction is held once it is answered, in ms: 64 T1.
@@ -23,41 +23,117 @@ const LIFE: u64 = 32_000;
 /// How many requests come in a round before idle ones.
 const REQUESTS_AT_ONCE: u64 = 100;
 
-/// How many requests a large round has.
-pub const REQUESTS_OF_ROUND: u64 = 10_000;
+/// How many requests a large round has, and how many of them there may be at most.
+const REQUESTS_OF_ROUND: u64 = 10_000;
 
-/// Does a task, and counts what it did; of cases that differ it writes in what they do.
+const MOST_ROUNDS: u64 = 999;
+
+/// Does a task, and says what it counted; of cases that differ also in what they do.
 ///
 /// # Errors
 ///
-/// Each of `TrialFault`.
-pub fn done<R, W>(rt: &R, task: Task<'_>, output: &mut W) -> Result<Tally, TrialFault>
-where
-    R: AllocGlobal + Threads + Host + Clone + Drop,
-    W: Write,
-{
-    match task {
-        Task::Cases { folder } => cases_of(rt, folder, output),
-        Task::Read { file, times } => read_often(rt.alloc(), &fs::read(rt, file)?, times),
-        Task::Answer { file, times } => answer_often(rt.alloc(), &fs::read(rt, file)?, times),
-        Task::Transactions { held, more } => transactions(rt, rt.alloc(), held, more),
-        Task::Idle { held, rounds } => idle(rt, rt.alloc(), held, rounds),
-        Task::Rounds {
-            rounds,
-            shards,
-            workers,
-        } => large_rounds(rt, Load::new(rt.alloc(), shards, workers)?, rounds),
-        Task::Examples => examples_of(rt, output),
-        Task::Example { name } => example_of(rt, rt.alloc(), name),
-        Task::RoundByRound { folder } => {
-            round_by_round(rt, rt.alloc(), &Script::read(rt, folder)?)
+/// Each of `Stop`.
+pub fn done<T: Threads + Host>(
+    rt: &HostRuntime,
+    threads: &T,
+    asked: Asked<'_>,
+) -> Result<(), Stop> {
+    let [first, second, third] = asked.numbers;
+    match asked.task {
+        Task::Cases => run_cases(rt, threads, asked.text),
+        Task::Examples => run_examples(rt, threads),
+        Task::Example => run_example(rt, threads, asked.text),
+        Task::Read | Task::Answer => often(rt, asked.task, asked.text, first),
+        Task::RoundByRound | Task::Cuts | Task::Devices => {
+            of_script(
+                rt,
+                threads,
+                asked.task,
+                &Script::read(rt, asked.text)?,
+                first,
+            )
         }
-        Task::Cuts { folder, times } => {
-            cuts_of(rt, rt.alloc(), &Script::read(rt, folder)?, times)
+        Task::Transactions => served(rt, transactions(threads, rt.alloc(), first, second)?),
+        Task::Idle => served(rt, idle(threads, rt.alloc(), first, second)?),
+        Task::Rounds => {
+            let load = Load::new(rt.alloc(), size_of(second), size_of(third))?;
+            served(rt, large_rounds(threads, load, first)?)
         }
-        Task::Devices { folder } => devices_of(rt, rt.alloc(), &Script::read(rt, folder)?),
-        Task::Sizes => sizes_of(rt, rt.alloc()),
+        Task::Sizes => {
+            let [held, shards, workers, events] = sizes_of(threads, rt.alloc())?;
+            Ok(tell(
+                rt,
+                &[
+                    (held, "held in one shard"),
+                    (shards, "shards"),
+                    (workers, "workers"),
+                    (events, "events"),
+                ],
+            )?)
+        }
     }
+}
+
+// A number of shards or workers; of those that there can't be, 0 is one.
+fn size_of(number: u64) -> usize {
+    usize::try_from(number).unwrap_or(0)
+}
+
+// Reads the message of a file so often, or answers it.
+fn often(rt: &HostRuntime, task: Task, file: &str, times: u64) -> Result<(), Stop> {
+    let text = fs::read(rt, file)?;
+    let [count, bytes] = match task {
+        Task::Read => read_often(rt.alloc(), &text, times)?,
+        _ => answer_often(rt.alloc(), &text, times)?,
+    };
+    Ok(tell(rt, &[(count, "messages"), (bytes, "bytes each")])?)
+}
+
+// What is done with a script.
+fn of_script<T: Threads + Host>(
+    rt: &HostRuntime,
+    threads: &T,
+    task: Task,
+    script: &Script,
+    times: u64,
+) -> Result<(), Stop> {
+    match task {
+        Task::RoundByRound => {
+            round_by_round(threads, rt.alloc(), script)?;
+            Ok(println!(rt; "right")?)
+        }
+        Task::Cuts => {
+            let [runs, differ] = cuts_of(threads, rt.alloc(), script, times)?;
+            tell(rt, &[(runs, "runs of a script"), (differ, "differ")])?;
+            check(differ == 0)
+        }
+        _ => {
+            let [reads, writes, sends] = devices_of(threads, rt.alloc(), script)?;
+            Ok(tell(
+                rt,
+                &[
+                    (reads, "reads"),
+                    (writes, "writes"),
+                    (sends, "sends failed in turn"),
+                ],
+            )?)
+        }
+    }
+}
+
+// What came of requests.
+fn served(rt: &HostRuntime, counts: [u64; 5]) -> Result<(), Stop> {
+    let [told, answered, ended, held, rounds] = counts;
+    Ok(tell(
+        rt,
+        &[
+            (told, "told"),
+            (answered, "answered"),
+            (ended, "ended"),
+            (held, "held"),
+            (rounds, "rounds"),
+        ],
+    )?)
 }
 
 // Requests come one a round, so fast that so many are held as soon as the first ends; then as many
@@ -67,7 +143,7 @@ fn transactions<R: Threads + Sync>(
     alloc: Global,
     held: u64,
     more: u64,
-) -> Result<Tally, TrialFault> {
+) -> Result<[u64; 5], Stop> {
     let mut load = Load::new(alloc, 1, 1)?;
     let count = held.saturating_add(more);
     for number in 0..count {
@@ -76,7 +152,7 @@ fn transactions<R: Threads + Sync>(
     let end = moment_of(count, held);
     load.round(rt, end, 0)?;
     load.round(rt, end.saturating_add(LIFE), 0)?;
-    Ok(Tally::Served(load.served(0)?))
+    load.served(0)
 }
 
 // When the request of this number comes, where so many come in the time for which each is held.
@@ -93,7 +169,7 @@ fn idle<R: Threads + Sync>(
     alloc: Global,
     held: u64,
     rounds: u64,
-) -> Result<Tally, TrialFault> {
+) -> Result<[u64; 5], Stop> {
     let mut load = Load::new(alloc, 1, 1)?;
     for _ in 0..held / REQUESTS_AT_ONCE {
         load.round(rt, 0, REQUESTS_AT_ONCE)?;
@@ -103,20 +179,19 @@ fn idle<R: Threads + Sync>(
     for number in 0..rounds {
         load.idle_round(rt, number % LIFE)?;
     }
-    Ok(Tally::Served(load.served(held)?))
+    load.served(held)
 }
 
 // Large rounds, of which each ends what the last but one began.
-fn large_rounds<R: Threads + Sync>(
-    rt: &R,
-    mut load: Load,
-    rounds: u64,
-) -> Result<Tally, TrialFault> {
+fn large_rounds<R: Threads + Sync>(rt: &R, mut load: Load, rounds: u64) -> Result<[u64; 5], Stop> {
+    if rounds > MOST_ROUNDS {
+        return Err(Stop::Words);
+    }
     for number in 0..rounds {
         load.round(rt, number.saturating_mul(LIFE), REQUESTS_OF_ROUND)?;
     }
     let end = rounds.saturating_mul(LIFE);
     load.round(rt, end, 0)?;
     load.round(rt, end.saturating_add(LIFE), 0)?;
-    Ok(Tally::Served(load.served(0)?))
+    load.served(0)
 }

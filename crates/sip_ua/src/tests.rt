@@ -3,7 +3,7 @@
 mod desk;
 mod dialog;
 mod files;
-mod reading;
+mod loopback;
 mod recorded;
 mod reliable;
 mod shards;
@@ -12,6 +12,7 @@ mod udp;
 mod workers;
 
 use sip_program::{Host, given_words, no_words, ua};
+use sip_round::Gate;
 use std::alloc::{AllocError, Global};
 use std::env::FillError;
 use std::io::{self, Read, Write};
@@ -25,6 +26,22 @@ struct Ended {
     status: u8,
     output: Vec<u8>,
     errors: Vec<u8>,
+}
+
+impl Ended {
+    // Whether it ended and wrote so.
+    fn is(&self, status: u8, output: &str, errors: &str) -> bool {
+        self.status == status
+            && self.output.as_slice() == output.as_bytes()
+            && self.errors.as_slice() == errors.as_bytes()
+    }
+}
+
+/// A gate that holds no piece of work up.
+struct Open;
+
+impl Gate for Open {
+    fn begin(&self, _shard: usize) {}
 }
 
 // The program, with these words and this input.
@@ -44,42 +61,6 @@ fn run_on<T: Threads + Host, R: Read>(
     }
 }
 
-/// A reader and a writer that fail at a call of this number, from 0.
-#[derive(Drop)]
-struct Failing {
-    calls_left: usize,
-    bytes: Vec<u8>,
-}
-
-impl Read for Failing {
-    fn read(&mut self, buf: &mut [u8]) -> io::Result<usize> {
-        if self.calls_left == 0 {
-            return Err(io::Error::from(io::ErrorKind::Other));
-        }
-        self.calls_left -= 1;
-        if buf.is_empty() {
-            return Ok(0);
-        }
-        buf[0] = b's';
-        Ok(1)
-    }
-}
-
-impl Write for Failing {
-    fn write(&mut self, buf: &[u8]) -> io::Result<usize> {
-        if self.calls_left == 0 || buf.is_empty() {
-            return Err(io::Error::from(io::ErrorKind::Other));
-        }
-        self.calls_left -= 1;
-        self.bytes.push(buf[0])?;
-        Ok(1)
-    }
-
-    fn flush(&mut self) -> io::Result<()> {
-        Ok(())
-    }
-}
-
 // A run on an event file whose rounds begin so, and whose last round has so many events, of which
 // each is a failed send of a transaction that isn't there.
 fn run_of_many<T: Threads + Host>(
@@ -96,17 +77,12 @@ fn run_of_many<T: Threads + Host>(
     Ok(run_on(rt, alloc, ["replay"].as_slice(), &mut input.as_slice()))
 }
 
+// A round of the most events is answered, and one of more refused. Where several faults fit, the
+// first is told.
 #[test]
-fn a_round_of_65536_events_is_answered(rt: HostRuntime) -> Result<(), Fail> {
-    let ended = run_of_many(&rt, rt.alloc(), "round 0\n", 65_536)?;
-    assert!(rt; ended.status == 0);
-    assert!(rt; ended.output.as_slice() == b"sip-outputs 1\nround 0\n".as_slice());
-    Ok(())
-}
-
-// The first fault that fits is told, where several do.
-#[test]
-fn a_round_of_more_than_65536_events_is_refused(rt: HostRuntime) -> Result<(), Fail> {
+fn rounds_of_many_events(rt: HostRuntime) -> Result<(), Fail> {
+    let most = run_of_many(&rt, rt.alloc(), "round 0\n", 65_536)?;
+    assert!(rt; most.is(0, "sip-outputs 1\nround 0\n", ""));
     let cases = [
         ("round 0\n", "ua: round 0: TooManyEvents\n"),
         ("round 10\nround 9\n", "ua: round 1: MomentBackwards\n"),
@@ -121,9 +97,7 @@ fn a_round_of_more_than_65536_events_is_refused(rt: HostRuntime) -> Result<(), F
     ];
     for (rounds, fault) in cases {
         let ended = run_of_many(&rt, rt.alloc(), rounds, 65_537)?;
-        assert!(rt; ended.status == 3);
-        assert!(rt; ended.output.is_empty());
-        assert!(rt; ended.errors.as_slice() == fault.as_bytes(), "at {rounds}");
+        assert!(rt; ended.is(3, "", fault), "at {rounds}");
     }
     Ok(())
 }
@@ -152,47 +126,7 @@ fn a_text_of_more_than_an_event_file_has(rt: HostRuntime) {
     ] {
         let mut reader = Long { bytes_left };
         let ended = run_on(&rt, rt.alloc(), ["replay"].as_slice(), &mut reader);
-        assert!(rt; ended.status == 1);
-        assert!(rt; ended.output.is_empty());
-        assert!(rt; ended.errors.as_slice() == fault.as_bytes());
-    }
-}
-
-#[test]
-fn a_reader_that_fails_is_told_and_nothing_written(rt: HostRuntime) {
-    for calls_left in 0..3 {
-        let mut reader = Failing {
-            calls_left,
-            bytes: Vec::new(rt.alloc()),
-        };
-        let ended = run_on(&rt, rt.alloc(), ["replay"].as_slice(), &mut reader);
-        assert!(rt; ended.status == 4);
-        assert!(rt; ended.output.is_empty());
-        assert!(rt; ended.errors.as_slice() == b"ua: input failed\n".as_slice());
-    }
-}
-
-#[test]
-fn a_writer_that_fails_is_told_and_a_prefix_written(rt: HostRuntime) {
-    let alloc = rt.alloc();
-    let whole = b"sip-outputs 1\n";
-    for calls_left in 0..whole.len() {
-        let mut writer = Failing {
-            calls_left,
-            bytes: Vec::new(alloc),
-        };
-        let mut errors = Vec::new(alloc);
-        let status = ua(
-            &rt,
-            alloc,
-            ["replay"].as_slice(),
-            &mut b"sip-events 1\nlocal 192.0.2.1:5060\n".as_slice(),
-            &mut writer,
-            &mut errors,
-        );
-        assert!(rt; status == 4);
-        assert!(rt; writer.bytes.as_slice() == &whole[..calls_left]);
-        assert!(rt; errors.as_slice() == b"ua: output failed\n".as_slice());
+        assert!(rt; ended.is(1, "", fault));
     }
 }
 
@@ -202,6 +136,16 @@ struct Flushed {
     bytes: Vec<u8>,
     flushed: usize,
     fails: bool,
+}
+
+impl Flushed {
+    fn new(alloc: Global, fails: bool) -> Flushed {
+        Flushed {
+            bytes: Vec::new(alloc),
+            flushed: 0,
+            fails,
+        }
+    }
 }
 
 impl Write for Flushed {
@@ -223,11 +167,7 @@ impl Write for Flushed {
 fn a_replay_flushes_its_output(rt: HostRuntime) {
     let alloc = rt.alloc();
     for (fails, expected, told) in [(false, 0, ""), (true, 4, "ua: output failed\n")] {
-        let mut writer = Flushed {
-            bytes: Vec::new(alloc),
-            flushed: 0,
-            fails,
-        };
+        let mut writer = Flushed::new(alloc, fails);
         let mut errors = Vec::new(alloc);
         let status = ua(
             &rt,

@@ -1,20 +1,21 @@
 //! Calls of one shard.
 
-use crate::examples::Examples;
-use crate::examples::server_side::{only, request_up};
-use crate::examples::worked::{
-    ID, LOCAL, PEER, SEED, TOLD, call_id, line_of, message, respond, uri,
-};
-use crate::stop::{Stop, check};
+ghost use Rattle.std.specs.Prelude.{◌≤◌, ◌^◌};
+
+use crate::examples::worked::{ID, OPTIONS, PEER, RESPOND, TOLD, asked, is_line, up};
+use crate::stop::{Stop, broken_where, check};
 use sip_calls::CallShard;
-use sip_message::{Id, Message};
-use sip_served::{CallOut, Invite, Item, ProvisionalSupport, UserCommand};
-use sip_text::{Boxed, Text};
-use sip_transactions::{Command, Kind, ShardFault, Up};
+use sip_message::Id;
+use sip_served::{CallOut, Item};
+use sip_transactions::{Command, ShardFault};
 use std::alloc::Global;
 
 /// The event of a 200.
 const LATER: Id = Id { round: 1, place: 1 };
+
+/// A call that the user starts, as a line of an event file.
+const INVITE: &[u8] =
+    b"invite c2 192.0.2.9:5060 sip:b@192.0.2.9 sip:a@192.0.2.1 sip:b@192.0.2.9 none -";
 
 /// A 200 to the INVITE that a call sends.
 const SUCCESS: &[u8] = b"SIP/2.0 200 OK\r
@@ -30,15 +31,6 @@ CSeq: 1 INVITE\r
 const TOLD_SUCCESS: &[u8] =
     b"notice c2 response 0.1 200 0000000000000000000000000000000117a385155 x -\n";
 
-pub fn of_calls(alloc: Global, examples: &mut Examples<'_>) {
-    if examples.wants("CallShard::item") {
-        examples.note(a_request_is_told_and_answered(alloc));
-    }
-    if examples.wants("CallShard::tick") {
-        examples.note(a_call_is_set_up(alloc));
-    }
-}
-
 // What a shard says; where it was refused memory, it has to be broken.
 fn said(
     shard: &mut CallShard,
@@ -46,77 +38,67 @@ fn said(
 ) -> Result<Vec<CallOut>, Stop> {
     match outs {
         Ok(outs) => Ok(outs),
-        Err(ShardFault::NoMemory) => {
-            check(shard.live() == 0)?;
-            check(matches!(shard.tick(0), Err(ShardFault::Broken)))?;
-            Err(Stop::Broken)
-        }
+        Err(ShardFault::NoMemory) => Err(broken_where(is_broken(shard))),
         Err(ShardFault::Broken) => Err(Stop::Different),
     }
 }
 
-fn a_request_is_told_and_answered(alloc: Global) -> Result<(), Stop> {
-    let mut shard = CallShard::new(alloc, LOCAL, SEED);
-    let item = request_up(alloc)?;
-    let outs = shard.item(ID, item, 0);
-    let told = only(said(&mut shard, outs)?)?;
-    check(line_of(alloc, told)?.as_slice() == TOLD)?;
-    let answer = Item::User(UserCommand::Respond(respond(alloc)?));
-    let outs = shard.item(LATER, answer, 10);
-    check(matches!(
-        only(said(&mut shard, outs)?)?,
-        CallOut::Command(ID, Command::Answer { .. })
-    ))?;
+fn is_broken(shard: &mut CallShard) -> bool {
+    shard.live() == 0 && matches!(shard.tick(0), Err(ShardFault::Broken))
+}
+
+// What an item gives.
+fn given(shard: &mut CallShard, id: Id, item: Item, now: u64) -> Result<Vec<CallOut>, Stop>
+    requires { now ≤ 2 ^ 62 }
+{
+    let outs = shard.item(id, item, now);
+    said(shard, outs)
+}
+
+// Nothing comes of a tick, and so many calls are held then.
+fn is_quiet(shard: &mut CallShard, now: u64, live: usize) -> Result<(), Stop>
+    requires { now ≤ 2 ^ 62 }
+{
+    let outs = shard.tick(now);
+    check(said(shard, outs)?.is_empty() && shard.live() == live)
+}
+
+pub fn a_request_is_told_and_answered(alloc: Global, shard: &mut CallShard) -> Result<(), Stop> {
+    is_line(alloc, given(shard, ID, up(alloc, OPTIONS)?, 0)?, TOLD)?;
+    check(is_answer(&given(shard, LATER, asked(alloc, RESPOND)?, 10)?))?;
     check(shard.live() == 1)?;
-    let outs = shard.tick(32_010);
-    check(said(&mut shard, outs)?.is_empty() && shard.live() == 0)
+    is_quiet(shard, 32_010, 0)
 }
 
-// A call that the user starts.
-fn invite(alloc: Global) -> Result<Item, Stop> {
-    Ok(Item::User(UserCommand::Invite(Invite {
-        call_id: call_id(alloc, b"c2")?,
-        address: PEER,
-        request_uri: uri(alloc, b"sip:b@192.0.2.9")?,
-        from: uri(alloc, b"sip:a@192.0.2.1")?,
-        to: uri(alloc, b"sip:b@192.0.2.9")?,
-        support: ProvisionalSupport::None,
-        body: Text::copy_of(alloc, b"")?,
-    })))
+fn is_answer(outs: &[CallOut]) -> bool {
+    matches!(outs, [CallOut::Command(ID, Command::Answer { .. })])
 }
 
-// The 200, as the transaction of the INVITE hands it up.
-fn success_up(alloc: Global) -> Result<Item, Stop> {
-    let response: Message = message(alloc, SUCCESS)?;
-    Ok(Item::Up(Up {
-        key: sip_message::key_of(alloc, &response)?,
-        id: ID,
-        call_id: response.call_id.clone()?,
-        kind: Kind::Response(Boxed::new(alloc, response)?),
-    }))
+// The INVITE goes out, its 200 is told and acknowledged; and 64 T1 later its dialog is still there.
+pub fn a_call_is_set_up(alloc: Global, shard: &mut CallShard) -> Result<(), Stop> {
+    check(is_started(&given(shard, ID, asked(alloc, INVITE)?, 0)?))?;
+    is_acknowledged(alloc, given(shard, LATER, up(alloc, SUCCESS)?, 100)?)?;
+    is_quiet(shard, 32_100, 1)
 }
 
-// Whether a request of the first event, or an ACK, goes to the peer.
-fn goes_to_peer(out: &CallOut) -> bool {
-    match out {
-        CallOut::Command(id, Command::Start { to, .. }) => *id == ID && *to == PEER,
-        CallOut::Direct { to, .. } => *to == PEER,
+// Whether the INVITE goes to the peer.
+fn is_started(outs: &[CallOut]) -> bool {
+    match outs {
+        [CallOut::Command(id, Command::Start { to, .. })] => *id == ID && *to == PEER,
         _ => false,
     }
 }
 
-// The INVITE goes out, its 200 is told and acknowledged; and 64 T1 later its dialog is still there.
-fn a_call_is_set_up(alloc: Global) -> Result<(), Stop> {
-    let mut shard = CallShard::new(alloc, LOCAL, SEED);
-    let item = invite(alloc)?;
-    let outs = shard.item(ID, item, 0);
-    check(goes_to_peer(&only(said(&mut shard, outs)?)?))?;
-    let item = success_up(alloc)?;
-    let outs = shard.item(LATER, item, 100);
-    let mut outs = said(&mut shard, outs)?;
-    let ack = outs.pop().ok_or(Stop::Different)?;
-    check(goes_to_peer(&ack))?;
-    check(line_of(alloc, only(outs)?)?.as_slice() == TOLD_SUCCESS)?;
-    let outs = shard.tick(32_100);
-    check(said(&mut shard, outs)?.is_empty() && shard.live() == 1)
+// The 200 is told, and an ACK goes to the peer.
+fn is_acknowledged(alloc: Global, mut outs: Vec<CallOut>) -> Result<(), Stop> {
+    check(ends_in_ack(&outs))?;
+    outs.truncate(1);
+    is_line(alloc, outs, TOLD_SUCCESS)
+}
+
+fn ends_in_ack(outs: &[CallOut]) -> bool {
+    match outs {
+        [_, CallOut::Direct { to, .. }] => *to == PEER,
+        _ => false,
+    }
 }

@@ -1,10 +1,11 @@
 //! Dialogs of both sides, and the messages that they make.
 
-use crate::examples::Examples;
-use crate::examples::worked::{LOCAL, PEER, branch, message, status, token, uri};
+use crate::examples::messages::is_written;
+use crate::examples::worked::{LOCAL, PEER};
+use crate::messages::{message, token};
 use crate::stop::{Stop, check};
-use sip_dialog::{Dialog, DialogFault, DialogState};
-use sip_message::{Addr, Message, write};
+use sip_dialog::{Branch, Dialog, DialogFault, DialogState};
+use sip_message::{Addr, Message, StatusCode, Uri};
 use sip_text::Text;
 use std::alloc::Global;
 
@@ -90,28 +91,33 @@ Record-Route: <sip:p>\r
 \r
 ";
 
-pub fn of_dialogs(alloc: Global, examples: &mut Examples<'_>) {
-    if examples.wants("Dialog::next_request") {
-        examples.note(the_next_request(alloc));
-    }
-    if examples.wants("Dialog::ack") {
-        examples.note(an_ack(alloc));
-    }
-    if examples.wants("Dialog::from_response") {
-        examples.note(an_early_dialog_is_confirmed(alloc));
-    }
-    if examples.wants("Dialog::from_request") {
-        examples.note(a_callee_keeps_its_target(alloc));
-    }
-    if examples.wants("Dialog::refresh") {
-        examples.note(a_target_is_refreshed(alloc));
-    }
-}
+/// The first hop of the 200's routes.
+const HOP: Addr = Addr {
+    ip: [192, 0, 2, 8],
+    port: 5062,
+};
 
 // The dialog of the INVITE and this response to it.
 fn caller(alloc: Global, response: &[u8]) -> Result<Dialog, Stop> {
-    let request = message(alloc, INVITE)?;
-    Ok(Dialog::from_response(alloc, &request, &message(alloc, response)?)?)
+    called(alloc, &message(alloc, INVITE)?, response)
+}
+
+fn called(alloc: Global, request: &Message, response: &[u8]) -> Result<Dialog, Stop> {
+    Ok(Dialog::from_response(alloc, request, &message(alloc, response)?)?)
+}
+
+// The dialog of the INVITE that comes.
+fn callee(alloc: Global) -> Result<Dialog, Stop> {
+    opened(alloc, &message(alloc, COMING)?)
+}
+
+fn opened(alloc: Global, request: &Message) -> Result<Dialog, Stop> {
+    let status = StatusCode::new(183).ok_or(Stop::Different)?;
+    Ok(Dialog::from_request(alloc, request, token(alloc, b"t1")?, status)?)
+}
+
+fn branch(alloc: Global) -> Result<Branch, Stop> {
+    Branch::new(token(alloc, b"z9hG4bKb")?).ok_or(Stop::Different)
 }
 
 // The next request. Without memory the dialog stays as it is.
@@ -132,80 +138,98 @@ fn try_next(
     method: &[u8],
     body: &[u8],
 ) -> Result<Message, Stop> {
-    let (method, branch) = (token(alloc, method)?, branch(alloc, b"z9hG4bKb")?);
-    let body = Text::copy_of(alloc, body)?;
-    Ok(dialog.next_request(method, body, branch, LOCAL)?)
+    let (method, branch) = (token(alloc, method)?, branch(alloc)?);
+    Ok(dialog.next_request(method, Text::copy_of(alloc, body)?, branch, LOCAL)?)
 }
 
-fn is_written(alloc: Global, message: &Message, text: &[u8]) -> Result<(), Stop> {
-    let written = write(alloc, message)?;
-    check(written.as_slice() == text)
+// The next request has this number.
+fn is_next(alloc: Global, dialog: &mut Dialog, method: &[u8], number: u32) -> Result<(), Stop> {
+    check(next(alloc, dialog, method, b"")?.cseq.number == number)
 }
 
-fn the_next_request(alloc: Global) -> Result<(), Stop> {
-    let mut dialog = caller(alloc, SUCCESS)?;
-    is_written(alloc, &next(alloc, &mut dialog, b"INFO", b"ab")?, INFO)?;
-    check(dialog.local_cseq() == 2)?;
-    let hop = Addr {
-        ip: [192, 0, 2, 8],
-        port: 5062,
-    };
-    check(dialog.hop(PEER) == hop)
-}
-
-fn an_ack(alloc: Global) -> Result<(), Stop> {
-    let dialog = caller(alloc, SUCCESS)?;
-    let body = Text::copy_of(alloc, b"")?;
-    let ack = dialog.ack(1, body, branch(alloc, b"z9hG4bKb")?, LOCAL)?;
-    is_written(alloc, &ack, ACK)
-}
-
-// An early dialog makes no INVITE; a confirmed one does, with routes and target of its 200.
-fn an_early_dialog_is_confirmed(alloc: Global) -> Result<(), Stop> {
-    let mut dialog = caller(alloc, RINGING)?;
-    check(try_next(alloc, &mut dialog, b"INVITE", b"").is_err())?;
-    confirm(alloc, &mut dialog, SUCCESS)?;
-    check(dialog.route_set().len() == 2)?;
-    check(dialog.target().as_slice() == b"sip:b@10.0.0.5:5070".as_slice())?;
-    check(number_of_next(alloc, &mut dialog, b"INVITE")? == 2)
+// Confirms it.
+fn confirm(alloc: Global, dialog: &mut Dialog, response: &[u8]) -> Result<(), Stop> {
+    is_confirmed(dialog, &message(alloc, response)?)
 }
 
 // Without memory the dialog stays early.
-fn confirm(alloc: Global, dialog: &mut Dialog, response: &[u8]) -> Result<(), Stop> {
-    let response = message(alloc, response)?;
-    if dialog.confirm(&response).is_err() {
+fn is_confirmed(dialog: &mut Dialog, response: &Message) -> Result<(), Stop> {
+    if dialog.confirm(response).is_err() {
         check(dialog.state() == DialogState::Early)?;
-        dialog.confirm(&response)?;
+        dialog.confirm(response)?;
     }
     check(dialog.state() == DialogState::Confirmed)
 }
 
-// The number of the next request.
-fn number_of_next(alloc: Global, dialog: &mut Dialog, method: &[u8]) -> Result<u32, Stop> {
-    Ok(next(alloc, dialog, method, b"")?.cseq.number)
+pub fn the_next_request(alloc: Global) -> Result<(), Stop> {
+    asks(alloc, &mut caller(alloc, SUCCESS)?)
+}
+
+fn asks(alloc: Global, dialog: &mut Dialog) -> Result<(), Stop> {
+    is_written(alloc, &next(alloc, dialog, b"INFO", b"ab")?, INFO)?;
+    check(dialog.local_cseq() == 2 && dialog.hop(PEER) == HOP)
+}
+
+pub fn an_ack(alloc: Global) -> Result<(), Stop> {
+    acknowledges(alloc, &caller(alloc, SUCCESS)?)
+}
+
+fn acknowledges(alloc: Global, dialog: &Dialog) -> Result<(), Stop> {
+    let body = Text::copy_of(alloc, b"")?;
+    let ack = dialog.ack(1, body, branch(alloc)?, LOCAL)?;
+    is_written(alloc, &ack, ACK)
+}
+
+pub fn an_early_dialog_is_confirmed(alloc: Global) -> Result<(), Stop> {
+    becomes_confirmed(alloc, &mut caller(alloc, RINGING)?)
+}
+
+// An early dialog makes no INVITE; a confirmed one does, with routes and target of its 200.
+fn becomes_confirmed(alloc: Global, dialog: &mut Dialog) -> Result<(), Stop> {
+    check(try_next(alloc, dialog, b"INVITE", b"").is_err())?;
+    confirm(alloc, dialog, SUCCESS)?;
+    check(dialog.route_set().len() == 2 && has_target(dialog, b"sip:b@10.0.0.5:5070"))?;
+    is_next(alloc, dialog, b"INVITE", 2)
+}
+
+pub fn a_callee_keeps_its_target(alloc: Global) -> Result<(), Stop> {
+    keeps_its_target(alloc, &mut callee(alloc)?)
 }
 
 // A response confirms a callee's dialog, and changes neither its target nor its routes.
-fn a_callee_keeps_its_target(alloc: Global) -> Result<(), Stop> {
-    let (request, tag) = (message(alloc, COMING)?, token(alloc, b"t1")?);
-    let mut dialog = Dialog::from_request(alloc, &request, tag, status(183)?)?;
+fn keeps_its_target(alloc: Global, dialog: &mut Dialog) -> Result<(), Stop> {
     dialog.accept(9)?;
-    check(number_of_next(alloc, &mut dialog, b"INFO")? == 1)?;
-    confirm(alloc, &mut dialog, ANSWER)?;
-    check(dialog.accept(9) == Err(DialogFault::OutOfOrder))?;
-    check(number_of_next(alloc, &mut dialog, b"INFO")? == 2)?;
-    check(dialog.route_set().is_empty())?;
-    check(dialog.target().as_slice() == b"sip:a@10.0.0.6".as_slice())
+    is_next(alloc, dialog, b"INFO", 1)?;
+    confirm(alloc, dialog, ANSWER)?;
+    check(is_refused(dialog, 9))?;
+    is_next(alloc, dialog, b"INFO", 2)?;
+    check(dialog.route_set().is_empty() && has_target(dialog, b"sip:a@10.0.0.6"))
+}
+
+// A request of this number comes too late.
+fn is_refused(dialog: &mut Dialog, number: u32) -> bool {
+    matches!(dialog.accept(number), Err(DialogFault::OutOfOrder))
+}
+
+pub fn a_target_is_refreshed(alloc: Global) -> Result<(), Stop> {
+    is_refreshed(alloc, &mut caller(alloc, RINGING)?)
 }
 
 // Where the next hop has no address, requests go where it is said.
-fn a_target_is_refreshed(alloc: Global) -> Result<(), Stop> {
-    let mut dialog = caller(alloc, RINGING)?;
-    dialog.refresh(uri(alloc, b"sip:n@10.0.0.6")?)?;
-    check(dialog.target().as_slice() == b"sip:n@10.0.0.6".as_slice())?;
-    check(dialog.hop(PEER).ip == [10, 0, 0, 6])?;
-    dialog.refresh(uri(alloc, b"sip:b@example.org")?)?;
+fn is_refreshed(alloc: Global, dialog: &mut Dialog) -> Result<(), Stop> {
+    refresh(alloc, dialog, b"sip:n@10.0.0.6")?;
+    check(has_target(dialog, b"sip:n@10.0.0.6") && dialog.hop(PEER).ip == [10, 0, 0, 6])?;
+    refresh(alloc, dialog, b"sip:b@example.org")?;
     check(dialog.hop(PEER) == PEER)?;
     dialog.end();
     check(dialog.state() == DialogState::Ended)
+}
+
+fn refresh(alloc: Global, dialog: &mut Dialog, text: &[u8]) -> Result<(), Stop> {
+    let uri = Uri::new(Text::copy_of(alloc, text)?).ok_or(Stop::Different)?;
+    Ok(dialog.refresh(uri)?)
+}
+
+fn has_target(dialog: &Dialog, target: &[u8]) -> bool {
+    dialog.target().as_slice() == target
 }

@@ -1,12 +1,12 @@
 //! Event files and output files, and what is sent.
 
-use crate::examples::Examples;
 use crate::examples::worked::{CONFIG, EVENTS, OUTPUTS, PEER};
+use crate::messages::token;
 use crate::open::Open;
 use crate::stop::{Stop, check};
 use sip_files::{read_command_line, read_events, replay, write_head, write_round};
-use sip_message::{Addr, Key, Spread, Token};
-use sip_round::{Event, Output};
+use sip_message::{Addr, Key, Spread};
+use sip_round::{Event, Output, Round};
 use sip_served::UserCommand;
 use sip_text::Text;
 use sip_udp::{Outlet, send_all};
@@ -20,22 +20,7 @@ seed 0000000000000000000000000000000000000000000000000000000000000000
 first 0
 ";
 
-pub fn of_files<R: Threads + Sync>(rt: &R, alloc: Global, examples: &mut Examples<'_>) {
-    if examples.wants("replay") {
-        examples.note(a_file_is_replayed(rt, alloc));
-    }
-    if examples.wants("write_round") {
-        examples.note(a_round_is_written(alloc));
-    }
-    if examples.wants("read_command_line") {
-        examples.note(a_command_is_read(alloc));
-    }
-    if examples.wants("send_all") {
-        examples.note(a_failed_send_is_told(alloc));
-    }
-}
-
-fn a_file_is_replayed<R: Threads + Sync>(rt: &R, alloc: Global) -> Result<(), Stop> {
+pub fn a_file_is_replayed<R: Threads + Sync>(rt: &R, alloc: Global) -> Result<(), Stop> {
     let mut output = Vec::with_capacity(alloc, OUTPUTS.len())?;
     let mut input = EVENTS;
     let end = replay(rt, alloc, &mut input, &mut output, 2, 2, Spread, &Open);
@@ -45,31 +30,40 @@ fn a_file_is_replayed<R: Threads + Sync>(rt: &R, alloc: Global) -> Result<(), St
 }
 
 // What was read is written as it stood.
-fn a_round_is_written(alloc: Global) -> Result<(), Stop> {
+pub fn a_round_is_written(alloc: Global) -> Result<(), Stop> {
     check(write_head(alloc, &CONFIG)?.as_slice() == HEAD)?;
     let (_, rounds) = read_events(alloc, EVENTS)?;
-    let mut text = Vec::new(alloc);
-    for round in rounds.as_slice() {
-        text.extend_from_slice(&write_round(alloc, round)?)?;
-    }
+    let text = text_of(alloc, rounds.as_slice())?;
     check(EVENTS.ends_with(text.as_slice()) && text.len() > 200)
 }
 
-fn a_command_is_read(alloc: Global) -> Result<(), Stop> {
-    let read = read_command_line(alloc, b"cancel c2 9.4")?;
-    match read {
-        Some(UserCommand::Cancel(cancel)) => {
-            check(cancel.id.round == 9 && cancel.id.place == 4)?;
-            check(cancel.call_id.as_slice() == b"c2".as_slice())?;
-        }
-        _ => return Err(Stop::Different),
+fn text_of(alloc: Global, rounds: &[Round]) -> Result<Vec<u8>, AllocError> {
+    let mut text = Vec::new(alloc);
+    for round in rounds {
+        text.extend_from_slice(&write_round(alloc, round)?)?;
     }
+    Ok(text)
+}
+
+pub fn a_command_is_read(alloc: Global) -> Result<(), Stop> {
+    check(is_cancel(&read_command_line(alloc, b"cancel c2 9.4")?))?;
     check(read_command_line(alloc, b"cancel c2")?.is_none())
 }
 
+fn is_cancel(command: &Option<UserCommand>) -> bool {
+    match command {
+        Some(UserCommand::Cancel(cancel)) => {
+            cancel.id.round == 9
+                && cancel.id.place == 4
+                && cancel.call_id.as_slice() == b"c2".as_slice()
+        }
+        _ => false,
+    }
+}
+
 /// An outlet whose first send fails, and which counts what it is asked.
-#[derive(Drop)]
-struct FirstFails {
+#[derive(Default, Drop)]
+pub struct FirstFails {
     asked: u64,
 }
 
@@ -84,34 +78,35 @@ impl Outlet for FirstFails {
     }
 }
 
-// Two datagrams of one transaction.
-fn two_sends(alloc: Global) -> Result<Vec<Output>, Stop> {
-    let mut outputs = Vec::new(alloc);
-    for _ in 0..2 {
-        let method = Token::new(Text::copy_of(alloc, b"INVITE")?).ok_or(Stop::Different)?;
-        outputs.push(Output::Send {
-            key: Some(Key::client(alloc, b"z9hG4bKi", method)?),
-            to: PEER,
-            bytes: Text::copy_of(alloc, b"x")?,
-        })?;
-    }
-    Ok(outputs)
+// Sends a datagram of a transaction.
+fn send(alloc: Global) -> Result<Output, Stop> {
+    let key = Key::client(alloc, b"z9hG4bKi", token(alloc, b"INVITE")?)?;
+    Ok(Output::Send {
+        key: Some(key),
+        to: PEER,
+        bytes: Text::copy_of(alloc, b"x")?,
+    })
+}
+
+pub fn a_failed_send_is_told(alloc: Global, outlet: &mut FirstFails) -> Result<(), Stop> {
+    let failed = sent(alloc, outlet, &[send(alloc)?, send(alloc)?])?;
+    check(outlet.asked == 2 && is_of_branch(&failed, b"z9hg4bki"))
 }
 
 // Without memory nothing is sent.
-fn a_failed_send_is_told(alloc: Global) -> Result<(), Stop> {
-    let outputs = two_sends(alloc)?;
-    let mut outlet = FirstFails { asked: 0 };
-    let failed = match send_all(alloc, &mut outlet, &outputs) {
-        Ok(failed) => failed,
+fn sent(alloc: Global, outlet: &mut FirstFails, outputs: &[Output]) -> Result<Vec<Event>, Stop> {
+    match send_all(alloc, outlet, outputs) {
+        Ok(failed) => Ok(failed),
         Err(AllocError) => {
             check(outlet.asked == 0)?;
-            send_all(alloc, &mut outlet, &outputs)?
+            Ok(send_all(alloc, outlet, outputs)?)
         }
-    };
-    check(outlet.asked == 2)?;
-    match failed.as_slice() {
-        [Event::Failed(key)] => check(key.branch() == b"z9hg4bki".as_slice()),
-        _ => Err(Stop::Different),
+    }
+}
+
+fn is_of_branch(failed: &[Event], branch: &[u8]) -> bool {
+    match failed {
+        [Event::Failed(key)] => key.branch() == branch,
+        _ => false,
     }
 }

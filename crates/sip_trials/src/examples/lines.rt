@@ -1,21 +1,14 @@
 //! Lines from posters to a desk.
 
 ghost use Rattle.std.specs.Prelude.{IfOk};
-ghost use Rattle.sip_desk.specs.Lines.{IsPosterOf, KeepsLines};
+ghost use Rattle.sip_desk.specs.Lines.{IsEndOf, IsPosterOf, KeepsLines};
 
-use crate::examples::Examples;
 use crate::stop::{Stop, check};
-use sip_desk::{Desk, NoMemory, Poster, open};
+use sip_desk::{Desk, Ended, NoMemory, Poster, open};
 use std::alloc::Global;
 
 /// How many events the line of a desk has room for.
 const CAPACITY: usize = 2;
-
-pub fn of_lines(alloc: Global, examples: &mut Examples<'_>) {
-    if examples.wants("Desk") {
-        examples.note(a_line_is_settled(alloc));
-    }
-}
 
 // A desk of one line, and its poster.
 fn one_line(alloc: Global) -> Result<(Desk<u8>, Poster<u8>), NoMemory>
@@ -37,12 +30,15 @@ fn collects(desk: &mut Desk<u8>, events: &[u8]) -> Result<(), Stop>
     check(collected.as_slice() == events)
 }
 
-fn a_line_is_settled(alloc: Global) -> Result<(), Stop> {
+pub fn a_line_is_settled(alloc: Global) -> Result<(), Stop> {
     let (mut desk, mut poster) = one_line(alloc)?;
-    check(poster.post(1).is_ok())?;
-    check(poster.post(2).is_ok())?;
-    check(poster.post(3) == Err(3))?;
-    let ended = poster.finish()?;
-    collects(&mut desk, b"\x01\x02")?;
+    check(poster.post(1).is_ok() && poster.post(2).is_ok() && poster.post(3) == Err(3))?;
+    settles(&mut desk, poster.finish()?)
+}
+
+fn settles(desk: &mut Desk<u8>, ended: Ended<u8>) -> Result<(), Stop>
+    requires { IsEndOf desk.old ended }
+{
+    collects(desk, b"\x01\x02")?;
     check(desk.settle(0, ended).is_ok())
 }

@@ -1,21 +1,24 @@
 //! Messages: what is made of them, and their text.
 
-use crate::examples::Examples;
-use crate::examples::worked::{NAME, OK, OPTIONS, message, reason, status, token};
+use crate::examples::worked::{OK, OPTIONS, key_in};
+use crate::messages::{TAG, message, success_to, token};
 use crate::stop::{Stop, check};
 use sip_message::{
-    Addr, Cut, First, Key, Message, Spread, ack_for, cancel_for, key_of, response_to, stamp_source,
-    write,
+    Addr, Cut, First, Key, Message, Spread, Token, ack_for, cancel_for, stamp_source, write,
 };
 use std::alloc::{AllocError, Global};
 
 /// A request with two hops, two routes and two options of each kind, its headers in another order
-/// than they are written.
+/// than they are written, some under their compact names.
 const SCRAMBLED: &[u8] = b"INVITE sip:b@192.0.2.9 SIP/2.0\r
 Supported: y\r
 k: z\r
+s: s\r
+c: gzip\r
+e: gzip\r
+E: gzip\r
+x: gzip\r
 Require: 100rel,x\r
-Subject: s\r
 Route: <sip:p1;lr>, <sip:p2;lr>\r
 Record-Route: <sip:r1;lr>,<sip:r2;lr>\r
 l: 2\r
@@ -45,6 +48,10 @@ Route: <sip:p2;lr>\r
 Require: 100rel, x\r
 Supported: y, z\r
 Subject: s\r
+Content-Type: gzip\r
+Content-Encoding: gzip\r
+Content-Encoding: gzip\r
+x: gzip\r
 Content-Length: 2\r
 \r
 ab";
@@ -107,97 +114,99 @@ Content-Length: 0\r
 \r
 ";
 
-pub fn of_messages(alloc: Global, examples: &mut Examples<'_>) {
-    if examples.wants("write") {
-        examples.note(headers_in_their_order(alloc));
-    }
-    if examples.wants("response_to") {
-        examples.note(a_response(alloc));
-    }
-    if examples.wants("ack_for") {
-        examples.note(an_ack_of_a_rejection(alloc));
-    }
-    if examples.wants("cancel_for") {
-        examples.note(a_cancel(alloc));
-    }
-    if examples.wants("stamp_source") {
-        examples.note(the_source_is_noted(alloc));
-    }
-    if examples.wants("key_of") {
-        examples.note(keys(alloc));
-    }
-    if examples.wants("Message::clone") {
-        examples.note(a_copy(alloc));
-    }
-    if examples.wants("Cut") {
-        examples.note(names_are_cut());
-    }
-}
+/// Where it comes from.
+const SOURCE: Addr = Addr {
+    ip: [192, 0, 2, 9],
+    port: 7000,
+};
 
 // A message has this text.
-fn is_written(alloc: Global, message: &Message, text: &[u8]) -> Result<(), Stop> {
-    let written = write(alloc, message)?;
-    check(written.as_slice() == text)
+pub fn is_written(alloc: Global, message: &Message, text: &[u8]) -> Result<(), Stop> {
+    check(write(alloc, message)?.as_slice() == text)
 }
 
-fn headers_in_their_order(alloc: Global) -> Result<(), Stop> {
+pub fn headers_in_their_order(alloc: Global) -> Result<(), Stop> {
     is_written(alloc, &message(alloc, SCRAMBLED)?, WRITTEN)
 }
 
-fn a_response(alloc: Global) -> Result<(), Stop> {
-    let request = message(alloc, OPTIONS)?;
-    let (reason, tag) = (reason(alloc, b"OK")?, token(alloc, NAME)?);
-    let response = response_to(alloc, &request, status(200)?, reason, &tag)?;
-    is_written(alloc, &response, OK)
+pub fn a_copy(alloc: Global) -> Result<(), Stop> {
+    is_copied(alloc, &message(alloc, SCRAMBLED)?)
 }
 
-fn an_ack_of_a_rejection(alloc: Global) -> Result<(), Stop> {
-    let request = message(alloc, SCRAMBLED)?;
-    let ack = ack_for(alloc, &request, &message(alloc, REJECTION)?)?;
-    is_written(alloc, &ack, ACK)
-}
-
-fn a_cancel(alloc: Global) -> Result<(), Stop> {
-    let cancel = cancel_for(alloc, &message(alloc, SCRAMBLED)?)?;
-    is_written(alloc, &cancel, CANCEL)
-}
-
-// Without memory the request stays as it is.
-fn the_source_is_noted(alloc: Global) -> Result<(), Stop> {
-    let mut request = message(alloc, ASKING)?;
-    let source = Addr {
-        ip: [192, 0, 2, 9],
-        port: 7000,
-    };
-    let address = match stamp_source(alloc, &mut request, source) {
-        Ok(address) => address,
-        Err(AllocError) => {
-            is_written(alloc, &request, ASKING)?;
-            stamp_source(alloc, &mut request, source)?
-        }
-    };
-    check(address == source)?;
-    is_written(alloc, &request, STAMPED)
-}
-
-// A branch is compared without case, and a response has its client's key.
-fn keys(alloc: Global) -> Result<(), Stop> {
-    let request = key_of(alloc, &message(alloc, OPTIONS)?)?;
-    let method = token(alloc, b"OPTIONS")?;
-    check(request == Key::server(alloc, b"Z9HG4BKA1", b"192.0.2.9", 5060, method)?)?;
-    let response = key_of(alloc, &message(alloc, REJECTION)?)?;
-    check(response == Key::client(alloc, b"z9hG4bKi", token(alloc, b"INVITE")?)?)
-}
-
-fn a_copy(alloc: Global) -> Result<(), Stop> {
-    let request = message(alloc, SCRAMBLED)?;
+fn is_copied(alloc: Global, request: &Message) -> Result<(), Stop> {
     is_written(alloc, &request.clone()?, WRITTEN)
 }
 
+pub fn a_response(alloc: Global) -> Result<(), Stop> {
+    is_answered(alloc, &message(alloc, OPTIONS)?)
+}
+
+fn is_answered(alloc: Global, request: &Message) -> Result<(), Stop> {
+    answers(alloc, request, &token(alloc, TAG)?)
+}
+
+fn answers(alloc: Global, request: &Message, tag: &Token) -> Result<(), Stop> {
+    is_written(alloc, &success_to(alloc, request, tag)?, OK)
+}
+
+pub fn an_ack_of_a_rejection(alloc: Global) -> Result<(), Stop> {
+    is_rejected(alloc, &message(alloc, SCRAMBLED)?)
+}
+
+fn is_rejected(alloc: Global, request: &Message) -> Result<(), Stop> {
+    is_acknowledged(alloc, request, &message(alloc, REJECTION)?)
+}
+
+fn is_acknowledged(alloc: Global, request: &Message, response: &Message) -> Result<(), Stop> {
+    is_written(alloc, &ack_for(alloc, request, response)?, ACK)
+}
+
+pub fn a_cancel(alloc: Global) -> Result<(), Stop> {
+    is_cancelled(alloc, &message(alloc, SCRAMBLED)?)
+}
+
+fn is_cancelled(alloc: Global, request: &Message) -> Result<(), Stop> {
+    is_written(alloc, &cancel_for(alloc, request)?, CANCEL)
+}
+
+pub fn the_source_is_noted(alloc: Global) -> Result<(), Stop> {
+    is_stamped(alloc, &mut message(alloc, ASKING)?)
+}
+
+// Without memory the request stays as it is.
+fn is_stamped(alloc: Global, request: &mut Message) -> Result<(), Stop> {
+    let address = match stamp_source(alloc, request, SOURCE) {
+        Ok(address) => address,
+        Err(AllocError) => {
+            is_written(alloc, request, ASKING)?;
+            stamp_source(alloc, request, SOURCE)?
+        }
+    };
+    check(address == SOURCE)?;
+    is_written(alloc, request, STAMPED)
+}
+
+// A branch is compared without case, and a response has its client's key.
+pub fn keys(alloc: Global) -> Result<(), Stop> {
+    check(key_in(alloc, OPTIONS)? == asked_key(alloc)?)?;
+    check(key_in(alloc, REJECTION)? == rejected_key(alloc)?)
+}
+
+fn asked_key(alloc: Global) -> Result<Key, Stop> {
+    let method = token(alloc, b"OPTIONS")?;
+    Ok(Key::server(alloc, b"Z9HG4BKA1", b"192.0.2.9", 5060, method)?)
+}
+
+fn rejected_key(alloc: Global) -> Result<Key, Stop> {
+    Ok(Key::client(alloc, b"z9hG4bKi", token(alloc, b"INVITE")?)?)
+}
+
 // 97 and 98 are 195, and 6 above 27 times 7.
-fn names_are_cut() -> Result<(), Stop> {
-    check(Spread.shard(b"ab", 7) == 6)?;
-    check(Spread.shard(b"", 7) == 0)?;
-    check(First.shard(b"ab", 7) == 0)?;
-    check(First.shard(b"", 7) == 0)
+pub fn names_are_cut() -> Result<(), Stop> {
+    check(
+        Spread.shard(b"ab", 7) == 6
+            && Spread.shard(b"", 7) == 0
+            && First.shard(b"ab", 7) == 0
+            && First.shard(b"", 7) == 0,
+    )
 }

@@ -3,7 +3,6 @@
 ghost use Rattle.std.specs.Prelude.{IfOk};
 ghost use Rattle.sip_workers.specs.Ran.{IsNumbered};
 
-use crate::examples::Examples;
 use crate::open::Open;
 use crate::stop::{Stop, check};
 use sip_workers::{Job, NoMemory, Piece, dones_in_order, gather, run_pieces};
@@ -31,12 +30,6 @@ impl Job for Square {
     }
 }
 
-pub fn of_pieces<R: Threads + Sync>(rt: &R, alloc: Global, examples: &mut Examples<'_>) {
-    if examples.wants("run_pieces") {
-        examples.note(squares_in_order(rt, alloc));
-    }
-}
-
 // Pieces with the numbers from 0 on.
 fn squares(alloc: Global) -> Result<Vec<Piece<Square>>, NoMemory>
     ensures { IfOk result (λ pieces. IsNumbered pieces.items) }
@@ -51,12 +44,16 @@ fn squares(alloc: Global) -> Result<Vec<Piece<Square>>, NoMemory>
     Ok(pieces)
 }
 
-fn squares_in_order<R: Threads + Sync>(rt: &R, alloc: Global) -> Result<(), Stop> {
+pub fn squares_in_order<R: Threads + Sync>(rt: &R, alloc: Global) -> Result<(), Stop> {
     dones_in_order::<Square>();
     let dones = run_pieces(rt, alloc, squares(alloc)?, WORKERS, &Open)?;
-    let gathered = gather(alloc, dones)?;
+    are_squares(&gather(alloc, dones)?)
+}
+
+// All squares from 0 on.
+fn are_squares(dones: &[u64]) -> Result<(), Stop> {
     let mut number: u64 = 0;
-    for square in &gathered {
+    for square in dones {
         check(*square == number.wrapping_mul(number))?;
         number = number.wrapping_add(1);
     }

@@ -1,9 +1,7 @@
 //! Due moments.
 
-use crate::examples::Examples;
 use crate::stop::{Stop, check};
 use sip_timers::{NoMemory, Queue};
-use std::alloc::Global;
 
 const A: u8 = b'a';
 
@@ -11,28 +9,14 @@ const B: u8 = b'b';
 
 const C: u8 = b'c';
 
-pub fn of_queues(alloc: Global, examples: &mut Examples<'_>) {
-    if examples.wants("Queue") {
-        examples.note(the_later_moment_counts(alloc));
-    }
-    if examples.wants("Queue::arm") {
-        examples.note(a_key_is_armed_again(alloc));
-    }
-    if examples.wants("Queue::take_due") {
-        examples.note(at_one_moment_in_the_order_of_keys(alloc));
-    }
-    if examples.wants("Queue::disarm") {
-        examples.note(what_is_disarmed_is_not_due(alloc));
-    }
-}
-
-// Arms a key. Where memory is refused nothing changes, and the second try does it.
-fn arm(queue: &mut Queue<u8>, key: u8, due: u64) -> Result<(), Stop> {
-    let (next, moment) = (queue.next_due(), queue.moment(&key));
-    if queue.arm(key, due).is_err() {
-        check(queue.next_due() == next)?;
-        check(queue.moment(&key) == moment)?;
-        queue.arm(key, due)?;
+// Arms keys. Where memory is refused nothing changes, and the second try does it.
+fn arm(queue: &mut Queue<u8>, keys: &[(u8, u64)]) -> Result<(), Stop> {
+    for (key, due) in keys {
+        let before = (queue.next_due(), queue.moment(key));
+        if queue.arm(*key, *due).is_err() {
+            check((queue.next_due(), queue.moment(key)) == before)?;
+            queue.arm(*key, *due)?;
+        }
     }
     Ok(())
 }
@@ -50,42 +34,31 @@ fn takes(queue: &mut Queue<u8>, now: u64, keys: &[u8]) -> Result<(), Stop> {
     check(due.as_slice() == keys)
 }
 
-fn the_later_moment_counts(alloc: Global) -> Result<(), Stop> {
-    let mut queue = Queue::new(alloc);
-    arm(&mut queue, A, 5)?;
-    arm(&mut queue, B, 3)?;
-    arm(&mut queue, A, 7)?;
+pub fn the_later_moment_counts(queue: &mut Queue<u8>) -> Result<(), Stop> {
+    arm(queue, &[(A, 5), (B, 3), (A, 7)])?;
     check(queue.next_due() == Some(3))?;
-    takes(&mut queue, 7, b"ab")?;
-    takes(&mut queue, 7, b"")
+    takes(queue, 7, b"ab")?;
+    takes(queue, 7, b"")
 }
 
-fn a_key_is_armed_again(alloc: Global) -> Result<(), Stop> {
-    let mut queue = Queue::new(alloc);
-    arm(&mut queue, A, 5)?;
-    arm(&mut queue, A, 9)?;
+pub fn a_key_is_armed_again(queue: &mut Queue<u8>) -> Result<(), Stop> {
+    arm(queue, &[(A, 5), (A, 9)])?;
     check(queue.next_due() == Some(9))?;
-    takes(&mut queue, 5, b"")?;
-    takes(&mut queue, 9, b"a")
+    takes(queue, 5, b"")?;
+    takes(queue, 9, b"a")
 }
 
-fn at_one_moment_in_the_order_of_keys(alloc: Global) -> Result<(), Stop> {
-    let mut queue = Queue::new(alloc);
-    arm(&mut queue, B, 1)?;
-    arm(&mut queue, C, 2)?;
-    arm(&mut queue, A, 2)?;
-    takes(&mut queue, 2, b"abc")?;
+pub fn at_one_moment_in_the_order_of_keys(queue: &mut Queue<u8>) -> Result<(), Stop> {
+    arm(queue, &[(B, 1), (C, 2), (A, 2)])?;
+    takes(queue, 2, b"abc")?;
     check(queue.next_due().is_none())
 }
 
 // A key that isn't there is disarmed without an effect.
-fn what_is_disarmed_is_not_due(alloc: Global) -> Result<(), Stop> {
-    let mut queue = Queue::new(alloc);
-    arm(&mut queue, A, 5)?;
-    arm(&mut queue, B, 6)?;
+pub fn what_is_disarmed_is_not_due(queue: &mut Queue<u8>) -> Result<(), Stop> {
+    arm(queue, &[(A, 5), (B, 6)])?;
     queue.disarm(&A);
     queue.disarm(&C);
-    check(queue.moment(&A).is_none())?;
-    check(queue.next_due() == Some(6))?;
-    takes(&mut queue, 9, b"b")
+    check(queue.moment(&A).is_none() && queue.next_due() == Some(6))?;
+    takes(queue, 9, b"b")
 }

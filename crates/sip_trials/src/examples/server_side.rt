@@ -1,69 +1,54 @@
 //! The server side of one call.
 
-use crate::examples::Examples;
-use crate::examples::worked::{
-    ID, LOCAL, NAME, OPTIONS, PEER, TOLD, line_of, message, respond, token,
-};
-use crate::stop::{Stop, check};
-use sip_message::key_of;
-use sip_served::{CallOut, Item, Served, UserCommand};
-use sip_text::Boxed;
-use sip_transactions::{Kind, ShardFault, Up};
+ghost use Rattle.std.specs.Prelude.{◌≤◌, ◌^◌};
+
+use crate::examples::worked::{ID, OPTIONS, RESPOND, TOLD, asked, is_line, up};
+use crate::messages::{TAG, token};
+use crate::stop::{Stop, broken_where, check};
+use sip_served::{CallOut, Item, Served};
+use sip_transactions::ShardFault;
 use std::alloc::Global;
 
 /// A tick at this moment does nothing more: the request has ended.
 const LATE: u64 = 99_000;
 
-pub fn of_server_side(alloc: Global, examples: &mut Examples<'_>) {
-    if examples.wants("Served") {
-        examples.note(a_request_is_told_and_answered(alloc));
-    }
-}
-
-/// The request, as a transaction hands it up.
-pub fn request_up(alloc: Global) -> Result<Item, Stop> {
-    let request = message(alloc, OPTIONS)?;
-    Ok(Item::Up(Up {
-        key: key_of(alloc, &request)?,
-        id: ID,
-        call_id: request.call_id.clone()?,
-        kind: Kind::Request(Boxed::new(alloc, request)?, PEER),
-    }))
-}
-
-/// The one thing that is given.
-pub fn only(mut outs: Vec<CallOut>) -> Result<CallOut, Stop> {
-    let only = outs.pop().ok_or(Stop::Different)?;
-    check(outs.is_empty())?;
-    Ok(only)
-}
-
 // What it says; where it was refused memory, it has to be broken.
 fn said(served: &mut Served, outs: Result<Vec<CallOut>, ShardFault>) -> Result<Vec<CallOut>, Stop> {
     match outs {
         Ok(outs) => Ok(outs),
-        Err(ShardFault::NoMemory) => {
-            check(!served.holds() && served.next_due().is_none())?;
-            check(matches!(served.tick(0), Err(ShardFault::Broken)))?;
-            Err(Stop::Broken)
-        }
+        Err(ShardFault::NoMemory) => Err(broken_where(is_broken(served))),
         Err(ShardFault::Broken) => Err(Stop::Different),
     }
 }
 
-fn a_request_is_told_and_answered(alloc: Global) -> Result<(), Stop> {
-    let mut served = Served::new(alloc, LOCAL);
+fn is_broken(served: &mut Served) -> bool {
+    !served.holds()
+        && served.next_due().is_none()
+        && matches!(served.tick(0), Err(ShardFault::Broken))
+}
+
+// What an item of the first event gives.
+fn given(alloc: Global, served: &mut Served, item: Item, now: u64) -> Result<Vec<CallOut>, Stop>
+    requires { now ≤ 2 ^ 62 }
+{
+    let outs = served.item(token(alloc, TAG)?, ID, item, now);
+    said(served, outs)
+}
+
+pub fn a_request_is_told_and_answered(alloc: Global, served: &mut Served) -> Result<(), Stop> {
     check(!served.holds() && served.next_due().is_none())?;
-    let tag = token(alloc, NAME)?;
-    let item = request_up(alloc)?;
-    let outs = served.item(tag, ID, item, 0);
-    let told = only(said(&mut served, outs)?)?;
-    check(line_of(alloc, told)?.as_slice() == TOLD)?;
-    let answer = Item::User(UserCommand::Respond(respond(alloc)?));
-    let outs = served.item(token(alloc, NAME)?, ID, answer, 10);
-    check(matches!(only(said(&mut served, outs)?)?, CallOut::Command(ID, _)))?;
+    is_line(alloc, given(alloc, served, up(alloc, OPTIONS)?, 0)?, TOLD)?;
+    check(is_answer(&given(alloc, served, asked(alloc, RESPOND)?, 10)?))?;
     check(served.holds() && served.next_due() == Some(32_010))?;
+    is_over(served)
+}
+
+fn is_answer(outs: &[CallOut]) -> bool {
+    matches!(outs, [CallOut::Command(ID, _)])
+}
+
+fn is_over(served: &mut Served) -> Result<(), Stop> {
     let outs = served.tick(LATE);
-    check(said(&mut served, outs)?.is_empty() && !served.holds())?;
-    check(served.dialogs().is_empty())
+    check(said(served, outs)?.is_empty())?;
+    check(!served.holds() && served.dialogs().is_empty())
 }

@@ -1,99 +1,77 @@
 //! Texts, numbers and lists.
 
-use crate::examples::Examples;
 use crate::stop::{Stop, check};
 use sip_text::{
-    Boxed, Series, Text, TextFault, byte_order, decimal, lines, number_u32, params, split_values,
-    token_eq, unfold,
+    Boxed, ParameterText, Series, Text, TextFault, byte_order, decimal, lines, number_u32, params,
+    split_values, token_eq, unfold,
 };
 use std::alloc::Global;
 use std::cmp::Ordering;
 
-pub fn of_texts(alloc: Global, examples: &mut Examples<'_>) {
-    if examples.wants("unfold") {
-        examples.note(a_fold_is_one_space(alloc));
-    }
-    if examples.wants("lines") {
-        examples.note(two_lines(alloc));
-    }
-    if examples.wants("split_values") {
-        examples.note(two_values(alloc));
-    }
-    if examples.wants("params") {
-        examples.note(two_parameters(alloc));
-    }
-    if examples.wants("numbers") {
-        examples.note(numbers());
-    }
-    if examples.wants("token_eq") {
-        examples.note(tokens_without_case());
-    }
-    if examples.wants("byte_order") {
-        examples.note(texts_in_order());
-    }
-    if examples.wants("Text") {
-        examples.note(a_text_grows(alloc));
-    }
-    if examples.wants("Series") {
-        examples.note(a_series_grows(alloc));
-    }
-}
-
-fn a_fold_is_one_space(alloc: Global) -> Result<(), Stop> {
-    let text = unfold(alloc, b"a\r\n b")?;
-    check(text.as_slice() == b"a b".as_slice())
+pub fn a_fold_is_one_space(alloc: Global) -> Result<(), Stop> {
+    check(unfold(alloc, b"a\r\n b")?.as_slice() == b"a b".as_slice())
 }
 
 // The last line has no end of its own, or has one.
-fn two_lines(alloc: Global) -> Result<(), Stop> {
+pub fn two_lines(alloc: Global) -> Result<(), Stop> {
     let found = lines(alloc, b"a\r\nb\n")?;
     check(found.as_slice() == [b"a".as_slice(), b"b".as_slice()].as_slice())
 }
 
-fn two_values(alloc: Global) -> Result<(), Stop> {
+pub fn two_values(alloc: Global) -> Result<(), Stop> {
+    check(matches!(split_values(alloc, b"\"x"), Err(TextFault::OpenQuote)))?;
     let values = split_values(alloc, b"<sip:a,b>, \"x,y\" <sip:c>")?;
-    check(values.len() == 2)?;
-    check(values.first().copied() == Some(b"<sip:a,b>".as_slice()))?;
-    check(matches!(split_values(alloc, b"\"x"), Err(TextFault::OpenQuote)))
+    let wanted = [b"<sip:a,b>".as_slice(), b"\"x,y\" <sip:c>".as_slice()];
+    check(values.as_slice() == wanted.as_slice())
 }
 
-fn two_parameters(alloc: Global) -> Result<(), Stop> {
-    let found = params(alloc, b";a=1;B")?;
-    match found.as_slice() {
+pub fn two_parameters(alloc: Global) -> Result<(), Stop> {
+    check(are_a_and_b(&params(alloc, b";a=1;B")?))
+}
+
+fn are_a_and_b(found: &[ParameterText<'_>]) -> bool {
+    match found {
         [first, second] => {
-            check(first.name == b"a".as_slice())?;
-            check(first.value == Some(b"1".as_slice()))?;
-            check(second.name == b"B".as_slice())?;
-            check(second.value.is_none())
+            first.name == b"a".as_slice()
+                && first.value == Some(b"1".as_slice())
+                && second.name == b"B".as_slice()
+                && second.value.is_none()
         }
-        _ => Err(Stop::Different),
+        _ => false,
     }
 }
 
-fn numbers() -> Result<(), Stop> {
-    check(number_u32(b"4294967295") == Ok(u32::MAX))?;
-    check(number_u32(b"4294967296") == Err(TextFault::NumberTooLarge))?;
-    check(number_u32(b"") == Err(TextFault::NotAToken))?;
-    check(decimal(0).as_slice() == b"0".as_slice())?;
-    check(decimal(u64::MAX).as_slice() == b"18446744073709551615".as_slice())
+pub fn numbers() -> Result<(), Stop> {
+    check(
+        number_u32(b"4294967295") == Ok(u32::MAX)
+            && number_u32(b"4294967296") == Err(TextFault::NumberTooLarge)
+            && number_u32(b"") == Err(TextFault::NotAToken)
+            && decimal(0).as_slice() == b"0".as_slice()
+            && decimal(u64::MAX).as_slice() == b"18446744073709551615".as_slice(),
+    )
 }
 
-fn tokens_without_case() -> Result<(), Stop> {
-    check(token_eq(b"z9hG4bKab", b"Z9HG4BKAB"))?;
-    check(!token_eq(b"ab", b"ac"))?;
-    check(!token_eq(b"ab", b"abc"))
+pub fn tokens_without_case() -> Result<(), Stop> {
+    check(
+        token_eq(b"z9hG4bKab", b"Z9HG4BKAB") && !token_eq(b"ab", b"ac") && !token_eq(b"ab", b"abc"),
+    )
 }
 
 // A difference in the second word, a text that begins the other, and equal texts.
-fn texts_in_order() -> Result<(), Stop> {
-    check(byte_order(b"z9hG4bK-ay", b"z9hG4bK-bx") == Ordering::Less)?;
-    check(byte_order(b"z9hG4bK-ab", b"z9hG4bK-a") == Ordering::Greater)?;
-    check(byte_order(b"z9hG4bK-ab", b"z9hG4bK-ab") == Ordering::Equal)
+pub fn texts_in_order() -> Result<(), Stop> {
+    check(
+        byte_order(b"z9hG4bK-ay", b"z9hG4bK-bx") == Ordering::Less
+            && byte_order(b"z9hG4bK-ab", b"z9hG4bK-a") == Ordering::Greater
+            && byte_order(b"z9hG4bK-ab", b"z9hG4bK-ab") == Ordering::Equal,
+    )
+}
+
+pub fn a_text_grows(alloc: Global) -> Result<(), Stop> {
+    grows(&mut Text::copy_of(alloc, b"ab")?)
 }
 
 // A text that is refused memory stays as it is.
-fn a_text_grows(alloc: Global) -> Result<(), Stop> {
-    let mut text = Text::copy_of(alloc, b"ab")?;
+fn grows(text: &mut Text) -> Result<(), Stop> {
     if text.extend_from_slice(b"cd").is_err() {
         check(text.as_slice() == b"ab".as_slice())?;
         text.extend_from_slice(b"cd")?;
@@ -101,12 +79,11 @@ fn a_text_grows(alloc: Global) -> Result<(), Stop> {
     check(text.as_slice() == b"abcd".as_slice())
 }
 
-fn a_series_grows(alloc: Global) -> Result<(), Stop> {
-    let mut series = Series::new(alloc);
-    if series.push(7u32).is_err() {
+// A list that is refused memory stays as it is.
+pub fn a_series_grows(alloc: Global, series: &mut Series<u32>) -> Result<(), Stop> {
+    if series.push(7).is_err() {
         check(series.is_empty())?;
         series.push(7)?;
     }
-    let boxed = Boxed::new(alloc, 7u32)?;
-    check(series.first() == Some(boxed.get()))
+    check(series.first() == Some(Boxed::new(alloc, 7u32)?.get()))
 }

@@ -2,12 +2,10 @@
 
 ghost use Rattle.std.specs.Prelude.{◌≤◌, ◌^◌};
 
-use crate::examples::Examples;
-use crate::examples::worked::{
-    ID, LOCAL, NAME, OK, OPTIONS, PEER, call_id, message, reason, status, token,
-};
-use crate::stop::{Stop, check};
-use sip_message::{Key, key_of, response_to};
+use crate::examples::worked::{ID, OK, OPTIONS, PEER, key_in};
+use crate::messages::{message, token};
+use crate::stop::{Stop, broken_where, check};
+use sip_message::Key;
 use sip_text::Boxed;
 use sip_transactions::{Command, Kind, Out, Shard, ShardFault, State, Up};
 use std::alloc::Global;
@@ -33,29 +31,17 @@ CSeq: 1 OPTIONS\r
 \r
 ";
 
-pub fn of_transactions(alloc: Global, examples: &mut Examples<'_>) {
-    if examples.wants("Shard::receive") {
-        examples.note(a_request_is_answered(alloc));
-    }
-    if examples.wants("Shard::command") {
-        examples.note(a_request_goes_out(alloc));
-    }
-    if examples.wants("Shard::failed") {
-        examples.note(a_request_is_not_sent(alloc));
-    }
-}
-
 // What a shard says; where it was refused memory, it has to be broken.
 fn said(shard: &mut Shard, outs: Result<Vec<Out>, ShardFault>) -> Result<Vec<Out>, Stop> {
     match outs {
         Ok(outs) => Ok(outs),
-        Err(ShardFault::NoMemory) => {
-            check(shard.live() == 0)?;
-            check(matches!(shard.tick(0), Err(ShardFault::Broken)))?;
-            Err(Stop::Broken)
-        }
+        Err(ShardFault::NoMemory) => Err(broken_where(is_broken(shard))),
         Err(ShardFault::Broken) => Err(Stop::Different),
     }
+}
+
+fn is_broken(shard: &mut Shard) -> bool {
+    shard.live() == 0 && matches!(shard.tick(0), Err(ShardFault::Broken))
 }
 
 // What a message that comes gives.
@@ -66,52 +52,20 @@ fn received(alloc: Global, shard: &mut Shard, text: &[u8], now: u64) -> Result<V
     said(shard, outs)
 }
 
-// What a tick gives.
-fn ticked(shard: &mut Shard, now: u64) -> Result<Vec<Out>, Stop>
+// Nothing comes of a tick, and so many transactions are held then.
+fn is_quiet(shard: &mut Shard, now: u64, live: usize) -> Result<(), Stop>
     requires { now ≤ 2 ^ 62 }
 {
     let outs = shard.tick(now);
-    said(shard, outs)
+    check(said(shard, outs)?.is_empty() && shard.live() == live)
 }
 
 // What the one thing is that is handed up, under the id of the event.
-fn only_kind(mut outs: Vec<Out>) -> Option<Kind> {
-    match (outs.pop(), outs.is_empty()) {
-        (Some(Out::Up(up)), true) => {
-            let Up { id, kind, .. } = up;
-            if id == ID { Some(kind) } else { None }
-        }
+fn told(outs: &[Out]) -> Option<&Kind> {
+    match outs {
+        [Out::Up(up)] if up.id == ID => Some(&up.kind),
         _ => None,
     }
-}
-
-// Its answer, as a command.
-fn answer(alloc: Global) -> Result<Command, Stop> {
-    let request = message(alloc, OPTIONS)?;
-    let (reason, tag) = (reason(alloc, b"OK")?, token(alloc, NAME)?);
-    let response = response_to(alloc, &request, status(200)?, reason, &tag)?;
-    Ok(Command::Answer {
-        key: key_of(alloc, &request)?,
-        message: Boxed::new(alloc, response)?,
-    })
-}
-
-fn a_request_is_answered(alloc: Global) -> Result<(), Stop> {
-    let mut shard = Shard::new(alloc, LOCAL);
-    let told = only_kind(received(alloc, &mut shard, OPTIONS, 0)?);
-    check(matches!(told, Some(Kind::Request(_, _))))?;
-    let outs = shard.command(ID, answer(alloc)?, 10);
-    check(sends(&said(&mut shard, outs)?, OK))?;
-    is_completed(alloc, &mut shard)
-}
-
-// The answer is sent again, until 64 T1 have passed.
-fn is_completed(alloc: Global, shard: &mut Shard) -> Result<(), Stop> {
-    let key = key_of(alloc, &message(alloc, OPTIONS)?)?;
-    check(shard.state_of(&key) == Some(State::Completed))?;
-    check(sends(&received(alloc, shard, OPTIONS, 20)?, OK))?;
-    check(ticked(shard, 32_009)?.is_empty() && shard.live() == 1)?;
-    check(ticked(shard, 32_010)?.is_empty() && shard.live() == 0)
 }
 
 // Whether just these bytes are sent to the peer.
@@ -122,40 +76,74 @@ fn sends(outs: &[Out], text: &[u8]) -> bool {
     }
 }
 
-// A shard whose request goes out.
-fn with_start(alloc: Global) -> Result<Shard, Stop> {
-    let mut shard = Shard::new(alloc, LOCAL);
-    let outs = shard.command(ID, start(alloc)?, 0);
-    check(sends(&said(&mut shard, outs)?, GOING))?;
-    Ok(shard)
+// The answer to the request, as a command.
+fn answer(alloc: Global) -> Result<Command, Stop> {
+    Ok(Command::Answer {
+        key: key_in(alloc, OPTIONS)?,
+        message: Boxed::new(alloc, message(alloc, OK)?)?,
+    })
+}
+
+pub fn a_request_is_answered(alloc: Global, shard: &mut Shard) -> Result<(), Stop> {
+    let outs = received(alloc, shard, OPTIONS, 0)?;
+    check(matches!(told(&outs), Some(Kind::Request(_, _))))?;
+    is_commanded(shard, answer(alloc)?, OK)?;
+    is_completed(alloc, shard)
+}
+
+// A command of the first event sends just this.
+fn is_commanded(shard: &mut Shard, command: Command, text: &[u8]) -> Result<(), Stop> {
+    let outs = shard.command(ID, command, 10);
+    check(sends(&said(shard, outs)?, text))
+}
+
+// The answer is sent again, until 64 T1 have passed.
+fn is_completed(alloc: Global, shard: &mut Shard) -> Result<(), Stop> {
+    check(sends(&received(alloc, shard, OPTIONS, 20)?, OK))?;
+    check(shard.state_of(&key_in(alloc, OPTIONS)?) == Some(State::Completed))?;
+    is_quiet(shard, 32_009, 1)?;
+    is_quiet(shard, 32_010, 0)
 }
 
 fn started_key(alloc: Global) -> Result<Key, Stop> {
     Ok(Key::client(alloc, b"z9hG4bKc1", token(alloc, b"OPTIONS")?)?)
 }
 
+// The request that goes out, as a command.
 fn start(alloc: Global) -> Result<Command, Stop> {
+    let message = Boxed::new(alloc, message(alloc, GOING)?)?;
     Ok(Command::Start {
         key: started_key(alloc)?,
-        call_id: call_id(alloc, b"c3")?,
-        message: Boxed::new(alloc, message(alloc, GOING)?)?,
+        call_id: message.get().call_id.clone()?,
+        message,
         to: PEER,
     })
 }
 
-fn a_request_goes_out(alloc: Global) -> Result<(), Stop> {
-    let mut shard = with_start(alloc)?;
-    check(sends(&ticked(&mut shard, 500)?, GOING))?;
-    let told = only_kind(received(alloc, &mut shard, COMING, 600)?);
-    check(matches!(told, Some(Kind::Response(_))))?;
+// It goes out again, until its response comes.
+pub fn a_request_goes_out(alloc: Global, shard: &mut Shard) -> Result<(), Stop> {
+    is_commanded(shard, start(alloc)?, GOING)?;
+    is_sent_again(shard, 510)?;
+    let outs = received(alloc, shard, COMING, 600)?;
+    check(matches!(told(&outs), Some(Kind::Response(_))))?;
     check(shard.state_of(&started_key(alloc)?) == Some(State::Completed))
 }
 
-fn a_request_is_not_sent(alloc: Global) -> Result<(), Stop> {
-    let mut shard = with_start(alloc)?;
-    let key = started_key(alloc)?;
-    let outs = shard.failed(ID, &key, 10);
-    let told = only_kind(said(&mut shard, outs)?);
-    check(matches!(told, Some(Kind::Failed)))?;
-    check(shard.live() == 0 && shard.state_of(&key).is_none())
+// A tick sends the request.
+fn is_sent_again(shard: &mut Shard, now: u64) -> Result<(), Stop>
+    requires { now ≤ 2 ^ 62 }
+{
+    let outs = shard.tick(now);
+    check(sends(&said(shard, outs)?, GOING))
+}
+
+pub fn a_request_is_not_sent(alloc: Global, shard: &mut Shard) -> Result<(), Stop> {
+    is_commanded(shard, start(alloc)?, GOING)?;
+    fails(shard, &started_key(alloc)?)
+}
+
+fn fails(shard: &mut Shard, key: &Key) -> Result<(), Stop> {
+    let outs = shard.failed(ID, key, 20);
+    check(matches!(told(&said(shard, outs)?), Some(Kind::Failed)))?;
+    check(shard.live() == 0 && shard.state_of(key).is_none())
 }

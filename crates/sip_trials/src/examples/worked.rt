@@ -1,14 +1,14 @@
 //! Messages, addresses and parts that several examples use.
 
-use crate::stop::Stop;
-use sip_dialog::Branch;
-use sip_files::write_output;
-use sip_message::{Addr, CallId, Id, Message, Reason, StatusCode, Token, Uri};
-use sip_reader::read;
+use crate::messages::message;
+use crate::stop::{Stop, check};
+use sip_files::{read_command_line, write_output};
+use sip_message::{Addr, Id, Key, Message, key_of};
 use sip_round::{Config, Output};
-use sip_served::{CallOut, Reliability, Respond};
-use sip_text::Text;
-use std::alloc::{AllocError, Global};
+use sip_served::{CallOut, Item};
+use sip_text::Boxed;
+use sip_transactions::{Kind, Up};
+use std::alloc::Global;
 
 pub const LOCAL: Addr = Addr {
     ip: [192, 0, 2, 1],
@@ -30,9 +30,6 @@ pub const CONFIG: Config = Config {
 
 /// The first event of the first round.
 pub const ID: Id = Id { round: 0, place: 1 };
-
-/// The name of index 0 that is made for it.
-pub const NAME: &[u8] = b"000000000000000000000000000000010bee7079f";
 
 /// A request that comes to the agent.
 pub const OPTIONS: &[u8] = b"OPTIONS sip:192.0.2.1 SIP/2.0\r
@@ -70,6 +67,9 @@ round 10
 respond c1 0.1 200 plain - OK
 ";
 
+/// The line of its answer.
+pub const RESPOND: &[u8] = b"respond c1 0.1 200 plain - OK";
+
 /// Its output file.
 pub const OUTPUTS: &[u8] = b"sip-outputs 1
 round 0
@@ -81,55 +81,47 @@ To: <sip:192.0.2.1>;tag=000000000000000000000000000000010bee7079f\\r\\n\
 Call-ID: c1\\r\\nCSeq: 7 OPTIONS\\r\\nContent-Length: 0\\r\\n\\r\\n
 ";
 
-/// The message that a text spells.
-pub fn message(alloc: Global, text: &[u8]) -> Result<Message, Stop> {
-    Ok(read(alloc, text)?)
+/// The key of the message that a text spells.
+pub fn key_in(alloc: Global, text: &[u8]) -> Result<Key, Stop> {
+    Ok(key_of(alloc, &message(alloc, text)?)?)
 }
 
-pub fn token(alloc: Global, text: &[u8]) -> Result<Token, Stop> {
-    Token::new(Text::copy_of(alloc, text)?).ok_or(Stop::Different)
-}
-
-pub fn branch(alloc: Global, text: &[u8]) -> Result<Branch, Stop> {
-    Branch::new(token(alloc, text)?).ok_or(Stop::Different)
-}
-
-pub fn uri(alloc: Global, text: &[u8]) -> Result<Uri, Stop> {
-    Uri::new(Text::copy_of(alloc, text)?).ok_or(Stop::Different)
-}
-
-pub fn call_id(alloc: Global, text: &[u8]) -> Result<CallId, Stop> {
-    CallId::new(Text::copy_of(alloc, text)?).ok_or(Stop::Different)
-}
-
-pub fn status(code: u16) -> Result<StatusCode, Stop> {
-    StatusCode::new(code).ok_or(Stop::Different)
-}
-
-pub fn reason(alloc: Global, text: &[u8]) -> Result<Reason, Stop> {
-    Reason::new(Text::copy_of(alloc, text)?).ok_or(Stop::Different)
-}
-
-/// The user's 200 to the request.
-pub fn respond(alloc: Global) -> Result<Respond, Stop> {
-    Ok(Respond {
-        call_id: call_id(alloc, b"c1")?,
+/// What a transaction of the first event hands up: a request, or a response.
+pub fn up(alloc: Global, text: &[u8]) -> Result<Item, Stop> {
+    let message = Boxed::new(alloc, message(alloc, text)?)?;
+    Ok(Item::Up(Up {
+        key: key_of(alloc, message.get())?,
         id: ID,
-        status: 200,
-        reliability: Reliability::Plain,
-        body: Text::copy_of(alloc, b"")?,
-        reason: reason(alloc, b"OK")?,
-    })
+        call_id: message.get().call_id.clone()?,
+        kind: kind_of(message),
+    }))
 }
 
-/// The line of an output file that says what a call gives; of a command there is none.
-pub fn line_of(alloc: Global, out: CallOut) -> Result<Vec<u8>, AllocError> {
-    match out {
-        CallOut::Notice(notice) => write_output(alloc, &Output::Notice(notice)),
-        CallOut::Direct { to, bytes } => {
-            let key = None;
-            write_output(alloc, &Output::Send { key, to, bytes })
-        }
-        CallOut::Command(_, _) => Ok(Vec::new(alloc)),
+fn kind_of(message: Boxed<Message>) -> Kind {
+    if message.get().is_request() {
+        Kind::Request(message, PEER)
+    } else {
+        Kind::Response(message)
     }
+}
+
+/// What the user asks for by a line of an event file.
+pub fn asked(alloc: Global, line: &[u8]) -> Result<Item, Stop> {
+    match read_command_line(alloc, line)? {
+        Some(command) => Ok(Item::User(command)),
+        None => Err(Stop::Different),
+    }
+}
+
+/// That a call gives one thing, and the line of an output file that says it is this.
+pub fn is_line(alloc: Global, mut outs: Vec<CallOut>, line: &[u8]) -> Result<(), Stop> {
+    check(outs.len() == 1)?;
+    match outs.pop() {
+        Some(CallOut::Notice(notice)) => is_written_as(alloc, &Output::Notice(notice), line),
+        _ => Err(Stop::Different),
+    }
+}
+
+fn is_written_as(alloc: Global, output: &Output, line: &[u8]) -> Result<(), Stop> {
+    check(write_output(alloc, output)?.as_slice() == line)
 }

@@ -85,27 +85,15 @@ fn a_line_of_two_places(rt: HostRuntime) -> Result<(), Fail> {
     assert!(rt; first.post((0, 3)).is_ok());
     let ended = first.finish()?;
     let ended = refuses(&rt, &mut desk, 0, ended, SettleFault::NotDrained);
-    collects(&rt, &mut desk, 9, &[(0, 2), (0, 3)])?;
+    collects(&rt, &mut desk, 1, &[(0, 2)])?;
+    let ended = refuses(&rt, &mut desk, 0, ended, SettleFault::NotDrained);
+    collects(&rt, &mut desk, 9, &[(0, 3)])?;
     let ended = refuses(&rt, &mut desk, 1, ended, SettleFault::WrongLine);
     let ended = refuses(&rt, &mut desk, 2, ended, SettleFault::WrongLine);
     settles(&rt, &mut desk, 0, ended);
     let other = second.finish()?;
     let other = refuses(&rt, &mut desk, 0, other, SettleFault::WrongLine);
     settles(&rt, &mut desk, 1, other);
-    Ok(())
-}
-
-#[test]
-fn a_poster_that_ends_with_two_events_on_its_line(rt: HostRuntime) -> Result<(), Fail> {
-    let (mut desk, mut first, _second) = two_lines(rt.alloc(), 2)?;
-    assert!(rt; first.post((0, 1)).is_ok());
-    assert!(rt; first.post((0, 2)).is_ok());
-    let ended = first.finish()?;
-    let ended = refuses(&rt, &mut desk, 0, ended, SettleFault::NotDrained);
-    collects(&rt, &mut desk, 1, &[(0, 1)])?;
-    let ended = refuses(&rt, &mut desk, 0, ended, SettleFault::NotDrained);
-    collects(&rt, &mut desk, 1, &[(0, 2)])?;
-    settles(&rt, &mut desk, 0, ended);
     Ok(())
 }
 

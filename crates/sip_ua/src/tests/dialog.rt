@@ -2,11 +2,10 @@
 //! faults.
 
 use sip_dialog::{Branch, Dialog, DialogFault, DialogState};
-use sip_message::{Addr, DisplayText, Message, NameAddr, Token, Uri};
+use sip_message::{Addr, Message, Token, Uri};
 use sip_reader::read;
-use sip_text::{Series, Text};
-use std::alloc::{AllocError, Global};
-use std::process::Abort;
+use sip_text::Text;
+use std::alloc::Global;
 use std::test::Fail;
 
 // One's own address.
@@ -18,135 +17,118 @@ const LOCAL: Addr = Addr {
 // The greatest number of a request.
 const LAST: u32 = 2_147_483_647;
 
-fn token(rt: &impl Abort, alloc: Global, text: &str) -> Result<Token, AllocError> {
-    Ok(Token::new(Text::copy_of(alloc, text.as_bytes())?).expect(rt, "a token"))
-}
+// What the INVITE and its answers begin with.
+const INVITE: &str = "INVITE sip:b@192.0.2.9 SIP/2.0\r\nTo: <sip:b@192.0.2.9>\r\n";
 
-fn uri(rt: &impl Abort, alloc: Global, text: &str) -> Result<Uri, AllocError> {
-    Ok(Uri::new(Text::copy_of(alloc, text.as_bytes())?).expect(rt, "a URI"))
-}
+const RINGING: &str = "SIP/2.0 180 X\r\nTo: <sip:b@192.0.2.9>;tag=x\r\n";
 
-// The address `<uri>`.
-fn address(rt: &impl Abort, alloc: Global, text: &str) -> Result<NameAddr, AllocError> {
-    let display = DisplayText::new(Text::copy_of(alloc, b"")?).expect(rt, "no display text");
-    let uri = uri(rt, alloc, text)?;
-    Ok(NameAddr {
-        display,
-        uri,
-        parameters: Series::new(alloc),
-    })
-}
+const SUCCESS: &str = "SIP/2.0 200 X\r\nTo: <sip:b@192.0.2.9>;tag=x\r\n";
 
-// An INVITE of this number that one sends.
-fn own_invite(alloc: Global, cseq: u32) -> Result<Message, Fail> {
+// A header that leads over a strict route.
+const STRICT: &str = "Record-Route: <sip:p>\r\n";
+
+// The message that begins so, an INVITE or its answer, of this number, with this header.
+fn message(alloc: Global, start: &str, cseq: u32, header: &str) -> Result<Message, Fail> {
     let text = format!(in alloc;
-        "INVITE sip:b@192.0.2.9 SIP/2.0\r\nVia: SIP/2.0/UDP \
-        192.0.2.1:5060;rport;branch=z9hG4bKi\r\nFrom: <sip:a@192.0.2.1>;tag=l1\r\n\
-        To: <sip:b@192.0.2.9>\r\nCall-ID: c2\r\nCSeq: {cseq} INVITE\r\n\r\n"
+        "{start}Via: SIP/2.0/UDP 192.0.2.1:5060;rport;branch=z9hG4bKi\r\n\
+        From: <sip:a@192.0.2.1>;tag=l1\r\nCall-ID: c2\r\nCSeq: {cseq} INVITE\r\n{header}\r\n"
     )?;
-    Ok(read(alloc, text.as_bytes()).ok().ok_or("an INVITE")?)
+    Ok(read(alloc, text.as_bytes()).ok().ok_or("a message")?)
 }
 
-// Its answer of this status, with the tag `x`.
-fn answer(alloc: Global, code: u16, cseq: u32) -> Result<Message, Fail> {
-    let text = format!(in alloc;
-        "SIP/2.0 {code} X\r\nVia: SIP/2.0/UDP 192.0.2.1:5060;rport;branch=z9hG4bKi\r\n\
-        From: <sip:a@192.0.2.1>;tag=l1\r\nTo: <sip:b@192.0.2.9>;tag=x\r\nCall-ID: c2\r\n\
-        CSeq: {cseq} INVITE\r\n\r\n"
-    )?;
-    Ok(read(alloc, text.as_bytes()).ok().ok_or("a response")?)
-}
-
-// The dialog of an INVITE of this number that one sent, and its 200.
-fn caller(alloc: Global, cseq: u32) -> Result<Dialog, Fail> {
-    let request = own_invite(alloc, cseq)?;
-    let response = answer(alloc, 200, cseq)?;
+// The dialog of an INVITE of this number that one sent and its answer, with this header.
+fn dialog_of(alloc: Global, answer: &str, cseq: u32, header: &str) -> Result<Dialog, Fail> {
+    let request = message(alloc, INVITE, cseq, "")?;
+    let response = message(alloc, answer, cseq, header)?;
     Ok(Dialog::from_response(alloc, &request, &response)?)
 }
 
-// The same by an answer of this status, over a strict route.
-fn over_strict(rt: &impl Abort, alloc: Global, code: u16, cseq: u32) -> Result<Dialog, Fail> {
-    let request = own_invite(alloc, cseq)?;
-    let mut response = answer(alloc, code, cseq)?;
-    response.record_routes.push(address(rt, alloc, "sip:p")?)?;
-    Ok(Dialog::from_response(alloc, &request, &response)?)
+fn token(alloc: Global, text: &str) -> Result<Token, Fail> {
+    Ok(Token::new(Text::copy_of(alloc, text.as_bytes())?).ok_or("a token")?)
 }
 
-fn branch(rt: &impl Abort, alloc: Global) -> Result<Branch, AllocError> {
-    Ok(Branch::new(token(rt, alloc, "z9hG4bKb")?).expect(rt, "a branch"))
+fn branch(alloc: Global) -> Result<Branch, Fail> {
+    Ok(Branch::new(token(alloc, "z9hG4bKb")?).ok_or("a branch")?)
 }
 
 // Why the request that comes next isn't made.
 fn next_fault(
-    rt: &impl Abort,
     alloc: Global,
     dialog: &mut Dialog,
     method: &str,
-) -> Result<Option<DialogFault>, AllocError> {
-    let method = token(rt, alloc, method)?;
+) -> Result<Option<DialogFault>, Fail> {
+    let method = token(alloc, method)?;
+    let branch = branch(alloc)?;
     let body = Text::copy_of(alloc, b"")?;
-    let branch = branch(rt, alloc)?;
     Ok(dialog.next_request(method, body, branch, LOCAL).err())
 }
 
 // Why the ACK of the first INVITE isn't made.
-fn ack_fault(
-    rt: &impl Abort,
-    alloc: Global,
-    dialog: &Dialog,
-) -> Result<Option<DialogFault>, AllocError> {
+fn ack_fault(alloc: Global, dialog: &Dialog) -> Result<Option<DialogFault>, Fail> {
+    let branch = branch(alloc)?;
     let body = Text::copy_of(alloc, b"")?;
-    let branch = branch(rt, alloc)?;
     Ok(dialog.ack(1, body, branch, LOCAL).err())
 }
 
+// Why a 200 doesn't confirm the dialog.
+fn confirm_fault(alloc: Global, dialog: &mut Dialog) -> Result<Option<DialogFault>, Fail> {
+    let response = message(alloc, SUCCESS, 1, "")?;
+    Ok(dialog.confirm(&response).err())
+}
+
+// Why the target isn't refreshed.
+fn refresh_fault(alloc: Global, dialog: &mut Dialog) -> Result<Option<DialogFault>, Fail> {
+    let target = Uri::new(Text::copy_of(alloc, b"sip:n@10.0.0.6")?).ok_or("a URI")?;
+    Ok(dialog.refresh(target).err())
+}
+
+// Numbers end; a strict router is told before that, and an early dialog before a strict router.
 #[test]
-fn the_numbers_end(rt: HostRuntime) -> Result<(), Fail> {
-    let alloc = rt.alloc();
-    let mut last = caller(alloc, LAST - 1)?;
-    assert!(rt; next_fault(&rt, alloc, &mut last, "INFO")?.is_none());
-    assert!(rt; last.local_cseq() == LAST);
-    let ended = Some(DialogFault::SequenceUsedUp);
-    assert!(rt; next_fault(&rt, alloc, &mut last, "INFO")? == ended);
-    let mut full = caller(alloc, LAST)?;
-    assert!(rt; next_fault(&rt, alloc, &mut full, "INFO")? == ended);
-    assert!(rt; full.local_cseq() == LAST);
+fn the_first_fault_is_told(rt: HostRuntime) -> Result<(), Fail> {
+    let cases = [
+        (SUCCESS, LAST - 1, "", "INFO", None),
+        (SUCCESS, LAST, "", "INFO", Some(DialogFault::SequenceUsedUp)),
+        (
+            SUCCESS,
+            LAST,
+            STRICT,
+            "INFO",
+            Some(DialogFault::StrictRoute),
+        ),
+        (
+            RINGING,
+            LAST,
+            STRICT,
+            "INVITE",
+            Some(DialogFault::NotConfirmed),
+        ),
+    ];
+    for (answer, cseq, header, method, fault) in cases {
+        let mut dialog = dialog_of(rt.alloc(), answer, cseq, header)?;
+        assert!(rt;
+            next_fault(rt.alloc(), &mut dialog, method)? == fault,
+            "{method} at {cseq}"
+        );
+        assert!(rt; dialog.local_cseq() == LAST, "{method} at {cseq}");
+    }
     Ok(())
 }
 
 #[test]
-fn a_strict_router_is_told_before_numbers_that_end(rt: HostRuntime) -> Result<(), Fail> {
-    let mut dialog = over_strict(&rt, rt.alloc(), 200, LAST)?;
-    let fault = next_fault(&rt, rt.alloc(), &mut dialog, "INFO")?;
-    assert!(rt; fault == Some(DialogFault::StrictRoute));
-    Ok(())
-}
-
-#[test]
-fn an_early_dialog_is_told_before_a_strict_router(rt: HostRuntime) -> Result<(), Fail> {
+fn an_early_and_an_ended_dialog_refuse(rt: HostRuntime) -> Result<(), Fail> {
     let alloc = rt.alloc();
-    let mut early = over_strict(&rt, alloc, 180, 1)?;
-    let early_fault = Some(DialogFault::NotConfirmed);
-    assert!(rt; next_fault(&rt, alloc, &mut early, "INVITE")? == early_fault);
-    assert!(rt; ack_fault(&rt, alloc, &early)? == early_fault);
-    Ok(())
-}
-
-#[test]
-fn an_ended_dialog_refuses_everything(rt: HostRuntime) -> Result<(), Fail> {
-    let alloc = rt.alloc();
-    let mut dialog = over_strict(&rt, alloc, 180, 1)?;
+    let mut dialog = dialog_of(alloc, RINGING, 1, STRICT)?;
+    assert!(rt; ack_fault(alloc, &dialog)? == Some(DialogFault::NotConfirmed));
     dialog.end();
     dialog.end();
-    assert!(rt; dialog.state() == DialogState::Ended);
-    let ended = Some(DialogFault::Ended);
-    assert!(rt; next_fault(&rt, alloc, &mut dialog, "INVITE")? == ended);
-    assert!(rt; ack_fault(&rt, alloc, &dialog)? == ended);
-    assert!(rt; dialog.accept(9) == Err(DialogFault::Ended));
-    let target = uri(&rt, alloc, "sip:n@10.0.0.6")?;
-    assert!(rt; dialog.refresh(target) == Err(DialogFault::Ended));
-    let response = answer(alloc, 200, 1)?;
-    assert!(rt; dialog.confirm(&response) == Err(DialogFault::Ended));
+    let faults = [
+        next_fault(alloc, &mut dialog, "INVITE")?,
+        ack_fault(alloc, &dialog)?,
+        dialog.accept(9).err(),
+        refresh_fault(alloc, &mut dialog)?,
+        confirm_fault(alloc, &mut dialog)?,
+    ];
+    assert!(rt; faults == [Some(DialogFault::Ended); 5]);
     assert!(rt; dialog.state() == DialogState::Ended);
     Ok(())
 }

@@ -1,57 +1,33 @@
-//! A line of an output file that no event file gives, faults of event files that no stored case
+//! A line of an output file that no event file gives, a fault of event files that no stored case
 //! has, and a reader that counts.
 
-use sip_files::{CountedRead, EventsFault, replay, write_outputs};
+use super::Open;
+use sip_files::{CountedRead, EventsFault, replay, write_output};
 use sip_message::{CallId, Spread};
-use sip_round::{Gate, Output};
+use sip_round::Output;
 use sip_served::{Notice, Refusal};
 use sip_text::Text;
-use std::alloc::Global;
 use std::io::{self, Read};
 use std::test::Fail;
-
-fn call(alloc: Global) -> Result<CallId, Fail> {
-    let call_id = CallId::new(Text::copy_of(alloc, b"c1")?).ok_or("a Call-ID")?;
-    Ok(call_id)
-}
-
-// Whether this is the line of a notice.
-fn is_told(alloc: Global, notice: Notice, line: &[u8]) -> Result<bool, Fail> {
-    let mut outputs = Vec::new(alloc);
-    outputs.push(Output::Notice(notice))?;
-    let mut rounds = Vec::new(alloc);
-    rounds.push((7, outputs))?;
-    let file = write_outputs(alloc, rounds.as_slice())?;
-    let told = file
-        .as_slice()
-        .strip_prefix(b"sip-outputs 1\nround 7\n".as_slice())
-        .ok_or("the lines before the output")?;
-    Ok(told == line)
-}
 
 // No event file can use up the numbers of a dialog.
 #[test]
 fn numbers_used_up_are_told(rt: HostRuntime) -> Result<(), Fail> {
-    let alloc = rt.alloc();
-    let refused = Notice::Refused {
-        call_id: call(alloc)?,
+    let call_id = CallId::new(Text::copy_of(rt.alloc(), b"c1")?).ok_or("a Call-ID")?;
+    let refused = Output::Notice(Notice::Refused {
+        call_id,
         place: 4,
         refusal: Refusal::SequenceUsedUp,
-    };
-    assert!(rt; is_told(alloc, refused, b"notice c1 refused 4 11\n")?);
+    });
+    let line = write_output(rt.alloc(), &refused)?;
+    assert!(rt; line.as_slice() == b"notice c1 refused 4 11\n".as_slice());
     Ok(())
 }
 
 #[test]
-fn faults_are_named(rt: HostRuntime) -> Result<(), Fail> {
-    let faults = [
-        (EventsFault::TooLong, "event file too long"),
-        (EventsFault::NoMemory, "no memory"),
-    ];
-    for (fault, name) in faults {
-        let text = format!(in rt.alloc(); "{fault}")?;
-        assert!(rt; text.as_str() == name);
-    }
+fn want_of_memory_is_named(rt: HostRuntime) -> Result<(), Fail> {
+    let fault = EventsFault::NoMemory;
+    assert!(rt; format!(in rt.alloc(); "{fault}")?.as_str() == "no memory");
     Ok(())
 }
 
@@ -74,13 +50,6 @@ impl<R: Read> CountedRead for Counting<R> {
         };
         self.reader.read(buf)
     }
-}
-
-/// A gate that holds no piece of work up.
-struct Open;
-
-impl Gate for Open {
-    fn begin(&self, _shard: usize) {}
 }
 
 // There is a read for what the file has, and one for its end.

@@ -1,24 +1,16 @@
 //! Runs over UDP that are recorded: the replay of the record sends and tells what the run did.
 
+use super::loopback::{Answers, Calls, bound, called, listened, stand_in_order};
 use super::run_on;
-use super::udp::{bound, stand_in_order};
-use sip_message::{Addr, CallId, Uri};
+use sip_message::Addr;
 use sip_program::Host;
-use sip_text::Text;
-use sip_udp::{CallPlan, Endpoint, ListenPlan, agent, call_from, listen_at};
+use sip_udp::{Endpoint, agent};
 use std::alloc::{AllocError, Global};
 use std::io::{self, BufRead, BufReader, PipeReader, PipeWriter, Read, Write};
 use std::net::{Ipv4Addr, Net, SocketAddrV4, UdpSocket};
 use std::test::Fail;
 use std::thread::{self, Threads};
 use std::time::Clock;
-
-/// What a run told, and its record.
-#[derive(Drop)]
-struct Run {
-    notices: Vec<u8>,
-    record: Vec<u8>,
-}
 
 // The lines of a text that begin so, without these beginnings.
 fn lines_after(alloc: Global, text: &[u8], beginning: &str) -> Result<Vec<u8>, Fail> {
@@ -43,64 +35,25 @@ fn replayed<T: Threads + Host>(rt: &T, alloc: Global, record: &[u8]) -> Result<V
     }
 }
 
-// A listener that rings for a while, and its record.
-fn listened<R: Threads + Clock + Sync>(
-    rt: &R,
-    alloc: Global,
-    socket: UdpSocket,
-    local: Addr,
-) -> Option<Run> {
-    let mut run = Run {
-        notices: Vec::new(alloc),
-        record: Vec::new(alloc),
-    };
-    let mut plan = ListenPlan::usual(alloc);
-    plan.ring = Some(200);
-    let endpoint = Endpoint::new(socket, local, [7; 32], Some(&mut run.record));
-    let mut errors = Vec::new(alloc);
-    listen_at(
-        rt,
-        alloc,
-        endpoint,
-        plan,
-        300,
-        &mut run.notices,
-        &mut errors,
-    )
-    .ok()?;
-    Some(run)
+// Whether two texts have the same lines that begin so.
+fn have_same_lines(alloc: Global, beginning: &str, one: &[u8], other: &[u8]) -> Result<bool, Fail> {
+    let lines = lines_after(alloc, one, beginning)?;
+    Ok(lines_after(alloc, other, beginning)?.as_slice() == lines.as_slice())
 }
 
-// A caller that holds its call for a while, and its record.
-fn called<R: Threads + Clock + Sync>(
-    rt: &R,
+// Whether what an output file sends from one to another is what came there first, and is long.
+fn comes_as_it_was_sent(
     alloc: Global,
-    socket: UdpSocket,
-    local: Addr,
-    to: Addr,
-) -> Option<Run> {
-    let mut run = Run {
-        notices: Vec::new(alloc),
-        record: Vec::new(alloc),
-    };
-    let uri = Uri::new(Text::copy_of(alloc, b"sip:b@127.0.0.1").ok()?)?;
-    let call_id = CallId::new(Text::copy_of(alloc, b"c1").ok()?)?;
-    let mut plan = CallPlan::usual(alloc, to, uri, call_id);
-    plan.hold = Some(300);
-    plan.must_answer = true;
-    let endpoint = Endpoint::new(socket, local, [8; 32], Some(&mut run.record));
-    let mut errors = Vec::new(alloc);
-    call_from(
-        rt,
-        alloc,
-        endpoint,
-        plan,
-        200,
-        &mut run.notices,
-        &mut errors,
-    )
-    .ok()?;
-    Some(run)
+    source: Addr,
+    target: Addr,
+    output: &[u8],
+    record: &[u8],
+) -> Result<bool, Fail> {
+    let sends = format!(in alloc; "send {target} ")?;
+    let arrivals = format!(in alloc; "datagram {source} ")?;
+    let sent = lines_after(alloc, output, sends.as_str())?;
+    let arrived = lines_after(alloc, record, arrivals.as_str())?;
+    Ok(arrived.len() > 1000 && sent.starts_with(arrived.as_slice()))
 }
 
 // Each told what its replay tells, and what the one sent to the other came there.
@@ -111,29 +64,21 @@ fn a_recorded_call_is_replayed_as_it_was(rt: HostRuntime) -> Result<(), Fail> {
     let (own, from) = bound(&rt)?;
     let (heard, told) = thread::join(
         &rt,
-        || listened(&rt, alloc, theirs, to),
-        || called(&rt, alloc, own, from, to),
+        || listened(&rt, alloc, theirs, to, Answers::Rings(200), 300, false),
+        || called(&rt, alloc, own, from, to, Calls::Holds(300), 200),
     );
-    let heard = heard.ok_or("a listener that ends")?;
-    let told = told.ok_or("a caller that ends")?;
+    let told = told?;
+    assert!(rt; heard.ended.is_ok());
+    assert!(rt; told.ended.is_ok());
     let served = replayed(&rt, alloc, &heard.record)?;
     let asked = replayed(&rt, alloc, &told.record)?;
-    for (run, output) in [(&heard, &served), (&told, &asked)] {
-        let notices = lines_after(alloc, &run.notices, "notice ")?;
-        assert!(rt; !notices.is_empty());
-        assert!(rt; lines_after(alloc, output, "notice ")?.as_slice() == notices.as_slice());
-    }
-    let ways = [(from, to, &asked, &heard), (to, from, &served, &told)];
-    for (source, target, output, run) in ways {
-        let sends = format!(in alloc; "send {target} ")?;
-        let arrivals = format!(in alloc; "datagram {source} ")?;
-        let sent = lines_after(alloc, output, sends.as_str())?;
-        let arrived = lines_after(alloc, &run.record, arrivals.as_str())?;
-        assert!(rt; arrived.len() > 1000);
-        assert!(rt; sent.starts_with(arrived.as_slice()));
-    }
+    assert!(rt; !told.notices.bytes.is_empty());
+    assert!(rt; have_same_lines(alloc, "notice ", &heard.notices.bytes, &served)?);
+    assert!(rt; have_same_lines(alloc, "notice ", &told.notices.bytes, &asked)?);
+    assert!(rt; comes_as_it_was_sent(alloc, from, to, &asked, &heard.record)?);
+    assert!(rt; comes_as_it_was_sent(alloc, to, from, &served, &told.record)?);
     let words = [" 180 ", " response 0.1 200 ", " ended ", " 200 "];
-    assert!(rt; stand_in_order(&told.notices, &words)?);
+    assert!(rt; stand_in_order(&told.notices.bytes, &words));
     Ok(())
 }
 
@@ -198,29 +143,60 @@ impl Script {
         status: &str,
         tag: &str,
     ) -> Result<(), Fail> {
-        let mut text = String::from_str(alloc, "SIP/2.0 ")?;
-        text.push_str(status)?;
-        text.push_str("\r\n")?;
-        let request = str::from_utf8(request).ok().ok_or("a text")?;
-        for line in request.lines() {
-            let is_to = line.starts_with("To: ");
-            let is_copied = ["Via: ", "From: ", "Call-ID: ", "CSeq: "]
-                .iter()
-                .any(|name| line.starts_with(*name));
-            if is_to || is_copied {
-                text.push_str(line)?;
-                if is_to && !line.contains(";tag=") {
-                    text.push_str(";tag=")?;
-                    text.push_str(tag)?;
-                }
-                text.push_str("\r\n")?;
-            }
+        let mut text = format!(in alloc; "SIP/2.0 {status}\r\n")?;
+        for line in str::from_utf8(request).ok().ok_or("a text")?.lines() {
+            push_copied(&mut text, line, tag)?;
         }
         text.push_str("\r\n")?;
         let address = SocketAddrV4::new(Ipv4Addr::from_octets(to.ip), to.port);
         self.socket.send_to(text.as_bytes(), address)?;
         Ok(())
     }
+
+    // Has the agent call this address, and gives its INVITE.
+    fn invited(&mut self, alloc: Global, call: &str, to: Addr) -> Result<Vec<u8>, Fail> {
+        let line = format!(in alloc;
+            "invite {call} {to} sip:b@{to} sip:a@127.0.0.1 sip:b@{to} none -"
+        )?;
+        self.command(line.as_str())?;
+        self.datagram(alloc, "INVITE ")
+    }
+
+    // Has the agent end the dialog with this tag, and answers its BYE.
+    fn hung_up(&mut self, alloc: Global, from: Addr, tag: &str) -> Result<(), Fail> {
+        let line = format!(in alloc; "request c1 {TAG} {tag} BYE -")?;
+        self.command(line.as_str())?;
+        let request = self.datagram(alloc, "BYE ")?;
+        self.answer(alloc, from, &request, "200 OK", tag)
+    }
+
+    // Has the agent cancel the call that rings, and answers its CANCEL.
+    fn cancelled(&mut self, alloc: Global, from: Addr) -> Result<(), Fail> {
+        let ringing = self.notice(alloc, "notice c2 response ")?;
+        let id = ringing.as_str().split(' ').nth(3).ok_or("an id")?;
+        let line = format!(in alloc; "cancel c2 {id}")?;
+        self.command(line.as_str())?;
+        let request = self.datagram(alloc, "CANCEL ")?;
+        self.answer(alloc, from, &request, "200 OK", "z")
+    }
+}
+
+// Adds a line of a request that its answer has, too, with this tag where it is a To without one.
+fn push_copied(text: &mut String, line: &str, tag: &str) -> Result<(), AllocError> {
+    let is_to = line.starts_with("To: ");
+    let is_copied = line.starts_with("Via: ")
+        || line.starts_with("From: ")
+        || line.starts_with("Call-ID: ")
+        || line.starts_with("CSeq: ");
+    if !is_to && !is_copied {
+        return Ok(());
+    }
+    text.push_str(line)?;
+    if is_to && !line.contains(";tag=") {
+        text.push_str(";tag=")?;
+        text.push_str(tag)?;
+    }
+    text.push_str("\r\n")
 }
 
 // A datagram as an event file spells it, and a line's end.
@@ -267,36 +243,31 @@ fn forked_and_cancelled(
     from: Addr,
     to: Addr,
 ) -> Result<Heard, Fail> {
-    let uris = format!(in alloc; "sip:b@{to} sip:a@127.0.0.1 sip:b@{to}")?;
-    let invite = format!(in alloc; "invite c1 {to} {uris} none -")?;
-    script.command(invite.as_str())?;
-    let request = script.datagram(alloc, "INVITE ")?;
+    is_forked(alloc, &mut script, from, to)?;
+    is_cancelled(alloc, &mut script, from, to)?;
+    script.finish()
+}
+
+fn is_forked(alloc: Global, script: &mut Script, from: Addr, to: Addr) -> Result<(), Fail> {
+    let request = script.invited(alloc, "c1", to)?;
     script.answer(alloc, from, &request, "180 Ringing", "x")?;
     for tag in ["x", "y"] {
         script.answer(alloc, from, &request, "200 OK", tag)?;
         script.datagram(alloc, "ACK ")?;
     }
     script.command("this is no command")?;
-    for tag in ["x", "y"] {
-        let bye = format!(in alloc; "request c1 {TAG} {tag} BYE -")?;
-        script.command(bye.as_str())?;
-        let request = script.datagram(alloc, "BYE ")?;
-        script.answer(alloc, from, &request, "200 OK", tag)?;
-    }
-    let invite = format!(in alloc; "invite c2 {to} {uris} none -")?;
-    script.command(invite.as_str())?;
-    let request = script.datagram(alloc, "INVITE ")?;
+    script.hung_up(alloc, from, "x")?;
+    script.hung_up(alloc, from, "y")
+}
+
+fn is_cancelled(alloc: Global, script: &mut Script, from: Addr, to: Addr) -> Result<(), Fail> {
+    let request = script.invited(alloc, "c2", to)?;
     script.answer(alloc, from, &request, "180 Ringing", "z")?;
-    let ringing = script.notice(alloc, "notice c2 response ")?;
-    let id = ringing.as_str().split(' ').nth(3).ok_or("an id")?;
-    let cancel = format!(in alloc; "cancel c2 {id}")?;
-    script.command(cancel.as_str())?;
-    let cancelling = script.datagram(alloc, "CANCEL ")?;
-    script.answer(alloc, from, &cancelling, "200 OK", "z")?;
+    script.cancelled(alloc, from)?;
     script.answer(alloc, from, &request, "487 Request Terminated", "z")?;
     script.datagram(alloc, "ACK ")?;
     script.notice(alloc, "notice c2 ended ")?;
-    script.finish()
+    Ok(())
 }
 
 /// The record of an agent, and what it said of its commands.
@@ -356,21 +327,24 @@ fn an_agent_on_a_pipe_is_replayed_as_it_was(rt: HostRuntime) -> Result<(), Fail>
     let heard = heard?;
     let run = run.ok_or("an agent that ends")?;
     let output = replayed(&rt, alloc, &run.record)?;
-    for beginning in ["notice ", "drop "] {
-        let told = lines_after(alloc, &heard.told, beginning)?;
-        assert!(rt; lines_after(alloc, &output, beginning)?.as_slice() == told.as_slice());
-    }
+    assert!(rt; have_same_lines(alloc, "notice ", &heard.told, &output)?);
+    assert!(rt; have_same_lines(alloc, "drop ", &heard.told, &output)?);
     let sends = format!(in alloc; "send {to} ")?;
     let sent = lines_after(alloc, &output, sends.as_str())?;
     assert!(rt; sent.starts_with(heard.came.as_slice()));
     let words = [" ended ", " y\n", " response ", " 487 ", "notice c2 ended "];
-    assert!(rt; stand_in_order(&heard.told, &words)?);
+    assert!(rt; stand_in_order(&heard.told, &words));
     assert!(rt; run.errors.as_slice() == b"ua: line 2 is no command\n".as_slice());
     Ok(())
 }
 
 // An INVITE with support for reliable provisional responses, and an OPTIONS.
 fn asked(alloc: Global, mut script: Script, to: Addr) -> Result<Heard, Fail> {
+    is_asked(alloc, &mut script, to)?;
+    script.finish()
+}
+
+fn is_asked(alloc: Global, script: &mut Script, to: Addr) -> Result<(), Fail> {
     let uris = format!(in alloc; "sip:b@{to} sip:a@127.0.0.1 sip:b@{to}")?;
     let invite = format!(in alloc; "invite c1 {to} {uris} supported -")?;
     script.command(invite.as_str())?;
@@ -378,24 +352,7 @@ fn asked(alloc: Global, mut script: Script, to: Addr) -> Result<Heard, Fail> {
     let options = format!(in alloc; "plain c2 {to} OPTIONS {uris} -")?;
     script.command(options.as_str())?;
     script.notice(alloc, "notice c2 response ")?;
-    script.finish()
-}
-
-// The notices of a listener that answers reliably, and then that it is busy.
-fn busy<R: Threads + Clock + Sync>(
-    rt: &R,
-    alloc: Global,
-    socket: UdpSocket,
-    local: Addr,
-) -> Option<Vec<u8>> {
-    let mut notices = Vec::new(alloc);
-    let mut errors = Vec::new(alloc);
-    let mut plan = ListenPlan::usual(alloc);
-    plan.reliable = true;
-    plan.status = 486;
-    let endpoint = Endpoint::new(socket, local, [7; 32], None::<Vec<u8>>);
-    listen_at(rt, alloc, endpoint, plan, 200, &mut notices, &mut errors).ok()?;
-    Some(notices)
+    Ok(())
 }
 
 // The 183 is acknowledged before the 486 comes, and an OPTIONS is served.
@@ -415,7 +372,7 @@ fn a_listener_answers_reliably_and_as_it_is_told(rt: HostRuntime) -> Result<(), 
     };
     let (served, (run, heard)) = thread::join(
         &rt,
-        || busy(&rt, alloc, theirs, to),
+        || listened(&rt, alloc, theirs, to, Answers::Busy, 200, false),
         || {
             thread::join(
                 &rt,
@@ -427,8 +384,13 @@ fn a_listener_answers_reliably_and_as_it_is_told(rt: HostRuntime) -> Result<(), 
     let heard = heard?;
     assert!(rt; run.is_some());
     let words = [" 183 ", " 486 ", " ended ", "notice c2 response ", " 200 "];
-    assert!(rt; stand_in_order(&heard.told, &words)?);
-    let served = served.ok_or("a listener that ends")?;
-    assert!(rt; stand_in_order(&served, &[" INVITE ", "notice c1 prack ", " OPTIONS "])?);
+    assert!(rt; stand_in_order(&heard.told, &words));
+    assert!(rt; served.ended.is_ok());
+    assert!(rt;
+        stand_in_order(
+            &served.notices.bytes,
+            &[" INVITE ", "notice c1 prack ", " OPTIONS "]
+        )
+    );
     Ok(())
 }

@@ -2,9 +2,10 @@
 
 ghost use Rattle.std.specs.Prelude.{◌<◌};
 
+use super::Open;
 use sip_files::{read_events, write_outputs};
 use sip_message::{Addr, Spread};
-use sip_round::{Agent, Config, Gate};
+use sip_round::{Agent, Config};
 use std::alloc::Global;
 use std::mem;
 use std::test::Fail;
@@ -12,13 +13,6 @@ use std::thread::Threads;
 
 const INVITE: &str =
     "invite c 192.0.2.9:5060 sip:b@192.0.2.9 sip:a@192.0.2.1 sip:b@h supported -\n";
-
-/// A gate that holds no piece of work up.
-struct Open;
-
-impl Gate for Open {
-    fn begin(&self, _shard: usize) {}
-}
 
 /// A network that loses so many of eight datagrams, and doubles one.
 #[derive(Drop)]

@@ -2,26 +2,24 @@
 
 ghost use Rattle.std.specs.Prelude.{Some, ◌≤◌};
 
-use super::{Ended, Flushed, run_on};
+use super::loopback::{Answers, Calls, bound, called, listened, names, stand_in_order};
+use super::{Ended, run_on};
 use sip_desk::{Desk, NoMemory, Poster, open};
-use sip_message::{Addr, CallId, Key, Token, Uri};
+use sip_message::{Addr, Key, Token};
 use sip_program::Host;
 use sip_round::{Event, Output};
 use sip_text::{Series, Text};
 use sip_transactions::DropReason;
-use sip_udp::{
-    Asked, CallPlan, Endpoint, Flags, Inlet, ListenPlan, Outlet, Received, UaFault, call,
-    call_from, hear, listen, listen_at, send_all,
-};
+use sip_udp::{Asked, Flags, Inlet, Outlet, Received, UaFault, call, hear, listen, send_all};
 use std::alloc::{AllocError, Global};
-use std::net::{Ipv4Addr, Net, SocketAddrV4, UdpSocket};
+use std::net::{Ipv4Addr, SocketAddrV4, UdpSocket};
 use std::process::Abort;
 use std::sync::Arc;
 use std::sync::atomic::Ordering;
 use std::test::Fail;
 use std::thread::Threads;
 use std::time::{Clock, Duration};
-use std::{fs, io, thread};
+use std::{fs, thread};
 
 const PEER: Addr = Addr {
     ip: [192, 0, 2, 9],
@@ -187,99 +185,48 @@ fn a_listener_gives_up_after_a_hundred_failures_in_a_row(rt: HostRuntime) -> Res
     Ok(())
 }
 
-// A socket on loopback, and its address.
-pub(super) fn bound<R: Net>(rt: &R) -> io::Result<(UdpSocket, Addr)> {
-    let socket = UdpSocket::bind(rt, (Ipv4Addr::LOCALHOST, 0))?;
-    socket.set_read_timeout(Some(Duration::from_millis(2_000)))?;
-    let port = socket.local_addr()?.port();
-    let ip = [127, 0, 0, 1];
-    Ok((socket, Addr { ip, port }))
-}
-
-// The notices of a listener that takes so many turns.
-fn listened<R: Threads + Clock + Sync>(
+// How a listener ends that takes so many turns, and its notices.
+fn plainly_listened<R: Threads + Clock + Sync>(
     rt: &R,
     alloc: Global,
     socket: UdpSocket,
     local: Addr,
     turns: u32,
-) -> Option<Vec<u8>> {
+) -> (Result<(), UaFault>, Vec<u8>) {
     let mut notices = Vec::new(alloc);
-    listen(rt, alloc, socket, local, [7; 32], turns, &mut notices).ok()?;
-    Some(notices)
+    let ended = listen(rt, alloc, socket, local, [7; 32], turns, &mut notices);
+    (ended, notices)
 }
 
-// The notices of a listener that rings for a minute, or until it is cancelled.
-fn rung<R: Threads + Clock + Sync>(
-    rt: &R,
-    alloc: Global,
-    socket: UdpSocket,
-    local: Addr,
-    turns: u32,
-) -> Option<Vec<u8>> {
-    let mut notices = Vec::new(alloc);
-    let mut errors = Vec::new(alloc);
-    let endpoint = Endpoint::new(socket, local, [7; 32], None::<Vec<u8>>);
-    let mut plan = ListenPlan::usual(alloc);
-    plan.ring = Some(60_000);
-    listen_at(rt, alloc, endpoint, plan, turns, &mut notices, &mut errors).ok()?;
-    Some(notices)
-}
-
-// The notices of a caller that takes so many turns, and may give the call up before the last.
-fn called<R: Threads + Clock + Sync>(
+// The notices of a caller that does what is usual.
+fn plainly_called<R: Threads + Clock + Sync>(
     rt: &R,
     alloc: Global,
     socket: UdpSocket,
     local: Addr,
     to: Addr,
-    leaves: bool,
-    turns: u32,
-) -> Option<Vec<u8>> {
-    let uri = Uri::new(Text::copy_of(alloc, b"sip:b@127.0.0.1").ok()?)?;
-    let call_id = CallId::new(Text::copy_of(alloc, b"c1").ok()?)?;
+) -> Result<Vec<u8>, Fail> {
+    let (uri, call_id) = names(alloc)?;
     let mut notices = Vec::new(alloc);
-    let seed = [8; 32];
-    if leaves {
-        let endpoint = Endpoint::new(socket, local, seed, None::<Vec<u8>>);
-        let mut plan = CallPlan::usual(alloc, to, uri, call_id);
-        plan.leaves = true;
-        let mut errors = Vec::new(alloc);
-        call_from(rt, alloc, endpoint, plan, turns, &mut notices, &mut errors).ok()?;
-    } else {
-        let told = &mut notices;
-        call(
-            rt, alloc, socket, local, to, uri, call_id, seed, turns, told,
-        )
-        .ok()?;
-    }
-    Some(notices)
-}
-
-// Whether these stand in the text in this order.
-pub(super) fn stand_in_order(text: &[u8], parts: &[&str]) -> Result<bool, Fail> {
-    let mut left = str::from_utf8(text).ok().ok_or("a text")?;
-    for part in parts {
-        let Some((_, after)) = left.split_once(*part) else {
-            return Ok(false);
-        };
-        left = after;
-    }
-    Ok(true)
+    let told = &mut notices;
+    call(
+        rt, alloc, socket, local, to, uri, call_id, [8; 32], 200, told,
+    )?;
+    Ok(notices)
 }
 
 #[test]
 fn a_call_between_two_agents_on_loopback(rt: HostRuntime) -> Result<(), Fail> {
+    let alloc = rt.alloc();
     let (theirs, to) = bound(&rt)?;
     let (own, from) = bound(&rt)?;
-    let alloc = rt.alloc();
-    let (heard, told) = thread::join(
+    let ((ended, heard), told) = thread::join(
         &rt,
-        || listened(&rt, alloc, theirs, to, 400),
-        || called(&rt, alloc, own, from, to, false, 200),
+        || plainly_listened(&rt, alloc, theirs, to, 400),
+        || plainly_called(&rt, alloc, own, from, to),
     );
-    let heard = heard.ok_or("a listener that ends")?;
-    let told = told.ok_or("a caller that ends")?;
+    let told = told?;
+    assert!(rt; ended.is_ok());
     let served = [
         " request ",
         " INVITE ",
@@ -288,44 +235,45 @@ fn a_call_between_two_agents_on_loopback(rt: HostRuntime) -> Result<(), Fail> {
         " BYE ",
         "notice c1 ended ",
     ];
-    assert!(rt; stand_in_order(&heard, &served)?);
+    assert!(rt; stand_in_order(&heard, &served));
     let answered = [
         " response 0.1 200 ",
         "notice c1 ended ",
         " response ",
         " 200 ",
     ];
-    assert!(rt; stand_in_order(&told, &answered)?);
+    assert!(rt; stand_in_order(&told, &answered));
     Ok(())
 }
 
 // The call is cancelled one second before its last turn, and no final response but 487 comes.
 #[test]
 fn a_call_that_is_given_up_while_it_rings(rt: HostRuntime) -> Result<(), Fail> {
+    let alloc = rt.alloc();
     let (theirs, to) = bound(&rt)?;
     let (own, from) = bound(&rt)?;
-    let alloc = rt.alloc();
     let (heard, told) = thread::join(
         &rt,
-        || rung(&rt, alloc, theirs, to, 300),
-        || called(&rt, alloc, own, from, to, true, 150),
+        || listened(&rt, alloc, theirs, to, Answers::Rings(60_000), 300, false),
+        || called(&rt, alloc, own, from, to, Calls::Leaves, 150),
     );
-    let heard = heard.ok_or("a listener that ends")?;
-    let told = told.ok_or("a caller that ends")?;
+    let told = told?;
+    assert!(rt; heard.ended.is_ok());
+    assert!(rt; told.ended.is_ok());
     let cancelled = [
         " request ",
         " INVITE ",
         "notice c1 cancel ",
         "notice c1 ended ",
     ];
-    assert!(rt; stand_in_order(&heard, &cancelled)?);
+    assert!(rt; stand_in_order(&heard.notices.bytes, &cancelled));
     let given_up = [
         " response 0.1 180 ",
         " response 0.1 487 ",
         "notice c1 ended ",
     ];
-    assert!(rt; stand_in_order(&told, &given_up)?);
-    assert!(rt; !stand_in_order(&told, &[" response 0.1 200 "])?);
+    assert!(rt; stand_in_order(&told.notices.bytes, &given_up));
+    assert!(rt; !stand_in_order(&told.notices.bytes, &[" response 0.1 200 "]));
     Ok(())
 }
 
@@ -343,52 +291,22 @@ fn answer_to_info(alloc: Global, socket: &UdpSocket, to: Addr) -> Option<bool> {
     Some(buffer.get(..length)?.starts_with(b"SIP/2.0 501 "))
 }
 
-#[test]
-fn a_listener_on_loopback_has_no_service_for_info(rt: HostRuntime) -> Result<(), Fail> {
-    let (theirs, to) = bound(&rt)?;
-    let (own, _) = bound(&rt)?;
-    let alloc = rt.alloc();
-    let (heard, answered) = thread::join(
-        &rt,
-        || listened(&rt, alloc, theirs, to, 50),
-        || answer_to_info(alloc, &own, to),
-    );
-    assert!(rt; heard.is_some());
-    assert!(rt; answered == Some(true));
-    Ok(())
-}
-
-// How a listener ends whose notices go to a writer, and that writer.
-fn flushed<R: Threads + Clock + Sync>(
-    rt: &R,
-    alloc: Global,
-    socket: UdpSocket,
-    local: Addr,
-    fails: bool,
-) -> (Result<(), UaFault>, Flushed) {
-    let mut notices = Flushed {
-        bytes: Vec::new(alloc),
-        flushed: 0,
-        fails,
-    };
-    let ended = listen(rt, alloc, socket, local, [7; 32], 100, &mut notices);
-    (ended, notices)
-}
-
+// Each notice is flushed; an INFO is told and answered.
 #[test]
 fn a_listener_flushes_each_notice(rt: HostRuntime) -> Result<(), Fail> {
+    let alloc = rt.alloc();
     for (fails, expected) in [(false, Ok(())), (true, Err(UaFault::Output))] {
         let (theirs, to) = bound(&rt)?;
         let (own, _) = bound(&rt)?;
-        let alloc = rt.alloc();
-        let ((ended, notices), _) = thread::join(
+        let (heard, answered) = thread::join(
             &rt,
-            || flushed(&rt, alloc, theirs, to, fails),
+            || listened(&rt, alloc, theirs, to, Answers::Usually, 100, fails),
             || answer_to_info(alloc, &own, to),
         );
-        assert!(rt; ended == expected);
-        assert!(rt; !notices.bytes.is_empty());
-        assert!(rt; fails || notices.flushed == notices.bytes.len());
+        assert!(rt; heard.ended == expected);
+        assert!(rt; !heard.notices.bytes.is_empty());
+        assert!(rt; fails || heard.notices.flushed == heard.notices.bytes.len());
+        assert!(rt; fails || answered == Some(true));
     }
     Ok(())
 }
@@ -412,16 +330,23 @@ fn blast<R: Clock>(rt: &R, socket: &UdpSocket, to: Addr, datagrams: u32) {
     }
 }
 
-// How a listener ends that takes so many turns.
-fn listening_end<R: Threads + Clock + Sync>(
+// How a listener ends that takes so many turns, while so many datagrams are sent to an address.
+fn end_of_listener<R: Threads + Clock + Sync>(
     rt: &R,
     alloc: Global,
     socket: UdpSocket,
     local: Addr,
     turns: u32,
+    own: &UdpSocket,
+    to: Addr,
+    datagrams: u32,
 ) -> Result<(), UaFault> {
-    let mut notices = Vec::new(alloc);
-    listen(rt, alloc, socket, local, [7; 32], turns, &mut notices)
+    let ((ended, _), ()) = thread::join(
+        rt,
+        || plainly_listened(rt, alloc, socket, local, turns),
+        || blast(rt, own, to, datagrams),
+    );
+    ended
 }
 
 // What comes after the last turn is collected, so that the line is settled.
@@ -429,13 +354,7 @@ fn listening_end<R: Threads + Clock + Sync>(
 fn a_listener_ends_well_while_datagrams_come(rt: HostRuntime) -> Result<(), Fail> {
     let (theirs, to) = bound(&rt)?;
     let (own, _) = bound(&rt)?;
-    let alloc = rt.alloc();
-    let (ended, _) = thread::join(
-        &rt,
-        || listening_end(&rt, alloc, theirs, to, 20),
-        || blast(&rt, &own, to, 1_000),
-    );
-    assert!(rt; ended == Ok(()));
+    assert!(rt; end_of_listener(&rt, rt.alloc(), theirs, to, 20, &own, to, 1_000).is_ok());
     Ok(())
 }
 
@@ -447,12 +366,7 @@ fn a_listener_whose_socket_fails_tells_so(rt: HostRuntime) -> Result<(), Fail> {
     let (socket, local) = bound(&rt)?;
     socket.connect(SocketAddrV4::new(Ipv4Addr::LOCALHOST, to.port))?;
     let own = socket.try_clone()?;
-    let alloc = rt.alloc();
-    let (ended, _) = thread::join(
-        &rt,
-        || listening_end(&rt, alloc, socket, local, 400),
-        || blast(&rt, &own, to, 2_000),
-    );
+    let ended = end_of_listener(&rt, rt.alloc(), socket, local, 400, &own, to, 2_000);
     assert!(rt; ended == Err(UaFault::Socket));
     Ok(())
 }
@@ -522,16 +436,19 @@ fn moment_of(record: &[u8], words: &str) -> Result<u64, Fail> {
     Err(Fail::from("a datagram"))
 }
 
-// The listener rings and answers with a body; the caller acknowledges it, stays for a while, and
-// ends each dialog once. What is sent names the port that the socket got.
-#[test]
-fn a_call_is_as_the_words_of_both_say(rt: HostRuntime) -> Result<(), Fail> {
-    let alloc = rt.alloc();
-    let (socket, to) = bound(&rt)?;
-    drop(socket);
+/// What came of a listener and a caller, and the listener's record.
+#[derive(Drop)]
+struct Talked {
+    served: Ended,
+    called: Ended,
+    events: Vec<u8>,
+}
+
+// Runs a listener and a caller by their words.
+fn run_both(rt: &HostRuntime, alloc: Global, to: Addr) -> Result<Talked, Fail> {
     let body = format!(in alloc; "/tmp/ua-body-{}", to.port)?;
     let record = format!(in alloc; "/tmp/ua-record-{}", to.port)?;
-    fs::write(&rt, body.as_str(), BODY)?;
+    fs::write(rt, body.as_str(), BODY)?;
     let listen = format!(in alloc;
         "listen --local {to} --turns 250 --ring 100 --reliable \
         --body {body} --record {record} --stats"
@@ -541,14 +458,31 @@ fn a_call_is_as_the_words_of_both_say(rt: HostRuntime) -> Result<(), Fail> {
         --turns 240 --hold 300 --leave --must-answer --stats"
     )?;
     let (served, called) = thread::join(
-        &rt,
-        || ua_with(&rt, alloc, listen.as_str()),
-        || ua_with(&rt, alloc, call.as_str()),
+        rt,
+        || ua_with(rt, alloc, listen.as_str()),
+        || ua_with(rt, alloc, call.as_str()),
     );
-    let (served, called) = (served?, called?);
-    let events = fs::read(&rt, record.as_str())?;
-    fs::remove_file(&rt, body.as_str())?;
-    fs::remove_file(&rt, record.as_str())?;
+    let events = fs::read(rt, record.as_str())?;
+    fs::remove_file(rt, body.as_str())?;
+    fs::remove_file(rt, record.as_str())?;
+    Ok(Talked {
+        served: served?,
+        called: called?,
+        events,
+    })
+}
+
+// The listener rings and answers with a body; the caller acknowledges it, stays for a while, and
+// ends each dialog once. What is sent names the port that the socket got.
+#[test]
+fn a_call_is_as_the_words_of_both_say(rt: HostRuntime) -> Result<(), Fail> {
+    let (socket, to) = bound(&rt)?;
+    drop(socket);
+    let Talked {
+        served,
+        called,
+        events,
+    } = run_both(&rt, rt.alloc(), to)?;
     assert!(rt; served.status == 0);
     assert!(rt; called.status == 0);
     let words = [
@@ -558,10 +492,10 @@ fn a_call_is_as_the_words_of_both_say(rt: HostRuntime) -> Result<(), Fail> {
         " ended ",
         " 200 ",
     ];
-    assert!(rt; stand_in_order(&called.output, &words)?);
-    assert!(rt; !stand_in_order(&called.output, &[" refused "])?);
+    assert!(rt; stand_in_order(&called.output, &words));
+    assert!(rt; !stand_in_order(&called.output, &[" refused "]));
     let words = [" INVITE ", "notice ua-call ack ", " BYE ", " ended "];
-    assert!(rt; stand_in_order(&served.output, &words)?);
+    assert!(rt; stand_in_order(&served.output, &words));
     let acknowledged = moment_of(&events, "ACK ")?;
     assert!(rt; moment_of(&events, "BYE ")? >= acknowledged.saturating_add(250));
     let port = between(&called.errors, "ua: local 127.0.0.1:", ", ")?;
@@ -575,7 +509,7 @@ fn a_call_is_as_the_words_of_both_say(rt: HostRuntime) -> Result<(), Fail> {
         port,
         ">",
     ];
-    assert!(rt; stand_in_order(&events, &words)?);
-    assert!(rt; stand_in_order(&served.errors, &[", 1 INVITEs, ", " 0 lost\n"])?);
+    assert!(rt; stand_in_order(&events, &words));
+    assert!(rt; stand_in_order(&served.errors, &[", 1 INVITEs, ", " 0 lost\n"]));
     Ok(())
 }

@@ -102,26 +102,18 @@ fn all_met(dones: &[(usize, bool)]) -> bool {
     dones.iter().all(|done| done.1)
 }
 
+// Two workers run two pieces at the same time, and one runs one at a time.
 #[test]
-fn two_pieces_run_at_the_same_time(rt: HostRuntime) -> Result<(), Fail> {
-    let gate = Count(AtomicU64::new(0));
-    let running = AtomicU64::new(0);
-    let pieces = waiting(rt.alloc(), &running, 2, 0, true)?;
-    let dones = run_pieces(&rt, rt.alloc(), pieces, 2, &gate)?;
-    assert!(rt; dones.len() == 2);
-    assert!(rt; all_met(&dones));
-    assert!(rt; gate.0.load(Ordering::SeqCst) == 2);
-    Ok(())
-}
-
-#[test]
-fn one_worker_runs_one_piece_at_a_time(rt: HostRuntime) -> Result<(), Fail> {
-    let gate = Count(AtomicU64::new(0));
-    let running = AtomicU64::new(0);
-    let pieces = waiting(rt.alloc(), &running, 2, 0, true)?;
-    let dones = run_pieces(&rt, rt.alloc(), pieces, 1, &gate)?;
-    assert!(rt; dones.len() == 2);
-    assert!(rt; !all_met(&dones));
+fn as_many_pieces_run_as_there_are_workers(rt: HostRuntime) -> Result<(), Fail> {
+    for workers in 1..3 {
+        let gate = Count(AtomicU64::new(0));
+        let running = AtomicU64::new(0);
+        let pieces = waiting(rt.alloc(), &running, 2, 0, true)?;
+        let dones = run_pieces(&rt, rt.alloc(), pieces, workers, &gate)?;
+        assert!(rt; dones.len() == 2);
+        assert!(rt; all_met(&dones) == (workers == 2));
+        assert!(rt; gate.0.load(Ordering::SeqCst) == 2);
+    }
     Ok(())
 }
 
@@ -139,28 +131,28 @@ fn a_piece_that_waits_holds_up_no_other(rt: HostRuntime) -> Result<(), Fail> {
     Ok(())
 }
 
-#[test]
-fn more_workers_than_pieces(rt: HostRuntime) -> Result<(), Fail> {
-    let gate = Count(AtomicU64::new(0));
-    let dones = run_pieces(&rt, rt.alloc(), squares(rt.alloc(), 3)?, 64, &gate)?;
-    assert!(rt; dones.len() == 3);
-    let none = run_pieces(&rt, rt.alloc(), squares(rt.alloc(), 0)?, 64, &gate)?;
-    assert!(rt; none.is_empty());
-    assert!(rt; gate.0.load(Ordering::SeqCst) == 3);
-    Ok(())
+// The numbers are the squares of 0 and what follows, so many.
+fn are_squares(numbers: &[u64], count: u32) -> bool {
+    let mut next: u64 = 0;
+    for number in numbers {
+        if *number != next.wrapping_mul(next) {
+            return false;
+        }
+        next = next.wrapping_add(1);
+    }
+    next == u64::from(count)
 }
 
+// Also with more workers than pieces, and without a piece.
 #[test]
 fn gathers_the_same_each_time(rt: HostRuntime) -> Result<(), Fail> {
     dones_in_order::<Square>();
-    for _ in 0..200 {
-        let gate = Count(AtomicU64::new(0));
-        let dones = run_pieces(&rt, rt.alloc(), squares(rt.alloc(), 64)?, 8, &gate)?;
-        let gathered = gather(rt.alloc(), dones)?;
-        assert!(rt; gathered.len() == 64);
-        for k in 0..64u32 {
-            let square = u64::from(k).wrapping_mul(u64::from(k));
-            assert!(rt; gathered.get(k as usize).copied() == Some(square), "at {k}");
+    for (count, workers, times) in [(64, 8, 200), (3, 64, 1), (0, 64, 1)] {
+        for _ in 0..times {
+            let gate = Count(AtomicU64::new(0));
+            let dones = run_pieces(&rt, rt.alloc(), squares(rt.alloc(), count)?, workers, &gate)?;
+            assert!(rt; are_squares(&gather(rt.alloc(), dones)?, count));
+            assert!(rt; gate.0.load(Ordering::SeqCst) == u64::from(count));
         }
     }
     Ok(())
