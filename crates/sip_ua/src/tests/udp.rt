@@ -444,45 +444,58 @@ struct Talked {
     events: Vec<u8>,
 }
 
-// Runs a listener and a caller by their words.
-fn run_both(rt: &HostRuntime, alloc: Global, to: Addr) -> Result<Talked, Fail> {
-    let body = format!(in alloc; "/tmp/ua-body-{}", to.port)?;
-    let record = format!(in alloc; "/tmp/ua-record-{}", to.port)?;
-    fs::write(rt, body.as_str(), BODY)?;
-    let listen = format!(in alloc;
+// The words of the listener, with the files of its body and of its record.
+fn listener_words(alloc: Global, to: Addr, body: &str, record: &str) -> Result<String, AllocError> {
+    format!(in alloc;
         "listen --local {to} --turns 250 --ring 100 --reliable \
         --body {body} --record {record} --stats"
-    )?;
-    let call = format!(in alloc;
+    )
+}
+
+// The words of the caller.
+fn caller_words(alloc: Global, to: Addr) -> Result<String, AllocError> {
+    format!(in alloc;
         "call --local 127.0.0.1:0 --to {to} --uri sip:b@127.0.0.1 \
         --turns 240 --hold 300 --leave --must-answer --stats"
-    )?;
+    )
+}
+
+#[test]
+fn a_call_is_as_the_words_of_both_say(rt: HostRuntime) -> Result<(), Fail> {
+    let alloc = rt.alloc();
+    let (socket, to) = bound(&rt)?;
+    drop(socket);
+    let body = format!(in alloc; "/tmp/ua-body-{}", to.port)?;
+    let record = format!(in alloc; "/tmp/ua-record-{}", to.port)?;
+    fs::write(&rt, body.as_str(), BODY)?;
+    let listen = listener_words(alloc, to, body.as_str(), record.as_str())?;
+    let call = caller_words(alloc, to)?;
     let (served, called) = thread::join(
-        rt,
-        || ua_with(rt, alloc, listen.as_str()),
-        || ua_with(rt, alloc, call.as_str()),
+        &rt,
+        || ua_with(&rt, alloc, listen.as_str()),
+        || ua_with(&rt, alloc, call.as_str()),
     );
-    let events = fs::read(rt, record.as_str())?;
-    fs::remove_file(rt, body.as_str())?;
-    fs::remove_file(rt, record.as_str())?;
-    Ok(Talked {
-        served: served?,
-        called: called?,
-        events,
-    })
+    let events = fs::read(&rt, record.as_str())?;
+    fs::remove_file(&rt, body.as_str())?;
+    fs::remove_file(&rt, record.as_str())?;
+    are_as_said(
+        &rt,
+        &Talked {
+            served: served?,
+            called: called?,
+            events,
+        },
+    )
 }
 
 // The listener rings and answers with a body; the caller acknowledges it, stays for a while, and
 // ends each dialog once. What is sent names the port that the socket got.
-#[test]
-fn a_call_is_as_the_words_of_both_say(rt: HostRuntime) -> Result<(), Fail> {
-    let (socket, to) = bound(&rt)?;
-    drop(socket);
+fn are_as_said(rt: &impl Abort, talked: &Talked) -> Result<(), Fail> {
     let Talked {
         served,
         called,
         events,
-    } = run_both(&rt, rt.alloc(), to)?;
+    } = talked;
     assert!(rt; served.status == 0);
     assert!(rt; called.status == 0);
     let words = [
@@ -496,8 +509,8 @@ fn a_call_is_as_the_words_of_both_say(rt: HostRuntime) -> Result<(), Fail> {
     assert!(rt; !stand_in_order(&called.output, &[" refused "]));
     let words = [" INVITE ", "notice ua-call ack ", " BYE ", " ended "];
     assert!(rt; stand_in_order(&served.output, &words));
-    let acknowledged = moment_of(&events, "ACK ")?;
-    assert!(rt; moment_of(&events, "BYE ")? >= acknowledged.saturating_add(250));
+    let acknowledged = moment_of(events, "ACK ")?;
+    assert!(rt; moment_of(events, "BYE ")? >= acknowledged.saturating_add(250));
     let port = between(&called.errors, "ua: local 127.0.0.1:", ", ")?;
     assert!(rt; port != "0");
     let words = [
@@ -509,7 +522,7 @@ fn a_call_is_as_the_words_of_both_say(rt: HostRuntime) -> Result<(), Fail> {
         port,
         ">",
     ];
-    assert!(rt; stand_in_order(&events, &words));
+    assert!(rt; stand_in_order(events, &words));
     assert!(rt; stand_in_order(&served.errors, &[", 1 INVITEs, ", " 0 lost\n"]));
     Ok(())
 }
