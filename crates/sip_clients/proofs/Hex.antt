@@ -6,11 +6,12 @@ use Rattle.sip_message.specs.declared.id.Id.{Id}
 use Rattle.sip_text.specs.Character.{is_token_byte}
 use Rattle.sip_text.specs.Token.{is_run, is_token}
 use Rattle.sip_message.specs.Via.{has_cookie}
-use Rattle.sip_clients.specs.Name.{digit_of, hex, name_of, word_of_name}
+use Rattle.sip_text.specs.Number.{hex_digit}
+use Rattle.sip_clients.specs.Name.{hex, name_of, word_of_name}
 
 -- so many digits are one fewer of the number without its last digit, and that digit
 pub hex-last : (count number : ℕ) → 0 < count
-    → hex count number ≡ hex (count - 1) (number / 16) ++ digit_of (number % 16) ∷ []
+    → hex count number ≡ hex (count - 1) (number / 16) ++ hex_digit (number % 16) ∷ []
 unfolding hex
 hex-last zero number some = absurd (omega arith)
 hex-last (suc count) number some = let e : suc count - 1 ≡ count = omega arith in rw e refl
@@ -21,7 +22,7 @@ unfolding hex
 hex-none number = refl
 
 -- each digit is a byte of a token
-digit-token : (value : ℕ) → value < 16 → is_token_byte (digit_of value) ≡ true
+digit-token : (value : ℕ) → value < 16 → is_token_byte (hex_digit value) ≡ true
 unfolding is_token_byte
 digit-token zero small = refl
 digit-token (suc zero) small = refl
@@ -60,7 +61,7 @@ length-hex zero number = refl
 length-hex (suc count) number =
     omega (
       arith,
-      length-append (hex count (number / 16)) (digit_of (number % 16) ∷ []),
+      length-append (hex count (number / 16)) (hex_digit (number % 16) ∷ []),
       length-hex count (number / 16),
     )
 

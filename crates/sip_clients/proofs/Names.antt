@@ -1,10 +1,10 @@
 -- A made name tells its round, its place and its index.
-use Rattle.std.proofs.Common.{◌≡◌, ℕ, zero, suc, ◌+◌, ◌-◌, ◌/◌, ◌%◌, ◌<◌, ◌^◌, List, [], ◌∷◌, ◌++◌, length, take, drop, sym, ap, ◌∙◌, arith, length-append, nat_lt, if◌then◌else◌}
-use Rattle.std.proofs.lemmas.Bool.{ltb-true, ltb-false}
+use Rattle.std.proofs.Common.{◌≡◌, ℕ, zero, suc, ◌+◌, ◌-◌, ◌/◌, ◌%◌, ◌<◌, ◌^◌, List, [], ◌∷◌, ◌++◌, length, take, drop, sym, ap, ◌∙◌, arith, length-append}
+use Rattle.std.proofs.lemmas.Bool.Decides.{nat_tests}
 use Rattle.std.proofs.Math.Seq.{take-append_seam, drop-append_seam}
-use Rattle.sip_model.proofs.Ordered.{by_bool}
 use Rattle.sip_clients.proofs.Hex.{length-hex}
-use Rattle.sip_clients.specs.Name.{digit_of, hex, NamesDiffer}
+use Rattle.sip_text.specs.Number.{hex_digit}
+use Rattle.sip_clients.specs.Name.{hex, NamesDiffer}
 
 -- two texts of two parts each, where the first parts are as long
 module _ (xs ys zs ws : List ℕ) (long : length xs ≡ length ys) (same : xs ++ zs ≡ ys ++ ws) where
@@ -17,26 +17,8 @@ module _ (xs ys zs ws : List ℕ) (long : length xs ≡ length ys) (same : xs ++
       ∙ ap (λ n. drop n (ys ++ ws)) long ∙ drop-append_seam ys ws
 
 -- a digit tells its value
-digit-injective : (a b : ℕ) → digit_of a ≡ digit_of b → a ≡ b
-digit-injective a b e =
-    by_bool (nat_lt a 10)
-    (λ small. by_bool (nat_lt b 10)
-    (λ other_small. let f : 48 + a ≡ 48
-    + b = sym (ap (λ t. if t then 48 + a else 97 + (a - 10)) small) ∙ e
-    ∙ ap (λ t. if t then 48 + b else 97 + (b - 10)) other_small in omega (arith, f))
-    (λ other_large. let f : 48 + a ≡ 97
-    + (b - 10) = sym (ap (λ t. if t then 48 + a else 97 + (a - 10)) small) ∙ e
-    ∙ ap (λ t. if t then 48 + b else 97 + (b - 10)) other_large in
-    omega (arith, f, ltb-true a 10 small, ltb-false b 10 other_large)))
-    (λ large. by_bool (nat_lt b 10)
-    (λ other_small. let f : 97 + (a - 10) ≡ 48
-    + b = sym (ap (λ t. if t then 48 + a else 97 + (a - 10)) large) ∙ e
-    ∙ ap (λ t. if t then 48 + b else 97 + (b - 10)) other_small in
-    omega (arith, f, ltb-false a 10 large, ltb-true b 10 other_small))
-    (λ other_large. let f : 97 + (a - 10) ≡ 97
-    + (b - 10) = sym (ap (λ t. if t then 48 + a else 97 + (a - 10)) large) ∙ e
-    ∙ ap (λ t. if t then 48 + b else 97 + (b - 10)) other_large in
-    omega (arith, f, ltb-false a 10 large, ltb-false b 10 other_large)))
+digit-injective : (a b : ℕ) → hex_digit a ≡ hex_digit b → a ≡ b
+digit-injective a b e = grind (arith, nat_tests)
 
 abbrev head_of : List ℕ → ℕ
 head_of [] = 0
@@ -57,8 +39,8 @@ hex-injective (suc count) m n small other e =
     let long : length (hex count (m / 16)) ≡ length (hex count (n / 16)) =
     length-hex count (m / 16) ∙ sym (length-hex count (n / 16)) in
     let fronts : hex count (m / 16) ≡ hex count (n / 16) =
-    first_parts _ _ (digit_of (m % 16) ∷ []) (digit_of (n % 16) ∷ []) long e in
-    let lasts : digit_of (m % 16) ≡ digit_of (n % 16) =
+    first_parts _ _ (hex_digit (m % 16) ∷ []) (hex_digit (n % 16) ∷ []) long e in
+    let lasts : hex_digit (m % 16) ≡ hex_digit (n % 16) =
     ap head_of (last_parts (hex count (m / 16)) (hex count (n / 16)) _ _ long e) in
     joined_again m n count (hex-injective count (m / 16) (n / 16) (smaller count m small)
     (smaller count n other) fronts) (digit-injective (m % 16) (n % 16) lasts)

@@ -1,17 +1,14 @@
 -- Names that the agent makes: its tags, and its branches behind their cookie (RFC 3261, sections
 -- 8.1.1.7 and 19.3).
-use Rattle.std.specs.Prelude.{◌≡◌, ◌<◌, ◌^◌, ℕ, ◌+◌, ◌*◌, ◌-◌, ◌/◌, ◌%◌, zero, suc, List, [], ◌∷◌, ◌++◌, nat_lt, if◌then◌else◌}
+use Rattle.std.specs.Prelude.{◌≡◌, ◌<◌, ◌^◌, ℕ, ◌+◌, ◌*◌, ◌/◌, ◌%◌, zero, suc, List, [], ◌∷◌, ◌++◌}
 use Rattle.rand_chacha.specs.ChaCha.{word_at, key_of}
+use Rattle.sip_text.specs.Number.{hex_digit}
 use Rattle.sip_message.specs.declared.id.Id.{Id}
-
--- a lower-case hexadecimal digit
-abbrev pub digit_of : ℕ → ℕ
-digit_of value = if nat_lt value 10 then 48 + value else 97 + (value - 10)
 
 -- the last so many hexadecimal digits of a number
 unfoldable pub hex : ℕ → ℕ → List ℕ
 hex zero number = []
-hex (suc count) number = hex count (number / 16) ++ digit_of (number % 16) ∷ []
+hex (suc count) number = hex count (number / 16) ++ hex_digit (number % 16) ∷ []
 
 -- the word of ChaCha20 that a name ends in: the seed is the key, the round the stream, and each
 -- place has 16 words

@@ -1,13 +1,13 @@
 //! Made names: the tags and branches that the agent makes.
 
 ghost use Rattle.std.specs.Prelude.{◌≡◌, ◌<◌, ◌^◌, ◌++◌, IfOk, OnOk};
-ghost use Rattle.sip_clients.specs.Name.{digit_of, hex, name_of, word_of_name};
+ghost use Rattle.sip_clients.specs.Name.{hex, name_of, word_of_name};
 
 use rand_chacha::ChaCha20Rng;
 use rand_core::SeedableRng;
 use rand_core::utils::NextWord;
 use sip_message::{Id, Token};
-use sip_text::Text;
+use sip_text::{Text, hex_digit};
 use std::alloc::{AllocError, Global};
 
 /// The name of an index that an event makes: 16 hexadecimal digits of the round, 16 of the place,
@@ -67,15 +67,4 @@ fn push_hex(digits: &mut Vec<u8>, count: u8, number: u64) -> Result<(), AllocErr
     push_hex(digits, count - 1, number / 16)?;
     digits.push(hex_digit((number % 16) as u8))?;
     Ok(())
-}
-
-fn hex_digit(value: u8) -> u8
-    requires { value < 16 }
-    ensures { result ≡ digit_of value }
-{
-    if value < 10 {
-        b'0' + value
-    } else {
-        b'a' + (value - 10)
-    }
 }

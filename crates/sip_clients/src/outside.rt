@@ -1,7 +1,6 @@
 //! The requests that are sent outside of dialogs (RFC 3261, sections 8.1.1 and 13.2.1).
 
-ghost use Rattle.std.specs.Prelude.{◌≡◌, ◌∷◌, [], IfOk, IsTrue, codes};
-ghost use Rattle.sip_text.specs.Token.{is_token};
+ghost use Rattle.std.specs.Prelude.{◌≡◌, ◌∷◌, [], IfOk, codes};
 ghost use Rattle.sip_clients.specs.Outside as spec;
 
 use crate::event::Event;
@@ -10,7 +9,7 @@ use sip_dialog::{own_contact, own_via};
 use sip_message::{
     Addr, CSeq, CallId, MAX_FORWARDS, Message, Party, RequestUri, StartLine, Token, Uri,
 };
-use sip_text::{Series, Text};
+use sip_text::Series;
 use std::alloc::{AllocError, Global};
 
 /// The CSeq number of a request outside of dialogs.
@@ -36,7 +35,7 @@ pub(crate) fn plain_of(alloc: Global, event: Event, plain: &Plain) -> Result<Mes
 fn bare_invite(alloc: Global, event: Event, invite: &Invite) -> Result<Message, AllocError>
     ensures { IfOk result (λ made. made ≡ spec.bare_invite event invite.now) }
 {
-    let method = token_of(alloc, b"INVITE")?;
+    let method = Token::copy_of(alloc, b"INVITE")?;
     let call_id = invite.call_id.clone()?;
     let uri = invite.request_uri.clone()?;
     let from = invite.from.clone()?;
@@ -92,7 +91,7 @@ fn only_100rel(alloc: Global) -> Result<Series<Token>, AllocError>
     ensures { IfOk result (λ options. options ≡ codes "100rel" ∷ []) }
 {
     let mut options = Series::new(alloc);
-    options.push(token_of(alloc, b"100rel")?)?;
+    options.push(Token::copy_of(alloc, b"100rel")?)?;
     Ok(options)
 }
 
@@ -122,12 +121,4 @@ fn bare_request(
     let mut made = Message::bare(alloc, start, vias, from, to, call_id, cseq);
     made.max_forwards = Some(MAX_FORWARDS);
     Ok(made)
-}
-
-/// The token that a word is.
-pub(crate) fn token_of(alloc: Global, word: &[u8]) -> Result<Token, AllocError>
-    requires { IsTrue (is_token word.now) }
-    ensures { IfOk result (λ token. token ≡ word.now) }
-{
-    Ok(Token::from_text(Text::copy_of(alloc, word)?))
 }

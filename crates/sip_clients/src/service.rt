@@ -9,7 +9,6 @@ ghost use Rattle.sip_common.specs.Dialogs.{lived};
 ghost use Rattle.sip_clients.specs.Service as spec;
 
 use crate::event::Event;
-use crate::outside::token_of;
 use sip_common::{Debt, HeldDialog, Refusal};
 use sip_dialog::DialogFault;
 use sip_message::{Addr, Id, Message, RAck, Token};
@@ -130,9 +129,9 @@ fn prack(
     let rack = RAck {
         rseq,
         cseq: number,
-        method: token_of(alloc, b"INVITE")?,
+        method: Token::copy_of(alloc, b"INVITE")?,
     };
-    let method = token_of(alloc, b"PRACK")?;
+    let method = Token::copy_of(alloc, b"PRACK")?;
     request(alloc, held, event, method, Some(rack), body)
 }
 

@@ -5,15 +5,9 @@ ghost use Rattle.std.specs.List.{list_any};
 ghost use Rattle.sip_common.specs.Requests as requests;
 
 use crate::held_dialog::DialogName;
-use sip_message::{Message, Token};
-use sip_text::{Text, token_eq};
+use sip_message::{Message, StatusCode, Token};
+use sip_text::token_eq;
 use std::alloc::{AllocError, Global};
-
-/// The least status of a final response.
-const FIRST_FINAL: u16 = 200;
-
-/// The least status that is above those of success.
-const FIRST_REJECTING: u16 = 300;
 
 /// Whether it is an INVITE. Methods are compared byte by byte.
 pub fn is_invite(request: &Message) -> bool
@@ -101,7 +95,7 @@ pub fn own_tag(alloc: Global, request: &Message) -> Result<Option<Token>, AllocE
         return Ok(None);
     }
     let _parameters = request.to.parameters.as_slice();
-    Ok(Some(Token::from_text(Text::copy_of(alloc, own)?)))
+    Ok(Some(Token::copy_of(alloc, own)?))
 }
 
 /// The name of the dialog that a request is in, or that its answer makes.
@@ -115,19 +109,19 @@ pub fn dialog_name(alloc: Global, request: &Message, made: &Token) -> Result<Dia
 pub fn is_provisional(status: u16) -> bool
     ensures { result ≡ requests.is_provisional status }
 {
-    status < FIRST_FINAL
+    status < StatusCode::FIRST_FINAL
 }
 
 /// Whether a status is a 2xx.
 pub fn is_success(status: u16) -> bool
     ensures { result ≡ requests.is_success status }
 {
-    FIRST_FINAL <= status && status < FIRST_REJECTING
+    StatusCode::FIRST_FINAL <= status && status < StatusCode::FIRST_REJECTING
 }
 
 /// Whether a status is that of a final response.
 pub fn is_final(status: u16) -> bool
     ensures { result ≡ requests.is_final status }
 {
-    FIRST_FINAL <= status
+    StatusCode::FIRST_FINAL <= status
 }

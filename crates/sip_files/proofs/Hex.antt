@@ -2,8 +2,9 @@
 use Rattle.std.proofs.Common.{◌≡◌, ℕ, ◌+◌, ◌*◌, ◌/◌, ◌%◌, ◌<◌, false, eqb, [], ◌∷◌, Some, ap, ◌∙◌, arith}
 use Rattle.std.proofs.lemmas.Bool.Decides.{nat_tests}
 use Rattle.sip_text.proofs.Options.{bind_some, same_some}
+use Rattle.sip_text.specs.Number.{hex_digit}
 use Rattle.sip_text.specs.Options.{◌>>=◌}
-use Rattle.sip_files.specs.Word.{letter_of, hex_digit, hex_pair}
+use Rattle.sip_files.specs.Word.{letter_of, hex_pair}
 use Rattle.sip_files.specs.Reading.{byte_of_letter, hex_value, hex_byte}
 
 pub digit_again : (v : ℕ) → v < 16 → hex_value (hex_digit v) ≡ Some v

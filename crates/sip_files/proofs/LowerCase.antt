@@ -13,7 +13,8 @@ use Rattle.sip_round.specs.declared.round.Event.TheVariants.{Datagram, Failed, C
 use Rattle.sip_files.specs.declared.version.Version.{Version}
 use Rattle.sip_files.specs.declared.event_line.EventLine.{EventLine}
 use Rattle.sip_files.specs.declared.event_line.EventLine.TheVariants as line
-use Rattle.sip_files.specs.Word.{is_plain, letter_of, hex_digit, spelled_byte, spelled_bytes, spelled_word}
+use Rattle.sip_text.specs.Number.{hex_digit}
+use Rattle.sip_files.specs.Word.{is_plain, letter_of, spelled_byte, spelled_bytes, spelled_word}
 use Rattle.sip_files.specs.Events.{SpellsClient, SpellsServer, SpellsLine, AreAlike}
 use Rattle.sip_files.proofs.Escapes.{spelled_itself, spelled_letter, spelled_hex}
 use Rattle.sip_files.proofs.WordLaws.{hyphen, word_is}

@@ -6,7 +6,8 @@ use Rattle.std.specs.Str.{bytes_eq}
 use Rattle.std.proofs.lemmas.Bool.{and_from}
 use Rattle.std.proofs.lemmas.Bool.Decides.{nat_tests}
 use Rattle.sip_text.proofs.Cuts.{has_no, has_no-append, none_passing}
-use Rattle.sip_files.specs.Word.{is_plain, is_plain_or_space, letter_of, hex_digit, hex_pair, spelled_byte, spelled_bytes, spelled_word, spelled_rest}
+use Rattle.sip_text.specs.Number.{hex_digit}
+use Rattle.sip_files.specs.Word.{is_plain, is_plain_or_space, letter_of, hex_pair, spelled_byte, spelled_bytes, spelled_word, spelled_rest}
 use Rattle.sip_files.proofs.Escapes.{spelled_itself, spelled_letter, spelled_hex}
 use Rattle.sip_files.proofs.WordLaws.{word_is}
 

@@ -1,7 +1,8 @@
 -- How a field spells a text of any bytes: as a word, or as a rest, which is always the last field
 -- of its line. A byte stands for itself or is escaped, and each text has one spelling of either
 -- form.
-use Rattle.std.specs.Prelude.{ℕ, Bool, not, ◌&&◌, ◌||◌, ◌==◌, ◌+◌, ◌/◌, ◌%◌, nat_le, nat_lt, List, [], ◌∷◌, length, Option, Some, None, codes, if◌then◌else◌}
+use Rattle.std.specs.Prelude.{ℕ, Bool, not, ◌&&◌, ◌||◌, ◌==◌, ◌/◌, ◌%◌, nat_le, nat_lt, List, [], ◌∷◌, length, Option, Some, None, codes, if◌then◌else◌}
+use Rattle.sip_text.specs.Number.{hex_digit}
 use Rattle.std.specs.List.{flat_map, list_all}
 use Rattle.std.specs.Str.{bytes_eq}
 
@@ -21,10 +22,6 @@ letter_of b =
     else (if b == 9 then Some 116
     else (if b == 92 then Some 92
     else None))))
-
--- a hexadecimal digit in lower case
-abbrev pub hex_digit : ℕ → ℕ
-hex_digit value = if nat_lt value 10 then 48 + value else 87 + value
 
 abbrev pub hex_pair : ℕ → List ℕ
 hex_pair b = hex_digit (b / 16) ∷ hex_digit (b % 16) ∷ []

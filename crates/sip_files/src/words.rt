@@ -6,12 +6,12 @@
 //! the word `-` and the empty rest, and the text of one hyphen is the word `\x2d`. Each text has
 //! one spelling of either form, and the readers take no other.
 
-ghost use Rattle.std.specs.Prelude.{◌≡◌, ◌<◌, ◌++◌, length, IfOk, IfSome, OnOk};
+ghost use Rattle.std.specs.Prelude.{◌≡◌, ◌++◌, length, IfOk, IfSome, OnOk};
 ghost use Rattle.sip_files.specs.Word as word;
 ghost use Rattle.sip_files.specs.Form.{itself_in};
 ghost use Rattle.sip_files.specs.Reading as reading;
 
-use sip_text::Text;
+use sip_text::{Text, hex_digit};
 use std::alloc::{AllocError, Global};
 
 /// How a field spells a text.
@@ -111,17 +111,6 @@ pub(crate) fn push_hex(line: &mut Vec<u8>, byte: u8) -> Result<(), AllocError>
     ensures { OnOk result (line.new.items ≡ line.old.items ++ word.hex_pair byte) }
 {
     line.extend_from_slice(&[hex_digit(byte / 16), hex_digit(byte % 16)])
-}
-
-fn hex_digit(value: u8) -> u8
-    requires { value < 16 }
-    ensures { result ≡ word.hex_digit value }
-{
-    if value < 10 {
-        b'0' + value
-    } else {
-        b'a' + (value - 10)
-    }
 }
 
 // The byte that an escape's letter stands for.

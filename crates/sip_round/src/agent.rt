@@ -189,6 +189,32 @@ impl<C: Cut + Drop> Agent<C> {
             self.tell_of_phases(gate);
             return Ok(self.pass(round));
         }
+        self.run_phases(rt, round, workers, gate)
+    }
+
+    // A round that isn't idle. It stands apart, so that an idle one doesn't pay for its locals.
+    fn run_phases<R: Threads + Sync, G: Gate>(
+        &mut self,
+        rt: &R,
+        round: &Round,
+        workers: usize,
+        gate: &G,
+    ) -> Result<Vec<Output>, RoundFault>
+        requires some { 0 < workers }
+        requires most { workers ≤ 64 }
+        requires moment { round.now.moment ≤ 2 ^ 62 }
+        requires number { self.old.next_round ≤ 2 ^ 62 }
+        ensures memory { OnErr result ((result ≡ Err (round_fault.NoMemory false))
+            ⊎ (result ≡ Err (round_fault.NoMemory true))) }
+        ensures unbroken { result ≡ Err (round_fault.NoMemory false) → self.new ≡ self.old }
+        ensures broken { result ≡ Err (round_fault.NoMemory true) → self.new.shards ≡ None }
+        ensures count { OnOk result (shard_count self.new ≡ shard_count self.old) }
+        ensures answers { IfOk result (λ outputs. (config : Config) (rounds : List Round)
+            → StandsFor C.shard_of self.old config rounds
+            → StandsFor C.shard_of self.new config (rounds ++ round.now ∷ [])
+            × (answers config (rounds ++ round.now ∷ []) ≡ answers config rounds
+            ++ outputs.items ∷ [])) }
+    {
         let events = round.events.as_slice();
         let (local, number) = (self.calls.local, self.next_round);
         let read = set_out_by(rt, self.alloc, local, number, events, workers).ok();

@@ -15,7 +15,6 @@ use sip_common::outputs::one;
 use sip_common::request::is_invite;
 use sip_common::{CallOut, Notice};
 use sip_message::{CallId, Id, Key, Message, Reason, StatusCode, response_to};
-use sip_text::Text;
 use std::alloc::{AllocError, Global};
 
 /// The status of the final response to an INVITE that is cancelled.
@@ -82,7 +81,7 @@ pub(crate) fn request_terminated(alloc: Global, held: &HeldRequest) -> Result<Me
     ensures { IfOk result (λ response. response ≡ spec.request_terminated held.now) }
 {
     let status = StatusCode::from_code(REQUEST_TERMINATED);
-    let reason = Reason::from_text(Text::copy_of(alloc, b"Request Terminated")?);
+    let reason = Reason::copy_of(alloc, b"Request Terminated")?;
     response_to(alloc, held.request.get(), status, reason, &held.tag)
 }
 

@@ -44,7 +44,7 @@ fn response_with(
     ensures { IfOk result (λ response. response
         ≡ response_of arrival.now.request status reason.now tag.now) }
 {
-    let reason = Reason::from_text(Text::copy_of(alloc, reason)?);
+    let reason = Reason::copy_of(alloc, reason)?;
     let status = StatusCode::from_code(status);
     response_to(alloc, arrival.request.get(), status, reason, tag)
 }

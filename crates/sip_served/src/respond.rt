@@ -18,7 +18,7 @@ use sip_common::{CallOut, DialogLife, Dialogs, HeldDialog, Refusal, Reliability,
 use sip_dialog::{Dialog, own_contact};
 use sip_message::{Addr, Id, Message, StatusCode, Token, response_to};
 use sip_reliable::{Inbound, SendFault};
-use sip_text::{Boxed, Series, Text};
+use sip_text::{Boxed, Series};
 use sip_timers::{LIFETIME, T1};
 use std::alloc::{AllocError, Global};
 
@@ -27,9 +27,6 @@ const LEAST_STATUS: u16 = 101;
 
 /// The greatest status.
 const GREATEST_STATUS: u16 = 699;
-
-/// The least status that is above those of success.
-const FIRST_REJECTING: u16 = 300;
 
 /// Why an answer to a held request is refused, if it is: the first reason that fits.
 pub(crate) fn refusal_for(
@@ -173,7 +170,7 @@ fn set_rseq(alloc: Global, rseq: Option<u32>, response: &mut Message) -> Result<
 fn option_100rel(alloc: Global) -> Result<Token, AllocError>
     ensures { IfOk result (λ option. option ≡ codes "100rel") }
 {
-    Ok(Token::from_text(Text::copy_of(alloc, b"100rel")?))
+    Token::copy_of(alloc, b"100rel")
 }
 
 /// What becomes of a held request by its answer.
@@ -296,7 +293,7 @@ fn confirms_dialog(held: &HeldRequest, status: u16) -> bool
 fn rejects(held: &HeldRequest, status: u16) -> bool
     ensures { result ≡ spec.rejects held.now status }
 {
-    is_invite(held.request.get()) && FIRST_REJECTING <= status
+    is_invite(held.request.get()) && StatusCode::FIRST_REJECTING <= status
 }
 
 fn make_dialog(

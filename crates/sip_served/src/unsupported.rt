@@ -24,7 +24,7 @@ pub(crate) fn unsupported(alloc: Global, options: &[Token]) -> Result<Header, Al
 fn unsupported_name(alloc: Global) -> Result<OtherName, AllocError>
     ensures { IfOk result (λ name. name ≡ codes "Unsupported") }
 {
-    Ok(OtherName::from_text(Text::copy_of(alloc, b"Unsupported")?))
+    OtherName::copy_of(alloc, b"Unsupported")
 }
 
 // The unknown options in their order, with a comma and a space between them.

@@ -1,5 +1,5 @@
--- Numbers in decimal digits (RFC 3261, section 25.1).
-use Rattle.std.specs.Prelude.{ℕ, ◌^◌, Bool, false, not, ◌&&◌, ◌==◌, List, [], ◌∷◌, Option, Some, None, Result, Ok, Err, nat_lt, nat_le, if◌then◌else◌}
+-- Numbers in decimal digits (RFC 3261, section 25.1), and digits in base 16.
+use Rattle.std.specs.Prelude.{ℕ, ◌+◌, ◌^◌, Bool, false, not, ◌&&◌, ◌==◌, List, [], ◌∷◌, Option, Some, None, Result, Ok, Err, nat_lt, nat_le, if◌then◌else◌}
 use Rattle.std.specs.Char.{is_ascii_digit}
 use Rattle.std.specs.List.{list_all}
 use Rattle.std.specs.Str.Parse.{digits_value}
@@ -34,3 +34,9 @@ unfoldable pub number_at : ℕ → List ℕ → Option ℕ
 number_at most text =
     if is_numeral text && nat_le (digits_value 10 text) most then Some (digits_value 10 text)
     else None
+
+-- ---- base 16
+
+-- a digit, in lower case: `0` is 48, and `a` for ten is 87 + 10
+abbrev pub hex_digit : ℕ → ℕ
+hex_digit value = if nat_lt value 10 then 48 + value else 87 + value

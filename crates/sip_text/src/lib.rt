@@ -27,7 +27,7 @@ pub use fault::TextFault;
 pub use folding::{begins_blank, lines, unfold};
 pub use laws::{one_cut, one_list_of_parameters, one_split, quoted_strings};
 pub use line::next_line;
-pub use number::{decimal, number_u32, number_up_to};
+pub use number::{decimal, hex_digit, number_u32, number_up_to};
 pub use open_quote::has_open_quote;
 pub use order::byte_order;
 pub use parameters::{

@@ -1,4 +1,4 @@
-//! Numbers in decimal digits.
+//! Numbers in decimal digits, and digits in base 16.
 ghost use Rattle.std.specs.Prelude.{◌≡◌, ◌+◌, ◌*◌, ◌<◌, ◌≤◌, ◌^◌, true, IfSome};
 ghost use Rattle.std.specs.Fmt as fmt;
 ghost use Rattle.std.specs.List.{list_all};
@@ -97,4 +97,16 @@ pub fn decimal(number: u64) -> ArrayVec<u8, 20>
         .try_extend_from_slice(buffer.format(number).as_bytes())
         .unwrap();
     digits
+}
+
+/// A digit in base 16, in lower case.
+pub fn hex_digit(value: u8) -> u8
+    requires { value < 16 }
+    ensures { result ≡ number.hex_digit value }
+{
+    if value < 10 {
+        b'0' + value
+    } else {
+        b'a' + (value - 10)
+    }
 }

@@ -57,5 +57,5 @@ fn trying_for(alloc: Global, request: &Message) -> Result<Message, AllocError>
 fn trying(alloc: Global) -> Result<Reason, AllocError>
     ensures { IfOk result (λ reason. reason ≡ codes "Trying") }
 {
-    Ok(Reason::from_text(Text::copy_of(alloc, b"Trying")?))
+    Reason::copy_of(alloc, b"Trying")
 }

@@ -1,5 +1,6 @@
 use Rattle.std.proofs.Common.{◌≡◌, ◌<◌, ◌-◌, ◌/◌, ◌%◌, [], ◌∷◌, rules, arith, append_assoc}
-use Rattle.sip_clients.specs.Name.{digit_of, hex}
+use Rattle.sip_text.specs.Number.{hex_digit}
+use Rattle.sip_clients.specs.Name.{hex}
 use Rattle.sip_clients.proofs.Hex.{hex-last, hex-none}
 use Rattle.sip_clients.proofs.name.+push_hex.Goals as goal
 
@@ -18,4 +19,4 @@ returns t c =
       c.hex_digit.ensures,
     )
     (append_assoc c.args.digits.now.items (hex (c.args.count - 1) (c.args.number / 16))
-    (digit_of (c.args.number % 16) ∷ []))
+    (hex_digit (c.args.number % 16) ∷ []))
