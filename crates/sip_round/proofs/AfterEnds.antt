@@ -1,60 +1,47 @@
 -- In the rounds after those in which a life of a transaction has ended nothing of what a call is
 -- given comes from it under its id.
 use Rattle.std.proofs.Common.{◌≡◌, ℕ, suc, ◌+◌, Bool, true, false, cond, ◌&&◌, ◌||◌, List, [], ◌∷◌, ◌++◌, map, length, nat_eq, refl, sym, ap, ◌∙◌, append_assoc, append-nil}
-use Rattle.std.specs.Prelude.{Option, None, Some, drop, filter, option_map, option_to_list}
+use Rattle.std.specs.Prelude.{Option, None, Some, drop, filter}
 use Rattle.std.specs.BTreeMap.{is_at}
 use Rattle.std.specs.List.{AllByRecursion, flat_map, list_any}
 use Rattle.std.proofs.Math.Seq.{drop-append_seam}
 use Rattle.std.proofs.lemmas.Bool.{false≢true}
 use Rattle.std.proofs.lemmas.Grind.{flat_map-append}
 use Rattle.std.proofs.lemmas.List.Folds.{list_any-append}
-use Rattle.sip_message.specs.declared.addr.Addr.{Addr}
 use Rattle.sip_message.specs.declared.id.Id.{Id}
 use Rattle.sip_message.specs.declared.key.Key.{Key}
-use Rattle.sip_message.specs.declared.message.Message.{Message}
-use Rattle.sip_message.specs.Key.{key_cmp, keys_total}
+use Rattle.sip_message.specs.Key.{key_cmp}
 use Rattle.sip_model.specs.Laws.{EachKeyAlone, said_by, said_from}
 use Rattle.sip_model.specs.Machine.{LifeIn, Timed, outputs_from, said_after, state_after, state_from, state_left, tick_at}
 use Rattle.sip_model.specs.Phase.{Phase, history, inputs_of, own_inputs, states_after, timed_items}
 use Rattle.sip_model.proofs.Ordered.{by_bool}
 use Rattle.sip_model.proofs.Phases.{state_from-append}
-use Rattle.sip_model.proofs.Spoken.{SpeaksForItself, spoken}
 use Rattle.sip_transactions.specs.declared.input.Input.{Input}
-use Rattle.sip_transactions.specs.declared.life.Context.{Context}
-use Rattle.sip_transactions.specs.declared.life.Life.{Life}
 use Rattle.sip_transactions.specs.declared.output.Out.{Out}
 use Rattle.sip_transactions.specs.declared.output.Out.TheVariants as out
-use Rattle.sip_transactions.specs.declared.state.State.{State}
-use Rattle.sip_transactions.specs.declared.step.Handed.{Handed}
-use Rattle.sip_transactions.specs.declared.step.Handed.TheVariants as handed
-use Rattle.sip_transactions.specs.declared.step.Step.{Step}
-use Rattle.sip_transactions.specs.Input.{arrived_in, message_in, role_of}
-use Rattle.sip_transactions.specs.Keys.{exact_keys}
 use Rattle.sip_transactions.specs.Ids.{is_id}
 use Rattle.sip_transactions.specs.Laws.{carries}
-use Rattle.sip_transactions.specs.Life.{acted_if, context_of, state_of, step_for, stepped, stepped_by}
 use Rattle.sip_transactions.specs.Machine.{transaction_machine}
-use Rattle.sip_transactions.specs.Output.{handed_out, made_bytes, outputs_of, send_out, sent_bytes}
 use Rattle.sip_common.specs.Command.{call_of_item}
 use Rattle.sip_common.specs.declared.item.Item.{Item}
 use Rattle.sip_common.proofs.Each.{both}
 use Rattle.sip_calls.specs.Call.{call_machine, CallItem}
 use Rattle.sip_calls.specs.CallShard.{call_cmp, item_input}
+use Rattle.sip_transactions.specs.Output.{up_out}
 use Rattle.sip_round.specs.Arrivals.{Arrival}
 use Rattle.sip_round.specs.Arrivals as arrival
 use Rattle.sip_round.specs.declared.config.Config.{Config}
 use Rattle.sip_round.specs.declared.round.Round.{Round}
 use Rattle.sip_round.specs.Answers.{Past, answers, answers_from, arrivals, calls_of, first, items_of_round, no_past, past_after, past_of, said_by_transactions, second, third}
 use Rattle.sip_round.specs.Given.{HasEnded, NoneComesFrom, all_given, comes_from, notice_in, notices_of}
-use Rattle.sip_round.specs.Laws.{NothingAfterEachEnd, call_inputs_of}
+use Rattle.sip_round.specs.Laws.{NothingAfterEachEnd}
 use Rattle.sip_round.specs.Laws as laws
 use Rattle.sip_round.specs.Outputs.{all_said, joined, outs_of, raised_of, said_at, user_items}
 use Rattle.sip_round.specs.Phases.{call_items}
 use Rattle.sip_round.proofs.GivenNotices.{calls_are, calls_from, given_from, own_from}
-use Rattle.sip_round.proofs.GivenSends.{any_items}
 use Rattle.sip_round.proofs.Lives.{outputs_append}
 use Rattle.sip_round.proofs.NamesRise.{Later, one_round_more}
-use Rattle.sip_round.proofs.OwnSends.{AnyHeld, AnyInput}
+use Rattle.sip_round.proofs.OwnOutputs.{AreAllOwn, none_own, phase_own}
 use Rattle.sip_round.proofs.Runs.{answers_count, answers_from-append, past_from-append}
 
 nothing_of_both : {X : Type 0} (xs ys : List X) → xs ++ ys ≡ [] → (xs ≡ []) × (ys ≡ [])
@@ -83,56 +70,18 @@ module _ (id : Id) where
   abbrev picked : Key → Out → List Out
   picked q o = cond (from q o) (o ∷ []) []
 
-  abbrev Own : Key → Key → List Out → Type 0
-  Own q key outs = flat_map (picked q) outs ≡ cond (is_at (key_cmp q) key) (flat_map under outs) []
+  one_up : (own carried : Bool) (o : Out)
+      → cond (own && carried) (o ∷ []) [] ≡ cond own (cond carried (o ∷ []) []) []
+  one_up true carried o = refl
+  one_up false carried o = refl
 
-  own_none : (own : Bool) → ◌≡◌ {A = List Out} [] (cond own [] [])
-  own_none true = refl
-  own_none false = refl
-
-  one_up : (own carried : Bool) (o : Out) (xs ys : List Out) → xs ≡ cond own ys []
-      → cond (own && carried) (o ∷ []) [] ++ xs ≡ cond own (cond carried (o ∷ []) [] ++ ys) []
-  one_up true carried o xs ys is = ap (λ more. cond carried (o ∷ []) [] ++ more) is
-  one_up false carried o xs ys is = is
-
-  own_sent : (q key : Key) (to : Addr) (sent : Option (List ℕ))
-      → Own q key (option_to_list (option_map (send_out key to) sent))
-  own_sent q key to None = own_none (is_at (key_cmp q) key)
-  own_sent q key to (Some bytes) = own_none (is_at (key_cmp q) key)
-
-  own_told : (q key : Key) (context : Context) (h : Handed) (arrived : Option (Message × Addr))
-      (sent : Option (List ℕ))
-      → Own q key (option_to_list (handed_out key context h arrived)
-      ++ option_to_list (option_map (send_out key context.to) sent))
-  unfolding handed_out
-  own_told q key context handed.Nothing arrived sent = own_sent q key context.to sent
-  own_told q key context handed.Message None sent = own_sent q key context.to sent
-  own_told q key context handed.Message (Some arrived) sent =
-      one_up (is_at (key_cmp q) key) (is_id id context.id) _ _ _ (own_sent q key context.to sent)
-  own_told q key context handed.Timeout arrived sent =
-      one_up (is_at (key_cmp q) key) (is_id id context.id) _ _ _ (own_sent q key context.to sent)
-  own_told q key context handed.Failed arrived sent =
-      one_up (is_at (key_cmp q) key) (is_id id context.id) _ _ _ (own_sent q key context.to sent)
-  own_told q key context handed.NoTransaction arrived sent = own_sent q key context.to sent
-
-  own_acted : (q key : Key) (now : ℕ) (input : Option Input) (state : Option State)
-      (o : Option Context) (step : Step) → Own q key (acted_if key now input state o step).1
-  unfolding outputs_of
-  own_acted q key now input state None step = own_none (is_at (key_cmp q) key)
-  own_acted q key now input state (Some context) step =
-      own_told q key context step.handed (arrived_in input)
-      (sent_bytes context.last step.sent (made_bytes context.request step.sent (message_in input)))
-
-  own_by : (q key : Key) (held : Option Life) (now : ℕ) (input : Option Input) (o : Option Step)
-      → Own q key (stepped_by key held now input o).1
-  own_by q key held now input None = own_none (is_at (key_cmp q) key)
-  own_by q key held now input (Some step) =
-      own_acted q key now input (state_of held) (context_of (role_of key) held input) step
-
-  own_ups : SpeaksForItself key_cmp transaction_machine under picked AnyHeld AnyInput
-  unfolding stepped
-  own_ups q key held timed own fits =
-      own_by q key held timed.moment timed.input (step_for key held timed.moment timed.input)
+  ups_are_own : AreAllOwn Out under picked
+  ups_are_own = record {
+    sends = λ q key to bytes. none_own Out (is_at (key_cmp q) key);
+    ups = λ q key context kind.
+    one_up (is_at (key_cmp q) key) (is_id id context.id) (up_out key context kind);
+    drops = λ q key place. none_own Out (is_at (key_cmp q) key);
+  }
 
   none_under : (outs : List Out) → list_any (carries id) outs ≡ false → flat_map under outs ≡ []
   none_under [] none = refl
@@ -174,9 +123,7 @@ module _ (id : Id) where
         → AllByRecursion IsNotFrom (all_said (said_by_transactions before phase))
     phase_none before phase none =
         none_picked (all_said (said_by_transactions before phase))
-        (spoken key_cmp transaction_machine under picked AnyHeld AnyInput keys_total exact_keys
-        (λ key held input own fits. tt) tick_at (λ moment key. tt) own_ups q before phase
-        (λ key. tt) (any_items phase.items) ∙ none)
+        (phase_own Out under picked ups_are_own q before phase ∙ none)
 
     -- ---- so no item of a round comes from it
 

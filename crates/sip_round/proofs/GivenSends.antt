@@ -7,16 +7,14 @@ use Rattle.std.proofs.lemmas.List.Elements.{filter-append}
 use Rattle.sip_message.specs.declared.addr.Addr.{Addr}
 use Rattle.sip_message.specs.declared.id.Id.{Id}
 use Rattle.sip_message.specs.declared.key.Key.{Key}
-use Rattle.sip_message.specs.Key.{key_cmp, keys_total}
+use Rattle.sip_message.specs.Key.{key_cmp}
 use Rattle.sip_model.specs.declared.item.Item as model
 use Rattle.sip_model.specs.Laws.{said_by, said_from}
 use Rattle.sip_model.specs.Machine.{Timed, adds, given_at, next, tick_at}
 use Rattle.sip_model.specs.Phase.{Phase, states_after, stepped, timed_items, told_items}
-use Rattle.sip_model.proofs.Spoken.{FitItems, spoken}
 use Rattle.sip_transactions.specs.declared.input.Input.{Input}
 use Rattle.sip_transactions.specs.declared.life.Life.{Life}
 use Rattle.sip_transactions.specs.declared.output.Out.{Out}
-use Rattle.sip_transactions.specs.Keys.{exact_keys}
 use Rattle.sip_transactions.specs.Machine.{transaction_machine}
 use Rattle.sip_common.specs.declared.item.CallOut.{CallOut}
 use Rattle.sip_common.specs.declared.item.CallOut.TheVariants as call_out
@@ -33,9 +31,13 @@ use Rattle.sip_round.specs.Phases.{transaction_item, transaction_items}
 use Rattle.sip_round.proofs.CallEvents.{TellsAt, arrivals_climb, none_later}
 use Rattle.sip_shards.proofs.Climbing.{Climbs}
 use Rattle.sip_round.proofs.NamesRise.{Later, one_round_more}
-use Rattle.sip_round.proofs.OwnSends.{AnyHeld, AnyInput, own_sends, picked}
+use Rattle.sip_round.proofs.OwnOutputs.{AreAllOwn, none_own, phase_own}
 
 -- ---- what a transaction says, and what calls say
+
+-- the Sends with a key of what a transaction sends or drops
+abbrev picked : Key → Out → List Output
+picked q out = sends_with q (sent_of out)
 
 pub sends_append : (q : Key) (xs ys : List Output)
     → sends_with q (xs ++ ys) ≡ sends_with q xs ++ sends_with q ys
@@ -129,21 +131,13 @@ module _ (q : Key) (now round : ℕ) (said : ℕ → List Out) where
 
 -- ---- one round
 
--- every item fits
-pub any_items : (items : List (model.Item Key (Timed Input)))
-    → FitItems key_cmp transaction_machine send_in picked AnyHeld AnyInput items
-any_items [] = tt
-any_items (item ∷ items) = (tt, any_items items)
-
 -- what a phase sends with a key
-phase_spoken : (q : Key) (before : List (Phase Key (Timed Input))) (phase : Phase Key (Timed Input))
-    → flat_map (picked q) (all_said (said_by_transactions before phase))
-    ≡ flat_map send_in
-    (said_by key_cmp transaction_machine tick_at q (said_by_transactions before phase))
-phase_spoken q before phase =
-    spoken key_cmp transaction_machine send_in picked AnyHeld AnyInput keys_total exact_keys
-    (λ key held input own fits. tt) tick_at (λ moment key. tt) own_sends q before phase
-    (λ key. tt) (any_items phase.items)
+sends_are_own : AreAllOwn Output send_in picked
+sends_are_own = record {
+  sends = λ q key to bytes. refl;
+  ups = λ q key context kind. none_own Output (is_at (key_cmp q) key);
+  drops = λ q key place. none_own Output (is_at (key_cmp q) key);
+}
 
 module _ (q : Key) (config : Config) (number : ℕ) (past : Past) (round : Round) where
   abbrev of_phase : List (Phase Key (Timed Input)) → Phase Key (Timed Input) → List Output
@@ -168,7 +162,7 @@ module _ (q : Key) (config : Config) (number : ℕ) (past : Past) (round : Round
       ++ sent_of_arrivals q round.moment number (said_at told) config.local 1 states round.events
       (λ at above. refl) i)
       ∙ sym (flat_map-append (picked q) (joined told.ticks) (joined told.items))
-      ∙ phase_spoken q past.transactions phase
+      ∙ phase_own Output send_in picked sends_are_own q past.transactions phase
 
   answer_sent : sends_with q (answer config number past round)
       ≡ of_phase past.transactions (first config number past round)
@@ -189,7 +183,7 @@ module _ (q : Key) (config : Config) (number : ℕ) (past : Past) (round : Round
       ∙ append-nil (of_phase past.transactions (first config number past round)))
       ∙ ap (λ sends. of_phase past.transactions (first config number past round) ++ sends)
       (sends_said q (all_said told)
-      ∙ phase_spoken q before (third config number past round))
+      ∙ phase_own Output send_in picked sends_are_own q before (third config number past round))
 
 -- ---- over rounds
 
