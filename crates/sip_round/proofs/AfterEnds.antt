@@ -79,7 +79,7 @@ module _ (id : Id) where
   ups_are_own = record {
     sends = λ q key to bytes. none_own Out (is_at (key_cmp q) key);
     ups = λ q key context kind.
-    one_up (is_at (key_cmp q) key) (is_id id context.id) (up_out key context kind);
+        one_up (is_at (key_cmp q) key) (is_id id context.id) (up_out key context kind);
     drops = λ q key place. none_own Out (is_at (key_cmp q) key);
   }
 

@@ -19,8 +19,7 @@ loop-shard-init g c =
     let shards = map held c.args.shards.items in
     let count = length others in
     let owner = owner_of (g.C.Cut.shard_of c.args.cut.now) g.S.Machine.Key.Named.name count in
-    let as_many : length (map held others) ≡ count = length-map others held in
-    (
+    let as_many : length (map held others) ≡ count = length-map others held in (
       subst (λ rest. TransferLeft cmp machine tick_at owner count shards (map held rest)
           (map held others)) (sym c.into_iter-shard-iterator.ensures.into_iter_gives.0)
           (subst (λ n. TransferLeft cmp machine tick_at owner n shards shards (map held others))
@@ -49,8 +48,7 @@ loop-shard-preserved g c =
     (map held rest) (map held moved.items)) c.in-Some.ensures.steps.0 left in
     let as_many : vec_len moved ≡ count =
     omega (arith, moved.ok, left.count, length-map moved.items held) in
-    let after = c.in_ok-transfer_shard.ensures in
-    (
+    let after = c.in_ok-transfer_shard.ensures in (
       one_moved cmp machine tick_at c.laws_of_phases.ensures.shards_hold_apart (owner count) count
           shards (held c.in-Some.shard) (map held rest) (map held moved.items)
           (map held newer.items)

@@ -29,8 +29,7 @@ loop-key-preserved g c =
     let inside : at < count = omega (arith, owned, within) in
     let left = c.loop-key.invariant.0 in
     let there : at < length moved =
-    omega (arith, inside, left.count, length-map moved held) in
-    (
+    omega (arith, inside, left.count, length-map moved held) in (
       subst (TableLeft g.met.S.Machine.Key.Ord.total g.met.S.Machine.StateMachine.exact
           (owner count) count (state_at cmp (held c.args.shard)) (get cmp c.pop_first.new.self)
           (map held c.args.moved.now.items)) (sym (map-set held moved at new))
