@@ -21,7 +21,7 @@ pub mod Numbered
 pub mod OwnItems
 pub mod OwnNotices
 pub mod OwnRequests
-pub mod OwnSends
+pub mod OwnOutputs
 pub mod Placed
 pub mod RequestsDiffer
 pub mod RequestsOnce

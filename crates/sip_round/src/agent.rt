@@ -203,6 +203,7 @@ impl<C: Cut + Drop> Agent<C> {
         requires some { 0 < workers }
         requires most { workers ≤ 64 }
         requires moment { round.now.moment ≤ 2 ^ 62 }
+        requires places { length round.now.events ≤ 65536 }
         requires number { self.old.next_round ≤ 2 ^ 62 }
         ensures memory { OnErr result ((result ≡ Err (round_fault.NoMemory false))
             ⊎ (result ≡ Err (round_fault.NoMemory true))) }
