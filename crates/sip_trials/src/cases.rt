@@ -1,6 +1,6 @@
 //! Stored cases: what `ua` is run on, and what it is to write.
 
-use crate::stop::{Stop, check};
+use crate::stop::{Stop, expect};
 use crate::tally::tell;
 use sip_program::{Host, ua};
 use std::alloc::{AllocError, Global};
@@ -13,8 +13,8 @@ use std::thread::Threads;
 ///
 /// # Errors
 ///
-/// `Different` where one differs; a file that is missing or can't be read, an output that fails,
-/// and want of memory.
+/// `Count` where one differs; a file that is missing or can't be read, an output that fails, and
+/// want of memory.
 pub fn run_cases<T: Threads + Host>(
     rt: &HostRuntime,
     threads: &T,
@@ -28,7 +28,7 @@ pub fn run_cases<T: Threads + Host>(
         }
     }
     tell(rt, &[(names.len() as u64, "cases"), (differ, "differ")])?;
-    check(differ == 0)
+    expect("cases that differ", 0, differ)
 }
 
 // The names of all cases, TOPIC/NAME, in order.

@@ -36,8 +36,8 @@ const REQUESTS_AT_MOST: u64 = 512;
 ///
 /// # Errors
 ///
-/// `Untold`, `Unanswered` and `Held` where not all is told, answered, sent and ended; a round that
-/// is refused; and want of memory.
+/// `Count` where not all is told, answered, sent and ended; a round that is refused; and want of
+/// memory.
 pub fn sizes_of<R: Threads + Sync>(rt: &R, alloc: Global) -> Result<[u64; 4], Stop> {
     held_in_one_shard(rt, alloc)?;
     most_shards(rt, alloc)?;
@@ -92,7 +92,7 @@ fn most_events<R: Threads + Sync>(rt: &R, alloc: Global) -> Result<(), Stop> {
         .iter()
         .filter(|output| matches!(output, Output::Notice(_)))
         .count();
-    expect(Stop::Untold, told as u64 == REQUESTS_AT_MOST)
+    expect("requests told", REQUESTS_AT_MOST, told as u64)
 }
 
 fn many_events(alloc: Global) -> Result<Series<Event>, AllocError> {
