@@ -1,6 +1,6 @@
 //! Stored cases: what `ua` is run on, and what it is to write.
 
-use crate::stop::{Stop, check};
+use crate::stop::{Stop, expect};
 use crate::tally::tell;
 use sip_program::{Host, ua};
 use std::alloc::{AllocError, Global};
@@ -8,13 +8,16 @@ use std::fs::{self, DirEntry};
 use std::io;
 use std::thread::Threads;
 
+/// What stands before what is written by a run that doesn't end well.
+const WRITTEN: &[u8] = b"and writes\n";
+
 /// Runs the cases of a folder, which has a folder for each topic, in the order of their names, and
 /// writes of each that differs in what it does.
 ///
 /// # Errors
 ///
-/// `Different` where one differs; a file that is missing or can't be read, an output that fails,
-/// and want of memory.
+/// `Count` where one differs; a file that is missing or can't be read, an output that fails, and
+/// want of memory.
 pub fn run_cases<T: Threads + Host>(
     rt: &HostRuntime,
     threads: &T,
@@ -28,7 +31,7 @@ pub fn run_cases<T: Threads + Host>(
         }
     }
     tell(rt, &[(names.len() as u64, "cases"), (differ, "differ")])?;
-    check(differ == 0)
+    expect("cases that differ", 0, differ)
 }
 
 // The names of all cases, TOPIC/NAME, in order.
@@ -68,7 +71,7 @@ fn push_name(
     }
 }
 
-// Whether a case writes what it is to; else says from where on it differs.
+// Whether a case writes what it is to; else says in what it differs first.
 fn is_right<T: Threads + Host>(
     rt: &HostRuntime,
     threads: &T,
@@ -79,8 +82,7 @@ fn is_right<T: Threads + Host>(
     let expected = expected_of(rt, folder, name)?;
     let is_same = written.as_slice() == expected.as_slice();
     if !is_same {
-        let line = first_difference(&written, &expected);
-        println!(rt; "{name} differs from line {line} on")?;
+        tell_difference(rt, name, &written, &expected)?;
     }
     Ok(is_same)
 }
@@ -102,8 +104,8 @@ fn written_by<T: Threads + Host>(
     )
 }
 
-// The output file of a run that ends well and tells nothing; else the status, then what is told on
-// standard error, then what is written.
+// The output file of a run that ends well and tells nothing; else its status, what is told on
+// standard error, and what is written.
 fn run<T: Threads + Host>(
     threads: &T,
     alloc: Global,
@@ -134,7 +136,10 @@ fn fault_of(
 ) -> Result<Vec<u8>, AllocError> {
     let mut fault = format!(in alloc; "{status}\n")?.into_bytes();
     fault.extend_from_slice(errors)?;
-    fault.extend_from_slice(output)?;
+    if !output.is_empty() {
+        fault.extend_from_slice(WRITTEN)?;
+        fault.extend_from_slice(output)?;
+    }
     Ok(fault)
 }
 
@@ -163,16 +168,26 @@ fn file_of(rt: &HostRuntime, folder: &str, name: &str, kind: &str) -> io::Result
     fs::read(rt, path.as_str())
 }
 
-// The number of the first line, from 1, in which two texts differ.
-fn first_difference(written: &[u8], expected: &[u8]) -> u64 {
-    let mut line: u64 = 1;
-    for (one, other) in written.iter().zip(expected) {
-        if one != other {
-            break;
-        }
-        if *one == b'\n' {
-            line = line.saturating_add(1);
-        }
-    }
-    line
+// Says in which line, from 1, what is written differs first, and how that line is to be.
+fn tell_difference(
+    rt: &HostRuntime,
+    name: &str,
+    written: &[u8],
+    expected: &[u8],
+) -> io::Result<()> {
+    let same = written
+        .split(|b| *b == b'\n')
+        .zip(expected.split(|b| *b == b'\n'))
+        .take_while(|(a, b)| a == b)
+        .count();
+    let number = same.saturating_add(1);
+    let given = line_at(rt.alloc(), written, same)?;
+    let wanted = line_at(rt.alloc(), expected, same)?;
+    println!(rt; "{name}, line {number}:\n{given}\nand not\n{wanted}")
+}
+
+// The line of this index, empty where there is none.
+fn line_at(alloc: Global, text: &[u8], index: usize) -> Result<String, AllocError> {
+    let line = text.split(|b| *b == b'\n').nth(index).unwrap_or(b"");
+    String::from_utf8_lossy(alloc, line)
 }

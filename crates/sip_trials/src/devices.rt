@@ -1,8 +1,9 @@
 //! Readers, writers and outlets that fail at one of their calls, each of them in turn.
 
 use crate::open::Open;
-use crate::script::Script;
-use crate::stop::{Stop, check};
+use crate::script::{LONG, SHORT, Script};
+use crate::stop::{Stop, check, expect};
+use crate::tally::tell;
 use sip_message::{Addr, Spread};
 use sip_program::{Host, ua};
 use sip_round::{Agent, Event, Round};
@@ -12,10 +13,10 @@ use std::alloc::Global;
 use std::io::{self, Read, Write};
 use std::thread::Threads;
 
-/// How many bytes a device takes or gives at once.
-const CHUNK: usize = 512;
+/// The scripts, and how many bytes a device takes or gives at once.
+const SCRIPTS: [(&str, usize); 2] = [(LONG, 512), (SHORT, 1)];
 
-/// In how many shards, and on how many workers, the script is run.
+/// In how many shards, and on how many workers, they are run.
 const SHARDS: usize = 2;
 
 const WORKERS: usize = 2;
@@ -31,36 +32,63 @@ const FAILED_DEVICE: u8 = 4;
 /// How many times a device is made at most.
 const MOST_TURNS: u64 = 100_000;
 
+/// The number of a call that never comes.
+const NEVER: u64 = u64::MAX;
+
 /// When all that a script began is over, after its last round.
 const OVER: [u64; 3] = [100_000, 200_000, 300_000];
 
-/// A reader and a writer in chunks, whose call of this number, from 0, fails.
+/// A reader and a writer of so many bytes at once, at most. Its call of this number, from 0, fails,
+/// and no other.
 #[derive(Drop)]
 struct Failing<'a> {
-    calls_left: u64,
+    most: usize,
+    fails_at: u64,
+    calls: u64,
     input: &'a [u8],
     output: Vec<u8>,
 }
 
-impl Failing<'_> {
-    // Whether the call that comes now is the one that fails.
-    fn fails(&mut self) -> bool {
-        match self.calls_left.checked_sub(1) {
-            Some(left) => {
-                self.calls_left = left;
-                false
-            }
-            None => true,
+impl<'a> Failing<'a> {
+    fn new(alloc: Global, most: usize, fails_at: u64, input: &'a [u8]) -> Failing<'a> {
+        Failing {
+            most,
+            fails_at,
+            calls: 0,
+            input,
+            output: Vec::new(alloc),
         }
+    }
+
+    // Counts a call, which fails where it has the number.
+    fn call(&mut self) -> io::Result<()> {
+        let number = self.calls;
+        self.calls = number.saturating_add(1);
+        if number == self.fails_at {
+            Err(io::Error::from(io::ErrorKind::Other))
+        } else {
+            Ok(())
+        }
+    }
+
+    // Whether a call failed; then none may have come after it.
+    fn has_failed(&self) -> Result<bool, Stop> {
+        let has_failed = self.calls > self.fails_at;
+        if has_failed {
+            expect(
+                "calls up to one that fails",
+                self.fails_at.saturating_add(1),
+                self.calls,
+            )?;
+        }
+        Ok(has_failed)
     }
 }
 
 impl Read for Failing<'_> {
     fn read(&mut self, buf: &mut [u8]) -> io::Result<usize> {
-        if self.fails() {
-            return Err(io::Error::from(io::ErrorKind::Other));
-        }
-        let count = buf.len().min(self.input.len()).min(CHUNK);
+        self.call()?;
+        let count = buf.len().min(self.input.len()).min(self.most);
         let (front, rest) = self.input.split_at(count);
         buf[..count].copy_from_slice(front);
         self.input = rest;
@@ -70,10 +98,8 @@ impl Read for Failing<'_> {
 
 impl Write for Failing<'_> {
     fn write(&mut self, buf: &[u8]) -> io::Result<usize> {
-        if self.fails() {
-            return Err(io::Error::from(io::ErrorKind::Other));
-        }
-        let count = buf.len().min(CHUNK);
+        self.call()?;
+        let count = buf.len().min(self.most);
         self.output.extend_from_slice(&buf[..count])?;
         Ok(count)
     }
@@ -107,113 +133,90 @@ impl Outlet for Lossy {
     }
 }
 
-/// Fails each read, each write and each send of the script in turn: how many there were of each.
+/// Fails each read, each write and each send of two scripts in turn, and says how many there are.
 ///
 /// # Errors
 ///
-/// `Different` where one isn't told as it is to be, and want of memory.
-pub fn devices_of<T: Threads + Host>(
+/// `Different` and `Count` where one isn't told as it is to be, a file that is missing or can't be
+/// read, and want of memory.
+pub fn run_devices<T: Threads + Host>(
+    rt: &HostRuntime,
     threads: &T,
-    alloc: Global,
-    script: &Script,
-) -> Result<[u64; 3], Stop> {
-    Ok([
-        failed_reads(threads, alloc, script)?,
-        failed_writes(threads, alloc, script)?,
-        failed_sends(threads, alloc, script)?,
-    ])
+    folder: &str,
+) -> Result<(), Stop> {
+    for (name, most) in SCRIPTS {
+        tell_failed(rt, threads, &Script::read(rt, folder, name)?, most)?;
+    }
+    Ok(())
 }
 
-// How many reads there are, each of which was failed.
-fn failed_reads<T: Threads + Host>(
+// Those of one script.
+fn tell_failed<T: Threads + Host>(
+    rt: &HostRuntime,
+    threads: &T,
+    script: &Script,
+    most: usize,
+) -> Result<(), Stop> {
+    let reads = failed_calls(threads, rt.alloc(), script, most, true)?;
+    let writes = failed_calls(threads, rt.alloc(), script, most, false)?;
+    let sends = failed_sends(threads, rt.alloc(), script)?;
+    Ok(tell(
+        rt,
+        &[
+            (reads, "reads"),
+            (writes, "writes"),
+            (sends, "sends failed in turn"),
+        ],
+    )?)
+}
+
+// How many reads there are, or how many writes, each of which was failed.
+fn failed_calls<T: Threads + Host>(
     threads: &T,
     alloc: Global,
     script: &Script,
+    most: usize,
+    are_reads: bool,
 ) -> Result<u64, Stop> {
-    for calls_left in 0..MOST_TURNS {
-        if read_to_end(threads, alloc, script, calls_left)? {
-            return Ok(calls_left);
+    for number in 0..MOST_TURNS {
+        let (read, write) = if are_reads {
+            (number, NEVER)
+        } else {
+            (NEVER, number)
+        };
+        let mut input = Failing::new(alloc, most, read, &script.events);
+        let mut output = Failing::new(alloc, most, write, b"");
+        if is_whole(threads, alloc, script, &mut input, &mut output)? {
+            return Ok(number);
         }
     }
     Err(Stop::Different)
 }
 
-// Whether no read failed; where one did, that is told, and nothing written.
-fn read_to_end<T: Threads + Host>(
+// Whether no call failed, and all was written. Where a read failed, that is told, and nothing
+// written; where a write did, that is told, and no more written than before.
+fn is_whole<T: Threads + Host>(
     threads: &T,
     alloc: Global,
     script: &Script,
-    calls_left: u64,
-) -> Result<bool, Stop> {
-    let mut reader = Failing {
-        calls_left,
-        input: &script.events,
-        output: Vec::new(alloc),
-    };
-    let mut output = Vec::new(alloc);
-    let is_whole = replayed(
-        threads,
-        alloc,
-        &mut reader,
-        &mut output,
-        b"ua: input failed\n",
-    )?;
-    let wanted = if is_whole {
-        script.outputs.as_slice()
-    } else {
-        b""
-    };
-    check(output.as_slice() == wanted)?;
-    Ok(is_whole)
-}
-
-// How many writes there are, each of which was failed.
-fn failed_writes<T: Threads + Host>(
-    threads: &T,
-    alloc: Global,
-    script: &Script,
-) -> Result<u64, Stop> {
-    for calls_left in 0..MOST_TURNS {
-        if written_to_end(threads, alloc, script, calls_left)? {
-            return Ok(calls_left);
-        }
-    }
-    Err(Stop::Different)
-}
-
-// Whether no write failed; where one did, that is told, and the front of the output file written.
-fn written_to_end<T: Threads + Host>(
-    threads: &T,
-    alloc: Global,
-    script: &Script,
-    calls_left: u64,
-) -> Result<bool, Stop> {
-    let mut writer = Failing {
-        calls_left,
-        input: b"",
-        output: Vec::new(alloc),
-    };
-    let input = &mut script.events.as_slice();
-    let is_whole = replayed(threads, alloc, input, &mut writer, b"ua: output failed\n")?;
-    check(script.outputs.starts_with(writer.output.as_slice()))?;
-    check(!is_whole || writer.output.len() == script.outputs.len())?;
-    Ok(is_whole)
-}
-
-// Whether `ua` replays to its end; else it has to tell this, and nothing more.
-fn replayed<T: Threads + Host, R: Read, W: Write>(
-    threads: &T,
-    alloc: Global,
-    input: &mut R,
-    output: &mut W,
-    fault: &[u8],
+    input: &mut Failing<'_>,
+    output: &mut Failing<'_>,
 ) -> Result<bool, Stop> {
     let mut errors = Vec::new(alloc);
-    match ua(threads, alloc, &WORDS, input, output, &mut errors) {
-        SUCCESS => Ok(true),
-        FAILED_DEVICE if errors.as_slice() == fault => Ok(false),
-        _ => Err(Stop::Different),
-    }
+    let status = ua(threads, alloc, &WORDS, input, output, &mut errors);
+    let (wanted, told, length) = if input.has_failed()? {
+        (FAILED_DEVICE, b"ua: input failed\n".as_slice(), 0)
+    } else if output.has_failed()? {
+        let length = output.fails_at.saturating_mul(output.most as u64);
+        (FAILED_DEVICE, b"ua: output failed\n".as_slice(), length)
+    } else {
+        (SUCCESS, b"".as_slice(), script.outputs.len() as u64)
+    };
+    expect("as status", u64::from(wanted), u64::from(status))?;
+    check(errors.as_slice() == told)?;
+    expect("bytes written", length, output.output.len() as u64)?;
+    check(script.outputs.starts_with(output.output.as_slice()))?;
+    Ok(wanted == SUCCESS)
 }
 
 // How many sends there are: what failed comes into the next round, and at last nothing is held.
@@ -249,7 +252,9 @@ fn send_script<R: Threads + Sync>(
         let round = Round { moment, events };
         failed = send_round(rt, alloc, &mut agent, round, failed, outlet)?;
     }
-    check(agent.live() == (0, 0))
+    let (transactions, calls) = agent.live();
+    let held = u64::try_from(transactions.saturating_add(calls)).unwrap_or(u64::MAX);
+    expect("held at the end", 0, held)
 }
 
 // Runs a round, with the failures of the one before at its end, sends, and gives the failures.

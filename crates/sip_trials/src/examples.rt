@@ -17,7 +17,7 @@ mod transactions;
 mod worked;
 
 use crate::refusals::SHARDS;
-use crate::stop::{Stop, check};
+use crate::stop::{Stop, expect};
 use crate::tally::tell;
 use files::FirstFails;
 use sip_calls::CallShard;
@@ -156,7 +156,7 @@ pub fn run_example<T: Threads + Sync>(
 ///
 /// # Errors
 ///
-/// `Different` where one differs, and an output that fails.
+/// `Count` where one differs, and an output that fails.
 pub fn run_examples<T: Threads + Sync>(rt: &HostRuntime, threads: &T) -> Result<(), Stop> {
     let mut differ: u64 = 0;
     for (number, name) in NAMES.iter().enumerate() {
@@ -166,5 +166,5 @@ pub fn run_examples<T: Threads + Sync>(rt: &HostRuntime, threads: &T) -> Result<
         }
     }
     tell(rt, &[(NAMES.len() as u64, "examples"), (differ, "differ")])?;
-    check(differ == 0)
+    expect("examples that differ", 0, differ)
 }

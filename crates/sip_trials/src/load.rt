@@ -2,7 +2,7 @@
 
 use crate::open::Open;
 use crate::options::options_of;
-use crate::stop::{Stop, check, expect};
+use crate::stop::{Stop, expect};
 use sip_message::{Addr, Reason, Spread};
 use sip_round::{Agent, Config, Event, Output, Round};
 use sip_served::{Notice, Reliability, Respond, UserCommand};
@@ -98,17 +98,23 @@ impl Load {
     ///
     /// # Errors
     ///
-    /// A round that is refused, want of memory, and `Different` where something comes.
+    /// A round that is refused, want of memory, and `Count` where something comes.
     pub fn idle_round<R: Threads + Sync>(&mut self, rt: &R, moment: u64) -> Result<(), Stop> {
         let round = Round {
             moment,
             events: Series::from_vec(Vec::new(self.alloc)),
         };
         let outputs = self.run(rt, &round)?;
-        check(outputs.is_empty())
+        expect("outputs", 0, outputs.len() as u64)
     }
 
-    fn run<R: Threads + Sync>(&mut self, rt: &R, round: &Round) -> Result<Vec<Output>, Stop> {
+    /// Runs a round, whose outputs aren't counted.
+    ///
+    /// # Errors
+    ///
+    /// `Words` for a number of workers that there can't be, a round that is refused, and want of
+    /// memory.
+    pub fn run<R: Threads + Sync>(&mut self, rt: &R, round: &Round) -> Result<Vec<Output>, Stop> {
         let workers = self.workers;
         if workers == 0 || workers > MOST_WORKERS {
             return Err(Stop::Words);
@@ -135,10 +141,13 @@ impl Load {
     ///
     /// # Errors
     ///
-    /// `Held` where that isn't so.
+    /// `Count` where that isn't so.
     pub fn is_held(&self, held: u64) -> Result<(), Stop> {
-        let held = u128::from(held);
-        expect(Stop::Held, self.agent.live() == (held, held))
+        let (transactions, calls) = self.agent.live();
+        let transactions = u64::try_from(transactions).unwrap_or(u64::MAX);
+        let calls = u64::try_from(calls).unwrap_or(u64::MAX);
+        expect("transactions held", held, transactions)?;
+        expect("calls held", held, calls)
     }
 
     /// What came of the requests: how many were told, answered, have ended and are held, and how
@@ -146,12 +155,12 @@ impl Load {
     ///
     /// # Errors
     ///
-    /// `Untold`, `Unanswered` and `Held`, where the user wasn't told of each request, not each was
-    /// answered, or not as many are held as are to be.
+    /// `Count`, where the user wasn't told of each request, not each was answered, or not as many
+    /// are held as are to be.
     pub fn served(&self, held: u64) -> Result<[u64; 5], Stop> {
         self.is_held(held)?;
-        expect(Stop::Untold, self.told == self.made)?;
-        expect(Stop::Unanswered, self.answered == self.made)?;
+        expect("requests told", self.made, self.told)?;
+        expect("answers", self.made, self.answered)?;
         let ended = self.made.saturating_sub(held);
         Ok([self.told, self.answered, ended, held, self.rounds])
     }

@@ -48,8 +48,7 @@ fn main(rt: HostRuntime) -> ExitCode {
     let status = match end {
         Ok(()) => SUCCESS,
         Err(stop) => {
-            let text = stop.text();
-            let _ = eprintln!(rt; "sip_trials: {text}");
+            let _ = eprintln!(rt; "sip_trials: {stop}");
             stop.status()
         }
     };

@@ -1,6 +1,6 @@
 //! Messages that are read and answered.
 
-use crate::stop::{Stop, check};
+use crate::stop::{Stop, expect};
 use sip_message::{Message, Reason, StatusCode, Token, response_to, write};
 use sip_reader::read;
 use sip_text::Text;
@@ -17,7 +17,7 @@ const OK: u16 = 200;
 ///
 /// # Errors
 ///
-/// `Different`, where the text spells none, and want of memory.
+/// `Message`, where the text spells none, and want of memory.
 pub fn read_often(alloc: Global, text: &[u8], times: u64) -> Result<[u64; 2], Stop> {
     let mut messages: u64 = 0;
     for _ in 0..times {
@@ -25,7 +25,7 @@ pub fn read_often(alloc: Global, text: &[u8], times: u64) -> Result<[u64; 2], St
             messages = messages.saturating_add(1);
         }
     }
-    check(messages == times)?;
+    expect("messages read", times, messages)?;
     Ok([messages, text.len() as u64])
 }
 
@@ -33,7 +33,7 @@ pub fn read_often(alloc: Global, text: &[u8], times: u64) -> Result<[u64; 2], St
 ///
 /// # Errors
 ///
-/// `Different`, where the text spells none, and want of memory.
+/// `Message`, where the text spells none, and want of memory.
 pub fn answer_often(alloc: Global, text: &[u8], times: u64) -> Result<[u64; 2], Stop> {
     answered(alloc, text, times, &token(alloc, TAG)?)
 }
@@ -41,7 +41,8 @@ pub fn answer_often(alloc: Global, text: &[u8], times: u64) -> Result<[u64; 2], 
 fn answered(alloc: Global, text: &[u8], times: u64, tag: &Token) -> Result<[u64; 2], Stop> {
     let length = answer_to(alloc, text, tag)?.len() as u64;
     for _ in 0..times {
-        check(answer_to(alloc, text, tag)?.len() as u64 == length)?;
+        let written = answer_to(alloc, text, tag)?.len() as u64;
+        expect("bytes written", length, written)?;
     }
     message(alloc, &answer_to(alloc, text, tag)?)?;
     Ok([times, length])
@@ -71,7 +72,7 @@ pub fn success_to(alloc: Global, request: &Message, tag: &Token) -> Result<Messa
 ///
 /// # Errors
 ///
-/// `Different` where it spells none, and want of memory.
+/// `Message` where it spells none, and want of memory.
 pub fn message(alloc: Global, text: &[u8]) -> Result<Message, Stop> {
     Ok(read(alloc, text)?)
 }

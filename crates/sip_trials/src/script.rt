@@ -8,7 +8,10 @@ use std::alloc::Global;
 use std::fs;
 
 /// The name of the script of forty transactions, in the folder of the cases.
-const NAME: &str = "keys/forty-keys";
+pub const LONG: &str = "keys/forty-keys";
+
+/// The name of that of one.
+pub const SHORT: &str = "requests/told-and-answered";
 
 /// An event file, as text and as it is read, and the output file that it gives.
 #[derive(Drop)]
@@ -18,14 +21,14 @@ pub struct Script {
 }
 
 impl Script {
-    /// The script of forty transactions, in this folder of cases.
+    /// The script of this name in a folder of cases.
     ///
     /// # Errors
     ///
     /// A file that is missing or can't be read, and want of memory.
-    pub fn read(rt: &HostRuntime, folder: &str) -> Result<Script, Stop> {
-        let events = format!(in rt.alloc(); "{folder}/{NAME}.events")?;
-        let outputs = format!(in rt.alloc(); "{folder}/{NAME}.outputs")?;
+    pub fn read(rt: &HostRuntime, folder: &str, name: &str) -> Result<Script, Stop> {
+        let events = format!(in rt.alloc(); "{folder}/{name}.events")?;
+        let outputs = format!(in rt.alloc(); "{folder}/{name}.outputs")?;
         Ok(Script {
             events: fs::read(rt, events.as_str())?,
             outputs: fs::read(rt, outputs.as_str())?,
@@ -36,7 +39,7 @@ impl Script {
     ///
     /// # Errors
     ///
-    /// `Different` where the text is no event file, and want of memory.
+    /// `Script` where the text is no event file, and want of memory.
     pub fn rounds(&self, alloc: Global) -> Result<(Config, Series<Round>), Stop> {
         Ok(read_events(alloc, &self.events)?)
     }

@@ -4,6 +4,7 @@ use crate::load::{CONFIG, Load, MOST_SHARDS, MOST_WORKERS};
 use crate::open::Open;
 use crate::options::options_of;
 use crate::stop::{Stop, expect};
+use sip_files::read_events;
 use sip_message::Spread;
 use sip_round::{Agent, Event, Output, Round};
 use sip_text::Series;
@@ -19,8 +20,7 @@ const LIFE: u64 = 32_000;
 /// How many requests come in a round to the most shards and workers.
 const REQUESTS: u64 = 1_000;
 
-/// How many rounds there are of which each begins what ends so many rounds later, and how long each
-/// takes.
+/// How many rounds there are of which each begins what ends 64 T1 later, and how long each takes.
 const SHORT_ROUNDS: u64 = 20_000;
 
 const ROUND: u64 = 100;
@@ -36,8 +36,8 @@ const REQUESTS_AT_MOST: u64 = 512;
 ///
 /// # Errors
 ///
-/// `Untold`, `Unanswered` and `Held` where not all is told, answered, sent and ended; a round that
-/// is refused; and want of memory.
+/// `Count` where not all is told, answered, sent and ended; a round that is refused; and want of
+/// memory.
 pub fn sizes_of<R: Threads + Sync>(rt: &R, alloc: Global) -> Result<[u64; 4], Stop> {
     held_in_one_shard(rt, alloc)?;
     most_shards(rt, alloc)?;
@@ -70,17 +70,34 @@ fn most_shards<R: Threads + Sync>(rt: &R, alloc: Global) -> Result<(), Stop> {
     Ok(())
 }
 
-// What has ended is no longer held: a request is answered in the next round, and held from its own
-// round on to the one before 64 T1 have passed.
+// What has ended is no longer held: a request is told and answered in its round, and 64 T1 later
+// nothing of it is left.
 fn many_rounds<R: Threads + Sync>(rt: &R, alloc: Global) -> Result<(), Stop> {
-    let most = LIFE / ROUND + 1;
     let mut load = Load::new(alloc, 3, 1)?;
     for number in 0..SHORT_ROUNDS {
-        load.round(rt, number.saturating_mul(ROUND), 1)?;
-        load.is_held(most.min(number.saturating_add(1)))?;
+        let rounds = round_of(alloc, number)?;
+        let outputs = load.run(rt, rounds.first().ok_or(Stop::Script)?)?;
+        expect("outputs", 2, outputs.len() as u64)?;
+        load.is_held(number.saturating_add(1).min(LIFE / ROUND))?;
     }
     load.reshard(7)?;
-    load.is_held(most)
+    load.is_held(LIFE / ROUND)
+}
+
+// The round of this number, in which an OPTIONS comes and is answered; each is of another branch
+// and another call.
+fn round_of(alloc: Global, number: u64) -> Result<Series<Round>, Stop> {
+    let moment = number.saturating_mul(ROUND);
+    let text = format!(in alloc;
+        "sip-events 1\nlocal 127.0.0.1:5060\nround {moment}\n\
+        datagram 127.0.0.1:5070 OPTIONS sip:127.0.0.1 SIP/2.0\\r\\n\
+        Via: SIP/2.0/UDP 127.0.0.1:5070;branch=z9hG4bKr{number}\\r\\n\
+        From: <sip:a@127.0.0.1>;tag=f1\\r\\nTo: <sip:127.0.0.1>\\r\\n\
+        Call-ID: c{number}\\r\\nCSeq: 7 OPTIONS\\r\\n\\r\\n\n\
+        respond c{number} {number}.1 200 plain - OK\n"
+    )?;
+    let (_, rounds) = read_events(alloc, text.as_bytes())?;
+    Ok(rounds)
 }
 
 // The same requests come again and again in one round: each is told once.
@@ -92,7 +109,7 @@ fn most_events<R: Threads + Sync>(rt: &R, alloc: Global) -> Result<(), Stop> {
         .iter()
         .filter(|output| matches!(output, Output::Notice(_)))
         .count();
-    expect(Stop::Untold, told as u64 == REQUESTS_AT_MOST)
+    expect("requests told", REQUESTS_AT_MOST, told as u64)
 }
 
 fn many_events(alloc: Global) -> Result<Series<Event>, AllocError> {

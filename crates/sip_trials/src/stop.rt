@@ -8,6 +8,7 @@ use sip_round::RoundFault;
 use sip_text::TextFault;
 use std::alloc::{AllocError, AllocFailed};
 use std::io;
+use thiserror::Error;
 
 const DIFFERENT: u8 = 1;
 
@@ -37,50 +38,48 @@ bad words; it takes none, or one of
 with each number from 1 to 9999999, at most 999 rounds, 256 shards and 64 workers";
 
 /// Why a trial stopped.
-#[derive(Clone, Copy)]
+#[derive(Clone, Copy, Debug, Error)]
 pub enum Stop {
     /// The words ask for nothing that there is.
+    #[error("{usage}", usage = USAGE)]
     Words,
     /// Something is another than it is to be.
+    #[error("something differs")]
     Different,
-    /// The user isn't told of each request, or more than once.
-    Untold,
-    /// Not each request is answered, or one is more than once.
-    Unanswered,
-    /// Other numbers are held than are to be.
-    Held,
+    /// Of this there is another number than there is to be.
+    #[error("{given} {what}, and not {wanted}")]
+    Count {
+        what: &'static str,
+        wanted: u64,
+        given: u64,
+    },
+    /// A text spells no message.
+    #[error("no message")]
+    Message,
+    /// A text is no event file.
+    #[error("no event file")]
+    Script,
     /// A round was refused.
-    Round,
+    #[error("a round is refused: {0}")]
+    Round(RoundFault),
     /// A file or a stream failed.
+    #[error("a file or a stream failed")]
     Device,
     /// Memory was refused, and what stays of it is as it is to be.
+    #[error("no memory")]
     NoMemory,
     /// The same, and what it was refused to is broken, as it is to be then.
+    #[error("no memory, and broken")]
     Broken,
 }
 
 impl Stop {
-    /// What is told of it.
-    pub fn text(self) -> &'static str {
-        match self {
-            Stop::Words => USAGE,
-            Stop::Different => "something differs",
-            Stop::Untold => "not each request was told once",
-            Stop::Unanswered => "not each request was answered once",
-            Stop::Held => "other numbers are held",
-            Stop::Round => "a round is refused",
-            Stop::Device => "a file or a stream failed",
-            Stop::NoMemory => "no memory",
-            Stop::Broken => "no memory, and broken",
-        }
-    }
-
     /// The status that the program ends in.
     pub fn status(self) -> u8 {
         match self {
-            Stop::Different | Stop::Untold | Stop::Unanswered | Stop::Held => DIFFERENT,
+            Stop::Different | Stop::Count { .. } | Stop::Message | Stop::Script => DIFFERENT,
             Stop::Words => BAD_WORDS,
-            Stop::Round => BAD_ROUND,
+            Stop::Round(_) => BAD_ROUND,
             Stop::Device => FAILED_DEVICE,
             Stop::NoMemory | Stop::Broken => NO_MEMORY,
         }
@@ -93,16 +92,24 @@ impl Stop {
 ///
 /// `Different` where it doesn't.
 pub fn check(holds: bool) -> Result<(), Stop> {
-    expect(Stop::Different, holds)
+    if holds { Ok(()) } else { Err(Stop::Different) }
 }
 
-/// Goes on where this holds.
+/// Goes on where a count is what it is to be.
 ///
 /// # Errors
 ///
-/// The one that is given where it doesn't.
-pub fn expect(stop: Stop, holds: bool) -> Result<(), Stop> {
-    if holds { Ok(()) } else { Err(stop) }
+/// `Count` where it isn't.
+pub fn expect(what: &'static str, wanted: u64, given: u64) -> Result<(), Stop> {
+    if given == wanted {
+        Ok(())
+    } else {
+        Err(Stop::Count {
+            what,
+            wanted,
+            given,
+        })
+    }
 }
 
 /// Why something stopped that was refused memory, which has to be broken from then on.
@@ -163,7 +170,7 @@ impl From<ReadFault> for Stop {
     fn from(fault: ReadFault) -> Stop {
         match fault {
             ReadFault::NoMemory => Stop::NoMemory,
-            _ => Stop::Different,
+            _ => Stop::Message,
         }
     }
 }
@@ -181,7 +188,7 @@ impl From<RoundFault> for Stop {
     fn from(fault: RoundFault) -> Stop {
         match fault {
             RoundFault::NoMemory { .. } => Stop::NoMemory,
-            _ => Stop::Round,
+            _ => Stop::Round(fault),
         }
     }
 }
@@ -190,7 +197,7 @@ impl From<EventsFault> for Stop {
     fn from(fault: EventsFault) -> Stop {
         match fault {
             EventsFault::NoMemory => Stop::NoMemory,
-            _ => Stop::Different,
+            _ => Stop::Script,
         }
     }
 }

@@ -2,14 +2,14 @@
 
 use crate::cases::run_cases;
 use crate::cuts::cuts_of;
-use crate::devices::devices_of;
+use crate::devices::run_devices;
 use crate::examples::{run_example, run_examples};
 use crate::load::Load;
 use crate::messages::{answer_often, read_often};
 use crate::refusals::round_by_round;
-use crate::script::Script;
+use crate::script::{LONG, Script};
 use crate::sizes::sizes_of;
-use crate::stop::{Stop, check};
+use crate::stop::{Stop, expect};
 use crate::tally::tell;
 use crate::words::{Asked, Task};
 use sip_program::Host;
@@ -44,15 +44,11 @@ pub fn done<T: Threads + Host>(
         Task::Examples => run_examples(rt, threads),
         Task::Example => run_example(rt, threads, asked.text),
         Task::Read | Task::Answer => often(rt, asked.task, asked.text, first),
-        Task::RoundByRound | Task::Cuts | Task::Devices => {
-            of_script(
-                rt,
-                threads,
-                asked.task,
-                &Script::read(rt, asked.text)?,
-                first,
-            )
+        Task::RoundByRound | Task::Cuts => {
+            let script = &Script::read(rt, asked.text, LONG)?;
+            of_script(rt, threads, asked.task, script, first)
         }
+        Task::Devices => run_devices(rt, threads, asked.text),
         Task::Transactions => served(rt, transactions(threads, rt.alloc(), first, second)?),
         Task::Idle => served(rt, idle(threads, rt.alloc(), first, second)?),
         Task::Rounds => {
@@ -82,11 +78,11 @@ fn size_of(number: u64) -> usize {
 // Reads the message of a file so often, or answers it.
 fn often(rt: &HostRuntime, task: Task, file: &str, times: u64) -> Result<(), Stop> {
     let text = fs::read(rt, file)?;
-    let [count, bytes] = match task {
-        Task::Read => read_often(rt.alloc(), &text, times)?,
-        _ => answer_often(rt.alloc(), &text, times)?,
+    let ([count, bytes], what) = match task {
+        Task::Read => (read_often(rt.alloc(), &text, times)?, "read"),
+        _ => (answer_often(rt.alloc(), &text, times)?, "answers written"),
     };
-    Ok(tell(rt, &[(count, "messages"), (bytes, "bytes each")])?)
+    Ok(tell(rt, &[(count, what), (bytes, "bytes each")])?)
 }
 
 // What is done with a script.
@@ -98,25 +94,14 @@ fn of_script<T: Threads + Host>(
     times: u64,
 ) -> Result<(), Stop> {
     match task {
-        Task::RoundByRound => {
-            round_by_round(threads, rt.alloc(), script)?;
-            Ok(println!(rt; "right")?)
-        }
         Task::Cuts => {
             let [runs, differ] = cuts_of(threads, rt.alloc(), script, times)?;
             tell(rt, &[(runs, "runs of a script"), (differ, "differ")])?;
-            check(differ == 0)
+            expect("runs that differ", 0, differ)
         }
         _ => {
-            let [reads, writes, sends] = devices_of(threads, rt.alloc(), script)?;
-            Ok(tell(
-                rt,
-                &[
-                    (reads, "reads"),
-                    (writes, "writes"),
-                    (sends, "sends failed in turn"),
-                ],
-            )?)
+            round_by_round(threads, rt.alloc(), script)?;
+            Ok(println!(rt; "right")?)
         }
     }
 }

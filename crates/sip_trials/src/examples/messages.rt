@@ -4,7 +4,7 @@ use crate::examples::worked::{OK, OPTIONS, key_in};
 use crate::messages::{TAG, message, success_to, token};
 use crate::stop::{Stop, check};
 use sip_message::{
-    Addr, Cut, First, Key, Message, Spread, Token, ack_for, cancel_for, stamp_source, write,
+    Addr, Cut, First, Header, Key, Message, Spread, Token, ack_for, cancel_for, stamp_source, write,
 };
 use std::alloc::{AllocError, Global};
 
@@ -26,7 +26,7 @@ CSeq: 5 INVITE\r
 i: c2\r
 t: \"B\" <sip:b@192.0.2.9>\r
 f: sip:a@192.0.2.1;tag=l1\r
-Contact: <sip:a@192.0.2.1>\r
+m: <sip:a@192.0.2.1>\r
 Max-Forwards: 7\r
 v: SIP/2.0/UDP 192.0.2.1:5060;rport;branch=z9hG4bKi, SIP/2.0/UDP h;branch=z9hG4bKo\r
 \r
@@ -55,6 +55,15 @@ x: gzip\r
 Content-Length: 2\r
 \r
 ab";
+
+/// The names and values of the headers that are kept of it as they stand.
+const KEPT: [(&[u8], &[u8]); 5] = [
+    (b"Subject", b"s"),
+    (b"Content-Type", b"gzip"),
+    (b"Content-Encoding", b"gzip"),
+    (b"Content-Encoding", b"gzip"),
+    (b"x", b"gzip"),
+];
 
 /// A response that rejects it.
 const REJECTION: &[u8] = b"SIP/2.0 486 X\r
@@ -126,7 +135,43 @@ pub fn is_written(alloc: Global, message: &Message, text: &[u8]) -> Result<(), S
 }
 
 pub fn headers_in_their_order(alloc: Global) -> Result<(), Stop> {
-    is_written(alloc, &message(alloc, SCRAMBLED)?, WRITTEN)
+    are_in_order(alloc, &message(alloc, SCRAMBLED)?)
+}
+
+fn are_in_order(alloc: Global, request: &Message) -> Result<(), Stop> {
+    check(has_fields(request) && are_kept(request.others.as_slice()))?;
+    is_written(alloc, request, WRITTEN)
+}
+
+// What is read of the headers with compact names that have fields of their own.
+fn has_fields(request: &Message) -> bool {
+    match (
+        request.vias.as_slice(),
+        request.contacts.as_slice(),
+        request.supported.as_slice(),
+    ) {
+        ([via, _], [contact], [_, option]) => {
+            via.branch() == b"z9hG4bKi".as_slice()
+                && request.from.uri.as_slice() == b"sip:a@192.0.2.1".as_slice()
+                && request.from.tag() == b"l1".as_slice()
+                && request.to.uri.as_slice() == b"sip:b@192.0.2.9".as_slice()
+                && request.call_id.as_slice() == b"c2".as_slice()
+                && contact.uri.as_slice() == b"sip:a@192.0.2.1".as_slice()
+                && option.as_slice() == b"z".as_slice()
+                && request.body.as_slice() == b"ab".as_slice()
+        }
+        _ => false,
+    }
+}
+
+// A compact name has become the long one.
+fn are_kept(headers: &[Header]) -> bool {
+    for (header, (name, value)) in headers.iter().zip(KEPT) {
+        if header.name.as_slice() != name || header.value.as_slice() != value {
+            return false;
+        }
+    }
+    headers.len() == KEPT.len()
 }
 
 pub fn a_copy(alloc: Global) -> Result<(), Stop> {

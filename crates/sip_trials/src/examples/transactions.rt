@@ -99,8 +99,8 @@ fn is_commanded(shard: &mut Shard, command: Command, text: &[u8]) -> Result<(), 
 
 // The answer is sent again, until 64 T1 have passed.
 fn is_completed(alloc: Global, shard: &mut Shard) -> Result<(), Stop> {
-    check(sends(&received(alloc, shard, OPTIONS, 20)?, OK))?;
     check(shard.state_of(&key_in(alloc, OPTIONS)?) == Some(State::Completed))?;
+    check(sends(&received(alloc, shard, OPTIONS, 20)?, OK))?;
     is_quiet(shard, 32_009, 1)?;
     is_quiet(shard, 32_010, 0)
 }

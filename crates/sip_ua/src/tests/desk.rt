@@ -103,8 +103,9 @@ fn a_poster_that_is_gone_holds_up_no_other_line(rt: HostRuntime) -> Result<(), F
     assert!(rt; first.post((0, 1)).is_ok());
     drop(first);
     assert!(rt; second.post((1, 1)).is_ok());
+    assert!(rt; second.post((1, 2)).is_ok());
     let ended = second.finish()?;
-    collects(&rt, &mut desk, 9, &[(0, 1), (1, 1)])?;
+    collects(&rt, &mut desk, 9, &[(0, 1), (1, 1), (1, 2)])?;
     settles(&rt, &mut desk, 1, ended);
     Ok(())
 }

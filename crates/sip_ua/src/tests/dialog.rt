@@ -82,7 +82,8 @@ fn refresh_fault(alloc: Global, dialog: &mut Dialog) -> Result<Option<DialogFaul
     Ok(dialog.refresh(target).err())
 }
 
-// Numbers end; a strict router is told before that, and an early dialog before a strict router.
+// Numbers end, and none follows the last; a strict router is told before that, and an early dialog
+// before a strict router.
 #[test]
 fn the_first_fault_is_told(rt: HostRuntime) -> Result<(), Fail> {
     let cases = [
@@ -108,6 +109,11 @@ fn the_first_fault_is_told(rt: HostRuntime) -> Result<(), Fail> {
         assert!(rt;
             next_fault(rt.alloc(), &mut dialog, method)? == fault,
             "{method} at {cseq}"
+        );
+        let again = next_fault(rt.alloc(), &mut dialog, method)?;
+        assert!(rt;
+            again == Some(fault.unwrap_or(DialogFault::SequenceUsedUp)),
+            "{method} after {cseq}"
         );
         assert!(rt; dialog.local_cseq() == LAST, "{method} at {cseq}");
     }

@@ -72,7 +72,7 @@ fn a_recorded_call_is_replayed_as_it_was(rt: HostRuntime) -> Result<(), Fail> {
     assert!(rt; told.ended.is_ok());
     let served = replayed(&rt, alloc, &heard.record)?;
     let asked = replayed(&rt, alloc, &told.record)?;
-    assert!(rt; !told.notices.bytes.is_empty());
+    assert!(rt; !heard.notices.bytes.is_empty());
     assert!(rt; have_same_lines(alloc, "notice ", &heard.notices.bytes, &served)?);
     assert!(rt; have_same_lines(alloc, "notice ", &told.notices.bytes, &asked)?);
     assert!(rt; comes_as_it_was_sent(alloc, from, to, &asked, &heard.record)?);

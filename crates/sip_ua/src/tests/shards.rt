@@ -28,11 +28,14 @@ const CONFIG: Config = Config {
     first: 0,
 };
 
-/// The event file of an INVITE.
-const INVITE: &[u8] = b"sip-events 1
+/// The event file of an OPTIONS that comes and is answered.
+const ANSWERED: &[u8] = b"sip-events 1
 local 192.0.2.1:5060
 round 0
-invite c 192.0.2.9:5060 sip:b@192.0.2.9 sip:a@192.0.2.1 sip:b@192.0.2.9 none -
+datagram 192.0.2.9:5060 OPTIONS sip:192.0.2.1 SIP/2.0\\r\\nVia: SIP/2.0/UDP 192.0.2.9;\
+branch=z9hG4bKr0\\r\\nFrom: <sip:a@192.0.2.9>;tag=f1\\r\\nTo: <sip:192.0.2.1>\\r\\n\
+Call-ID: c0\\r\\nCSeq: 7 OPTIONS\\r\\n\\r\\n
+respond c0 0.1 200 plain - OK
 ";
 
 /// A gate at which two pieces of a phase wait for each other; it counts those that waited in vain.
@@ -100,9 +103,9 @@ fn round_of(alloc: Global, moment: u64, datagrams: u32) -> Result<Round, Fail> {
 fn a_refused_round_leaves_the_agent_as_it_was(rt: HostRuntime) -> Result<(), Fail> {
     let alloc = rt.alloc();
     let mut agent = Agent::new(alloc, CONFIG, 2, First)?;
-    let (_, rounds) = read_events(alloc, INVITE)?;
-    let invite = rounds.first().ok_or("a round")?;
-    assert!(rt; agent.run_round(&rt, invite, 2, &Open).is_ok());
+    let (_, rounds) = read_events(alloc, ANSWERED)?;
+    let answered = rounds.first().ok_or("a round")?;
+    assert!(rt; agent.run_round(&rt, answered, 2, &Open).is_ok());
     let cases = [
         (10, 65_537, Some(RoundFault::TooManyEvents)),
         (10, 0, None),
