@@ -6,7 +6,7 @@
 //! the word `-` and the empty rest, and the text of one hyphen is the word `\x2d`. Each text has
 //! one spelling of either form, and the readers take no other.
 
-ghost use Rattle.std.specs.Prelude.{◌≡◌, ◌++◌, length, IfOk, IfSome, OnOk};
+ghost use Rattle.std.specs.Prelude.{◌≡◌, ◌++◌, ◌<◌, length, IfOk, IfSome, OnOk};
 ghost use Rattle.sip_files.specs.Word as word;
 ghost use Rattle.sip_files.specs.Form.{itself_in};
 ghost use Rattle.sip_files.specs.Reading as reading;
