@@ -292,7 +292,7 @@ module _ (life : DialogLife) (invite : Id) (event : Option Id) where
       paid_either (λ taken. Keeps side.clients (taken.0).clients) of command
       (prack_paid of command name) side (debt_for kind.Prack name side.dialogs)
       (λ refusal. keeps_same side.clients apart)
-      (λ debt. let service = (paid_at name of debt command.body side.dialogs).1 in
+      (λ debt. let service = (paid_at name of debt command.content side.dialogs).1 in
       keeps_settled of of.id (request_said of command.call_id name service).1 made
       (said_fresh of command.call_id name service) side.clients apart)
 

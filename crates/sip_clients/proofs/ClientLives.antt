@@ -66,7 +66,7 @@ module _ (event : Event) (side : Side) (apart : AreApart side.dialogs)
   unfolding requested_at
   request_lives command =
       let name = name_in command.local_tag command.remote_tag in
-      let serve = request_in_held event command.method command.body in
+      let serve = request_in_held event command.method command.content in
       let done = served_at name serve (Refused NoSuchDialog) side.dialogs in
       let said = request_said event command.call_id name done.1 in
       let after = settled event event.id said.1 side.clients in
@@ -78,7 +78,7 @@ module _ (event : Event) (side : Side) (apart : AreApart side.dialogs)
       (λ other held at. served_sent name serve (Refused NoSuchDialog)
       (λ held. request_cseqs command.method held.dialog) side.dialogs other
       (λ there is. request_sent_in other name event there (named name there is) command.method
-      command.body) refl held at
+      command.content) refl held at
       ∙ sym (said_sent other event event.id command.call_id name done.1 side.clients)
       ∙ sym (between_silent other said.0 after.1 bye.1
       (none_started said.0 (request_said_quiet event command.call_id name done.1))
@@ -121,15 +121,15 @@ module _ (event : Event) (side : Side) (apart : AreApart side.dialogs)
       (leads_same side.dialogs apart)
   by_prack command (Ok debt) =
       let name = name_in command.local_tag command.remote_tag in
-      let done = paid_at name event debt command.body side.dialogs in
+      let done = paid_at name event debt command.content side.dialogs in
       let said = request_said event command.call_id name done.1 in
       let after = settled event event.id said.1 side.clients in
-      sends_one name (λ held. discharge_cseqs debt (Some command.body) held.dialog)
+      sends_one name (λ held. discharge_cseqs debt (Some command.content) held.dialog)
       (said.0 ++ after.1) side.dialogs done.0
-      (λ held. discharge_numbered debt (Some command.body) held.dialog)
-      (λ other held at. served_sent name (paid event debt command.body) Waits
-      (λ held. discharge_cseqs debt (Some command.body) held.dialog) side.dialogs other
-      (λ there is. paid_sent other name event there (named name there is) debt command.body) refl
+      (λ held. discharge_numbered debt (Some command.content) held.dialog)
+      (λ other held at. served_sent name (paid event debt command.content) Waits
+      (λ held. discharge_cseqs debt (Some command.content) held.dialog) side.dialogs other
+      (λ there is. paid_sent other name event there (named name there is) debt command.content) refl
       held at
       ∙ sym (said_sent other event event.id command.call_id name done.1 side.clients)
       ∙ sym (after_silent other said.0 after.1

@@ -4,6 +4,7 @@ use Rattle.std.proofs.Common.{◌≡◌, ℕ, Bool, true, false, ◌&&◌, cond,
 use Rattle.std.specs.Prelude.{Option, None, Some, Err, find, if◌then◌else◌}
 use Rattle.std.specs.List.{list_any}
 use Rattle.std.specs.Option.{option_map, option_map_or}
+use Rattle.sip_message.specs.declared.content.Content.{Content}
 use Rattle.sip_common.specs.declared.command.DialogBody.{DialogBody}
 use Rattle.sip_common.specs.declared.command.DialogRequest.{DialogRequest}
 use Rattle.sip_common.specs.declared.debt.Debt.{Debt}
@@ -40,14 +41,14 @@ use Rattle.sip_clients.proofs.Served.{served_dialogs, served_in, found_passes}
 
 -- ---- a request in a dialog
 
-request_kept : (event : Event) (method body : List ℕ) (held : HeldDialog)
-    → OwesStill unchanged (Some held) (Some (request_in_held event method body held).0)
+request_kept : (event : Event) (method : List ℕ) (content : Content) (held : HeldDialog)
+    → OwesStill unchanged (Some held) (Some (request_in_held event method content held).0)
 unfolding request_in_held
-request_kept event method body held =
+request_kept event method content held =
     unless (first_refusal (request_refusals held.dialog method) None)
   where
     unless : (refusal : Option Refusal) → OwesStill unchanged (Some held)
-        (Some (sent_unless refusal (sending_in event method None body held) held).0)
+        (Some (sent_unless refusal (sending_in event method None content held) held).0)
     unless None = (refl, refl)
     unless (Some refusal) = (refl, refl)
 
@@ -56,15 +57,15 @@ pub request_owes : (event : Event) (command : DialogRequest) (side : Side) → A
 unfolding requested_at
 request_owes event command side apart =
     let name = name_in command.local_tag command.remote_tag in
-    let serve = request_in_held event command.method command.body in
+    let serve = request_in_held event command.method command.content in
     let done = requested_at name event command side.dialogs in
     let leads = served_leads name serve (Refused NoSuchDialog)
     (λ held. request_life command.method held.dialog)
-    (request_keeps event command.method command.body) side.dialogs apart in
+    (request_keeps event command.method command.content) side.dialogs apart in
     same_then side.dialogs done.0 (bye_ended name command.method done.1 done.0).0
     (subst (OweSame side.dialogs)
     (sym (served_dialogs name serve (Refused NoSuchDialog) side.dialogs))
-    (changed_same name (λ held. (serve held).0) (request_kept event command.method command.body)
+    (changed_same name (λ held. (serve held).0) (request_kept event command.method command.content)
     side.dialogs))
     (bye_same name command.method done.1 done.0 leads.apart)
 
@@ -76,7 +77,7 @@ module _ (event : Event) (command : DialogBody) (side : Side) where
 
   -- the dialog where this is paid
   abbrev paid_of : Debt → HeldDialog → HeldDialog
-  paid_of debt held = (paid event debt command.body held).0
+  paid_of debt held = (paid event debt command.content held).0
 
   -- in the dialog of each name
   abbrev Pays : DebtKind → List CallOut → Dialogs → Type 0
@@ -103,12 +104,12 @@ module _ (event : Event) (command : DialogBody) (side : Side) where
   debt_paid : (kind : DebtKind) (debt : Debt) (held : HeldDialog) (outs : List CallOut)
       → dialog_at asked_name side.dialogs ≡ Some held → find (is_of kind) held.owed ≡ Some debt
       → ((name : DialogName) → is_named asked_name name ≡ true
-      → goes_out kind name outs ≡ goes (paid event debt command.body held).1)
-      → Pays kind outs (paid_at asked_name event debt command.body side.dialogs).0
+      → goes_out kind name outs ≡ goes (paid event debt command.content held).1)
+      → Pays kind outs (paid_at asked_name event debt command.content side.dialogs).0
   debt_paid kind debt held outs at oldest goes_so name =
       subst (λ after. OwesStill (command_pays kind command name outs)
       (dialog_at name side.dialogs) (dialog_at name after))
-      (sym (served_dialogs asked_name (paid event debt command.body) Waits side.dialogs))
+      (sym (served_dialogs asked_name (paid event debt command.content) Waits side.dialogs))
       (subst (OwesStill (command_pays kind command name outs) (dialog_at name side.dialogs))
       (sym (entries.found_changed name_laws asked_name name (paid_of debt) side.dialogs))
       (by_name (is_named asked_name name) refl))
@@ -125,8 +126,8 @@ module _ (event : Event) (command : DialogBody) (side : Side) where
       by_name true is =
           let there : dialog_at name side.dialogs ≡ Some held =
           entries.same_key name_laws asked_name name side.dialogs is ∙ at in
-          let less = paid_drops event debt command.body held in
-          let pays : (if goes (paid event debt command.body held).1 then all_but debt held.owed
+          let less = paid_drops event debt command.content held in
+          let pays : (if goes (paid event debt command.content held).1 then all_but debt held.owed
           else held.owed) ≡ command_pays kind command name outs held.owed =
           sym (λ i. if is i && goes_so name is i
           then option_map_or (λ debt. all_but debt held.owed) (oldest i) held.owed
@@ -136,11 +137,11 @@ module _ (event : Event) (command : DialogBody) (side : Side) where
 
   -- what becomes of it where the dialog is held
   served_as : (debt : Debt) (held : HeldDialog) → dialog_at asked_name side.dialogs ≡ Some held
-      → (paid_at asked_name event debt command.body side.dialogs).1
-      ≡ (paid event debt command.body held).1
+      → (paid_at asked_name event debt command.content side.dialogs).1
+      ≡ (paid event debt command.content held).1
   served_as debt held at =
-      ap (λ found. (served_in asked_name (paid event debt command.body) Waits side.dialogs found).1)
-      at
+      ap (λ found.
+      (served_in asked_name (paid event debt command.content) Waits side.dialogs found).1) at
 
   by_owed : (kind : DebtKind) (pay : Debt → Side → ClientTaken)
       → ((debt : Debt) (held : HeldDialog) → dialog_at asked_name side.dialogs ≡ Some held
@@ -164,7 +165,7 @@ module _ (event : Event) (command : DialogBody) (side : Side) where
       → let taken = ack_paid event command asked_name debt side in
       Pays kind.Ack taken.1 (taken.0).dialogs
   ack_paid_off debt held at is =
-      let service = (paid_at asked_name event debt command.body side.dialogs).1 in
+      let service = (paid_at asked_name event debt command.content side.dialogs).1 in
       debt_paid kind.Ack debt held (ack_said event command.call_id service).0 at is
       (λ name same. ack_goes event command.call_id service ∙ ap goes (served_as debt held at))
 
@@ -177,15 +178,15 @@ module _ (event : Event) (command : DialogBody) (side : Side) where
   module _ (named : AreNamed side.dialogs) where
     prack_out : (debt : Debt) (held : HeldDialog) → dialog_at asked_name side.dialogs ≡ Some held
         → is_of kind.Prack debt ≡ true → (name : DialogName) → is_named asked_name name ≡ true
-        → let done = paid_at asked_name event debt command.body side.dialogs in
+        → let done = paid_at asked_name event debt command.content side.dialogs in
         let said = request_said event command.call_id asked_name done.1 in
         goes_out kind.Prack name
         (said.0 ++ (settled event event.id said.1 side.clients).1)
-        ≡ goes (paid event debt command.body held).1
+        ≡ goes (paid event debt command.content held).1
     prack_out (Ack invite number) held at is name same = absurd cc
     prack_out (Prack rseq number) held at is name same =
         let debt = Prack rseq number in
-        let service = (paid_at asked_name event debt command.body side.dialogs).1 in
+        let service = (paid_at asked_name event debt command.content side.dialogs).1 in
         let said = request_said event command.call_id asked_name service in
         ap (list_any is_of_prack)
         (after_silent name said.0 (settled event event.id said.1 side.clients).1
@@ -193,7 +194,7 @@ module _ (event : Event) (command : DialogBody) (side : Side) where
         ∙ said_sent name event event.id command.call_id asked_name service side.clients
         ∙ ap (service_cseqs name) (served_as debt held at))
         ∙ prack_pays name asked_name event held (named asked_name held at) same rseq number
-        command.body
+        command.content
 
     prack_paid_off : (debt : Debt) (held : HeldDialog)
         → dialog_at asked_name side.dialogs ≡ Some held
@@ -201,7 +202,7 @@ module _ (event : Event) (command : DialogBody) (side : Side) where
         → let taken = prack_paid event command asked_name debt side in
         Pays kind.Prack taken.1 (taken.0).dialogs
     prack_paid_off debt held at is =
-        let done = paid_at asked_name event debt command.body side.dialogs in
+        let done = paid_at asked_name event debt command.content side.dialogs in
         let said = request_said event command.call_id asked_name done.1 in
         debt_paid kind.Prack debt held
         (said.0 ++ (settled event event.id said.1 side.clients).1) at is

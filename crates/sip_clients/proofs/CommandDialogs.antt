@@ -1,6 +1,7 @@
 -- What is sent in a dialog, owed, paid and ended on the client side, is what happens in it.
 use Rattle.std.proofs.Common.{ℕ, Bool, true, false, not, cond, List, [], refl, sym, subst}
 use Rattle.std.specs.Prelude.{Option, None, Some, codes, filter, fold}
+use Rattle.sip_message.specs.declared.content.Content.{Content}
 use Rattle.sip_dialog.specs.declared.dialog.Dialog.{Dialog}
 use Rattle.sip_dialog.specs.declared.fault.DialogFault.{DialogFault}
 use Rattle.sip_dialog.specs.Fault.{request_fault}
@@ -36,13 +37,13 @@ sends_made : (method : List ℕ) (fault : Option DialogFault) (dialog : Dialog)
 sends_made method None dialog = ((tt, tt), refl)
 sends_made method (Some fault) dialog = (tt, refl)
 
-discharged_keeps : (event : Event) (debt : Debt) (offer : Option (List ℕ)) (held : HeldDialog)
+discharged_keeps : (event : Event) (debt : Debt) (offer : Option Content) (held : HeldDialog)
     → Keeps None (discharge_life debt offer held.dialog) held (discharged event debt offer held).0
 unfolding discharged
 discharged_keeps event (Ack invite number) None held = keeps_same held
 discharged_keeps event (Prack rseq number) None held = keeps_same held
-discharged_keeps event (Ack invite number) (Some body) held = keeps_same held
-discharged_keeps event (Prack rseq number) (Some body) held =
+discharged_keeps event (Ack invite number) (Some content) held = keeps_same held
+discharged_keeps event (Prack rseq number) (Some content) held =
     let fault = request_fault held.dialog (codes "PRACK") in
     (refl, refl, sends_made (codes "PRACK") fault held.dialog)
 
@@ -58,7 +59,7 @@ if_sent_keeps debt (Sent sending) held = (refl, refl, (tt, refl))
 if_sent_keeps debt Waits held = keeps_same held
 if_sent_keeps debt (Refused refusal) held = keeps_same held
 
-pub owed_keeps : (event : Event) (debt : Debt) (offer : Option (List ℕ)) (held : HeldDialog)
+pub owed_keeps : (event : Event) (debt : Debt) (offer : Option Content) (held : HeldDialog)
     → Keeps None (discharge_life debt offer held.dialog) held (owed event debt offer held).0
 unfolding owed
 owed_keeps event debt offer held =
@@ -67,24 +68,26 @@ owed_keeps event debt offer held =
     (kept_unless_sent debt done.1 done.0)
     (discharged_keeps event debt offer held) (unless_sent_keeps debt done.1 done.0)
 
-pub paid_keeps : (event : Event) (debt : Debt) (body : List ℕ) (held : HeldDialog)
-    → Keeps None (discharge_life debt (Some body) held.dialog) held (paid event debt body held).0
+pub paid_keeps : (event : Event) (debt : Debt) (content : Content) (held : HeldDialog)
+    → Keeps None (discharge_life debt (Some content) held.dialog) held
+    (paid event debt content held).0
 unfolding paid
-paid_keeps event debt body held =
-    let done = discharged event debt (Some body) held in
-    keeps_then None (discharge_life debt (Some body) held.dialog) held done.0
+paid_keeps event debt content held =
+    let done = discharged event debt (Some content) held in
+    keeps_then None (discharge_life debt (Some content) held.dialog) held done.0
     (dropped_if_sent debt done.1 done.0)
-    (discharged_keeps event debt (Some body) held) (if_sent_keeps debt done.1 done.0)
+    (discharged_keeps event debt (Some content) held) (if_sent_keeps debt done.1 done.0)
 
-pub request_keeps : (event : Event) (method body : List ℕ) (held : HeldDialog)
-    → Keeps None (request_life method held.dialog) held (request_in_held event method body held).0
+pub request_keeps : (event : Event) (method : List ℕ) (content : Content) (held : HeldDialog)
+    → Keeps None (request_life method held.dialog) held
+    (request_in_held event method content held).0
 unfolding request_in_held
-request_keeps event method body held =
+request_keeps event method content held =
     unless (first_refusal (request_refusals held.dialog method) None)
   where
     unless : (refusal : Option ARefusal)
         → Keeps None (requests_made (unless_refused refusal method held.dialog)) held
-        (sent_unless refusal (sending_in event method None body held) held).0
+        (sent_unless refusal (sending_in event method None content held) held).0
     unless None = (refl, refl, ((tt, tt), refl))
     unless (Some refusal) = keeps_same held
 

@@ -138,7 +138,7 @@ module _ (event : Event) where
       (λ debt. let told = ack_asked event name debt command side.dialogs in
       silent_fits (Some event.id) side.clients told.1 (ack_kept debt name told.2 side.clients)
       (none_started told.1 (ack_said_quiet event command.call_id
-      (paid_at name event debt command.body side.dialogs).1))
+      (paid_at name event debt command.content side.dialogs).1))
       (noted_fewer debt name told.2 side.clients))
 
   pub prack_fits : (command : DialogBody) (side : Side)
@@ -149,7 +149,7 @@ module _ (event : Event) where
       (debt_for kind.Prack name side.dialogs)
       (λ refusal. quiet_fits side.clients (refused event.id command.call_id refusal) refl)
       (λ debt. said_fits command.call_id name
-      (paid_at name event debt command.body side.dialogs).1 side.clients)
+      (paid_at name event debt command.content side.dialogs).1 side.clients)
 
   -- ---- CANCEL
 

@@ -3,6 +3,7 @@
 use Rattle.std.proofs.Common.{◌≡◌, ℕ, Bool, true, false, not, ◌&&◌, cond, List, [], ◌∷◌, ◌++◌, refl, sym, ap, ◌∙◌, append-nil}
 use Rattle.std.specs.Prelude.{Option, None, Some, codes, filter, if◌then◌else◌}
 use Rattle.std.specs.List.{list_any}
+use Rattle.sip_message.specs.declared.content.Content.{Content}
 use Rattle.sip_message.specs.declared.id.Id.{Id}
 use Rattle.sip_message.specs.declared.message.Message.{Message}
 use Rattle.sip_dialog.specs.declared.fault.DialogFault.{DialogFault}
@@ -86,13 +87,13 @@ goes (Refused refusal) = false
 abbrev pub unless_out : Bool → Debt → List Debt
 unless_out out debt = if not out then debt ∷ [] else []
 
-discharged_kept : (event : Event) (debt : Debt) (offer : Option (List ℕ)) (held : HeldDialog)
+discharged_kept : (event : Event) (debt : Debt) (offer : Option Content) (held : HeldDialog)
     → OwesStill unchanged (Some held) (Some (discharged event debt offer held).0)
 unfolding discharged
 discharged_kept event (Ack invite number) None held = (refl, refl)
 discharged_kept event (Prack rseq number) None held = (refl, refl)
-discharged_kept event (Ack invite number) (Some body) held = (refl, refl)
-discharged_kept event (Prack rseq number) (Some body) held = (refl, refl)
+discharged_kept event (Ack invite number) (Some content) held = (refl, refl)
+discharged_kept event (Prack rseq number) (Some content) held = (refl, refl)
 
 kept_adds : (debt : Debt) (service : Service) (held : HeldDialog)
     → OwesStill (λ debts. debts ++ unless_out (goes service) debt) (Some held)
@@ -111,7 +112,7 @@ drops debt (Sent sending) held = (refl, refl)
 drops debt Waits held = (refl, refl)
 drops debt (Refused refusal) held = (refl, refl)
 
-pub owed_adds : (event : Event) (debt : Debt) (offer : Option (List ℕ)) (held : HeldDialog)
+pub owed_adds : (event : Event) (debt : Debt) (offer : Option Content) (held : HeldDialog)
     → OwesStill (λ debts. debts ++ unless_out (goes (owed event debt offer held).1) debt)
     (Some held) (Some (owed event debt offer held).0)
 unfolding owed
@@ -121,13 +122,14 @@ owed_adds event debt offer held =
     let adds = kept_adds debt done.1 done.0 in
     (adds.0 ∙ kept.0, adds.1 ∙ ap (λ debts. debts ++ unless_out (goes done.1) debt) kept.1)
 
-pub paid_drops : (event : Event) (debt : Debt) (body : List ℕ) (held : HeldDialog)
-    → OwesStill (λ debts. if goes (paid event debt body held).1 then all_but debt debts else debts)
-    (Some held) (Some (paid event debt body held).0)
+pub paid_drops : (event : Event) (debt : Debt) (content : Content) (held : HeldDialog)
+    → OwesStill
+    (λ debts. if goes (paid event debt content held).1 then all_but debt debts else debts)
+    (Some held) (Some (paid event debt content held).0)
 unfolding paid
-paid_drops event debt body held =
-    let done = discharged event debt (Some body) held in
-    let kept = discharged_kept event debt (Some body) held in
+paid_drops event debt content held =
+    let done = discharged event debt (Some content) held in
+    let kept = discharged_kept event debt (Some content) held in
     let less = drops debt done.1 done.0 in (
       less.0 ∙ kept.0,
       less.1 ∙ ap (λ debts. if goes done.1 then all_but debt debts else debts) kept.1,
@@ -158,15 +160,15 @@ ack_goes event call_id (Refused refusal) = refl
 module _ (name own : DialogName) (event : Event) (held : HeldDialog)
     (named : is_named own (name_of_dialog held.dialog) ≡ true) (same : is_named own name ≡ true)
   where
-    prack_discharged : (rseq number : ℕ) (offer : Option (List ℕ))
+    prack_discharged : (rseq number : ℕ) (offer : Option Content)
         → list_any is_of_prack
         (service_cseqs name (discharged event (Prack rseq number) offer held).1)
         ≡ goes (discharged event (Prack rseq number) offer held).1
     unfolding discharged
     prack_discharged rseq number None = refl
-    prack_discharged rseq number (Some body) =
+    prack_discharged rseq number (Some content) =
         ap (list_any is_of_prack)
-        (discharged_sent name own event held named (Prack rseq number) (Some body)
+        (discharged_sent name own event held named (Prack rseq number) (Some content)
         ∙ ap (λ b. cond b (asks (codes "PRACK") (request_fault held.dialog (codes "PRACK"))
         held.dialog) []) same)
         ∙ by_fault (request_fault held.dialog (codes "PRACK")) _
@@ -177,14 +179,14 @@ module _ (name own : DialogName) (event : Event) (held : HeldDialog)
         by_fault None sending = refl
         by_fault (Some fault) sending = refl
 
-    pub prack_owes : (rseq number : ℕ) (offer : Option (List ℕ))
+    pub prack_owes : (rseq number : ℕ) (offer : Option Content)
         → list_any is_of_prack (service_cseqs name (owed event (Prack rseq number) offer held).1)
         ≡ goes (owed event (Prack rseq number) offer held).1
     unfolding owed
     prack_owes rseq number offer = prack_discharged rseq number offer
 
-    pub prack_pays : (rseq number : ℕ) (body : List ℕ)
-        → list_any is_of_prack (service_cseqs name (paid event (Prack rseq number) body held).1)
-        ≡ goes (paid event (Prack rseq number) body held).1
+    pub prack_pays : (rseq number : ℕ) (content : Content)
+        → list_any is_of_prack (service_cseqs name (paid event (Prack rseq number) content held).1)
+        ≡ goes (paid event (Prack rseq number) content held).1
     unfolding paid
-    prack_pays rseq number body = prack_discharged rseq number (Some body)
+    prack_pays rseq number content = prack_discharged rseq number (Some content)

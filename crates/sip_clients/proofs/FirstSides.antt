@@ -198,25 +198,26 @@ request_leads event command side apart =
     let done = requested_at name event command side.dialogs in
     leads_then (requested_in command) side.dialogs done.0
     (bye_ended name command.method done.1 done.0).0
-    (served_leads name (request_in_held event command.method command.body) (Refused NoSuchDialog)
+    (served_leads name (request_in_held event command.method command.content) (Refused NoSuchDialog)
     (λ held. request_life command.method held.dialog)
-    (request_keeps event command.method command.body) side.dialogs apart)
+    (request_keeps event command.method command.content) side.dialogs apart)
     (bye_leads name command.method done.1 done.0)
 
 -- the same of what is owed and paid
 abbrev pub paid_in : DialogBody → Result Debt Refusal → Lives
 paid_in command (Err refusal) = quiet
 paid_in command (Ok debt) = in_one (name_in command.local_tag command.remote_tag)
-    (λ held. discharge_life debt (Some command.body) held.dialog)
+    (λ held. discharge_life debt (Some command.content) held.dialog)
 
 pub pay_leads : (event : Event) (command : DialogBody) (debt : Debt) (dialogs : Dialogs)
     → AreApart dialogs
     → Leads (paid_in command (Ok debt)) dialogs
-    (paid_at (name_in command.local_tag command.remote_tag) event debt command.body dialogs).0
+    (paid_at (name_in command.local_tag command.remote_tag) event debt command.content dialogs).0
 pay_leads event command debt dialogs apart =
-    served_leads (name_in command.local_tag command.remote_tag) (paid event debt command.body) Waits
-    (λ held. discharge_life debt (Some command.body) held.dialog)
-    (paid_keeps event debt command.body) dialogs apart
+    served_leads (name_in command.local_tag command.remote_tag)
+    (paid event debt command.content) Waits
+    (λ held. discharge_life debt (Some command.content) held.dialog)
+    (paid_keeps event debt command.content) dialogs apart
 
 by_pay : (event : Event) (command : DialogBody) (pay : Debt → Side → ClientTaken) (side : Side)
     (o : Result Debt Refusal) → AreApart side.dialogs

@@ -141,7 +141,7 @@ request_asks event command side =
 prack_paid_asks : (event : Event) (command : DialogBody) (name : DialogName) (debt : Debt)
     (side : Side) → shown (prack_paid event command name debt side).1 ≡ []
 prack_paid_asks event command name debt side =
-    let paid = paid_at name event debt command.body side.dialogs in
+    let paid = paid_at name event debt command.content side.dialogs in
     let said = request_said event command.call_id name paid.1 in
     none_of_both said.0 (settled event event.id said.1 side.clients).1
     (none_shown said.0 (request_said_quiet event command.call_id name paid.1))

@@ -32,10 +32,10 @@ use Rattle.sip_clients.specs.Commands.{ack_asked, bye_ended, debt_for, is_bad_ou
 use Rattle.sip_clients.specs.Dialogs.{paid_at}
 use Rattle.sip_common.specs.Notices.{refused}
 use Rattle.sip_clients.specs.Outputs.{request_said}
-use Rattle.sip_clients.specs.Outside.{bare_invite, bare_plain, bare_request, invite_of, plain_of, supporting}
+use Rattle.sip_clients.specs.Outside.{bare_invite, bare_plain, bare_request, invite_of, plain_of, supporting, through}
 use Rattle.sip_clients.specs.OwnCall.{AreClientsOf, IsNoticeOf, IsRequestOf, KeepsTo, on_side, IsSideOf, AreNoticesOf}
 use Rattle.sip_common.proofs.Each.{both, each_changed}
-use Rattle.sip_clients.proofs.OwnDialogs.{body_kept, bye_own, paid_own, requested_at_own}
+use Rattle.sip_clients.proofs.OwnDialogs.{content_kept, bye_own, paid_own, requested_at_own}
 use Rattle.sip_clients.proofs.OwnReplies.{AreSettledOf, request_said_own, ack_said_own, started_own, settled_own, beside_own, client_own}
 use Rattle.sip_clients.proofs.Served.{paid_either}
 
@@ -55,14 +55,14 @@ bare_kept event call_id method uri from to = refl
 invite_kept : (event : Event) (invite : Invite)
     → (invite_of event invite).call_id ≡ invite.call_id
 invite_kept event invite =
-    body_kept (bare_invite event invite) invite.body
+    content_kept (through invite.routes (bare_invite event invite)) invite.content
     ∙ (supporting_kept invite.support _
     ∙ bare_kept event invite.call_id (codes "INVITE") invite.request_uri invite.from invite.to)
 
 plain_kept : (event : Event) (plain : PlainCommand)
     → (plain_of event plain).call_id ≡ plain.call_id
 plain_kept event plain =
-    body_kept (bare_plain event plain) plain.body
+    content_kept (through plain.routes (bare_plain event plain)) plain.content
     ∙ bare_kept event plain.call_id plain.method plain.request_uri plain.from plain.to
 
 pub invite_own : (event : Event) (invite : Invite)
@@ -124,8 +124,8 @@ ack_paid_own : (event : Event) (command : DialogBody) (name : DialogName) (debt 
 ack_paid_own event command name debt side own =
     let call_id = command.call_id in
     let told = ack_asked event name debt command side.dialogs in
-    let paid = paid_at name event debt command.body side.dialogs in
-    let so = paid_own call_id name event debt command.body side.dialogs own.dialogs in
+    let paid = paid_at name event debt command.content side.dialogs in
+    let so = paid_own call_id name event debt command.content side.dialogs own.dialogs in
     let after_response = noted_own call_id debt name told.2 side.clients own.clients in (
       record { dialogs = so.0; clients = after_response },
       ack_said_own call_id event call_id refl paid.1,
@@ -135,8 +135,8 @@ prack_paid_own : (event : Event) (command : DialogBody) (name : DialogName) (deb
     → KeepsTo command.call_id (prack_paid event command name debt)
 prack_paid_own event command name debt side own =
     let call_id = command.call_id in
-    let paid = paid_at name event debt command.body side.dialogs in
-    let so = paid_own call_id name event debt command.body side.dialogs own.dialogs in
+    let paid = paid_at name event debt command.content side.dialogs in
+    let so = paid_own call_id name event debt command.content side.dialogs own.dialogs in
     let said = request_said event call_id name paid.1 in
     let says = request_said_own call_id event call_id refl name paid.1 so.1 in
     let after = settled event event.id said.1 side.clients in

@@ -2,7 +2,8 @@
 use Rattle.std.proofs.Common.{◌≡◌, ℕ, ◌+◌, Bool, true, false, cond, List, [], ◌∷◌, refl, sym, ap, subst, ◌∙◌}
 use Rattle.std.specs.Prelude.{Option, None, Some, IfSome, codes}
 use Rattle.std.specs.Str.{bytes_eq}
-use Rattle.sip_message.specs.Message.{with_body_of}
+use Rattle.sip_message.specs.declared.content.Content.{Content}
+use Rattle.sip_message.specs.Content.{with_content_of}
 use Rattle.sip_model.proofs.Ordered.{by_bool}
 use Rattle.sip_message.specs.declared.message.Message.{Message}
 use Rattle.sip_message.specs.declared.rack.RAck.{RAck}
@@ -39,11 +40,10 @@ use Rattle.sip_clients.specs.OwnCall.{AreDialogsOf, IsDialogOf, IsNoticeOf, IsRe
 use Rattle.sip_clients.specs.Replied.{heard_first}
 use Rattle.sip_clients.specs.Service.{Outcome, acked, happens_by_sending, requested, discharged, service_by}
 
-pub body_kept : (message : Message) (body : List ℕ)
-    → (with_body_of message body).call_id ≡ message.call_id
-unfolding with_body_of
-body_kept message [] = refl
-body_kept message (b ∷ bs) = refl
+pub content_kept : (message : Message) (content : Content)
+    → (with_content_of message content).call_id ≡ message.call_id
+unfolding with_content_of
+content_kept message content = refl
 
 module _ (call_id : List ℕ) where
   -- ---- what a step makes
@@ -65,32 +65,32 @@ module _ (call_id : List ℕ) where
   service_own None sending own = own
   service_own (Some fault) sending own = tt
 
-  requested_own : (event : Event) (method : List ℕ) (rack : Option RAck) (body : List ℕ)
+  requested_own : (event : Event) (method : List ℕ) (rack : Option RAck) (content : Content)
       (held : HeldDialog) → IsDialogOf call_id held
-      → IsOutcomeOf (requested event method rack body held)
-  requested_own event method rack body held own = (
+      → IsOutcomeOf (requested event method rack content held)
+  requested_own event method rack content held own = (
     lived_keeps held.dialog (happens_by_sending method (request_fault held.dialog method)) ∙ own,
     service_own (request_fault held.dialog method) _
-        (body_kept (bare_request_in held.dialog method (held.dialog.local_cseq + 1)
-        (branch_of event) event.local) body ∙ own),
+        (content_kept (bare_request_in held.dialog method (held.dialog.local_cseq + 1)
+        (branch_of event) event.local) content ∙ own),
   )
 
-  acked_own : (event : Event) (held : HeldDialog) (number : ℕ) (body : List ℕ)
-      → IsDialogOf call_id held → IsServiceOf (acked event held number body)
-  acked_own event held number body own =
+  acked_own : (event : Event) (held : HeldDialog) (number : ℕ) (content : Content)
+      → IsDialogOf call_id held → IsServiceOf (acked event held number content)
+  acked_own event held number content own =
       service_own (ack_fault held.dialog) _
-      (body_kept (bare_request_in held.dialog (codes "ACK") number (branch_of event) event.local)
-      body ∙ own)
+      (content_kept (bare_request_in held.dialog (codes "ACK") number (branch_of event) event.local)
+      content ∙ own)
 
-  served_own : (event : Event) (debt : Debt) (offer : Option (List ℕ)) (held : HeldDialog)
+  served_own : (event : Event) (debt : Debt) (offer : Option Content) (held : HeldDialog)
       → IsDialogOf call_id held → IsOutcomeOf (discharged event debt offer held)
   unfolding discharged
   served_own event debt None held own = (own, tt)
-  served_own event (Ack invite number) (Some body) held own =
-      (own, acked_own event held number body own)
-  served_own event (Prack rseq number) (Some body) held own =
+  served_own event (Ack invite number) (Some content) held own =
+      (own, acked_own event held number content own)
+  served_own event (Prack rseq number) (Some content) held own =
       requested_own event (codes "PRACK")
-      (Some record { rseq = rseq; cseq = number; method = codes "INVITE" }) body held own
+      (Some record { rseq = rseq; cseq = number; method = codes "INVITE" }) content held own
 
   kept_own : (debt : Debt) (service : Service) (held : HeldDialog) → IsDialogOf call_id held
       → IsDialogOf call_id (kept_unless_sent debt service held)
@@ -98,7 +98,7 @@ module _ (call_id : List ℕ) where
   kept_own debt Waits held own = own
   kept_own debt (Refused refusal) held own = own
 
-  pub owed_own : (event : Event) (debt : Debt) (offer : Option (List ℕ)) (held : HeldDialog)
+  pub owed_own : (event : Event) (debt : Debt) (offer : Option Content) (held : HeldDialog)
       → IsDialogOf call_id held → IsOutcomeOf (owed event debt offer held)
   unfolding owed
   owed_own event debt offer held own =
@@ -112,21 +112,21 @@ module _ (call_id : List ℕ) where
   dropped_own debt Waits held own = own
   dropped_own debt (Refused refusal) held own = own
 
-  debt_paid_own : (event : Event) (debt : Debt) (body : List ℕ) (held : HeldDialog)
-      → IsDialogOf call_id held → IsOutcomeOf (paid event debt body held)
+  debt_paid_own : (event : Event) (debt : Debt) (content : Content) (held : HeldDialog)
+      → IsDialogOf call_id held → IsOutcomeOf (paid event debt content held)
   unfolding paid
-  debt_paid_own event debt body held own =
-      let done = discharged event debt (Some body) held in
-      let so = served_own event debt (Some body) held own in
+  debt_paid_own event debt content held own =
+      let done = discharged event debt (Some content) held in
+      let so = served_own event debt (Some content) held own in
       (dropped_own debt done.1 done.0 so.0, so.1)
 
-  request_own : (event : Event) (method body : List ℕ) (held : HeldDialog)
-      → IsDialogOf call_id held → IsOutcomeOf (request_in_held event method body held)
-  request_own event method body held own =
-      by_bool (is_bad event method body held)
-      (λ bad. subst IsOutcomeOf (sym (bad_request event method body held bad)) (own, tt))
-      (λ good. subst IsOutcomeOf (sym (good_request event method body held good))
-      (requested_own event method None body held own))
+  request_own : (event : Event) (method : List ℕ) (content : Content) (held : HeldDialog)
+      → IsDialogOf call_id held → IsOutcomeOf (request_in_held event method content held)
+  request_own event method content held own =
+      by_bool (is_bad event method content held)
+      (λ bad. subst IsOutcomeOf (sym (bad_request event method content held bad)) (own, tt))
+      (λ good. subst IsOutcomeOf (sym (good_request event method content held good))
+      (requested_own event method None content held own))
 
   served_at_own : (name : DialogName) (serve : HeldDialog → Outcome) (otherwise : Service)
       → ((held : HeldDialog) → IsDialogOf call_id held → IsOutcomeOf (serve held))
@@ -146,13 +146,13 @@ module _ (call_id : List ℕ) where
         (serves held its).1,
       )
 
-  pub paid_own : (name : DialogName) (event : Event) (debt : Debt) (body : List ℕ)
+  pub paid_own : (name : DialogName) (event : Event) (debt : Debt) (content : Content)
       (dialogs : Dialogs) → AreDialogsOf call_id dialogs
-      → AreDialogsOf call_id (paid_at name event debt body dialogs).0
-      × IsServiceOf (paid_at name event debt body dialogs).1
-  paid_own name event debt body dialogs own =
-      served_at_own name (paid event debt body) Waits (debt_paid_own event debt body) tt dialogs
-      own
+      → AreDialogsOf call_id (paid_at name event debt content dialogs).0
+      × IsServiceOf (paid_at name event debt content dialogs).1
+  paid_own name event debt content dialogs own =
+      served_at_own name (paid event debt content) Waits (debt_paid_own event debt content) tt
+      dialogs own
 
   pub requested_at_own : (name : DialogName) (event : Event) (command : DialogRequest)
       (dialogs : Dialogs) → AreDialogsOf call_id dialogs
@@ -160,8 +160,8 @@ module _ (call_id : List ℕ) where
       × IsServiceOf (requested_at name event command dialogs).1
   unfolding requested_at
   requested_at_own name event command dialogs own =
-      served_at_own name (request_in_held event command.method command.body) (Refused NoSuchDialog)
-      (request_own event command.method command.body) tt dialogs own
+      served_at_own name (request_in_held event command.method command.content)
+      (Refused NoSuchDialog) (request_own event command.method command.content) tt dialogs own
 
   -- ---- what ends
 

@@ -5,6 +5,7 @@ use Rattle.std.specs.List.{list_any}
 use Rattle.std.specs.Option.{option_map_or}
 use Rattle.std.specs.Str.{bytes_eq}
 use Rattle.std.proofs.lemmas.Bool.{false≢true}
+use Rattle.sip_message.specs.declared.content.Content.{Content}
 use Rattle.sip_message.specs.declared.rack.RAck.{RAck}
 use Rattle.sip_dialog.specs.declared.fault.DialogFault.{DialogFault}
 use Rattle.sip_message.specs.declared.id.Id.{Id}
@@ -65,11 +66,11 @@ end_told (Some held) = refl
 
 -- ---- a dialog in which a request isn't sent stays as it is
 
-requested_same : (event : Event) (method : List ℕ) (rack : Option RAck) (body : List ℕ)
+requested_same : (event : Event) (method : List ℕ) (rack : Option RAck) (content : Content)
     (held : HeldDialog) (refusal : Refusal)
-    → (requested event method rack body held).1 ≡ Refused refusal
-    → (requested event method rack body held).0 ≡ held
-requested_same event method rack body held refusal e = by_fault _ _ e
+    → (requested event method rack content held).1 ≡ Refused refusal
+    → (requested event method rack content held).0 ≡ held
+requested_same event method rack content held refusal e = by_fault _ _ e
   where
     by_fault : (fault : Option DialogFault) (sending : Sending)
         → service_by fault sending ≡ Refused refusal → lived (happens_by_sending method fault) held
@@ -77,36 +78,36 @@ requested_same event method rack body held refusal e = by_fault _ _ e
     by_fault None sending is = absurd cc
     by_fault (Some fault) sending is = refl
 
-request_same : (event : Event) (method body : List ℕ) (held : HeldDialog) (refusal : Refusal)
-    → (request_in_held event method body held).1 ≡ Refused refusal
-    → (request_in_held event method body held).0 ≡ held
+request_same : (event : Event) (method : List ℕ) (content : Content) (held : HeldDialog)
+    (refusal : Refusal) → (request_in_held event method content held).1 ≡ Refused refusal
+    → (request_in_held event method content held).0 ≡ held
 unfolding request_in_held
-request_same event method body held refusal e =
+request_same event method content held refusal e =
     unless (first_refusal (request_refusals held.dialog method) None) e
   where
     sending : Sending
-    sending = sending_in event method None body held
+    sending = sending_in event method None content held
 
     unless : (first : Option Refusal) → (sent_unless first sending held).1 ≡ Refused refusal
         → (sent_unless first sending held).0 ≡ held
     unless None is = absurd cc
     unless (Some first) is = refl
 
-served_same : (event : Event) (owed : Debt) (body : List ℕ) (held : HeldDialog)
-    (refusal : Refusal) → (discharged event owed (Some body) held).1 ≡ Refused refusal
-    → (discharged event owed (Some body) held).0 ≡ held
+served_same : (event : Event) (owed : Debt) (content : Content) (held : HeldDialog)
+    (refusal : Refusal) → (discharged event owed (Some content) held).1 ≡ Refused refusal
+    → (discharged event owed (Some content) held).0 ≡ held
 unfolding discharged
-served_same event (debt.Ack invite number) body held refusal e = refl
-served_same event (debt.Prack rseq number) body held refusal e =
-    requested_same event (codes "PRACK") _ body held refusal e
+served_same event (debt.Ack invite number) content held refusal e = refl
+served_same event (debt.Prack rseq number) content held refusal e =
+    requested_same event (codes "PRACK") _ content held refusal e
 
-debt_same : (event : Event) (owed : Debt) (body : List ℕ) (held : HeldDialog)
-    (refusal : Refusal) → (paid event owed body held).1 ≡ Refused refusal
-    → (paid event owed body held).0 ≡ held
+debt_same : (event : Event) (owed : Debt) (content : Content) (held : HeldDialog)
+    (refusal : Refusal) → (paid event owed content held).1 ≡ Refused refusal
+    → (paid event owed content held).0 ≡ held
 unfolding paid
-debt_same event owed body held refusal e =
-    ap (λ service. dropped_if_sent owed service (discharged event owed (Some body) held).0) e
-    ∙ served_same event owed body held refusal e
+debt_same event owed content held refusal e =
+    ap (λ service. dropped_if_sent owed service (discharged event owed (Some content) held).0) e
+    ∙ served_same event owed content held refusal e
 
 -- ---- a request in a dialog, an ACK and a PRACK
 
@@ -155,18 +156,18 @@ module _ (event : Event) (side : Side) where
   unfolding requested_at
   request_alone command =
       let name = name_in command.local_tag command.remote_tag in
-      let serve = request_in_held event command.method command.body in
+      let serve = request_in_held event command.method command.content in
       let done = requested_at name event command side.dialogs in
       request_by name command done.0 done.1
       (λ refusal. refused_same name serve (Refused NoSuchDialog) side.dialogs refusal
-      (λ held. request_same event command.method command.body held refusal))
+      (λ held. request_same event command.method command.content held refusal))
 
-  paid_same : (name : DialogName) (owed : Debt) (body : List ℕ)
-      → Keeps (paid_at name event owed body side.dialogs).0
-      (paid_at name event owed body side.dialogs).1
-  paid_same name owed body refusal =
-      refused_same name (paid event owed body) Waits side.dialogs refusal
-      (λ held. debt_same event owed body held refusal)
+  paid_same : (name : DialogName) (owed : Debt) (content : Content)
+      → Keeps (paid_at name event owed content side.dialogs).0
+      (paid_at name event owed content side.dialogs).1
+  paid_same name owed content refusal =
+      refused_same name (paid event owed content) Waits side.dialogs refusal
+      (λ held. debt_same event owed content held refusal)
 
   abbrev ack_done : DialogName → DialogBody → Debt → Dialogs → Service → ClientTaken
   ack_done name command owed dialogs service =
@@ -226,8 +227,9 @@ module _ (event : Event) (side : Side) where
       let name = name_in command.local_tag command.remote_tag in
       paid_either (Lonely command.call_id) event command (ack_paid event command name) side
       (debt_for kind.Ack name side.dialogs) (told_alone side command.call_id event.id)
-      (λ owed. ack_by name command owed (paid_at name event owed command.body side.dialogs).0
-      (paid_at name event owed command.body side.dialogs).1 (paid_same name owed command.body))
+      (λ owed. ack_by name command owed (paid_at name event owed command.content side.dialogs).0
+      (paid_at name event owed command.content side.dialogs).1
+      (paid_same name owed command.content))
 
   pub prack_alone : (command : DialogBody) → Lonely command.call_id
       (prack_by_user event command side)
@@ -235,8 +237,9 @@ module _ (event : Event) (side : Side) where
       let name = name_in command.local_tag command.remote_tag in
       paid_either (Lonely command.call_id) event command (prack_paid event command name) side
       (debt_for kind.Prack name side.dialogs) (told_alone side command.call_id event.id)
-      (λ owed. prack_by name command (paid_at name event owed command.body side.dialogs).0
-      (paid_at name event owed command.body side.dialogs).1 (paid_same name owed command.body))
+      (λ owed. prack_by name command (paid_at name event owed command.content side.dialogs).0
+      (paid_at name event owed command.content side.dialogs).1
+      (paid_same name owed command.content))
 
   -- ---- CANCEL
 

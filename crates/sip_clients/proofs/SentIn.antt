@@ -5,6 +5,7 @@ use Rattle.std.specs.Prelude.{Option, None, Some, codes, drop, if◌then◌else�
 use Rattle.std.specs.List.{cons_option}
 use Rattle.std.specs.Option.{option_map}
 use Rattle.std.specs.Str.{bytes_eq}
+use Rattle.sip_message.specs.declared.content.Content.{Content}
 use Rattle.sip_message.specs.declared.cseq.CSeq.{CSeq}
 use Rattle.sip_message.specs.declared.id.Id.{Id}
 use Rattle.sip_message.specs.declared.rack.RAck.{RAck}
@@ -56,24 +57,24 @@ module _ (name own : DialogName) where
   as_list false one = refl
 
   -- a request of the agent that takes a number
-  sent_once : (event : Event) (method : List ℕ) (rack : Option RAck) (body : List ℕ)
+  sent_once : (event : Event) (method : List ℕ) (rack : Option RAck) (content : Content)
       (held : HeldDialog) → is_named own (name_of_dialog held.dialog) ≡ true
       → numbered method ≡ true
-      → cons_option (cseq_of_request name (sending_in event method rack body held).message) []
+      → cons_option (cseq_of_request name (sending_in event method rack content held).message) []
       ≡ cond (is_named own name) (next_cseq method held.dialog ∷ []) []
-  sent_once event method rack body held named numbers =
+  sent_once event method rack content held named numbers =
       let number = held.dialog.local_cseq + 1 in
       ap (λ o. cons_option o [])
-      (made_in name own held.dialog method number body (branch_of event) event.local named)
+      (made_in name own held.dialog method number content (branch_of event) event.local named)
       ∙ (λ i. cons_option (if numbers i && is_named own name
       then Some (cseq_for number method) else None) [])
       ∙ as_list (is_named own name) (cseq_for number method)
 
-  acknowledged : (dialog : Dialog) (number : ℕ) (body : List ℕ) (event : Event)
+  acknowledged : (dialog : Dialog) (number : ℕ) (content : Content) (event : Event)
       → is_named own (name_of_dialog dialog) ≡ true
-      → cseq_of_request name (ack_in dialog number body (branch_of event) event.local) ≡ None
-  acknowledged dialog number body event named =
-      made_in name own dialog (codes "ACK") number body (branch_of event) event.local named
+      → cseq_of_request name (ack_in dialog number content (branch_of event) event.local) ≡ None
+  acknowledged dialog number content event named =
+      made_in name own dialog (codes "ACK") number content (branch_of event) event.local named
 
 -- ---- what becomes of a request
 
@@ -88,10 +89,10 @@ asks method None dialog = next_cseq method dialog ∷ []
 asks method (Some fault) dialog = []
 
 -- a PRACK takes a number where it is sent
-abbrev pub discharge_cseqs : Debt → Option (List ℕ) → Dialog → List CSeq
+abbrev pub discharge_cseqs : Debt → Option Content → Dialog → List CSeq
 discharge_cseqs (Ack invite number) offer dialog = []
 discharge_cseqs (Prack rseq number) None dialog = []
-discharge_cseqs (Prack rseq number) (Some body) dialog =
+discharge_cseqs (Prack rseq number) (Some content) dialog =
     asks (codes "PRACK") (request_fault dialog (codes "PRACK")) dialog
 
 abbrev pub unless_refused : Option Refusal → List ℕ → Dialog → List CSeq
@@ -104,17 +105,17 @@ request_cseqs method dialog =
     unless_refused (first_refusal (request_refusals dialog method) None) method dialog
 
 -- so it happens in the dialog
-abbrev pub discharge_life : Debt → Option (List ℕ) → Dialog → List Happening
+abbrev pub discharge_life : Debt → Option Content → Dialog → List Happening
 discharge_life debt offer dialog = requests_made (discharge_cseqs debt offer dialog)
 
 abbrev pub request_life : List ℕ → Dialog → List Happening
 request_life method dialog = requests_made (request_cseqs method dialog)
 
-pub discharge_numbered : (debt : Debt) (offer : Option (List ℕ)) (dialog : Dialog)
+pub discharge_numbered : (debt : Debt) (offer : Option Content) (dialog : Dialog)
     → NumberedAfter dialog.local_cseq (discharge_cseqs debt offer dialog)
 discharge_numbered (Ack invite number) offer dialog = tt
 discharge_numbered (Prack rseq number) None dialog = tt
-discharge_numbered (Prack rseq number) (Some body) dialog =
+discharge_numbered (Prack rseq number) (Some content) dialog =
     by_fault (request_fault dialog (codes "PRACK"))
   where
     by_fault : (fault : Option DialogFault)
@@ -145,57 +146,58 @@ number_of_user false false prack e = refl
 
 module _ (name own : DialogName) (event : Event) (held : HeldDialog)
     (named : is_named own (name_of_dialog held.dialog) ≡ true) where
-  by_ack_fault : (number : ℕ) (body : List ℕ) (fault : Option DialogFault) (sending : Sending)
+  by_ack_fault : (number : ℕ) (content : Content) (fault : Option DialogFault) (sending : Sending)
       → cseq_of_request name sending.message ≡ None
       → service_cseqs name (service_by fault sending) ≡ cond (is_named own name) [] []
-  by_ack_fault number body None sending none =
+  by_ack_fault number content None sending none =
       ap (λ o. cons_option o []) none ∙ sym (none_either (is_named own name))
-  by_ack_fault number body (Some fault) sending none = sym (none_either (is_named own name))
+  by_ack_fault number content (Some fault) sending none = sym (none_either (is_named own name))
 
-  by_prack_fault : (rack : Option RAck) (body : List ℕ) (fault : Option DialogFault)
-      → service_cseqs name (service_by fault (sending_in event (codes "PRACK") rack body held))
+  by_prack_fault : (rack : Option RAck) (content : Content) (fault : Option DialogFault)
+      → service_cseqs name (service_by fault (sending_in event (codes "PRACK") rack content held))
       ≡ cond (is_named own name) (asks (codes "PRACK") fault held.dialog) []
-  by_prack_fault rack body None = sent_once name own event (codes "PRACK") rack body held named refl
-  by_prack_fault rack body (Some fault) = sym (none_either (is_named own name))
+  by_prack_fault rack content None =
+      sent_once name own event (codes "PRACK") rack content held named refl
+  by_prack_fault rack content (Some fault) = sym (none_either (is_named own name))
 
-  pub discharged_sent : (debt : Debt) (offer : Option (List ℕ))
+  pub discharged_sent : (debt : Debt) (offer : Option Content)
       → service_cseqs name (discharged event debt offer held).1
       ≡ cond (is_named own name) (discharge_cseqs debt offer held.dialog) []
   unfolding discharged
   discharged_sent (Ack invite number) None = sym (none_either (is_named own name))
   discharged_sent (Prack rseq number) None = sym (none_either (is_named own name))
-  discharged_sent (Ack invite number) (Some body) =
-      by_ack_fault number body (ack_fault held.dialog) _
-      (acknowledged name own held.dialog number body event named)
-  discharged_sent (Prack rseq number) (Some body) =
-      by_prack_fault _ body (request_fault held.dialog (codes "PRACK"))
+  discharged_sent (Ack invite number) (Some content) =
+      by_ack_fault number content (ack_fault held.dialog) _
+      (acknowledged name own held.dialog number content event named)
+  discharged_sent (Prack rseq number) (Some content) =
+      by_prack_fault _ content (request_fault held.dialog (codes "PRACK"))
 
-  pub owed_sent : (debt : Debt) (offer : Option (List ℕ))
+  pub owed_sent : (debt : Debt) (offer : Option Content)
       → service_cseqs name (owed event debt offer held).1
       ≡ cond (is_named own name) (discharge_cseqs debt offer held.dialog) []
   unfolding owed
   owed_sent debt offer = discharged_sent debt offer
 
-  pub paid_sent : (debt : Debt) (body : List ℕ)
-      → service_cseqs name (paid event debt body held).1
-      ≡ cond (is_named own name) (discharge_cseqs debt (Some body) held.dialog) []
+  pub paid_sent : (debt : Debt) (content : Content)
+      → service_cseqs name (paid event debt content held).1
+      ≡ cond (is_named own name) (discharge_cseqs debt (Some content) held.dialog) []
   unfolding paid
-  paid_sent debt body = discharged_sent debt (Some body)
+  paid_sent debt content = discharged_sent debt (Some content)
 
-  by_refusal : (method body : List ℕ) (refusal : Option Refusal)
+  by_refusal : (method : List ℕ) (content : Content) (refusal : Option Refusal)
       → (refusal ≡ None → numbered method ≡ true)
-      → service_cseqs name (sent_unless refusal (sending_in event method None body held) held).1
+      → service_cseqs name (sent_unless refusal (sending_in event method None content held) held).1
       ≡ cond (is_named own name) (unless_refused refusal method held.dialog) []
-  by_refusal method body None numbers =
-      sent_once name own event method None body held named (numbers refl)
-  by_refusal method body (Some refusal) numbers = sym (none_either (is_named own name))
+  by_refusal method content None numbers =
+      sent_once name own event method None content held named (numbers refl)
+  by_refusal method content (Some refusal) numbers = sym (none_either (is_named own name))
 
-  pub request_sent_in : (method body : List ℕ)
-      → service_cseqs name (request_in_held event method body held).1
+  pub request_sent_in : (method : List ℕ) (content : Content)
+      → service_cseqs name (request_in_held event method content held).1
       ≡ cond (is_named own name) (request_cseqs method held.dialog) []
   unfolding request_in_held
-  request_sent_in method body =
-      by_refusal method body (first_refusal (request_refusals held.dialog method) None)
+  request_sent_in method content =
+      by_refusal method content (first_refusal (request_refusals held.dialog method) None)
       (λ none. number_of_user (bytes_eq method (codes "ACK")) (bytes_eq method (codes "CANCEL"))
       (bytes_eq method (codes "PRACK")) (own_refused (is_own_kind method)
       (drop 1 (request_refusals held.dialog method))

@@ -5,6 +5,7 @@ use Rattle.std.specs.Map.{set_value}
 use Rattle.std.specs.Option.{option_map, option_map_or}
 use Rattle.std.specs.Str.{bytes_eq}
 use Rattle.std.proofs.lemmas.Map.Steps.{set_value_same}
+use Rattle.sip_message.specs.declared.content.Content.{Content}
 use Rattle.sip_dialog.specs.declared.fault.DialogFault.{DialogFault}
 use Rattle.sip_dialog.specs.declared.fault.DialogFault.TheVariants as fault
 use Rattle.sip_dialog.specs.Dialog.{is_early, is_ended}
@@ -119,17 +120,17 @@ sent_by : (method : List ℕ) (fault : Option DialogFault) (sending : Sending) (
 sent_by method None sending held = refl
 sent_by method (Some fault) sending held = refl
 
-module _ (event : Event) (method body : List ℕ) (held : HeldDialog) where
+module _ (event : Event) (method : List ℕ) (content : Content) (held : HeldDialog) where
   -- its method isn't the user's to send in this dialog
   abbrev pub is_bad : Bool
   is_bad = is_own_kind method
       || (is_early (held.dialog).state && is_bad_early (held.dialog).side method)
 
-  pub bad_request : is_bad ≡ true → request_in_held event method body held
+  pub bad_request : is_bad ≡ true → request_in_held event method content held
       ≡ (held, Refused BadMethod)
   unfolding request_in_held
   bad_request is =
-      ap (λ refusal. sent_unless refusal (sending_in event method None body held) held)
+      ap (λ refusal. sent_unless refusal (sending_in event method None content held) held)
       (bad_method (is_own_kind method) (is_early (held.dialog).state)
       (is_bad_early (held.dialog).side method)
       ((is_ended (held.dialog).state, DialogEnded)
@@ -138,14 +139,14 @@ module _ (event : Event) (method body : List ℕ) (held : HeldDialog) where
 
   -- otherwise the dialog says whether it is sent
   pub good_request : is_bad ≡ false
-      → request_in_held event method body held ≡ requested event method None body held
+      → request_in_held event method content held ≡ requested event method None content held
   unfolding request_in_held
   good_request is =
-      ap (λ refusal. sent_unless refusal (sending_in event method None body held) held)
+      ap (λ refusal. sent_unless refusal (sending_in event method None content held) held)
       (by_dialog (is_own_kind method) (is_early (held.dialog).state)
       (bytes_eq method (codes "INVITE"))
       (is_callee (held.dialog).side && bytes_eq method (codes "BYE"))
       (is_ended (held.dialog).state)
       (is_strict (held.dialog).route_set) (nat_le 2147483647 (held.dialog).local_cseq) is)
       ∙ sent_by method (request_fault held.dialog method)
-      (sending_in event method None body held) held
+      (sending_in event method None content held) held

@@ -84,7 +84,7 @@ ack_quiet event command side =
     paid_either (λ taken. AreQuiet taken.1) event command (ack_paid event command name) side
     (debt_for kind.Ack name side.dialogs) (λ refusal. (refl, tt))
     (λ debt. ack_said_quiet event command.call_id
-    (paid_at name event debt command.body side.dialogs).1)
+    (paid_at name event debt command.content side.dialogs).1)
 
 at_or_quiet : (b : Bool) (name : DialogName) (dialogs : Dialogs)
     → AreQuiet (cond {A = Dialogs × List CallOut} b (ended_at name dialogs) (dialogs, [])).1

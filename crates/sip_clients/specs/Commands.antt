@@ -3,6 +3,7 @@
 use Rattle.std.specs.Prelude.{ℕ, Bool, true, false, ◌&&◌, ◌||◌, nat_le, List, [], ◌∷◌, Option, None, Some, Result, Ok, Err, codes, find, if◌then◌else◌}
 use Rattle.std.specs.Option.{option_map_or}
 use Rattle.std.specs.Str.{bytes_eq}
+use Rattle.sip_message.specs.declared.content.Content.{Content}
 use Rattle.sip_dialog.specs.declared.dialog.Side.{Side}
 use Rattle.sip_dialog.specs.declared.dialog.Side.TheVariants.{Caller, Callee}
 use Rattle.sip_dialog.specs.declared.dialog.Dialog.{Dialog}
@@ -75,15 +76,15 @@ sent_unless None sending held =
     (lived (Requests ((sending.message).cseq).method ∷ []) held, Sent sending)
 
 -- in this dialog
-unfoldable pub request_in_held : Event → List ℕ → List ℕ → HeldDialog → Outcome
-request_in_held event method body held =
+unfoldable pub request_in_held : Event → List ℕ → Content → HeldDialog → Outcome
+request_in_held event method content held =
     sent_unless (first_refusal (request_refusals held.dialog method) None)
-    (sending_in event method None body held) held
+    (sending_in event method None content held) held
 
 -- in the dialog of this name
 unfoldable pub requested_at : DialogName → Event → DialogRequest → Dialogs → Dialogs × Service
 requested_at name event command dialogs =
-    served_at name (request_in_held event command.method command.body) (Refused NoSuchDialog)
+    served_at name (request_in_held event command.method command.content) (Refused NoSuchDialog)
     dialogs
 
 -- a BYE that is sent ends its dialog at once
@@ -127,7 +128,7 @@ debt_for kind name dialogs =
 abbrev pub ack_asked : Event → DialogName → Debt → DialogBody → Dialogs
     → Dialogs × List CallOut × Option SentAck
 ack_asked event name debt command dialogs =
-    let done = paid_at name event debt command.body dialogs in
+    let done = paid_at name event debt command.content dialogs in
     let said = ack_said event command.call_id done.1 in
     (done.0, said.0, said.1)
 
@@ -135,7 +136,7 @@ ack_asked event name debt command dialogs =
 abbrev pub prack_asked : Event → DialogName → Debt → DialogBody → Dialogs
     → Dialogs × List CallOut × ClientChange
 prack_asked event name debt command dialogs =
-    let done = paid_at name event debt command.body dialogs in
+    let done = paid_at name event debt command.content dialogs in
     let said = request_said event command.call_id name done.1 in
     (done.0, said.0, said.1)
 

@@ -1,6 +1,7 @@
 -- What is owed in a dialog: the ACKs of 2xx responses and the PRACKs of reliable provisional ones,
 -- the oldest first (RFC 3261, section 13.2.2.4; RFC 3262, section 4).
 use Rattle.std.specs.Prelude.{ℕ, Bool, true, false, not, ◌&&◌, ◌==◌, List, [], ◌∷◌, ◌++◌, Option, Some, filter}
+use Rattle.sip_message.specs.declared.content.Content.{Content}
 use Rattle.sip_common.specs.declared.debt.Debt.{Debt}
 use Rattle.sip_common.specs.declared.debt.Debt.TheVariants.{Ack, Prack}
 use Rattle.sip_common.specs.declared.held_dialog.HeldDialog.{HeldDialog}
@@ -37,7 +38,7 @@ kept_unless_sent debt Waits held = record held { owed = held.owed ++ debt ∷ []
 kept_unless_sent debt (Refused refusal) held = record held { owed = held.owed ++ debt ∷ [] }
 
 -- the dialog after it, and what becomes of what is to be sent
-unfoldable pub owed : Event → Debt → Option (List ℕ) → HeldDialog → Outcome
+unfoldable pub owed : Event → Debt → Option Content → HeldDialog → Outcome
 owed event debt offer held =
     let done = discharged event debt offer held in (kept_unless_sent debt done.1 done.0, done.1)
 
@@ -54,7 +55,7 @@ dropped_if_sent debt Waits held = held
 dropped_if_sent debt (Refused refusal) held = held
 
 -- the dialog after it, and what becomes of it
-unfoldable pub paid : Event → Debt → List ℕ → HeldDialog → Outcome
-paid event debt body held =
-    let done = discharged event debt (Some body) held in
+unfoldable pub paid : Event → Debt → Content → HeldDialog → Outcome
+paid event debt content held =
+    let done = discharged event debt (Some content) held in
     (dropped_if_sent debt done.1 done.0, done.1)

@@ -4,6 +4,7 @@ use Rattle.std.specs.Prelude.{ℕ, Bool, List, [], ◌++◌, Option, None, Some,
 use Rattle.std.specs.Map.{set_value}
 use Rattle.std.specs.Option.{option_map_or}
 use Rattle.sip_dialog.specs.Opening.{contact_uri, opened_by_response}
+use Rattle.sip_message.specs.declared.content.Content.{Content}
 use Rattle.sip_message.specs.declared.message.Message.{Message}
 use Rattle.sip_reliable.specs.Inbound.{latest_after, offered}
 use Rattle.sip_common.specs.declared.debt.Debt.{Debt}
@@ -73,8 +74,8 @@ served_at name serve otherwise dialogs =
     (dialog_at name dialogs) (dialogs, otherwise)
 
 -- what is owed in it
-abbrev pub paid_at : DialogName → Event → Debt → List ℕ → Dialogs → Dialogs × Service
-paid_at name event debt body dialogs = served_at name (paid event debt body) Waits dialogs
+abbrev pub paid_at : DialogName → Event → Debt → Content → Dialogs → Dialogs × Service
+paid_at name event debt content dialogs = served_at name (paid event debt content) Waits dialogs
 
 -- ---- what ends with a client request
 

@@ -6,8 +6,10 @@ use Rattle.sip_message.specs.declared.addr.Addr.{Addr}
 use Rattle.sip_message.specs.declared.cseq.CSeq.{CSeq}
 use Rattle.sip_message.specs.declared.message.Message.{Message}
 use Rattle.sip_message.specs.declared.message.TheConstants.{MAX_FORWARDS}
+use Rattle.sip_message.specs.declared.name_addr.NameAddr.{NameAddr}
 use Rattle.sip_message.specs.declared.start_line.StartLine.TheVariants.{Request}
-use Rattle.sip_message.specs.Message.{bare, with_body_of}
+use Rattle.sip_message.specs.Content.{with_content_of}
+use Rattle.sip_message.specs.Message.{bare}
 use Rattle.sip_message.specs.Party.{party_of}
 use Rattle.sip_common.specs.declared.command.Invite.{Invite}
 use Rattle.sip_common.specs.declared.command.Plain.{Plain}
@@ -17,7 +19,7 @@ use Rattle.sip_clients.specs.declared.event.Event.{Event}
 use Rattle.sip_clients.specs.declared.outside.TheConstants.{FIRST_CSEQ}
 use Rattle.sip_clients.specs.Event.{branch_of, from_tag_of}
 
--- the request of this method, without a body
+-- the request of this method, without its routes and its content
 unfoldable pub bare_request : Event → List ℕ → List ℕ → List ℕ → List ℕ → List ℕ → Message
 bare_request event call_id method uri from to =
     let via = agent_via event.local (branch_of event) in
@@ -37,6 +39,10 @@ supporting support.None message = message
 supporting support.Supported message = record message { supported = codes "100rel" ∷ [] }
 supporting support.Required message = record message { require = codes "100rel" ∷ [] }
 
+-- with a route set that is known before (RFC 3261, section 8.1.2)
+abbrev pub through : List NameAddr → Message → Message
+through routes message = record message { routes = routes }
+
 -- the INVITE that the user asks for
 abbrev pub bare_invite : Event → Invite → Message
 bare_invite event invite =
@@ -44,15 +50,17 @@ bare_invite event invite =
     (bare_request event invite.call_id
     (codes "INVITE") invite.request_uri invite.from invite.to))
 
--- with its body
+-- with its routes and its content
 abbrev pub invite_of : Event → Invite → Message
-invite_of event invite = with_body_of (bare_invite event invite) invite.body
+invite_of event invite =
+    with_content_of (through invite.routes (bare_invite event invite)) invite.content
 
 -- the request of another method that the user asks for
 abbrev pub bare_plain : Event → Plain → Message
 bare_plain event plain =
     bare_request event plain.call_id plain.method plain.request_uri plain.from plain.to
 
--- with its body
+-- with its routes and its content
 abbrev pub plain_of : Event → Plain → Message
-plain_of event plain = with_body_of (bare_plain event plain) plain.body
+plain_of event plain =
+    with_content_of (through plain.routes (bare_plain event plain)) plain.content

@@ -3,6 +3,8 @@
 use Rattle.std.specs.Prelude.{ℕ, ◌+◌, Bool, not, ◌||◌, ◌==◌, List, [], ◌∷◌, ◌++◌, length, Option, None, Some, unwrap_or, if◌then◌else◌}
 use Rattle.std.specs.Option.{option_map_or}
 use Rattle.indexmap.specs.IndexMap.{insert_entry}
+use Rattle.sip_message.specs.declared.content.Content.{Content}
+use Rattle.sip_message.specs.Content.{content_of_body}
 use Rattle.sip_message.specs.declared.message.Message.{Message}
 use Rattle.sip_reliable.specs.Inbound.{latest_after, offered}
 use Rattle.sip_common.specs.declared.debt.Debt.TheVariants.{Ack, Prack}
@@ -77,9 +79,10 @@ heard_again Plain rseq client = hears rseq client
 -- What a response asks for has no body where the INVITE had an offer or the response has none.
 -- Otherwise it has to carry the answer to the offer in the response, which the user gives (RFC
 -- 3261, section 13.2.1; RFC 3262, section 5).
-abbrev pub offer_to : Client → Message → Option (List ℕ)
+abbrev pub offer_to : Client → Message → Option Content
 offer_to client response =
-    if not (length (client.request).body == 0) || (length response.body == 0) then Some [] else None
+    if not (length (client.request).body == 0) || (length response.body == 0)
+    then Some (content_of_body []) else None
 
 -- its PRACK is owed, or sent
 unfoldable pub prack_owed : ℕ → Client → HeldDialog → Answer → HeldDialog × Service

@@ -7,6 +7,7 @@ use Rattle.sip_dialog.specs.Fault.{ack_fault, request_fault}
 use Rattle.sip_dialog.specs.Life.{Happening, Requests}
 use Rattle.sip_dialog.specs.Request.{ack_in, request_in}
 use Rattle.sip_dialog.specs.Route.{hop_of}
+use Rattle.sip_message.specs.declared.content.Content.{Content}
 use Rattle.sip_message.specs.declared.message.Message.{Message}
 use Rattle.sip_message.specs.declared.rack.RAck.{RAck}
 use Rattle.sip_common.specs.declared.debt.Debt.{Debt}
@@ -49,42 +50,43 @@ happens_by_sending method None = Requests method ∷ []
 happens_by_sending method (Some fault) = []
 
 -- a request of this method as it goes out, with a RAck where it is a PRACK
-abbrev pub sending_in : Event → List ℕ → Option RAck → List ℕ → HeldDialog → Sending
-sending_in event method rack body held = record {
-  message = with_rack rack (request_in held.dialog method (held.dialog.local_cseq + 1) body
+abbrev pub sending_in : Event → List ℕ → Option RAck → Content → HeldDialog → Sending
+sending_in event method rack content held = record {
+  message = with_rack rack (request_in held.dialog method (held.dialog.local_cseq + 1) content
       (branch_of event) event.local);
   to = hop_of held.dialog held.address;
   born = held.born;
 }
 
 -- it is sent, or refused as the dialog does
-abbrev pub requested : Event → List ℕ → Option RAck → List ℕ → HeldDialog → Outcome
-requested event method rack body held = (
+abbrev pub requested : Event → List ℕ → Option RAck → Content → HeldDialog → Outcome
+requested event method rack content held = (
   lived (happens_by_sending method (request_fault held.dialog method)) held,
-  service_by (request_fault held.dialog method) (sending_in event method rack body held),
+  service_by (request_fault held.dialog method) (sending_in event method rack content held),
 )
 
 -- the PRACK of a response of this RSeq to the INVITE of this number
-abbrev pub prack_requested : Event → ℕ → ℕ → List ℕ → HeldDialog → Outcome
-prack_requested event rseq number body held =
+abbrev pub prack_requested : Event → ℕ → ℕ → Content → HeldDialog → Outcome
+prack_requested event rseq number content held =
     requested event (codes "PRACK")
-    (Some record { rseq = rseq; cseq = number; method = codes "INVITE" }) body held
+    (Some record { rseq = rseq; cseq = number; method = codes "INVITE" }) content held
 
 -- the ACK of the INVITE of this number
-abbrev pub acked : Event → HeldDialog → ℕ → List ℕ → Service
-acked event held number body = service_by (ack_fault held.dialog) record {
-  message = ack_in held.dialog number body (branch_of event) event.local;
+abbrev pub acked : Event → HeldDialog → ℕ → Content → Service
+acked event held number content = service_by (ack_fault held.dialog) record {
+  message = ack_in held.dialog number content (branch_of event) event.local;
   to = hop_of held.dialog held.address;
   born = held.born;
 }
 
--- the ACK or the PRACK goes out with this body
-abbrev pub discharged_with : Event → Debt → List ℕ → HeldDialog → Outcome
-discharged_with event (Ack invite number) body held = (held, acked event held number body)
-discharged_with event (Prack rseq number) body held = prack_requested event rseq number body held
+-- the ACK or the PRACK goes out with this content
+abbrev pub discharged_with : Event → Debt → Content → HeldDialog → Outcome
+discharged_with event (Ack invite number) content held = (held, acked event held number content)
+discharged_with event (Prack rseq number) content held =
+    prack_requested event rseq number content held
 
--- what is owed is discharged with the body that its request carries; without one it waits for the
--- user
-unfoldable pub discharged : Event → Debt → Option (List ℕ) → HeldDialog → Outcome
+-- what is owed is discharged with the content that its request carries; without one it waits for
+-- the user
+unfoldable pub discharged : Event → Debt → Option Content → HeldDialog → Outcome
 discharged event debt None held = (held, Waits)
-discharged event debt (Some body) held = discharged_with event debt body held
+discharged event debt (Some content) held = discharged_with event debt content held

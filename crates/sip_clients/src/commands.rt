@@ -19,8 +19,7 @@ use sip_common::{
     CallOut, Debt, DialogBody, DialogName, DialogRequest, Dialogs, HeldDialog, Refusal,
 };
 use sip_dialog::{DialogState, Side};
-use sip_message::Token;
-use sip_text::Text;
+use sip_message::{Content, Token};
 use std::alloc::{AllocError, Global};
 
 /// The name of the dialog of these tags.
@@ -84,8 +83,8 @@ fn request_by(
         ≡ (spec.requested_at name.now event command.now dialogs.old.entries).0) }
 {
     let method = command.method.clone()?;
-    let body = command.body.clone()?;
-    request_at(alloc, dialogs, name, event, method, body)
+    let content = command.content.clone()?;
+    request_at(alloc, dialogs, name, event, method, content)
 }
 
 fn request_at(
@@ -94,19 +93,19 @@ fn request_at(
     name: &DialogName,
     event: Event,
     method: Token,
-    body: Text,
+    content: Content,
 ) -> Result<Service, AllocError>
     ensures service { IfOk result (λ service. service
-        ≡ (served_at name.now (spec.request_in_held event method body) (Refused NoSuchDialog)
+        ≡ (served_at name.now (spec.request_in_held event method content) (Refused NoSuchDialog)
         dialogs.old.entries).1) }
     ensures dialogs { OnOk result (dialogs.new.entries
-        ≡ (served_at name.now (spec.request_in_held event method body) (Refused NoSuchDialog)
+        ≡ (served_at name.now (spec.request_in_held event method content) (Refused NoSuchDialog)
         dialogs.old.entries).0) }
 {
     let Some(held) = dialogs.get_mut(name) else {
         return Ok(Service::Refused(Refusal::NoSuchDialog));
     };
-    request_in(alloc, held, event, method, body)
+    request_in(alloc, held, event, method, content)
 }
 
 fn request_in(
@@ -114,16 +113,16 @@ fn request_in(
     held: &mut HeldDialog,
     event: Event,
     method: Token,
-    body: Text,
+    content: Content,
 ) -> Result<Service, AllocError>
     ensures service { IfOk result (λ service. service
-        ≡ (spec.request_in_held event method body held.old).1) }
-    ensures held { OnOk result (held.new ≡ (spec.request_in_held event method body held.old).0) }
+        ≡ (spec.request_in_held event method content held.old).1) }
+    ensures held { OnOk result (held.new ≡ (spec.request_in_held event method content held.old).0) }
 {
     if is_bad_in(held, &method) {
         return Ok(Service::Refused(Refusal::BadMethod));
     }
-    request(alloc, held, event, method, None, body)
+    request(alloc, held, event, method, None, content)
 }
 
 fn is_bad_in(held: &HeldDialog, method: &Token) -> bool
@@ -226,8 +225,8 @@ pub(crate) fn ack_told(
     ensures ack { IfOk result (λ told. told.1
         ≡ (spec.ack_asked event name.now debt command.now dialogs.old.entries).2) }
 {
-    let body = command.body.clone()?;
-    let service = pay_at(alloc, dialogs, name, event, debt, body)?;
+    let content = command.content.clone()?;
+    let service = pay_at(alloc, dialogs, name, event, debt, content)?;
     ack_said(alloc, event, &command.call_id, service)
 }
 
@@ -247,7 +246,7 @@ pub(crate) fn prack_told(
     ensures change { IfOk result (λ told. told.1
         ≡ (spec.prack_asked event name.now debt command.now dialogs.old.entries).2) }
 {
-    let body = command.body.clone()?;
-    let service = pay_at(alloc, dialogs, name, event, debt, body)?;
+    let content = command.content.clone()?;
+    let service = pay_at(alloc, dialogs, name, event, debt, content)?;
     request_said(alloc, event, &command.call_id, name, service)
 }

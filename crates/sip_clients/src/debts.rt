@@ -7,7 +7,8 @@ ghost use Rattle.sip_clients.specs.Debts as spec;
 use crate::event::Event;
 use crate::service::{Service, discharge};
 use sip_common::{Debt, HeldDialog};
-use sip_text::{Series, Text};
+use sip_message::Content;
+use sip_text::Series;
 use std::alloc::{AllocError, Global};
 use std::mem;
 
@@ -25,7 +26,7 @@ pub(crate) fn owe(
     held: &mut HeldDialog,
     event: Event,
     debt: Debt,
-    offer: Option<Text>,
+    offer: Option<Content>,
 ) -> Result<Service, AllocError>
     ensures service { IfOk result (λ service. service ≡ (spec.owed event debt offer held.old).1) }
     ensures held { OnOk result (held.new ≡ (spec.owed event debt offer held.old).0) }
@@ -51,12 +52,12 @@ pub(crate) fn pay(
     held: &mut HeldDialog,
     event: Event,
     debt: Debt,
-    body: Text,
+    content: Content,
 ) -> Result<Service, AllocError>
-    ensures service { IfOk result (λ service. service ≡ (spec.paid event debt body held.old).1) }
-    ensures held { OnOk result (held.new ≡ (spec.paid event debt body held.old).0) }
+    ensures service { IfOk result (λ service. service ≡ (spec.paid event debt content held.old).1) }
+    ensures held { OnOk result (held.new ≡ (spec.paid event debt content held.old).0) }
 {
-    let service = discharge(alloc, held, event, debt, Some(body))?;
+    let service = discharge(alloc, held, event, debt, Some(content))?;
     drop_if_sent(alloc, held, debt, &service);
     Ok(service)
 }

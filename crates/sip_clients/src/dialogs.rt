@@ -13,9 +13,9 @@ use crate::service::Service;
 use sip_common::dialogs::{confirm_dialog, end, end_early, lives};
 use sip_common::{CallOut, Debt, DialogLife, DialogName, Dialogs, HeldDialog};
 use sip_dialog::Dialog;
-use sip_message::Message;
+use sip_message::{Content, Message};
 use sip_reliable::Inbound;
-use sip_text::{Series, Text};
+use sip_text::Series;
 use std::alloc::{AllocError, Global};
 
 /// The dialog that a response makes (RFC 3261, section 12.1.2).
@@ -90,17 +90,17 @@ pub(crate) fn pay_at(
     name: &DialogName,
     event: Event,
     debt: Debt,
-    body: Text,
+    content: Content,
 ) -> Result<Service, AllocError>
     ensures service { IfOk result (λ service. service
-        ≡ (spec.paid_at name.now event debt body dialogs.old.entries).1) }
+        ≡ (spec.paid_at name.now event debt content dialogs.old.entries).1) }
     ensures dialogs { OnOk result (dialogs.new.entries
-        ≡ (spec.paid_at name.now event debt body dialogs.old.entries).0) }
+        ≡ (spec.paid_at name.now event debt content dialogs.old.entries).0) }
 {
     let Some(held) = dialogs.get_mut(name) else {
         return Ok(Service::Waits);
     };
-    pay(alloc, held, event, debt, body)
+    pay(alloc, held, event, debt, content)
 }
 
 /// What ends with a client request: the early dialogs that it made, and the dialog that it was sent

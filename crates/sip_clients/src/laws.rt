@@ -1,6 +1,7 @@
 //! Laws of made names, of ticks, and of the Call-ID of what is held and told.
 
 ghost use Rattle.std.specs.Prelude.{◌≡◌, ℕ, Bool, List, Option, Some, false};
+ghost use Rattle.sip_message.specs.declared.content.Content.{Content};
 ghost use Rattle.sip_message.specs.declared.id.Id.{Id};
 ghost use Rattle.sip_message.specs.declared.message.Message.{Message};
 ghost use Rattle.sip_message.specs.declared.rack.RAck.{RAck};
@@ -38,8 +39,8 @@ pub fn each_request_has_its_branch()
         → top_via (invite_of event invite) ≡ Some (agent_via event.local (branch_of event)) }
     ensures plain { (event : Event) (plain : Plain)
         → top_via (plain_of event plain) ≡ Some (agent_via event.local (branch_of event)) }
-    ensures request { (event : Event) (method : List ℕ) (rack : Option RAck) (body : List ℕ)
-        (held : HeldDialog) → top_via (sending_in event method rack body held).message
+    ensures request { (event : Event) (method : List ℕ) (rack : Option RAck) (content : Content)
+        (held : HeldDialog) → top_via (sending_in event method rack content held).message
         ≡ Some (agent_via event.local (branch_of event)) }
     ensures cancel { (id : Id) (invite : Client)
         → top_via (cancel_client id invite).request ≡ top_via invite.request }

@@ -19,16 +19,18 @@ const FIRST_CSEQ: u32 = 1;
 pub(crate) fn invite_of(alloc: Global, event: Event, invite: &Invite) -> Result<Message, AllocError>
     ensures { IfOk result (λ made. made ≡ spec.invite_of event invite.now) }
 {
-    let message = bare_invite(alloc, event, invite)?;
-    message.with_body(alloc, invite.body.clone()?)
+    let mut message = bare_invite(alloc, event, invite)?;
+    message.routes = invite.routes.clone()?;
+    message.with_content(alloc, invite.content.clone()?)
 }
 
 /// The request that the user asks for outside of dialogs.
 pub(crate) fn plain_of(alloc: Global, event: Event, plain: &Plain) -> Result<Message, AllocError>
     ensures { IfOk result (λ made. made ≡ spec.plain_of event plain.now) }
 {
-    let message = bare_plain(alloc, event, plain)?;
-    message.with_body(alloc, plain.body.clone()?)
+    let mut message = bare_plain(alloc, event, plain)?;
+    message.routes = plain.routes.clone()?;
+    message.with_content(alloc, plain.content.clone()?)
 }
 
 #[tactic(auto, unfolding(sip_text::specs::Token::is_token, sip_text::specs::Token::is_token_byte))]
@@ -95,7 +97,7 @@ fn only_100rel(alloc: Global) -> Result<Series<Token>, AllocError>
     Ok(options)
 }
 
-// The request of a method from one URI to another, without a body.
+// The request of a method from one URI to another, without its routes and its content.
 #[tactic(auto, unfolding(crate::specs::Outside::bare_request))]
 fn bare_request(
     alloc: Global,

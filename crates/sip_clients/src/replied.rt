@@ -12,7 +12,7 @@ use crate::reply::{Reply, ReplyCase, is_last, reply_case};
 use crate::service::Service;
 use sip_common::outputs::one;
 use sip_common::{CallOut, Debt, Dialogs, HeldDialog};
-use sip_message::Message;
+use sip_message::{Content, Message};
 use sip_text::Text;
 use sip_timers::LIFETIME;
 use std::alloc::{AllocError, Global};
@@ -229,14 +229,15 @@ fn hear_again(client: &mut Client, rseq: u32)
     }
 }
 
-// The body of what a response asks for: none where the INVITE had an offer or the response has
-// none. Otherwise it has to be the answer to the offer in the response, which the user gives (RFC
-// 3261, section 13.2.1; RFC 3262, section 5).
-fn offer_to(alloc: Global, client: &Client, response: &Message) -> Option<Text>
+// The content of what a response asks for: without a body where the INVITE had an offer or the
+// response has none. Otherwise it has to be the answer to the offer in the response, which the user
+// gives (RFC 3261, section 13.2.1; RFC 3262, section 5).
+fn offer_to(alloc: Global, client: &Client, response: &Message) -> Option<Content>
     ensures { result ≡ spec.offer_to client.now response.now }
 {
     if !client.request.body.is_empty() || response.body.is_empty() {
-        Some(Text::from_vec(Vec::new(alloc)))
+        let no_body = Text::from_vec(Vec::new(alloc));
+        Some(Content::of_body(alloc, no_body))
     } else {
         None
     }

@@ -11,8 +11,7 @@ ghost use Rattle.sip_clients.specs.Service as spec;
 use crate::event::Event;
 use sip_common::{Debt, HeldDialog, Refusal};
 use sip_dialog::DialogFault;
-use sip_message::{Addr, Id, Message, RAck, Token};
-use sip_text::Text;
+use sip_message::{Addr, Content, Id, Message, RAck, Token};
 use std::alloc::{AllocError, Global};
 
 /// A request that is sent in a dialog.
@@ -63,16 +62,19 @@ pub(crate) fn request(
     event: Event,
     method: Token,
     rack: Option<RAck>,
-    body: Text,
+    content: Content,
 ) -> Result<Service, AllocError>
     ensures service { IfOk result (λ service. service
-        ≡ (spec.requested event method rack body held.old).1) }
-    ensures held { OnOk result (held.new ≡ (spec.requested event method rack body held.old).0) }
+        ≡ (spec.requested event method rack content held.old).1) }
+    ensures held { OnOk result (held.new ≡ (spec.requested event method rack content held.old).0) }
 {
     let to = held.dialog.hop(held.address);
     let born = held.born;
     let branch = event.branch(alloc)?;
-    match held.dialog.next_request(method, body, branch, event.local) {
+    match held
+        .dialog
+        .next_request(method, content, branch, event.local)
+    {
         Ok(message) => Ok(Service::Sent(Sending {
             message: with_rack(message, rack),
             to,
@@ -95,13 +97,13 @@ fn ack(
     held: &HeldDialog,
     event: Event,
     number: u32,
-    body: Text,
+    content: Content,
 ) -> Result<Service, AllocError>
-    ensures { IfOk result (λ service. service ≡ spec.acked event held.now number body) }
+    ensures { IfOk result (λ service. service ≡ spec.acked event held.now number content) }
 {
     let to = held.dialog.hop(held.address);
     let branch = event.branch(alloc)?;
-    match held.dialog.ack(number, body, branch, event.local) {
+    match held.dialog.ack(number, content, branch, event.local) {
         Ok(message) => Ok(Service::Sent(Sending {
             message,
             to,
@@ -119,11 +121,11 @@ fn prack(
     event: Event,
     rseq: u32,
     number: u32,
-    body: Text,
+    content: Content,
 ) -> Result<Service, AllocError>
     ensures service { IfOk result (λ service. service
-        ≡ (spec.prack_requested event rseq number body held.old).1) }
-    ensures held { OnOk result (held.new ≡ (spec.prack_requested event rseq number body
+        ≡ (spec.prack_requested event rseq number content held.old).1) }
+    ensures held { OnOk result (held.new ≡ (spec.prack_requested event rseq number content
         held.old).0) }
 {
     let rack = RAck {
@@ -132,7 +134,7 @@ fn prack(
         method: Token::copy_of(alloc, b"INVITE")?,
     };
     let method = Token::copy_of(alloc, b"PRACK")?;
-    request(alloc, held, event, method, Some(rack), body)
+    request(alloc, held, event, method, Some(rack), content)
 }
 
 // Why a dialog refused, or want of memory.
@@ -154,24 +156,24 @@ fn refused_by(fault: DialogFault) -> Result<Service, AllocError>
     }
 }
 
-/// Discharges a debt with the body that its request carries; without one it waits for the user.
+/// Discharges a debt with the content that its request carries; without one it waits for the user.
 #[tactic(auto, unfolding(crate::specs::Service::discharged))]
 pub(crate) fn discharge(
     alloc: Global,
     held: &mut HeldDialog,
     event: Event,
     debt: Debt,
-    offer: Option<Text>,
+    offer: Option<Content>,
 ) -> Result<Service, AllocError>
     ensures service { IfOk result (λ service. service
         ≡ (spec.discharged event debt offer held.old).1) }
     ensures held { OnOk result (held.new ≡ (spec.discharged event debt offer held.old).0) }
 {
-    let Some(body) = offer else {
+    let Some(content) = offer else {
         return Ok(Service::Waits);
     };
     match debt {
-        Debt::Ack { invite: _, number } => ack(alloc, held, event, number, body),
-        Debt::Prack { rseq, number } => prack(alloc, held, event, rseq, number, body),
+        Debt::Ack { invite: _, number } => ack(alloc, held, event, number, content),
+        Debt::Prack { rseq, number } => prack(alloc, held, event, rseq, number, content),
     }
 }

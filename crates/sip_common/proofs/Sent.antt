@@ -4,9 +4,10 @@ use Rattle.std.specs.Prelude.{Option, None, Some, codes, if◌then◌else◌}
 use Rattle.std.specs.Str.{bytes_eq}
 use Rattle.sip_parts.specs.Parameters.{value_named}
 use Rattle.sip_message.specs.declared.addr.Addr.{Addr}
+use Rattle.sip_message.specs.declared.content.Content.{Content}
 use Rattle.sip_message.specs.declared.cseq.CSeq.{CSeq}
 use Rattle.sip_message.specs.declared.message.Message.{Message}
-use Rattle.sip_message.specs.Message.{with_body_of}
+use Rattle.sip_message.specs.Content.{with_content_of}
 use Rattle.sip_message.specs.Party.{party_of, tag_of}
 use Rattle.sip_dialog.specs.declared.dialog.Dialog.{Dialog}
 use Rattle.sip_dialog.specs.Request.{bare_request_in, request_in}
@@ -16,11 +17,10 @@ use Rattle.sip_common.specs.Requests.{name_of_tags}
 use Rattle.sip_common.specs.Sent.{cseq_of_request, name_of_dialog}
 use Rattle.sip_common.proofs.Heard.{name_laws}
 
-body_kept : (name : DialogName) (message : Message) (body : List ℕ)
-    → cseq_of_request name (with_body_of message body) ≡ cseq_of_request name message
-unfolding with_body_of
-body_kept name message [] = refl
-body_kept name message (b ∷ bs) = refl
+content_kept : (name : DialogName) (message : Message) (content : Content)
+    → cseq_of_request name (with_content_of message content) ≡ cseq_of_request name message
+unfolding with_content_of
+content_kept name message content = refl
 
 party_tag : (uri : List ℕ) (tag : Option (List ℕ)) → tag_of (party_of uri tag) ≡ tag_text tag
 unfolding value_named
@@ -35,14 +35,15 @@ abbrev pub cseq_for : ℕ → List ℕ → CSeq
 cseq_for number method = record { number = number; method = method }
 
 pub made_in : (name own : DialogName) (dialog : Dialog) (method : List ℕ) (number : ℕ)
-    (body branch : List ℕ) (local : Addr) → is_named own (name_of_dialog dialog) ≡ true
-    → cseq_of_request name (request_in dialog method number body branch local)
+    (content : Content) (branch : List ℕ) (local : Addr)
+    → is_named own (name_of_dialog dialog) ≡ true
+    → cseq_of_request name (request_in dialog method number content branch local)
     ≡ (if numbered method && is_named own name then Some (cseq_for number method) else None)
-made_in name own dialog method number body branch local named =
+made_in name own dialog method number content branch local named =
     let tags = name_of_dialog dialog in
     let same : is_named name tags ≡ is_named own name =
     name_laws.symm name tags ∙ sym (name_laws.congr own tags name named) in
-    body_kept name (bare_request_in dialog method number branch local) body
+    content_kept name (bare_request_in dialog method number branch local) content
     ∙ (λ i. if numbered method && is_named name (name_of_tags
     (party_tag dialog.local.uri dialog.local.tag i)
     (party_tag dialog.remote.uri dialog.remote.tag i)) then Some (cseq_for number method) else None)

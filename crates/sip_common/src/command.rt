@@ -2,8 +2,8 @@
 
 ghost use Rattle.std.specs.Prelude.{◌≡◌};
 
-use sip_message::{Addr, CallId, Id, Reason, Token, Uri};
-use sip_text::Text;
+use sip_message::{Addr, CallId, Content, Id, NameAddr, Reason, Token, Uri};
+use sip_text::Series;
 use std::alloc::AllocError;
 
 /// Which use of reliable provisional responses an INVITE asks for (RFC 3262, section 4).
@@ -30,8 +30,11 @@ pub struct Invite {
     pub request_uri: Uri,
     pub from: Uri,
     pub to: Uri,
+    /// The routes that are known before, the first hop first (RFC 3261, section 8.1.2). The INVITE
+    /// goes to the address all the same.
+    pub routes: Series<NameAddr>,
     pub support: ProvisionalSupport,
-    pub body: Text,
+    pub content: Content,
 }
 
 /// Sends a request outside of any dialog.
@@ -42,7 +45,10 @@ pub struct Plain {
     pub request_uri: Uri,
     pub from: Uri,
     pub to: Uri,
-    pub body: Text,
+    /// The routes that are known before, the first hop first (RFC 3261, section 8.1.2). The request
+    /// goes to the address all the same.
+    pub routes: Series<NameAddr>,
+    pub content: Content,
 }
 
 /// Sends a request inside a dialog. An absent tag is the empty tag.
@@ -51,7 +57,7 @@ pub struct DialogRequest {
     pub local_tag: Option<Token>,
     pub remote_tag: Option<Token>,
     pub method: Token,
-    pub body: Text,
+    pub content: Content,
 }
 
 /// Answers a held server request.
@@ -63,16 +69,16 @@ pub struct Respond {
     /// Any number: one outside 101 to 699 is refused.
     pub status: u16,
     pub reliability: Reliability,
-    pub body: Text,
+    pub content: Content,
     pub reason: Reason,
 }
 
-/// The body that an ACK or a PRACK of a dialog is to carry. An absent tag is the empty tag.
+/// What an ACK or a PRACK of a dialog is to carry. An absent tag is the empty tag.
 pub struct DialogBody {
     pub call_id: CallId,
     pub local_tag: Option<Token>,
     pub remote_tag: Option<Token>,
-    pub body: Text,
+    pub content: Content,
 }
 
 /// Cancels a client INVITE.
@@ -122,8 +128,9 @@ impl Drop for Invite {
             request_uri: _,
             from: _,
             to: _,
+            routes: _,
             support: _,
-            body: _,
+            content: _,
         } = self;
     }
 }
@@ -138,8 +145,9 @@ impl Clone for Invite {
             request_uri: self.request_uri.clone()?,
             from: self.from.clone()?,
             to: self.to.clone()?,
+            routes: self.routes.clone()?,
             support: self.support,
-            body: self.body.clone()?,
+            content: self.content.clone()?,
         })
     }
 }
@@ -153,7 +161,8 @@ impl Drop for Plain {
             request_uri: _,
             from: _,
             to: _,
-            body: _,
+            routes: _,
+            content: _,
         } = self;
     }
 }
@@ -169,7 +178,8 @@ impl Clone for Plain {
             request_uri: self.request_uri.clone()?,
             from: self.from.clone()?,
             to: self.to.clone()?,
-            body: self.body.clone()?,
+            routes: self.routes.clone()?,
+            content: self.content.clone()?,
         })
     }
 }
@@ -181,7 +191,7 @@ impl Drop for DialogRequest {
             local_tag: _,
             remote_tag: _,
             method: _,
-            body: _,
+            content: _,
         } = self;
     }
 }
@@ -195,7 +205,7 @@ impl Clone for DialogRequest {
             local_tag: self.local_tag.clone()?,
             remote_tag: self.remote_tag.clone()?,
             method: self.method.clone()?,
-            body: self.body.clone()?,
+            content: self.content.clone()?,
         })
     }
 }
@@ -209,7 +219,7 @@ impl Clone for Respond {
             id: self.id,
             status: self.status,
             reliability: self.reliability,
-            body: self.body.clone()?,
+            content: self.content.clone()?,
             reason: self.reason.clone()?,
         })
     }
@@ -221,7 +231,7 @@ impl Drop for DialogBody {
             call_id: _,
             local_tag: _,
             remote_tag: _,
-            body: _,
+            content: _,
         } = self;
     }
 }
@@ -234,7 +244,7 @@ impl Clone for DialogBody {
             call_id: self.call_id.clone()?,
             local_tag: self.local_tag.clone()?,
             remote_tag: self.remote_tag.clone()?,
-            body: self.body.clone()?,
+            content: self.content.clone()?,
         })
     }
 }

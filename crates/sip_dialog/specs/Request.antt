@@ -3,6 +3,7 @@ use Rattle.std.specs.Prelude.{ℕ, Bool, List, [], ◌∷◌, ◌++◌, Some, No
 use Rattle.std.specs.Str.{bytes_eq}
 use Rattle.sip_parts.specs.declared.parameter.Parameter.{Parameter}
 use Rattle.sip_message.specs.declared.addr.Addr.{Addr}
+use Rattle.sip_message.specs.declared.content.Content.{Content}
 use Rattle.sip_message.specs.declared.cseq.CSeq.{CSeq}
 use Rattle.sip_message.specs.declared.message.Message.{Message}
 use Rattle.sip_message.specs.declared.message.TheConstants.{MAX_FORWARDS}
@@ -10,8 +11,9 @@ use Rattle.sip_message.specs.declared.name_addr.NameAddr.{NameAddr}
 use Rattle.sip_message.specs.declared.start_line.StartLine.TheVariants.{Request}
 use Rattle.sip_message.specs.declared.via.Via.{Via}
 use Rattle.sip_message.specs.Addr.{addr_text}
+use Rattle.sip_message.specs.Content.{with_content_of}
 use Rattle.sip_message.specs.Ip.{ip_text}
-use Rattle.sip_message.specs.Message.{bare, with_body_of}
+use Rattle.sip_message.specs.Message.{bare}
 use Rattle.sip_message.specs.Party.{party_of}
 use Rattle.sip_dialog.specs.declared.dialog.Dialog.{Dialog}
 
@@ -42,7 +44,7 @@ is_invite_method method = bytes_eq method (codes "INVITE")
 unfoldable pub contacts_of : List ℕ → Addr → List NameAddr
 contacts_of method local = if is_invite_method method then contact_of local ∷ [] else []
 
--- the request of this method and number, without a body
+-- the request of this method and number, without its content
 abbrev pub bare_request_in : Dialog → List ℕ → ℕ → List ℕ → Addr → Message
 bare_request_in dialog method number branch local =
     let from = party_of dialog.local.uri dialog.local.tag in
@@ -55,11 +57,12 @@ bare_request_in dialog method number branch local =
       routes = dialog.route_set;
     }
 
--- the same with this body
-abbrev pub request_in : Dialog → List ℕ → ℕ → List ℕ → List ℕ → Addr → Message
-request_in dialog method number body branch local =
-    with_body_of (bare_request_in dialog method number branch local) body
+-- the same with this content
+abbrev pub request_in : Dialog → List ℕ → ℕ → Content → List ℕ → Addr → Message
+request_in dialog method number content branch local =
+    with_content_of (bare_request_in dialog method number branch local) content
 
 -- the ACK of the INVITE of this number
-abbrev pub ack_in : Dialog → ℕ → List ℕ → List ℕ → Addr → Message
-ack_in dialog number body branch local = request_in dialog (codes "ACK") number body branch local
+abbrev pub ack_in : Dialog → ℕ → Content → List ℕ → Addr → Message
+ack_in dialog number content branch local =
+    request_in dialog (codes "ACK") number content branch local

@@ -10,17 +10,16 @@ use crate::branch::Branch;
 use crate::dialog::{Dialog, DialogState};
 use crate::fault::DialogFault;
 use crate::own_headers::{ack, contacts_of, is_invite, own_via};
-use sip_message::{Addr, CSeq, MAX_FORWARDS, Message, StartLine};
+use sip_message::{Addr, CSeq, Content, MAX_FORWARDS, Message, StartLine};
 use sip_parts::Token;
-use sip_text::Text;
 use std::alloc::AllocError;
 
 /// The greatest CSeq of a made request: it is below 2^31 (RFC 3261, section 8.1.1.5).
 const LAST_CSEQ: u32 = 2_147_483_647;
 
 impl Dialog {
-    /// The next request of this method, with this body: it takes the next local CSeq. It is sent
-    /// from the address `local`, and a body that isn't empty is SDP (RFC 3261, section 12.2.1.1).
+    /// The next request of this method, with this content: it takes the next local CSeq. It is
+    /// sent from the address `local` (RFC 3261, section 12.2.1.1).
     ///
     /// # Errors
     ///
@@ -29,12 +28,12 @@ impl Dialog {
     pub fn next_request(
         &mut self,
         method: Token,
-        body: Text,
+        content: Content,
         branch: Branch,
         local: Addr,
     ) -> Result<Message, DialogFault>
         ensures made { IfOk result (λ message. message
-            ≡ request_in self.old method (self.old.local_cseq + 1) body branch local) }
+            ≡ request_in self.old method (self.old.local_cseq + 1) content branch local) }
         ensures open { OnOk result (request_fault self.old method ≡ None) }
         ensures fault { IfErr result (λ fault. fault
             ≡ or_no_memory (request_fault self.old method)) }
@@ -44,18 +43,18 @@ impl Dialog {
             → self.old ≡ dialog_after start life
             → OnOk result (self.new ≡ dialog_after start (life ++ Requests method ∷ [])) }
     {
-        self.next_request_step(method, body, branch, local)
+        self.next_request_step(method, content, branch, local)
     }
 
     fn next_request_step(
         &mut self,
         method: Token,
-        body: Text,
+        content: Content,
         branch: Branch,
         local: Addr,
     ) -> Result<Message, DialogFault>
         ensures made { IfOk result (λ message. message
-            ≡ request_in self.old method (self.old.local_cseq + 1) body branch local) }
+            ≡ request_in self.old method (self.old.local_cseq + 1) content branch local) }
         ensures open { OnOk result (request_fault self.old method ≡ None) }
         ensures fault { IfErr result (λ fault. fault
             ≡ or_no_memory (request_fault self.old method)) }
@@ -66,7 +65,7 @@ impl Dialog {
             return Err(fault);
         }
         let number = self.local_cseq + 1;
-        let message = self.request(method, number, body, branch, local)?;
+        let message = self.request(method, number, content, branch, local)?;
         self.local_cseq = number;
         Ok(message)
     }
@@ -88,8 +87,8 @@ impl Dialog {
         }
     }
 
-    /// The ACK of the INVITE of this CSeq number, which takes no number of its own (RFC 3261,
-    /// section 13.2.2.4). It is sent from the address `local`, and a body that isn't empty is SDP.
+    /// The ACK of the INVITE of this CSeq number, with this content; it takes no number of its own
+    /// (RFC 3261, section 13.2.2.4). It is sent from the address `local`.
     ///
     /// # Errors
     ///
@@ -97,28 +96,30 @@ impl Dialog {
     pub fn ack(
         &self,
         cseq: u32,
-        body: Text,
+        content: Content,
         branch: Branch,
         local: Addr,
     ) -> Result<Message, DialogFault>
-        ensures made { IfOk result (λ message. message ≡ ack_in self.now cseq body branch local) }
+        ensures made { IfOk result (λ message. message
+            ≡ ack_in self.now cseq content branch local) }
         ensures open { OnOk result (ack_fault self.now ≡ None) }
         ensures fault { IfErr result (λ fault. fault ≡ or_no_memory (ack_fault self.now)) }
         ensures life { (start : Opening) (life : List Happening)
             → self.now ≡ dialog_after start life
             → self.now ≡ dialog_after start (life ++ Acknowledges cseq ∷ []) }
     {
-        self.ack_step(cseq, body, branch, local)
+        self.ack_step(cseq, content, branch, local)
     }
 
     fn ack_step(
         &self,
         cseq: u32,
-        body: Text,
+        content: Content,
         branch: Branch,
         local: Addr,
     ) -> Result<Message, DialogFault>
-        ensures made { IfOk result (λ message. message ≡ ack_in self.now cseq body branch local) }
+        ensures made { IfOk result (λ message. message
+            ≡ ack_in self.now cseq content branch local) }
         ensures open { OnOk result (ack_fault self.now ≡ None) }
         ensures fault { IfErr result (λ fault. fault ≡ or_no_memory (ack_fault self.now)) }
     {
@@ -126,7 +127,7 @@ impl Dialog {
             return Err(fault);
         }
         let method = ack(self.alloc)?;
-        Ok(self.request(method, cseq, body, branch, local)?)
+        Ok(self.request(method, cseq, content, branch, local)?)
     }
 
     // Why no ACK can be made.
@@ -141,23 +142,23 @@ impl Dialog {
         }
     }
 
-    // The request of this method and number, with this body.
+    // The request of this method and number, with this content.
     fn request(
         &self,
         method: Token,
         number: u32,
-        body: Text,
+        content: Content,
         branch: Branch,
         local: Addr,
     ) -> Result<Message, AllocError>
         ensures { IfOk result (λ message. message
-            ≡ request_in self.now method number body branch local) }
+            ≡ request_in self.now method number content branch local) }
     {
         let message = self.bare_request(method, number, branch, local)?;
-        message.with_body(self.alloc, body)
+        message.with_content(self.alloc, content)
     }
 
-    // The request without a body.
+    // The request without its content.
     fn bare_request(
         &self,
         method: Token,

@@ -32,7 +32,7 @@ abbrev pub invite_fields : Invite → List ℕ
 invite_fields c =
     (((spelled_word c.call_id ++ 32 ∷ addr_text c.address)
     ++ 32 ∷ uris_text (record { request_uri = c.request_uri; from = c.from; to = c.to }))
-    ++ 32 ∷ support_text c.support) ++ 32 ∷ spelled_word c.body
+    ++ 32 ∷ support_text c.support) ++ 32 ∷ spelled_word c.content.body
 
 pub invite_reads : Reads IsInvite invite_fields invite_at
 unfolding invite_at
@@ -45,19 +45,21 @@ invite_reads =
         ),
         c.support,
       ),
-      c.body,
+      c.content.body,
     ))
-    (λ c. refl) (λ read. refl)
-    (λ c f. record {
+    (λ read. refl)
+    (λ c f. λ i. record c { routes = sym f.routes i; content = sym f.content.alone i })
+    (λ read f. record {
       call_id = (((f.0).0).0).0;
       address = (((f.0).0).0).1;
       request_uri = ((((f.0).0).1).0).0;
       from =
           ((((f.0).0).1).0).1;
       to = (((f.0).0).1).1;
-      body = f.1;
+      routes = refl;
+      content = record { alone = refl; bytes = f.1 };
     })
-    (λ c f. ((((f.call_id, f.address), ((f.request_uri, f.from), f.to)), tt), f.body))
+    (λ c f. ((((f.call_id, f.address), ((f.request_uri, f.from), f.to)), tt), f.content.bytes))
     (ended_reads (both_front (both_front (both_front call_id_front address_front) uris_front)
     support_front) word_reads)
 
@@ -65,7 +67,7 @@ abbrev pub plain_fields : Plain → List ℕ
 plain_fields c =
     (((spelled_word c.call_id ++ 32 ∷ addr_text c.address) ++ 32 ∷ c.method)
     ++ 32 ∷ uris_text (record { request_uri = c.request_uri; from = c.from; to = c.to }))
-    ++ 32 ∷ spelled_word c.body
+    ++ 32 ∷ spelled_word c.content.body
 
 pub plain_reads : Reads IsPlain plain_fields plain_at
 unfolding plain_at
@@ -75,26 +77,27 @@ plain_reads =
         ((c.call_id, c.address), c.method),
         record { request_uri = c.request_uri; from = c.from; to = c.to },
       ),
-      c.body,
-    )) (λ c. refl)
-    (λ read. refl)
-    (λ c f. record {
+      c.content.body,
+    )) (λ read. refl)
+    (λ c f. λ i. record c { routes = sym f.routes i; content = sym f.content.alone i })
+    (λ read f. record {
       call_id = (((f.0).0).0).0;
       address = (((f.0).0).0).1;
       method = ((f.0).0).1;
       request_uri = (((f.0).1).0).0;
       from = (((f.0).1).0).1;
       to = ((f.0).1).1;
-      body = f.1;
+      routes = refl;
+      content = record { alone = refl; bytes = f.1 };
     })
-    (λ c f. ((((f.call_id, f.address), f.method), ((f.request_uri, f.from), f.to)), f.body))
+    (λ c f. ((((f.call_id, f.address), f.method), ((f.request_uri, f.from), f.to)), f.content.bytes))
     (ended_reads (both_front (both_front (both_front call_id_front address_front) method_front)
     uris_front) word_reads)
 
 abbrev pub request_fields : DialogRequest → List ℕ
 request_fields c = (dialog_text
     (record { call_id = c.call_id; local_tag = c.local_tag; remote_tag = c.remote_tag })
-    ++ 32 ∷ c.method) ++ 32 ∷ spelled_word c.body
+    ++ 32 ∷ c.method) ++ 32 ∷ spelled_word c.content.body
 
 pub request_reads : Reads IsRequest request_fields request_at
 unfolding request_at
@@ -105,22 +108,23 @@ request_reads =
             { call_id = c.call_id; local_tag = c.local_tag; remote_tag = c.remote_tag },
         c.method,
       ),
-      c.body,
-    )) (λ c. refl) (λ read. refl)
-    (λ c f. record {
+      c.content.body,
+    )) (λ read. refl)
+    (λ c f. λ i. record c { content = sym f.content.alone i })
+    (λ read f. record {
       call_id = (((f.0).0).0).0;
       local_tag = (((f.0).0).0).1;
       remote_tag = ((f.0).0).1;
       method = (f.0).1;
-      body = f.1;
+      content = record { alone = refl; bytes = f.1 };
     })
-    (λ c f. ((((f.call_id, f.local_tag), f.remote_tag), f.method), f.body))
+    (λ c f. ((((f.call_id, f.local_tag), f.remote_tag), f.method), f.content.bytes))
     (ended_reads (both_front dialog_front method_front) word_reads)
 
 abbrev pub body_fields : DialogBody → List ℕ
 body_fields c = dialog_text (record
     { call_id = c.call_id; local_tag = c.local_tag; remote_tag = c.remote_tag })
-    ++ 32 ∷ spelled_word c.body
+    ++ 32 ∷ spelled_word c.content.body
 
 pub body_reads : Reads IsDialogBody body_fields body_at
 unfolding body_at
@@ -128,39 +132,41 @@ body_reads =
     made_reads body_of (λ c. (
       record
           { call_id = c.call_id; local_tag = c.local_tag; remote_tag = c.remote_tag },
-      c.body,
+      c.content.body,
     ))
-    (λ c. refl) (λ read. refl)
-    (λ c f. record {
+    (λ read. refl)
+    (λ c f. λ i. record c { content = sym f.content.alone i })
+    (λ read f. record {
       call_id = ((f.0).0).0;
       local_tag = ((f.0).0).1;
       remote_tag = (f.0).1;
-      body = f.1;
+      content = record { alone = refl; bytes = f.1 };
     })
-    (λ c f. (((f.call_id, f.local_tag), f.remote_tag), f.body))
+    (λ c f. (((f.call_id, f.local_tag), f.remote_tag), f.content.bytes))
     (ended_reads dialog_front word_reads)
 
 abbrev pub respond_fields : Respond → List ℕ
 respond_fields c =
     ((((spelled_word c.call_id ++ 32 ∷ id_text c.id) ++ 32 ∷ decimal c.status)
-    ++ 32 ∷ reliability_text c.reliability) ++ 32 ∷ spelled_word c.body)
+    ++ 32 ∷ reliability_text c.reliability) ++ 32 ∷ spelled_word c.content.body)
     ++ 32 ∷ spelled_rest c.reason
 
 pub respond_reads : Reads IsRespond respond_fields respond_at
 unfolding respond_at
 respond_reads =
     made_reads respond_of (λ c. (
-      ((((c.call_id, c.id), c.status), c.reliability), c.body),
+      ((((c.call_id, c.id), c.status), c.reliability), c.content.body),
       c.reason,
-    )) (λ c. refl) (λ read. refl)
-    (λ c f. record {
+    )) (λ read. refl)
+    (λ c f. λ i. record c { content = sym f.content.alone i })
+    (λ read f. record {
       call_id = ((((f.0).0).0).0).0;
       id = ((((f.0).0).0).0).1;
       status = (((f.0).0).0).1;
-      body = (f.0).1;
+      content = record { alone = refl; bytes = (f.0).1 };
       reason = f.1;
     })
-    (λ c f. (((((f.call_id, f.id), f.status), tt), f.body), f.reason))
+    (λ c f. (((((f.call_id, f.id), f.status), tt), f.content.bytes), f.reason))
     (ended_reads (both_front (both_front
     (both_front (both_front call_id_front id_front) status_front) reliability_front) word_front)
     reason_reads)
@@ -171,8 +177,8 @@ cancel_fields c = spelled_word c.call_id ++ 32 ∷ id_text c.id
 cancel_reads : Reads IsCancel cancel_fields cancel_at
 unfolding cancel_at
 cancel_reads =
-    made_reads cancel_of (λ c. (c.call_id, c.id)) (λ c. refl) (λ read. refl)
-    (λ c f. record { call_id = f.0; id = f.1 }) (λ c f. (f.call_id, f.id))
+    made_reads cancel_of (λ c. (c.call_id, c.id)) (λ read. refl) (λ c f. refl)
+    (λ read f. record { call_id = f.0; id = f.1 }) (λ c f. (f.call_id, f.id))
     (ended_reads call_id_front id_reads)
 
 abbrev IsCancelIn : Version → Cancel → Type 0
@@ -225,8 +231,8 @@ invite_text c =
     let front = (k ++ 32 ∷ spelled_word c.call_id) ++ 32 ∷ addr_text c.address in
     let uris = uris_text (record { request_uri = c.request_uri; from = c.from; to = c.to }) in
     sym (five_fields k (spelled_word c.call_id) (addr_text c.address) uris (support_text c.support)
-    (spelled_word c.body)
-    ∙ ap (λ (x : List ℕ). (x ++ 32 ∷ support_text c.support) ++ 32 ∷ spelled_word c.body)
+    (spelled_word c.content.body)
+    ∙ ap (λ (x : List ℕ). (x ++ 32 ∷ support_text c.support) ++ 32 ∷ spelled_word c.content.body)
     (three_fields front (spelled_word c.request_uri) (spelled_word c.from) (spelled_word c.to)))
 
 pub plain_text : (c : Plain) → command_text (command.Plain c) ≡ codes "plain" ++ 32 ∷ plain_fields c
@@ -236,8 +242,8 @@ plain_text c =
     let front = ((k ++ 32 ∷ spelled_word c.call_id) ++ 32 ∷ addr_text c.address) ++ 32 ∷ c.method in
     let uris = uris_text (record { request_uri = c.request_uri; from = c.from; to = c.to }) in
     sym (five_fields k (spelled_word c.call_id) (addr_text c.address) c.method uris
-    (spelled_word c.body)
-    ∙ ap (λ (x : List ℕ). x ++ 32 ∷ spelled_word c.body)
+    (spelled_word c.content.body)
+    ∙ ap (λ (x : List ℕ). x ++ 32 ∷ spelled_word c.content.body)
     (three_fields front (spelled_word c.request_uri) (spelled_word c.from) (spelled_word c.to)))
 
 pub request_text : (c : DialogRequest)
@@ -245,27 +251,27 @@ pub request_text : (c : DialogRequest)
 unfolding word_field plain_field
 request_text c = sym (five_fields (codes "request") (spelled_word c.call_id)
     (spelled_word (tag_text c.local_tag)) (spelled_word (tag_text c.remote_tag)) c.method
-    (spelled_word c.body))
+    (spelled_word c.content.body))
 
 pub respond_text : (c : Respond) → command_text (command.Respond c) ≡ codes "respond"
     ++ 32 ∷ respond_fields c
 unfolding word_field id_field number_field plain_field rest_field
 respond_text c = sym (six_fields (codes "respond") (spelled_word c.call_id) (id_text c.id)
-    (decimal c.status) (reliability_text c.reliability) (spelled_word c.body)
+    (decimal c.status) (reliability_text c.reliability) (spelled_word c.content.body)
     (spelled_rest c.reason))
 
 pub ack_text : (c : DialogBody) → command_text (command.Ack c) ≡ codes "ack" ++ 32 ∷ body_fields c
 unfolding word_field
 ack_text c = sym (four_fields (codes "ack") (spelled_word c.call_id)
     (spelled_word (tag_text c.local_tag)) (spelled_word (tag_text c.remote_tag))
-    (spelled_word c.body))
+    (spelled_word c.content.body))
 
 pub prack_text : (c : DialogBody)
     → command_text (command.Prack c) ≡ codes "prack" ++ 32 ∷ body_fields c
 unfolding word_field
 prack_text c = sym (four_fields (codes "prack") (spelled_word c.call_id)
     (spelled_word (tag_text c.local_tag)) (spelled_word (tag_text c.remote_tag))
-    (spelled_word c.body))
+    (spelled_word c.content.body))
 
 pub cancel_text : (c : Cancel) → command_text (command.Cancel c) ≡ codes "cancel"
     ++ 32 ∷ cancel_fields c

@@ -85,17 +85,20 @@ module _ {A B : Type 0} (make : A → B) (parts : B → A) (whole : (y : B) → 
         ∙ ap (λ (z : B). Some (z, rest)) (whole y);
   }
 
+-- the same of a whole text, where what fits is made of its parts
+module _ {A B : Type 0} (make : A → B) (parts : B → A) (same : (x : A) → parts (make x) ≡ x) where
   pub made_reads : {P : A → Type 0} {Q : B → Type 0} {s : A → List ℕ} {a : List ℕ → Option A}
-      → ((y : B) → P (parts y) → Q y) → ((y : B) → Q y → P (parts y)) → Reads P s a
+      → ((y : B) → Q y → make (parts y) ≡ y) → ((x : A) → P x → Q (make x))
+      → ((y : B) → Q y → P (parts y)) → Reads P s a
       → Reads Q (λ y. s (parts y)) (λ text. option_map make (a text))
-  made_reads {P = P} {Q = Q} {s = s} {a = a} to from reads = record {
+  made_reads {P = P} {Q = Q} {s = s} {a = a} whole to from reads = record {
     took = λ text y e.
         let x = made_of (a text) y e in
         let f = reads.took text x.0 x.1 in
         let R : B → Type 0 = λ z. Q z × (text ≡ s (parts z)) in
-        subst R x.2 (to (make x.0) (subst P (sym (same x.0)) f.0), f.1 ∙ ap s (sym (same x.0)));
+        subst R x.2 (to x.0 f.0, f.1 ∙ ap s (sym (same x.0)));
     again = λ y fits. ap (option_map make) (reads.again (parts y) (from y fits))
-        ∙ ap (λ (z : B). Some z) (whole y);
+        ∙ ap (λ (z : B). Some z) (whole y fits);
   }
     where
       made_of : (o : Option A) (y : B) → option_map make o ≡ Some y

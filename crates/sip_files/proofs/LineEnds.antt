@@ -64,7 +64,7 @@ no_reliability reliability.Reliable = record { none = refl }
 
 no_body : (c : DialogBody) → NoEnd (body_fields c)
 no_body c = behind (no_dialog (record
-    { call_id = c.call_id; local_tag = c.local_tag; remote_tag = c.remote_tag })) (no_word c.body)
+    { call_id = c.call_id; local_tag = c.local_tag; remote_tag = c.remote_tag })) (no_word c.content.body)
 
 -- a keyword and the fields behind it
 line_none : (text k fields : List ℕ) → text ≡ k ++ 32 ∷ fields → has_no 10 k ≡ true → NoEnd fields
@@ -84,24 +84,24 @@ command_no version (command.Invite c) fits =
     line_none _ (codes "invite") (invite_fields c) (invite_text c) refl
     (behind (behind (behind (behind (no_word c.call_id) (no_address c.address fits.address))
     (no_uris (record { request_uri = c.request_uri; from = c.from; to = c.to })))
-    (no_support c.support)) (no_word c.body))
+    (no_support c.support)) (no_word c.content.body))
 command_no version (command.Plain c) fits =
     line_none _ (codes "plain") (plain_fields c) (plain_text c) refl
     (behind (behind (behind (behind (no_word c.call_id) (no_address c.address fits.address))
     (no_method_end c.method fits.method))
     (no_uris (record { request_uri = c.request_uri; from = c.from; to = c.to })))
-    (no_word c.body))
+    (no_word c.content.body))
 command_no version (command.Request c) fits =
     line_none _ (codes "request") (request_fields c) (request_text c) refl
     (behind (behind (no_dialog (record
     { call_id = c.call_id; local_tag = c.local_tag; remote_tag = c.remote_tag }))
-    (no_method_end c.method fits.method)) (no_word c.body))
+    (no_method_end c.method fits.method)) (no_word c.content.body))
 command_no version (command.Respond c) fits =
     line_none _ (codes "respond") (respond_fields c) (respond_text c) refl
     (behind (behind (behind (behind
     (behind (no_word c.call_id) (record { none = id_no 10 c.id refl refl fits.id }))
     (record { none = number_has_no 10 c.status refl (omega (arith, fits.status)) }))
-    (no_reliability c.reliability)) (no_word c.body)) (record {
+    (no_reliability c.reliability)) (no_word c.content.body)) (record {
       none =
           rest_no 10 c.reason (omega arith) refl;
     }))

@@ -6,9 +6,11 @@ use Rattle.sip_parts.specs.Word.{is_word}
 use Rattle.sip_parts.specs.Reason.{is_reason}
 use Rattle.sip_parts.specs.Uri.{is_uri}
 use Rattle.sip_text.specs.Token.{is_token}
+use Rattle.sip_message.specs.declared.content.Content.{Content}
 use Rattle.sip_message.specs.declared.id.Id.{Id}
 use Rattle.sip_message.specs.declared.key.Key.{Key}
 use Rattle.sip_message.specs.Addr.{IsAddr}
+use Rattle.sip_message.specs.Content.{content_of_body}
 use Rattle.sip_message.specs.Key.{client_key, server_key}
 use Rattle.sip_common.specs.declared.command.Reliability.{Reliability}
 use Rattle.sip_common.specs.declared.command.Reliability.TheVariants as reliability
@@ -56,13 +58,19 @@ abbrev pub IsTag : Option (List ℕ) → Type 0
 IsTag None = Unit
 IsTag (Some text) = IsTrue (are_bytes text) × IsTrue (is_token text)
 
+-- a line says of a content its body alone
+pub record IsBodyAlone (content : Content) : Type 0 where
+  pub alone : content ≡ content_of_body content.body
+  pub bytes : IsTrue (are_bytes content.body)
+
 pub record IsInvite (invite : Invite) : Type 0 where
   pub call_id : IsCallIdWord invite.call_id
   pub address : IsAddr invite.address
   pub request_uri : IsUri invite.request_uri
   pub from : IsUri invite.from
   pub to : IsUri invite.to
-  pub body : IsTrue (are_bytes invite.body)
+  pub routes : invite.routes ≡ []
+  pub content : IsBodyAlone invite.content
 
 pub record IsPlain (plain : Plain) : Type 0 where
   pub call_id : IsCallIdWord plain.call_id
@@ -71,26 +79,27 @@ pub record IsPlain (plain : Plain) : Type 0 where
   pub request_uri : IsUri plain.request_uri
   pub from : IsUri plain.from
   pub to : IsUri plain.to
-  pub body : IsTrue (are_bytes plain.body)
+  pub routes : plain.routes ≡ []
+  pub content : IsBodyAlone plain.content
 
 pub record IsRequest (request : DialogRequest) : Type 0 where
   pub call_id : IsCallIdWord request.call_id
   pub local_tag : IsTag request.local_tag
   pub remote_tag : IsTag request.remote_tag
   pub method : IsMethod request.method
-  pub body : IsTrue (are_bytes request.body)
+  pub content : IsBodyAlone request.content
 
 pub record IsDialogBody (given : DialogBody) : Type 0 where
   pub call_id : IsCallIdWord given.call_id
   pub local_tag : IsTag given.local_tag
   pub remote_tag : IsTag given.remote_tag
-  pub body : IsTrue (are_bytes given.body)
+  pub content : IsBodyAlone given.content
 
 pub record IsRespond (respond : Respond) : Type 0 where
   pub call_id : IsCallIdWord respond.call_id
   pub id : IsId respond.id
   pub status : respond.status ≤ 999
-  pub body : IsTrue (are_bytes respond.body)
+  pub content : IsBodyAlone respond.content
   pub reason : IsReason respond.reason
 
 pub record IsCancel (cancel : Cancel) : Type 0 where
@@ -126,24 +135,24 @@ abbrev pub command_text : UserCommand → List ℕ
 command_text (command.Invite c) =
     codes "invite" ++ word_field c.call_id ++ address_field c.address ++ word_field c.request_uri
     ++ word_field c.from ++ word_field c.to
-    ++ plain_field (support_text c.support) ++ word_field c.body
+    ++ plain_field (support_text c.support) ++ word_field c.content.body
 command_text (command.Plain c) =
     codes "plain" ++ word_field c.call_id ++ address_field c.address ++ plain_field c.method
     ++ word_field c.request_uri ++ word_field c.from
-    ++ word_field c.to ++ word_field c.body
+    ++ word_field c.to ++ word_field c.content.body
 command_text (command.Request c) =
     codes "request" ++ word_field c.call_id ++ tag_field c.local_tag ++ tag_field c.remote_tag
-    ++ plain_field c.method ++ word_field c.body
+    ++ plain_field c.method ++ word_field c.content.body
 command_text (command.Respond c) =
     codes "respond" ++ word_field c.call_id ++ id_field c.id ++ number_field c.status
     ++ plain_field (reliability_text c.reliability)
-    ++ word_field c.body ++ rest_field c.reason
+    ++ word_field c.content.body ++ rest_field c.reason
 command_text (command.Ack c) =
     codes "ack" ++ word_field c.call_id ++ tag_field c.local_tag ++ tag_field c.remote_tag
-    ++ word_field c.body
+    ++ word_field c.content.body
 command_text (command.Prack c) =
     codes "prack" ++ word_field c.call_id ++ tag_field c.local_tag ++ tag_field c.remote_tag
-    ++ word_field c.body
+    ++ word_field c.content.body
 command_text (command.Cancel c) = codes "cancel" ++ word_field c.call_id ++ id_field c.id
 
 -- The line of a failed send spells the branch and the host of its key in any case of letters; the

@@ -1,6 +1,6 @@
 -- Reading a line of an event file, by its version, from left to right. What is read is said by the
 -- lines' texts.
-use Rattle.std.specs.Prelude.{ℕ, ◌^◌, ◌-◌, ◌==◌, List, length, Option, Some, None, codes, if◌then◌else◌}
+use Rattle.std.specs.Prelude.{ℕ, ◌^◌, ◌-◌, ◌==◌, List, [], length, Option, Some, None, codes, if◌then◌else◌}
 use Rattle.std.specs.Option.{option_map}
 use Rattle.std.specs.Str.{bytes_eq}
 use Rattle.sip_text.specs.Number.{number_at}
@@ -13,6 +13,7 @@ use Rattle.sip_parts.specs.Uri.{is_uri}
 use Rattle.sip_message.specs.declared.addr.Addr.{Addr}
 use Rattle.sip_message.specs.declared.id.Id.{Id}
 use Rattle.sip_message.specs.declared.key.Key.{Key}
+use Rattle.sip_message.specs.Content.{content_of_body}
 use Rattle.sip_message.specs.Key.{client_key, server_key}
 use Rattle.sip_common.specs.declared.command.Reliability.{Reliability}
 use Rattle.sip_common.specs.declared.command.Reliability.TheVariants as reliability
@@ -105,8 +106,9 @@ invite_read read = record {
   request_uri = (((read.0).0).1).request_uri;
   from = (((read.0).0).1).from;
   to = (((read.0).0).1).to;
+  routes = [];
   support = (read.0).1;
-  body = read.1;
+  content = content_of_body read.1;
 }
 
 unfoldable pub invite_at : List ℕ → Option Invite
@@ -122,7 +124,8 @@ plain_read read = record {
   request_uri = ((read.0).1).request_uri;
   from = ((read.0).1).from;
   to = ((read.0).1).to;
-  body = read.1;
+  routes = [];
+  content = content_of_body read.1;
 }
 
 unfoldable pub plain_at : List ℕ → Option Plain
@@ -136,7 +139,7 @@ request_read read = record {
   local_tag = ((read.0).0).local_tag;
   remote_tag = ((read.0).0).remote_tag;
   method = (read.0).1;
-  body = read.1;
+  content = content_of_body read.1;
 }
 
 unfoldable pub request_at : List ℕ → Option DialogRequest
@@ -148,7 +151,7 @@ body_of read = record {
   call_id = (read.0).call_id;
   local_tag = (read.0).local_tag;
   remote_tag = (read.0).remote_tag;
-  body = read.1;
+  content = content_of_body read.1;
 }
 
 unfoldable pub body_at : List ℕ → Option DialogBody
@@ -160,7 +163,7 @@ respond_of read = record {
   id = ((((read.0).0).0).0).1;
   status = (((read.0).0).0).1;
   reliability = ((read.0).0).1;
-  body = (read.0).1;
+  content = content_of_body (read.0).1;
   reason = read.1;
 }
 

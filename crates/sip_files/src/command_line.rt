@@ -10,7 +10,9 @@ use crate::fields::{
 use crate::numbers::read_id;
 use crate::version::Version;
 use crate::words::read_word;
+use sip_message::Content;
 use sip_served::{Cancel, DialogBody, DialogRequest, Invite, Plain, Respond, UserCommand};
+use sip_text::Series;
 use std::alloc::{AllocError, Global};
 
 /// What the line of a command says, where a file of this version may have it, by its first word.
@@ -71,8 +73,9 @@ fn read_invite(alloc: Global, fields: &[u8]) -> Result<Option<Invite>, AllocErro
         request_uri,
         from,
         to,
+        routes: Series::new(alloc),
         support,
-        body,
+        content: Content::of_body(alloc, body),
     }))
 }
 
@@ -101,7 +104,8 @@ fn read_plain(alloc: Global, fields: &[u8]) -> Result<Option<Plain>, AllocError>
         request_uri,
         from,
         to,
-        body,
+        routes: Series::new(alloc),
+        content: Content::of_body(alloc, body),
     }))
 }
 
@@ -125,7 +129,7 @@ fn read_request(alloc: Global, fields: &[u8]) -> Result<Option<DialogRequest>, A
         local_tag,
         remote_tag,
         method,
-        body,
+        content: Content::of_body(alloc, body),
     }))
 }
 
@@ -145,7 +149,7 @@ fn read_body(alloc: Global, fields: &[u8]) -> Result<Option<DialogBody>, AllocEr
         call_id,
         local_tag,
         remote_tag,
-        body,
+        content: Content::of_body(alloc, body),
     }))
 }
 
@@ -178,7 +182,7 @@ fn read_respond(alloc: Global, fields: &[u8]) -> Result<Option<Respond>, AllocEr
         id,
         status,
         reliability,
-        body,
+        content: Content::of_body(alloc, body),
         reason,
     }))
 }

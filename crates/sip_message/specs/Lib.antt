@@ -4,6 +4,7 @@ pub mod Addr
 pub mod Via
 pub mod Party
 pub mod Message
+pub mod Content
 pub mod Rules
 pub mod Key
 pub mod Written

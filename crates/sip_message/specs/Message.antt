@@ -1,8 +1,7 @@
 -- Messages (RFC 3261, section 7).
-use Rattle.std.specs.Prelude.{ℕ, Bool, true, false, List, [], ◌∷◌, ◌++◌, codes, None}
+use Rattle.std.specs.Prelude.{ℕ, Bool, true, false, List, [], None}
 use Rattle.sip_message.specs.declared.start_line.StartLine.{StartLine}
 use Rattle.sip_message.specs.declared.start_line.StartLine.TheVariants.{Request, Response}
-use Rattle.sip_message.specs.declared.header.Header.{Header}
 use Rattle.sip_message.specs.declared.via.Via.{Via}
 use Rattle.sip_message.specs.declared.party.Party.{Party}
 use Rattle.sip_message.specs.declared.cseq.CSeq.{CSeq}
@@ -16,16 +15,6 @@ is_request_line (Response status reason) = false
 -- whether a message is a request
 abbrev pub is_request_message : Message → Bool
 is_request_message message = is_request_line message.start
-
--- `Content-Type: application/sdp`
-abbrev pub content_type : Header
-content_type = record { name = codes "Content-Type"; value = codes "application/sdp" }
-
--- the message with this body and its type; an empty body changes nothing
-unfoldable pub with_body_of : Message → List ℕ → Message
-with_body_of message [] = message
-with_body_of message (b ∷ bs) =
-    record message { others = message.others ++ content_type ∷ []; body = b ∷ bs }
 
 -- a message with no header but Via, From, To, Call-ID and CSeq, and without a body
 abbrev pub bare : StartLine → List Via → Party → Party → List ℕ → CSeq → Message

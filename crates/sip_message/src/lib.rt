@@ -3,6 +3,7 @@
 #![tactic(auto)]
 
 mod addr;
+mod content;
 mod cseq;
 mod cut;
 mod fault;
@@ -11,6 +12,7 @@ mod hop_by_hop;
 mod id;
 mod key;
 mod keys;
+mod laws;
 mod message;
 mod name_addr;
 mod party;
@@ -24,6 +26,7 @@ mod vias;
 mod writer;
 
 pub use addr::{Addr, ip_in, ip_text};
+pub use content::Content;
 pub use cseq::CSeq;
 pub use cut::{Cut, First, Spread};
 pub use fault::ReadFault;
@@ -32,6 +35,7 @@ pub use hop_by_hop::{ack_for, cancel_for};
 pub use id::Id;
 pub use key::Key;
 pub use keys::{is_sent_by, key_of};
+pub use laws::a_body_alone_brings_its_type;
 pub use message::{MAX_FORWARDS, Message};
 pub use name_addr::NameAddr;
 pub use party::Party;

@@ -1,7 +1,7 @@
 //! Messages (RFC 3261, section 7).
 ghost use Rattle.std.specs.Prelude.{◌≡◌, IfOk};
-ghost use Rattle.sip_message.specs.Message as message;
 
+use crate::content::Content;
 use crate::cseq::CSeq;
 use crate::header::Header;
 use crate::name_addr::NameAddr;
@@ -9,7 +9,7 @@ use crate::party::Party;
 use crate::rack::RAck;
 use crate::start_line::StartLine;
 use crate::vias::Vias;
-use sip_parts::{CallId, HeaderValue, OtherName, Token};
+use sip_parts::{CallId, Token};
 use sip_text::{Series, Text};
 use std::alloc::{AllocError, Global};
 
@@ -37,7 +37,8 @@ pub struct Message {
 }
 
 impl Message {
-    ghost use Rattle.sip_message.specs.Message.{bare, is_request_message, with_body_of};
+    ghost use Rattle.sip_message.specs.Content.{with_content_of};
+    ghost use Rattle.sip_message.specs.Message.{bare, is_request_message};
 
     /// A message with no header but these and without a body. Takes no memory.
     pub fn bare(
@@ -87,29 +88,16 @@ impl Message {
         &self.cseq.method
     }
 
-    /// The message with this body, and after its other headers `Content-Type: application/sdp`. An
-    /// empty body leaves the message as it is.
-    #[tactic(auto, unfolding(crate::specs::Message::with_body_of))]
-    pub fn with_body(mut self, alloc: Global, body: Text) -> Result<Message, AllocError>
-        ensures { IfOk result (λ made. made ≡ with_body_of self body) }
+    /// The message with what the user puts into it: his contacts in place of the agent's own where
+    /// there are any, his other headers after the agent's own, and his body, which is SDP where no
+    /// Content-Type says otherwise. What is there is moved, and memory is taken only where both
+    /// have values, or for that type.
+    pub fn with_content(mut self, alloc: Global, content: Content) -> Result<Message, AllocError>
+        ensures { IfOk result (λ made. made ≡ with_content_of self content) }
     {
-        if body.is_empty() {
-            return Ok(self);
-        }
-        self.others.push(content_type(alloc)?)?;
-        self.body = body;
+        content.put_into(alloc, &mut self)?;
         Ok(self)
     }
-}
-
-#[tactic(auto, unfolding(sip_parts::specs::HeaderValue::is_header_value))]
-fn content_type(alloc: Global) -> Result<Header, AllocError>
-    ensures { IfOk result (λ header. header ≡ message.content_type) }
-{
-    Ok(Header {
-        name: OtherName::copy_of(alloc, b"Content-Type")?,
-        value: HeaderValue::copy_of(alloc, b"application/sdp")?,
-    })
 }
 
 // Written out, so that a message is dropped by one call wherever a value that holds one is.

@@ -7,9 +7,10 @@ use Rattle.std.specs.Cmp.{first_so, second_so}
 use Rattle.std.specs.Result.{result_ok}
 use Rattle.std.proofs.lemmas.Grind.{common_steps}
 use Rattle.sip_message.specs.declared.addr.Addr.{Addr}
+use Rattle.sip_message.specs.declared.content.Content.{Content}
 use Rattle.sip_message.specs.declared.id.Id.{Id}
 use Rattle.sip_message.specs.declared.message.Message.{Message}
-use Rattle.sip_message.specs.Message.{with_body_of}
+use Rattle.sip_message.specs.Content.{with_content_of}
 use Rattle.sip_message.specs.Response.{response_of}
 use Rattle.sip_reliable.specs.declared.send_fault.SendFault.{SendFault}
 use Rattle.sip_reliable.specs.declared.tick.Tick.{Tick}
@@ -90,11 +91,10 @@ rejected_silent false inviting awaits = refl
 abbrev answers_invite : Message → Bool
 answers_invite response = is_invite response && has_success response.start
 
-body_as : (response : Message) (body : List ℕ)
-    → answers_invite (with_body_of response body) ≡ answers_invite response
-unfolding with_body_of
-body_as response [] = refl
-body_as response (b ∷ bs) = refl
+content_as : (response : Message) (content : Content)
+    → answers_invite (with_content_of response content) ≡ answers_invite response
+unfolding with_content_of
+content_as response content = refl
 
 so_as : (b : Bool) (change : Message → Message)
     → ((response : Message) → answers_invite (change response) ≡ answers_invite response)
@@ -109,7 +109,7 @@ answer_as local held r =
     let plain = response_of held.request r.status r.reason held.tag in
     let routed = if_so (is_of_dialog held r.status) (with_routes local held.request) plain in
     let numbered = with_rseq (result_ok (send_answer held.ledger)) in
-    body_as (if_so (is_sent_reliably held r.status r.reliability) numbered routed) r.body
+    content_as (if_so (is_sent_reliably held r.status r.reliability) numbered routed) r.content
     ∙ so_as (is_sent_reliably held r.status r.reliability) numbered (λ response. refl) routed
     ∙ so_as (is_of_dialog held r.status) (with_routes local held.request) (λ response. refl) plain
 

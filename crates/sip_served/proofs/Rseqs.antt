@@ -6,7 +6,7 @@ use Rattle.sip_message.specs.declared.addr.Addr.{Addr}
 use Rattle.sip_message.specs.declared.id.Id.{Id}
 use Rattle.sip_message.specs.declared.message.Message.{Message}
 use Rattle.sip_message.specs.declared.start_line.StartLine.TheVariants as start
-use Rattle.sip_message.specs.Message.{with_body_of}
+use Rattle.sip_message.specs.Content.{with_content_of}
 use Rattle.sip_message.specs.Response.{response_of}
 use Rattle.sip_reliable.specs.declared.send_fault.SendFault.{SendFault}
 use Rattle.sip_reliable.specs.declared.send_fault.SendFault.TheVariants as fault
@@ -41,23 +41,19 @@ use Rattle.sip_served.proofs.RequestLives.{success_alone}
 
 pub answer_start : (local : Addr) (held : HeldRequest) (r : Answer)
     → (answer_to local held r).start ≡ start.Response r.status r.reason
-unfolding with_body_of
+unfolding with_content_of
 answer_start local held r =
-    by_body (is_sent_reliably held r.status r.reliability) (is_of_dialog held r.status) r.body
+    by_case (is_sent_reliably held r.status r.reliability) (is_of_dialog held r.status)
   where
-    by_body : (reliable routed : Bool) (body : List ℕ)
-        → (with_body_of (if_so reliable (with_rseq (result_ok (send_answer held.ledger)))
+    by_case : (reliable routed : Bool)
+        → (if_so reliable (with_rseq (result_ok (send_answer held.ledger)))
         (if_so routed (with_routes local held.request)
-        (response_of held.request r.status r.reason held.tag))) body).start
+        (response_of held.request r.status r.reason held.tag))).start
         ≡ start.Response r.status r.reason
-    by_body true true [] = refl
-    by_body true false [] = refl
-    by_body false true [] = refl
-    by_body false false [] = refl
-    by_body true true (b ∷ bs) = refl
-    by_body true false (b ∷ bs) = refl
-    by_body false true (b ∷ bs) = refl
-    by_body false false (b ∷ bs) = refl
+    by_case true true = refl
+    by_case true false = refl
+    by_case false true = refl
+    by_case false false = refl
 
 -- it has the next RSeq where it is sent reliably
 abbrev pub next_rseq : HeldRequest → Answer → Option ℕ
@@ -67,23 +63,19 @@ next_rseq held r =
 
 pub answer_rseq : (local : Addr) (held : HeldRequest) (r : Answer)
     → (answer_to local held r).rseq ≡ next_rseq held r
-unfolding with_body_of
+unfolding with_content_of
 answer_rseq local held r =
-    by_body (is_sent_reliably held r.status r.reliability) (is_of_dialog held r.status) r.body
+    by_case (is_sent_reliably held r.status r.reliability) (is_of_dialog held r.status)
   where
-    by_body : (reliable routed : Bool) (body : List ℕ)
-        → (with_body_of (if_so reliable (with_rseq (result_ok (send_answer held.ledger)))
+    by_case : (reliable routed : Bool)
+        → (if_so reliable (with_rseq (result_ok (send_answer held.ledger)))
         (if_so routed (with_routes local held.request)
-        (response_of held.request r.status r.reason held.tag))) body).rseq
+        (response_of held.request r.status r.reason held.tag))).rseq
         ≡ (if reliable then result_ok (send_answer held.ledger) else None)
-    by_body true true [] = refl
-    by_body true false [] = refl
-    by_body false true [] = refl
-    by_body false false [] = refl
-    by_body true true (b ∷ bs) = refl
-    by_body true false (b ∷ bs) = refl
-    by_body false true (b ∷ bs) = refl
-    by_body false false (b ∷ bs) = refl
+    by_case true true = refl
+    by_case true false = refl
+    by_case false true = refl
+    by_case false false = refl
 
 -- ---- what is read after an answer
 

@@ -5,7 +5,7 @@ use Rattle.sip_model.proofs.Ordered.{by_bool}
 use Rattle.sip_message.specs.declared.addr.Addr.{Addr}
 use Rattle.sip_message.specs.declared.id.Id.{Id}
 use Rattle.sip_message.specs.declared.message.Message.{Message}
-use Rattle.sip_message.specs.Message.{with_body_of}
+use Rattle.sip_message.specs.Content.{with_content_of}
 use Rattle.sip_transactions.specs.declared.input.Command.TheVariants.{Answer}
 use Rattle.sip_common.specs.declared.command.Reliability.TheVariants.{Plain}
 use Rattle.sip_served.specs.declared.held_request.HeldRequest.{HeldRequest}
@@ -33,7 +33,7 @@ module _ (event : Id) (call_id : List ℕ) (held : HeldRequest) where
 
   same_response : (local : Addr) → is_invite held.request ≡ true
       → answer_to local held (user_termination call_id held.id) ≡ request_terminated held
-  unfolding with_body_of
+  unfolding with_content_of
   same_response local invite = rw invite refl
 
   same_dialogs : (response : Message) (dialogs : Dialogs) → is_invite held.request ≡ true

@@ -5,6 +5,7 @@ use Rattle.sip_message.specs.declared.id.Id.{Id}
 use Rattle.sip_message.specs.declared.key.Key.{Key}
 use Rattle.sip_message.specs.declared.key.Key.TheVariants.{Server}
 use Rattle.sip_message.specs.declared.message.Message.{Message}
+use Rattle.sip_message.specs.Content.{content_of_body}
 use Rattle.sip_message.specs.Response.{response_of}
 use Rattle.sip_transactions.specs.declared.input.Command.TheVariants.{Answer}
 use Rattle.sip_common.specs.declared.command.Reliability.TheVariants.{Plain}
@@ -78,7 +79,7 @@ user_termination call_id invite = record {
   id = invite;
   status = 487;
   reliability = Plain;
-  body = [];
+  content = content_of_body [];
   reason = codes "Request Terminated";
 }
 

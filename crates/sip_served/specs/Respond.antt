@@ -8,8 +8,8 @@ use Rattle.indexmap.specs.IndexMap.{insert_entry}
 use Rattle.sip_message.specs.declared.addr.Addr.{Addr}
 use Rattle.sip_message.specs.declared.id.Id.{Id}
 use Rattle.sip_message.specs.declared.message.Message.{Message}
+use Rattle.sip_message.specs.Content.{with_content_of}
 use Rattle.sip_message.specs.Response.{response_of}
-use Rattle.sip_message.specs.Message.{with_body_of}
 use Rattle.sip_dialog.specs.Opening.{opened_by_request}
 use Rattle.sip_dialog.specs.Request.{contact_of}
 use Rattle.sip_reliable.specs.declared.send_fault.SendFault.{SendFault}
@@ -109,12 +109,12 @@ if_so so change message = if so then change message else message
 -- the response that goes out
 abbrev pub answer_to : Addr → HeldRequest → Respond → Message
 answer_to local held respond =
-    with_body_of
+    with_content_of
     (if_so (is_sent_reliably held respond.status respond.reliability)
     (with_rseq (result_ok (send_answer held.ledger)))
     (if_so (is_of_dialog held respond.status) (with_routes local held.request)
     (response_of held.request respond.status respond.reason held.tag)))
-    respond.body
+    respond.content
 
 -- ---- the request after it
 

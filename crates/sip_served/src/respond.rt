@@ -137,7 +137,7 @@ pub(crate) fn answer_to(
     if is_sent_reliably(held, respond.status, respond.reliability) {
         set_rseq(alloc, held.ledger.next_number().ok(), &mut response)?;
     }
-    response.with_body(alloc, respond.body)
+    response.with_content(alloc, respond.content)
 }
 
 fn set_routes(

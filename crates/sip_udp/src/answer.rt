@@ -1,6 +1,6 @@
 //! The answers that the users give to requests.
 
-use sip_message::{CallId, Id, Reason};
+use sip_message::{CallId, Content, Id, Reason};
 use sip_round::Event;
 use sip_served::{Reliability, Respond, UserCommand};
 use sip_text::Text;
@@ -61,7 +61,7 @@ pub(crate) fn respond(
         id,
         status,
         reliability,
-        body,
+        content: Content::of_body(alloc, body),
         reason: reason.unwrap_or(Reason::nothing(alloc)),
     })))
 }

@@ -1,8 +1,8 @@
 //! What `call` is to do.
 
-use sip_message::{Addr, CallId, Uri};
+use sip_message::{Addr, CallId, Content, Uri};
 use sip_served::{Invite, ProvisionalSupport};
-use sip_text::Text;
+use sip_text::{Series, Text};
 use std::alloc::{AllocError, Global};
 
 /// Which call is placed, and how.
@@ -39,7 +39,7 @@ impl CallPlan {
     }
 
     /// The INVITE, from this URI.
-    pub(crate) fn invite(self, from: Uri) -> Result<Invite, AllocError> {
+    pub(crate) fn invite(self, alloc: Global, from: Uri) -> Result<Invite, AllocError> {
         let CallPlan {
             to: address,
             uri,
@@ -55,8 +55,9 @@ impl CallPlan {
             request_uri: uri.clone()?,
             from,
             to: uri,
+            routes: Series::new(alloc),
             support: ProvisionalSupport::None,
-            body,
+            content: Content::of_body(alloc, body),
         })
     }
 }

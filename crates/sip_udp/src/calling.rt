@@ -1,11 +1,12 @@
 //! The user of `call`.
 
-ghost use Rattle.std.specs.Prelude.{◌≡◌, IfOk, codes};
+ghost use Rattle.std.specs.Prelude.{◌≡◌, [], IfOk, codes};
+ghost use Rattle.sip_message.specs.Content.{content_of_body};
 
 use crate::answer::answer;
 use crate::call_plan::CallPlan;
 use crate::user::User;
-use sip_message::{CallId, Id, StatusCode, Token, Uri};
+use sip_message::{CallId, Content, Id, StatusCode, Token, Uri};
 use sip_round::Event;
 use sip_served::{Cancel, DialogBody, DialogRequest, Invite, Notice, UserCommand};
 use sip_text::Text;
@@ -60,14 +61,14 @@ pub(crate) struct Calling {
 }
 
 impl Calling {
-    pub(crate) fn new(plan: CallPlan, from: Uri) -> Result<Calling, AllocError> {
+    pub(crate) fn new(alloc: Global, plan: CallPlan, from: Uri) -> Result<Calling, AllocError> {
         let hold = plan.hold;
         let leaves = plan.leaves;
         let must_answer = plan.must_answer;
-        let invite = plan.invite(from)?;
+        let invite = plan.invite(alloc, from)?;
         Ok(Calling {
             call_id: invite.call_id.clone()?,
-            has_offer: !invite.body.is_empty(),
+            has_offer: !invite.content.body.is_empty(),
             invite: Some(invite),
             hold,
             leaves,
@@ -212,6 +213,14 @@ fn is_success(status: StatusCode) -> bool {
     (200..=299).contains(&status.code())
 }
 
+// No header, and no body.
+fn nothing(alloc: Global) -> Content
+    ensures { result ≡ content_of_body [] }
+{
+    let body = Text::from_vec(Vec::new(alloc));
+    Content::of_body(alloc, body)
+}
+
 // The ACK of a dialog, without a body.
 fn ack(
     alloc: Global,
@@ -223,7 +232,7 @@ fn ack(
         call_id: call_id.clone()?,
         local_tag: Token::new(local_tag.clone()?),
         remote_tag: Token::new(remote_tag.clone()?),
-        body: Text::from_vec(Vec::new(alloc)),
+        content: nothing(alloc),
     })))
 }
 
@@ -239,7 +248,7 @@ fn bye(
         local_tag: Token::new(local_tag.clone()?),
         remote_tag: Token::new(remote_tag.clone()?),
         method: bye_method(alloc)?,
-        body: Text::from_vec(Vec::new(alloc)),
+        content: nothing(alloc),
     })))
 }
 

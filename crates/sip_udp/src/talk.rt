@@ -115,7 +115,7 @@ pub fn call_from<R: Threads + Clock + Sync, F: Write + Drop, W: Write, E: Write>
     errors: &mut E,
 ) -> Result<(), UaFault> {
     let from = own_uri(alloc, endpoint.config.local)?;
-    let user = Calling::new(plan, from)?;
+    let user = Calling::new(alloc, plan, from)?;
     let turns = u64::from(turns);
     talk(rt, alloc, endpoint, user, None, turns, notices, errors)
 }

@@ -6,26 +6,26 @@ use Rattle.sip_clients.proofs.commands.request_in.Goals as goal
 
 pub returns-then-is_bad_in-clause-service : goal.returns-then-is_bad_in-clause-service
 returns-then-is_bad_in-clause-service c =
-    let is = bad_request c.args.event c.args.method c.args.body c.args.held.now
+    let is = bad_request c.args.event c.args.method c.args.content c.args.held.now
     (sym c.if-is_bad_in.ensures) in
     ap (λ (outcome : Outcome). outcome.1) (sym is)
 
 pub returns-then-is_bad_in-clause-held : goal.returns-then-is_bad_in-clause-held
 returns-then-is_bad_in-clause-held c =
-    let is = bad_request c.args.event c.args.method c.args.body c.args.held.now
+    let is = bad_request c.args.event c.args.method c.args.content c.args.held.now
     (sym c.if-is_bad_in.ensures) in
     ap (λ (outcome : Outcome). outcome.0) (sym is)
 
 pub returns-clause-service : goal.returns-clause-service
 returns-clause-service c =
-    let is = good_request c.args.event c.args.method c.args.body c.args.held.now
+    let is = good_request c.args.event c.args.method c.args.content c.args.held.now
     (sym c.if-is_bad_in.ensures) in
     subst (λ (outcome : Outcome). IfOk c.request.result (λ service. service ≡ outcome.1)) (sym is)
     c.request.ensures.service
 
 pub returns-clause-held : goal.returns-clause-held
 returns-clause-held c =
-    let is = good_request c.args.event c.args.method c.args.body c.args.held.now
+    let is = good_request c.args.event c.args.method c.args.content c.args.held.now
     (sym c.if-is_bad_in.ensures) in
     subst (λ (outcome : Outcome). OnOk c.request.result (c.request.new.held ≡ outcome.0)) (sym is)
     c.request.ensures.held

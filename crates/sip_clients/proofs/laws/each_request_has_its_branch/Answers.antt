@@ -1,22 +1,22 @@
 use Rattle.std.proofs.Common.{◌≡◌, ℕ, ◌+◌, List, [], ◌∷◌, refl, sym, ◌∙◌}
 use Rattle.std.specs.Prelude.{Some, codes, take}
 use Rattle.sip_dialog.specs.Request.{agent_via, bare_request_in}
+use Rattle.sip_message.specs.declared.content.Content.{Content}
 use Rattle.sip_message.specs.declared.message.Message.{Message}
 use Rattle.sip_message.specs.declared.via.Via.{Via}
-use Rattle.sip_message.specs.Message.{with_body_of}
+use Rattle.sip_message.specs.Content.{with_content_of}
 use Rattle.sip_message.specs.TopVia.{top_via}
 use Rattle.sip_common.specs.declared.command.ProvisionalSupport.{ProvisionalSupport}
 use Rattle.sip_common.specs.declared.command.ProvisionalSupport.TheVariants as support
 use Rattle.sip_clients.specs.declared.event.Event.{Event}
 use Rattle.sip_clients.specs.Event.{branch_of}
-use Rattle.sip_clients.specs.Outside.{bare_invite, bare_plain, bare_request, supporting}
+use Rattle.sip_clients.specs.Outside.{bare_invite, bare_plain, bare_request, supporting, through}
 use Rattle.sip_clients.proofs.laws.each_request_has_its_branch.Goals as goal
 
-with_body : (message : Message) (body : List ℕ)
-    → top_via (with_body_of message body) ≡ top_via message
-unfolding with_body_of
-with_body message [] = refl
-with_body message (b ∷ bs) = refl
+with_content : (message : Message) (content : Content)
+    → top_via (with_content_of message content) ≡ top_via message
+unfolding with_content_of
+with_content message content = refl
 
 supports : (asked_for : ProvisionalSupport) (message : Message)
     → top_via (supporting asked_for message) ≡ top_via message
@@ -38,19 +38,19 @@ top_alone request (via ∷ vias) = refl
 
 pub returns-clause-invite : goal.returns-clause-invite
 returns-clause-invite c event invite =
-    with_body (bare_invite event invite) invite.body
+    with_content (through invite.routes (bare_invite event invite)) invite.content
     ∙ supports invite.support _
     ∙ bare event invite.call_id (codes "INVITE") invite.request_uri invite.from invite.to
 
 pub returns-clause-plain : goal.returns-clause-plain
 returns-clause-plain c event plain =
-    with_body (bare_plain event plain) plain.body
+    with_content (through plain.routes (bare_plain event plain)) plain.content
     ∙ bare event plain.call_id plain.method plain.request_uri plain.from plain.to
 
 pub returns-clause-request : goal.returns-clause-request
-returns-clause-request c event method rack body held =
-    with_body (bare_request_in held.dialog method (held.dialog.local_cseq + 1) (branch_of event)
-    event.local) body
+returns-clause-request c event method rack content held =
+    with_content (bare_request_in held.dialog method (held.dialog.local_cseq + 1) (branch_of event)
+    event.local) content
 
 pub returns-clause-cancel : goal.returns-clause-cancel
 returns-clause-cancel c id invite = sym (top_alone invite.request invite.request.vias)

@@ -19,10 +19,10 @@ pub returns-in-Ok-clause-service : goal.returns-in-Ok-clause-service
 returns-in-Ok-clause-service c =
     let held = c.args.held.now in
     let made : c.in-Ok.message ≡ request_in held.dialog c.args.method
-    (held.dialog.local_cseq + 1) c.args.body (branch_of c.args.event) c.args.event.local =
+    (held.dialog.local_cseq + 1) c.args.content (branch_of c.args.event) c.args.event.local =
     c.in-Ok.ensures.made ∙ ap (λ branch.
     request_in held.dialog c.args.method
-    (held.dialog.local_cseq + 1) c.args.body branch c.args.event.local)
+    (held.dialog.local_cseq + 1) c.args.content branch c.args.event.local)
     c.in_ok-branch.ensures in
     let message = c.with_rack.ensures ∙ ap (with_rack c.args.rack) made in
     (λ i. Sent record { message = message i; to = c.hop-to.ensures i; born = held.born })

@@ -2,7 +2,7 @@ use Rattle.std.proofs.Common.{rules}
 use Rattle.sip_text.specs.Token.{is_token, is_token_byte}
 use Rattle.sip_parts.specs.HeaderEntry.{is_named}
 use Rattle.sip_parts.specs.OtherName.{is_compact_name, is_other_name}
-use Rattle.sip_message.proofs.message.content_type.Goals as goal
+use Rattle.sip_message.proofs.content.content_type.Goals as goal
 
 pub copy_of-requires : goal.copy_of-requires
 unfolding is_other_name is_compact_name is_named is_token is_token_byte
