@@ -11,6 +11,7 @@ use Rattle.sip_round.specs.declared.round.Round.{Round}
 use Rattle.sip_round.specs.declared.round_fault.RoundFault.{RoundFault}
 use Rattle.sip_round.specs.AgentState.{AgentState, ShardTables, round_fault}
 use Rattle.sip_round.specs.Answers.{HoldCalls, HoldTransactions, Past, StandsFor, answer, answers, answers_from, each_from, last_moment, last_moment_from, no_past, past_after, past_from, past_of, placed_answer, placed_answers, refused_from, refused_or}
+use Rattle.sip_round.specs.Steps.Form.{in_form}
 use Rattle.sip_round.specs.Steps.Led.{Deals, DealsInForm}
 use Rattle.sip_round.specs.Steps.OneMore.{GivesOneMore, StandsLonger}
 
@@ -175,6 +176,21 @@ ended_longer {C} shard_of form old mid new round given before led calls number h
           (ap (λ (agent : AgentState C). agent.next_round) same)
           (ap (λ (agent : AgentState C). agent.last_moment) same) stands,
     )
+
+-- the same with the places, where outputs are given with these
+pub placed_longer : {C : Type 0} (shard_of : C → List ℕ → ℕ → ℕ) (old new : AgentState C)
+    (round : Round) (given : List PlacedOutput)
+    → GivesOneMore shard_of (λ place output. record { place = place; output = output }) old new
+    round given → (config : Config) (rounds : List Round) → StandsFor shard_of old config rounds
+    → StandsLonger shard_of new config rounds round given
+placed_longer shard_of old new round given gives config rounds stands =
+    subst (StandsLonger shard_of new config rounds round) (sym (gives.1 ∙ all_placed gives.0))
+    (gives.2 config rounds stands)
+  where
+    all_placed : (outputs : List PlacedOutput)
+        → in_form (λ place output. record { place = place; output = output }) outputs ≡ outputs
+    all_placed [] = refl
+    all_placed (o ∷ os) = ap (λ more. o ∷ more) (all_placed os)
 
 -- ---- the first round that is refused
 
