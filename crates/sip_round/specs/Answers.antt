@@ -142,10 +142,6 @@ each_from gives config number past (round ∷ rounds) =
 abbrev pub answers_from : Config → ℕ → Past → List Round → List (List Output)
 answers_from = each_from answer
 
--- the same with the places of their events
-abbrev pub placed_answers_from : Config → ℕ → Past → List Round → List (List PlacedOutput)
-placed_answers_from = each_from placed_answer
-
 abbrev pub last_moment_from : ℕ → List Round → ℕ
 last_moment_from moment [] = moment
 last_moment_from moment (round ∷ rounds) = last_moment_from round.moment rounds
@@ -161,7 +157,7 @@ answers config rounds = answers_from config config.first no_past rounds
 -- the same, each output with the place of the event that it comes of: 0 at the ticks, and for what
 -- the calls' commands send
 unfoldable pub placed_answers : Config → List Round → List (List PlacedOutput)
-placed_answers config rounds = placed_answers_from config config.first no_past rounds
+placed_answers config rounds = each_from placed_answer config config.first no_past rounds
 
 unfoldable pub last_moment : List Round → ℕ
 last_moment rounds = last_moment_from 0 rounds
