@@ -16,12 +16,13 @@ pub(crate) trait Form: Drop {
     /// The places of the events of the calls' items, where outputs are given with them.
     type Places: Drop;
 
-    /// The output of the event of a place, as it is given.
+    /// The output of the event of a place, in this form.
     ghost form: { ℕ → Output → Self };
 
     /// The place that was kept of the item at an index.
     ghost place_at: { Self.Places → ℕ → ℕ };
 
+    /// An output of the event of this place, in this form.
     fn of(place: u32, output: Output) -> Self
         ensures { result ≡ form place output };
 
@@ -29,6 +30,7 @@ pub(crate) trait Form: Drop {
     fn places_of(alloc: Global, items: &[(Id, Item)]) -> Result<Self::Places, AllocError>
         ensures { IfOk result (ArePlacesOf form place_at items.now) };
 
+    /// The place that was kept of the item at this index.
     fn place(places: &Self::Places, index: usize) -> u32
         ensures { result ≡ place_at places.now index };
 }
