@@ -32,7 +32,7 @@ use Rattle.sip_round.specs.Arrivals.{Arrival}
 use Rattle.sip_round.specs.Arrivals as arrival
 use Rattle.sip_round.specs.declared.config.Config.{Config}
 use Rattle.sip_round.specs.declared.round.Round.{Round}
-use Rattle.sip_round.specs.Answers.{Past, answers, answers_from, arrivals, calls_of, first, items_of_round, no_past, past_after, past_of, said_by_transactions, second, third}
+use Rattle.sip_round.specs.Answers.{Past, answer, answers, answers_from, arrivals, calls_of, first, items_of_round, no_past, past_after, past_of, said_by_transactions, second, third}
 use Rattle.sip_round.specs.Given.{HasEnded, NoneComesFrom, all_given, comes_from, notice_in, notices_of}
 use Rattle.sip_round.specs.Laws.{NothingAfterEachEnd}
 use Rattle.sip_round.specs.Laws as laws
@@ -42,7 +42,7 @@ use Rattle.sip_round.proofs.GivenNotices.{calls_are, calls_from, given_from, own
 use Rattle.sip_round.proofs.Lives.{outputs_append}
 use Rattle.sip_round.proofs.NamesRise.{Later, one_round_more}
 use Rattle.sip_round.proofs.OwnOutputs.{AreAllOwn, none_own, phase_own}
-use Rattle.sip_round.proofs.Runs.{answers_count, answers_from-append, past_from-append}
+use Rattle.sip_round.proofs.Runs.{answers_count, each_from-append, past_from-append}
 
 nothing_of_both : {X : Type 0} (xs ys : List X) → xs ++ ys ≡ [] → (xs ≡ []) × (ys ≡ [])
 nothing_of_both [] ys none = (refl, none)
@@ -351,7 +351,7 @@ module _ (over : NothingAfterEachEnd)
               (ap (λ (p : Past). p.transactions) rest ∙ all.transactions) ended);
           told = ap (λ given. notices_of call_id (all_given given))
               (ap (drop (length earlier))
-              (answers_from-append config config.first no_past earlier later)
+              (each_from-append config answer config.first no_past earlier later)
               ∙ ap (λ n. drop n (answers_from config config.first no_past earlier
               ++ answers_from config number past later))
               (sym (answers_count config config.first no_past earlier))

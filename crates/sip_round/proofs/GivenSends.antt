@@ -24,11 +24,12 @@ use Rattle.sip_round.specs.declared.config.Config.{Config}
 use Rattle.sip_round.specs.declared.output.Output.{Output}
 use Rattle.sip_round.specs.declared.round.Event.{Event}
 use Rattle.sip_round.specs.declared.round.Round.{Round}
-use Rattle.sip_round.specs.Answers.{Past, answer, answers, answers_from, arrivals, first, given_second, no_past, past_after, past_of, said_by_transactions, sent_first, third}
+use Rattle.sip_round.specs.Answers.{Past, answer, answers, answers_from, arrivals, first, given_second, no_past, past_after, past_of, said_by_transactions, third}
 use Rattle.sip_round.specs.Arrivals.{Arrival, arrival_of, arrivals_from}
 use Rattle.sip_round.specs.Given.{AnswersGiveOwnSends, all_given, send_in, sends_with}
 use Rattle.sip_round.specs.Outputs.{all_said, joined, outs_of, said_at, sent_of, shown_of}
 use Rattle.sip_round.specs.Phases.{transaction_item, transaction_items}
+use Rattle.sip_round.proofs.AnswerParts.{answer_parts, sent_first}
 use Rattle.sip_round.proofs.CallEvents.{TellsAt, arrivals_climb, none_later}
 use Rattle.sip_shards.proofs.Climbing.{Climbs}
 use Rattle.sip_round.proofs.NamesRise.{Later, one_round_more}
@@ -169,7 +170,6 @@ module _ (q : Key) (config : Config) (number : ℕ) (past : Past) (round : Round
       ≡ of_phase past.transactions (first config number past round)
       ++ of_phase (past.transactions ++ first config number past round ∷ [])
       (third config number past round)
-  unfolding answer
   answer_sent =
       let before = past.transactions ++ first config number past round ∷ [] in
       let told = said_by_transactions before (third config number past round) in
@@ -177,7 +177,8 @@ module _ (q : Key) (config : Config) (number : ℕ) (past : Past) (round : Round
       (said_by_transactions past.transactions (first config number past round))
       (arrivals config number past round) in
       let shown = flat_map shown_of (given_second config number past round) in
-      sends_append q (one ++ shown) (flat_map sent_of (all_said told))
+      ap (sends_with q) (answer_parts config number past round)
+      ∙ sends_append q (one ++ shown) (flat_map sent_of (all_said told))
       ∙ ap (λ sends. sends ++ sends_with q (flat_map sent_of (all_said told)))
       (sends_append q one shown
       ∙ (λ i. first_sent i ++ none_shown q (given_second config number past round) i)

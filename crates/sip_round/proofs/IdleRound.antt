@@ -48,14 +48,14 @@ idle_round shared shard_of number round shards no_events in_order lives_law call
     let first : LedFirst of_lives lives lives number round.moment [] [] [] =
     led_first of_lives lives lives number round.moment [] tt in_order [] []
     (idle_shards key_cmp transaction_machine tick_at of_lives round.moment true lives_law []
-    lives lives_within tt first_idle (cut_nothing of_lives 0 lives)) [] [] [] refl refl refl in
-    let second = led_second shared of_calls calls calls round.moment [] [] [] [] [] [] [] [] []
+    lives lives_within tt first_idle (cut_nothing of_lives 0 lives)) [] [] refl refl in
+    let second = led_second shared of_calls calls calls round.moment [] [] [] [] [] []
     (idle_shards call_cmp (call_machine shared) tick_at of_calls round.moment true
     calls_law [] calls calls_within tt second_idle (cut_nothing of_calls 0 calls)) refl refl
-    refl refl refl in
-    let third = led_third of_lives lives lives round.moment [] [] [] [] [] []
+    refl in
+    let third = led_third of_lives lives lives round.moment [] [] []
     (idle_shards key_cmp transaction_machine tick_at of_lives round.moment false lives_law []
-    lives lives_within tt third_idle (cut_nothing of_lives 0 lives)) refl refl in
+    lives lives_within tt third_idle (cut_nothing of_lives 0 lives)) in
     deals shard_of number round shards shards lives [] [] [] [] [] third shared
     (subst (λ (events : List Event). LedFirst of_lives lives lives number round.moment
     (arrivals_from shared.local number 1 events) [] []) (sym no_events) first) second

@@ -25,22 +25,23 @@ use Rattle.sip_calls.specs.declared.calls.Calls.{Calls}
 use Rattle.sip_calls.specs.Call.{call_machine}
 use Rattle.sip_calls.specs.CallShard.{call_cmp}
 use Rattle.sip_round.specs.declared.config.Config.{Config}
-use Rattle.sip_round.specs.declared.output.Output.{Output}
+use Rattle.sip_round.specs.declared.output.PlacedOutput.{PlacedOutput}
 use Rattle.sip_round.specs.declared.round.Round.{Round}
 use Rattle.sip_round.specs.declared.waiting.Waiting.{Waiting}
 use Rattle.sip_round.specs.AgentState.{ShardTables, calls_held, lives_held}
-use Rattle.sip_round.specs.Answers.{Past, answer, arrivals, calls_of, first, given_second, items_of_round, past_after, said_by_transactions, said_by_calls, second, third}
+use Rattle.sip_round.specs.Answers.{Past, arrivals, calls_of, first, given_second, items_of_round, past_after, placed_answer, placed_first, placed_second, placed_third, said_by_transactions, said_by_calls, second, third}
 use Rattle.sip_round.specs.Arrivals.{Arrival, arrivals_from}
 use Rattle.sip_round.specs.Steps.Arrived.{ArePlaced}
 use Rattle.sip_shards.specs.AllShards.{DealsAll, DealsParts}
 use Rattle.sip_round.specs.Steps.Led.{Deals, LedFirst, LedSecond, LedThird}
-use Rattle.sip_round.specs.Outputs.{all_said, command_of, joined, outs_of, raised_of, said_at, sent_of, shown_of, user_items}
+use Rattle.sip_round.specs.Outputs.{all_said, command_of, joined, outs_of, place_of, raised_of, said_at, sent_at, sent_of, shown_at, shown_of, user_items}
 use Rattle.sip_shards.specs.Parts.{cut_by, owner_of}
 use Rattle.sip_round.specs.Phases.{first_phase, second_phase, third_phase, transaction_items}
 use Rattle.sip_round.specs.Steps.Waiting.{all_waiting, by_event}
 use Rattle.sip_shards.proofs.Cutting.{map_long}
 use Rattle.sip_shards.proofs.Numbered.{places_timed}
 use Rattle.sip_round.proofs.ByEvent.{behind, each, flat_map-map, woven_by_place}
+use Rattle.sip_round.proofs.InForm.{told}
 
 joined_by_place : {K O : Type 0} (told : List ((ℕ × K) × List O))
     → joined (map by_place told) ≡ joined told
@@ -81,29 +82,32 @@ module _ (owner : Key → ℕ) (old new : List (Held Key Life)) (number now : �
       ((law past (first_phase now arrived)).by_place
       ∙ places_timed now (transaction_items arrived))
 
-  pub led_first : (waiting : List (Id × Waiting)) (outputs : List Output) (items : List (Id × Item))
+  -- what is sent and dropped of what waited
+  abbrev pub first_given : List (Id × Waiting) → List PlacedOutput
+  first_given waiting = told sent_of (λ w. (w.0).place) (λ w. w.1) (joined ticks)
+      (by_event waiting said)
+
+  pub led_first : (waiting : List (Id × Waiting)) (items : List (Id × Item))
       → waiting ≡ all_waiting arrived
-      → outputs ≡ flat_map sent_of (joined ticks)
-      ++ flat_map (λ w. flat_map sent_of w.1) (by_event waiting said)
       → items ≡ flat_map (raised_of (record { round = number; place = 0 })) (joined ticks)
       ++ flat_map (λ w. flat_map (raised_of w.0) w.1 ++ w.2) (by_event waiting said)
-      → LedFirst owner old new number now arrived outputs items
-  led_first waiting outputs items waits sends raises = record {
+      → LedFirst owner old new number now arrived (first_given waiting) items
+  led_first waiting items waits raises = record {
     count = deals.count;
     stands = deals.stands;
     sent = λ past hold.
         let told : PhaseOutputs Key Out = said_by_transactions past (first_phase now arrived) in
-        sends
-        ∙ ap (λ t. flat_map sent_of (joined t)
-        ++ flat_map (λ w. flat_map sent_of w.1) (by_event waiting said))
+        let sent : Id × List Out × List (Id × Item) → List PlacedOutput =
+        λ w. flat_map (sent_at (w.0).place) w.1 in
+        ap (λ t. flat_map (sent_at 0) (joined t) ++ flat_map sent (by_event waiting said))
         (deals.ticks_told past hold)
-        ∙ ap (λ w. flat_map sent_of (joined told.ticks)
-        ++ flat_map (λ w. flat_map sent_of w.1) (by_event w said)) waits
-        ∙ ap (λ w. flat_map sent_of (joined told.ticks) ++ flat_map (λ w. flat_map sent_of w.1) w)
+        ∙ ap (λ w. flat_map (sent_at 0) (joined told.ticks) ++ flat_map sent (by_event w said))
+        waits
+        ∙ ap (λ ws. flat_map (sent_at 0) (joined told.ticks) ++ flat_map sent ws)
         (woven_told past hold)
-        ∙ ap (λ more. flat_map sent_of (joined told.ticks) ++ more)
-        (flat_map-map (λ (w : Id × List Out × List (Id × Item)). flat_map sent_of w.1)
-        (λ a. (a.0, outs_of (said_at told) a.0 a.1, user_items a.0 a.1)) arrived);
+        ∙ ap (λ more. flat_map (sent_at 0) (joined told.ticks) ++ more)
+        (flat_map-map sent (λ a. (a.0, outs_of (said_at told) a.0 a.1, user_items a.0 a.1))
+        arrived);
     raised = λ past hold.
         let told : PhaseOutputs Key Out = said_by_transactions past (first_phase now arrived) in
         let tick_id : Id = record { round = number; place = 0 } in
@@ -122,23 +126,33 @@ module _ (owner : Key → ℕ) (old new : List (Held Key Life)) (number now : �
 
 -- ---- the second and the third
 
+-- what is shown at the ticks, and of these items
+abbrev pub second_given : List (Id × Item) → List (List ℕ × List CallOut)
+    → List (ℕ × List CallOut) → List PlacedOutput
+second_given items ticks said = told shown_of (λ group. place_of items group.0) (λ group. group.1)
+    (joined ticks) said
+
 pub led_second : (shared : Calls) (owner : List ℕ → ℕ) (old new : List (Held (List ℕ) Call))
     (now : ℕ) (items : List (Id × Item)) (ticks : List (List ℕ × List CallOut))
-    (said : List (ℕ × List CallOut)) (before middle outputs : List Output)
-    (none half commands : List (Id × Command))
+    (said : List (ℕ × List CallOut)) (none half commands : List (Id × Command))
     → DealsAll call_cmp (call_machine shared) tick_at owner old new
     (second_phase now items) ticks said
-    → middle ≡ before ++ each shown_of ticks → outputs ≡ middle ++ each shown_of said → none ≡ []
-    → half ≡ none ++ each command_of ticks → commands ≡ half ++ each command_of said
-    → LedSecond shared owner old new now items before outputs commands
-led_second shared owner old new now items ticks said before middle outputs none half commands deals
-    shows_ticks shows nothing asks_ticks asks = record {
+    → none ≡ [] → half ≡ none ++ each command_of ticks → commands ≡ half ++ each command_of said
+    → LedSecond shared owner old new now items (second_given items ticks said) commands
+led_second shared owner old new now items ticks said none half commands deals nothing asks_ticks
+    asks = record {
       count = deals.count;
       stands = deals.stands;
-      shown = λ past hold. behind shown_of ticks said before middle outputs shows_ticks shows
-          ∙ ap (λ os. before ++ flat_map shown_of os)
-          (whole (said_by_calls shared past (second_phase now items)) ticks said
-          (deals.ticks_told past hold) (deals.items_told past hold));
+      shown = λ past hold.
+          let told = said_by_calls shared past (second_phase now items) in
+          let shown : ℕ × List CallOut → List PlacedOutput =
+          λ group. flat_map (shown_at (place_of items group.0)) group.1 in
+          ap (λ t. flat_map (shown_at 0) (joined t) ++ flat_map shown said)
+          (deals.ticks_told past hold)
+          ∙ ap (λ s. flat_map (shown_at 0) (joined told.ticks) ++ flat_map shown s)
+          (deals.items_told past hold)
+          ∙ ap (λ more. flat_map (shown_at 0) (joined told.ticks) ++ more)
+          (flat_map-map shown by_place told.items);
       commanded = λ past hold. behind command_of ticks said none half commands asks_ticks asks
           ∙ ap (λ cs. cs ++ flat_map command_of (joined ticks ++ joined said)) nothing
           ∙ ap (flat_map command_of) (whole
@@ -148,20 +162,16 @@ led_second shared owner old new now items ticks said before middle outputs none 
 
 pub led_third : (owner : Key → ℕ) (old new : List (Held Key Life)) (now : ℕ)
     (commands : List (Id × Command)) (ticks : List (Key × List Out)) (said : List (ℕ × List Out))
-    (before middle outputs : List Output)
     → DealsAll key_cmp transaction_machine tick_at owner old new
     (third_phase now commands) ticks said
-    → middle ≡ before ++ each sent_of ticks → outputs ≡ middle ++ each sent_of said
-    → LedThird owner old new now commands before outputs
-led_third owner old new now commands ticks said before middle outputs deals sends_ticks sends =
-    record {
-      count = deals.count;
-      stands = deals.stands;
-      sent = λ past hold. behind sent_of ticks said before middle outputs sends_ticks sends
-          ∙ ap (λ os. before ++ flat_map sent_of os)
-          (whole (said_by_transactions past (third_phase now commands)) ticks said
-          (deals.ticks_told past hold) (deals.items_told past hold));
-    }
+    → LedThird owner old new now commands (flat_map (sent_at 0) (joined ticks ++ joined said))
+led_third owner old new now commands ticks said deals = record {
+  count = deals.count;
+  stands = deals.stands;
+  sent = λ past hold. ap (flat_map (sent_at 0))
+      (whole (said_by_transactions past (third_phase now commands)) ticks said
+      (deals.ticks_told past hold) (deals.items_told past hold));
+}
 
 -- ---- whoever ran the pieces of the phases
 
@@ -190,9 +200,9 @@ module _ (shard_of : List ℕ → ℕ → ℕ)
 
 module _ (shard_of : List ℕ → ℕ → ℕ) (number : ℕ) (round : Round) (old new : ShardTables)
     (mid_lives : List (Held Key Life)) (items : List (Id × Item))
-    (commands : List (Id × Command)) (sent shown outputs : List Output)
+    (commands : List (Id × Command)) (sent shown last : List PlacedOutput)
     (after_third : LedThird (owner_of shard_of branch_in (length mid_lives)) mid_lives
-    (lives_held new) round.moment commands shown outputs) where
+    (lives_held new) round.moment commands last) where
   abbrev old_lives : List (Held Key Life)
   old_lives = lives_held old
 
@@ -210,7 +220,7 @@ module _ (shard_of : List ℕ → ℕ → ℕ) (number : ℕ) (round : Round) (o
       number round.moment (arrivals_from config.local number 1 round.events) sent items)
       (after_second : LedSecond (calls_of config)
       (owner_of shard_of (λ call_id. call_id) (length old_calls)) old_calls new_calls
-      round.moment items sent shown commands)
+      round.moment items shown commands)
       (past : Past) (lives : HoldFrom key_cmp transaction_machine tick_at
       (owner_of shard_of branch_in (length old_lives)) zero old_lives past.transactions)
       (calls : HoldFrom call_cmp (call_machine (calls_of config)) tick_at
@@ -267,31 +277,25 @@ module _ (shard_of : List ℕ → ℕ → ℕ) (number : ℕ) (round : Round) (o
         (past.calls ++ second_phase round.moment is ∷ [])) same_items
         (after_second.stands past.calls calls))
 
-    answered : outputs ≡ answer config number past round
-    unfolding first second third given_second answer
+    answered : (sent ++ shown) ++ last ≡ placed_answer config number past round
+    unfolding first second third given_second items_of_round placed_answer
     answered =
-        after_third.sent (past.transactions ++ first config number past round ∷ []) mid_held
-        ∙ ap (λ cs. shown ++ flat_map sent_of
-        (all_said (said_by_transactions
-        (past.transactions ++ first config number past round ∷ [])
-        (third_phase round.moment cs)))) same_commands
-        ∙ ap (λ os. os ++ flat_map sent_of
-        (all_said (said_by_transactions
-        (past.transactions ++ first config number past round ∷ [])
-        (third config number past round))))
-        (after_second.shown past.calls calls
-        ∙ ap (λ is. sent ++ flat_map shown_of
-        (all_said (said_by_calls (calls_of config) past.calls (second_phase round.moment is))))
-        same_items
-        ∙ ap (λ os. os ++ flat_map shown_of (given_second config number past round))
-        (after_first.sent past.transactions lives))
+        let between = past.transactions ++ first config number past round ∷ [] in
+        (λ i. (after_first.sent past.transactions lives i ++ after_second.shown past.calls calls i)
+        ++ after_third.sent between mid_held i)
+        ∙ (λ i. (placed_first (said_by_transactions past.transactions
+        (first config number past round)) (arrivals config number past round)
+        ++ placed_second (said_by_calls (calls_of config) past.calls
+        (second_phase round.moment (same_items i))) (same_items i))
+        ++ placed_third (said_by_transactions between
+        (third_phase round.moment (same_commands i))))
 
   pub deals : (shared : Calls) → LedFirst
       (owner_of shard_of branch_in (length old_lives)) old_lives mid_lives number round.moment
       (arrivals_from shared.local number 1 round.events) sent items
       → LedSecond shared (owner_of shard_of (λ call_id. call_id) (length old_calls)) old_calls
-      new_calls round.moment items sent shown commands
-      → Deals shared shard_of number round old new outputs
+      new_calls round.moment items shown commands
+      → Deals shared shard_of number round old new ((sent ++ shown) ++ last)
   deals shared after_first after_second =
       let one : (config : Config) → shared ≡ calls_of config
       → LedFirst (owner_of shard_of branch_in (length old_lives)) old_lives mid_lives number
@@ -302,10 +306,10 @@ module _ (shard_of : List ℕ → ℕ → ℕ) (number : ℕ) (round : Round) (o
       (ap (λ s. s.local) same) after_first in
       let two : (config : Config) → shared ≡ calls_of config
       → LedSecond (calls_of config) (owner_of shard_of (λ call_id. call_id) (length old_calls))
-      old_calls new_calls round.moment items sent shown commands =
+      old_calls new_calls round.moment items shown commands =
       λ config same. subst (λ s. LedSecond s
       (owner_of shard_of (λ call_id. call_id) (length old_calls)) old_calls new_calls
-      round.moment items sent shown commands) same after_second in
+      round.moment items shown commands) same after_second in
       let held : (config : Config) (past : Past) → shared ≡ calls_of config
       → HoldFrom call_cmp (call_machine shared) tick_at
       (owner_of shard_of (λ call_id. call_id) (length old_calls)) zero old_calls past.calls

@@ -1,4 +1,5 @@
 pub mod AfterEnds
+pub mod AnswerParts
 pub mod ArrivedHere
 pub mod Beginning
 pub mod CallEvents
@@ -11,6 +12,7 @@ pub mod GivenSends
 pub mod HeldInShards
 pub mod Leading
 pub mod IdleRound
+pub mod InForm
 pub mod LiveShards
 pub mod Lives
 pub mod Living

@@ -24,7 +24,7 @@ use Rattle.sip_calls.specs.Call.{call_due, call_machine}
 use Rattle.sip_calls.specs.CallShard.{call_cmp}
 use Rattle.sip_calls.specs.Idle as calls
 use Rattle.sip_round.specs.declared.config.Config.{Config}
-use Rattle.sip_round.specs.declared.output.Output.{Output}
+use Rattle.sip_round.specs.declared.output.PlacedOutput.{PlacedOutput}
 use Rattle.sip_round.specs.declared.round.Round.{Round}
 use Rattle.sip_round.specs.AgentState.{AgentState, AreShards, ShardTables, calls_held, lives_held}
 use Rattle.sip_round.specs.Answers.{HoldCalls, HoldTransactions, StandsFor, calls_of, past_of}
@@ -179,7 +179,7 @@ module _ {C : Type 0} (shard_of : C → List ℕ → ℕ → ℕ)
       shards refl in_order lives_law calls_law lives_within calls_within first third second in
       let after : AgentState C =
       record agent { next_round = agent.next_round + 1; last_moment = moment } in
-      let none : List Output = [] in
+      let none : List PlacedOutput = [] in
       let longer = stands_longer shard_of agent after config rounds round none
       (λ held is. (
         held,
@@ -187,7 +187,7 @@ module _ {C : Type 0} (shard_of : C → List ℕ → ℕ → ℕ)
         subst (λ s. Deals agent.calls (shard_of agent.cut) agent.next_round round s s none)
             (ap (λ o. unwrap_or o held) (sym sound ∙ is)) led,
       )) refl refl refl refl stands in
-      let new = longer.0 in
+      let new = longer.stands in
       let same_after : new.shards ≡ shards =
       ap (λ held. unwrap_or held new.shards) (sym new.sound ∙ sound) in
       let lives_after : HoldLives (rounds ++ round ∷ []) =
@@ -199,7 +199,7 @@ module _ {C : Type 0} (shard_of : C → List ℕ → ℕ → ℕ)
       (subst (λ s. HoldCalls agent.calls (shard_of agent.cut) s
       (past_of config (rounds ++ round ∷ [])).calls) same_after new.calls) in
       record {
-        gives = longer.1;
+        gives = longer.alone;
         leaves = record {
           transactions = left_alike keys_total exact_keys transaction_machine life_due tick_at
               transactions.ticks_are_idle of_lives

@@ -1,5 +1,5 @@
 -- What no transaction gives is, of a round's answer, what the calls give in its second phase.
-use Rattle.std.proofs.Common.{◌≡◌, ℕ, Bool, false, cond, List, [], ◌∷◌, ◌++◌, refl, ◌∙◌, append-nil}
+use Rattle.std.proofs.Common.{◌≡◌, ℕ, Bool, false, cond, List, [], ◌∷◌, ◌++◌, refl, ap, ◌∙◌, append-nil}
 use Rattle.std.specs.Prelude.{Option, Some, filter}
 use Rattle.std.specs.List.{flat_map}
 use Rattle.std.proofs.lemmas.List.Elements.{filter-append}
@@ -14,8 +14,9 @@ use Rattle.sip_round.specs.declared.config.Config.{Config}
 use Rattle.sip_round.specs.declared.output.Output.{Output}
 use Rattle.sip_round.specs.declared.output.Output.TheVariants as output
 use Rattle.sip_round.specs.declared.round.Round.{Round}
-use Rattle.sip_round.specs.Answers.{Past, answer, arrivals, first, given_second, said_by_transactions, sent_first, third}
+use Rattle.sip_round.specs.Answers.{Past, answer, arrivals, first, given_second, said_by_transactions, third}
 use Rattle.sip_round.specs.Outputs.{all_said, joined, outs_of, said_at, sent_of, shown_of}
+use Rattle.sip_round.proofs.AnswerParts.{answer_parts, sent_first}
 
 -- no Send and no drop passes
 module _ (passes : Output → Bool)
@@ -50,7 +51,6 @@ module _ (passes : Output → Bool)
   pub told_in_second : (config : Config) (number : ℕ) (past : Past) (round : Round)
       → passing (answer config number past round)
       ≡ passing (flat_map shown_of (given_second config number past round))
-  unfolding answer
   told_in_second config number past round =
       let told = said_by_transactions past.transactions (first config number past round) in
       let one = sent_first told (arrivals config number past round) in
@@ -64,7 +64,8 @@ module _ (passes : Output → Bool)
       (arrivals config number past round))
       ∙ (λ i. none_sent (joined told.ticks) i
       ++ none_of_arrivals (said_at told) (arrivals config number past round) i) in
-      filter-append passes (one ++ shown) (flat_map sent_of last)
+      ap passing (answer_parts config number past round)
+      ∙ filter-append passes (one ++ shown) (flat_map sent_of last)
       ∙ (λ i. filter-append passes one shown i ++ none_sent last i)
       ∙ append-nil (passing one ++ passing shown)
       ∙ (λ i. none_first i ++ passing shown)

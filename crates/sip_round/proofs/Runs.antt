@@ -1,16 +1,19 @@
 -- One round more.
-use Rattle.std.proofs.Common.{◌≡◌, ℕ, suc, ◌+◌, List, [], ◌∷◌, ◌++◌, length, refl, sym, ◌∙◌, ap, subst, arith}
+use Rattle.std.proofs.Common.{◌≡◌, ℕ, suc, ◌+◌, List, [], ◌∷◌, ◌++◌, length, map, refl, sym, ◌∙◌, ap, subst, arith}
 use Rattle.std.proofs.lemmas.List.{length_push}
 use Rattle.std.proofs.lemmas.Option.{same_Some}
 use Rattle.std.specs.Prelude.{IfSome, Option, None, Some}
 use Rattle.sip_calls.specs.declared.calls.Calls.{Calls}
 use Rattle.sip_round.specs.declared.config.Config.{Config}
 use Rattle.sip_round.specs.declared.output.Output.{Output}
+use Rattle.sip_round.specs.declared.output.PlacedOutput.{PlacedOutput}
 use Rattle.sip_round.specs.declared.round.Round.{Round}
 use Rattle.sip_round.specs.declared.round_fault.RoundFault.{RoundFault}
 use Rattle.sip_round.specs.AgentState.{AgentState, ShardTables, round_fault}
-use Rattle.sip_round.specs.Answers.{HoldCalls, HoldTransactions, Past, StandsFor, answer, answers, answers_from, last_moment, last_moment_from, no_past, past_after, past_from, past_of, refused_from, refused_or}
-use Rattle.sip_round.specs.Steps.Led.{Deals}
+use Rattle.sip_round.specs.Answers.{HoldCalls, HoldTransactions, Past, StandsFor, answer, answers, answers_from, each_from, last_moment, last_moment_from, no_past, past_after, past_from, past_of, placed_answer, placed_answers, refused_from, refused_or}
+use Rattle.sip_round.specs.Steps.Form.{in_form}
+use Rattle.sip_round.specs.Steps.Led.{Deals, DealsInForm}
+use Rattle.sip_round.specs.Steps.OneMore.{GivesOneMore, StandsLonger}
 
 later : (number n : ℕ) → suc number + n ≡ number + suc n
 later number n = omega arith
@@ -29,18 +32,19 @@ module _ (config : Config) where
       (past_from config (suc number) (past_after config number past r) rs) more)
       (later number (length rs))
 
-  pub answers_from-append : (number : ℕ) (past : Past) (rounds more : List Round)
-      → answers_from config number past (rounds ++ more)
-      ≡ answers_from config number past rounds
-      ++ answers_from config (number + length rounds) (past_from config number past rounds) more
-  answers_from-append number past [] more =
-      ap (λ n. answers_from config n past more) (at_first number)
-  answers_from-append number past (r ∷ rs) more =
-      ap (λ rest. answer config number past r ∷ rest)
-      (answers_from-append (suc number) (past_after config number past r) rs more
-      ∙ ap (λ n. answers_from config (suc number) (past_after config number past r) rs
-      ++ answers_from config n (past_from config (suc number) (past_after config number past r) rs)
-      more) (later number (length rs)))
+  pub each_from-append : {X : Type 0} (gives : Config → ℕ → Past → Round → X) (number : ℕ)
+      (past : Past) (rounds more : List Round)
+      → each_from gives config number past (rounds ++ more)
+      ≡ each_from gives config number past rounds
+      ++ each_from gives config (number + length rounds) (past_from config number past rounds) more
+  each_from-append gives number past [] more =
+      ap (λ n. each_from gives config n past more) (at_first number)
+  each_from-append gives number past (r ∷ rs) more =
+      ap (λ rest. gives config number past r ∷ rest)
+      (each_from-append gives (suc number) (past_after config number past r) rs more
+      ∙ ap (λ n. each_from gives config (suc number) (past_after config number past r) rs
+      ++ each_from gives config n (past_from config (suc number) (past_after config number past r)
+      rs) more) (later number (length rs)))
 
   pub answers_count : (number : ℕ) (past : Past) (rounds : List Round)
       → length (answers_from config number past rounds) ≡ length rounds
@@ -59,15 +63,14 @@ one_later next first n more e f = omega (arith, e, f)
 -- an agent that stands for rounds and dealt with one more stands for these, and its outputs are the
 -- last of the answers
 pub stands_longer : {C : Type 0} (shard_of : C → List ℕ → ℕ → ℕ) (old new : AgentState C)
-    (config : Config) (rounds : List Round) (round : Round) (outputs : List Output)
+    (config : Config) (rounds : List Round) (round : Round) (outputs : List PlacedOutput)
     → ((shards : ShardTables) → old.shards ≡ Some shards
     → (led : ShardTables) × (new.shards ≡ Some led)
     × Deals old.calls (shard_of old.cut) old.next_round round shards led outputs)
     → new.calls ≡ old.calls → new.cut ≡ old.cut → new.next_round ≡ old.next_round + 1
     → new.last_moment ≡ round.moment → StandsFor shard_of old config rounds
-    → StandsFor shard_of new config (rounds ++ round ∷ [])
-    × (answers config (rounds ++ round ∷ []) ≡ answers config rounds ++ outputs ∷ [])
-unfolding past_of answers last_moment
+    → StandsLonger shard_of new config rounds round outputs
+unfolding past_of answers answer placed_answers last_moment
 stands_longer shard_of old new config rounds round outputs leads same_calls same_cut number moment
     before =
     let led = leads before.shards before.sound in
@@ -75,8 +78,12 @@ stands_longer shard_of old new config rounds round outputs leads same_calls same
     let same_past : past_after config old.next_round past round
     ≡ past_of config (rounds ++ round ∷ []) =
     ap (λ n. past_after config n past round) before.number
-    ∙ sym (past_from-append config config.first no_past rounds (round ∷ [])) in (
-      record {
+    ∙ sym (past_from-append config config.first no_past rounds (round ∷ [])) in
+    let answered : outputs ≡ placed_answer config (config.first + length rounds) past round =
+    led.2.answered config past before.shared before.transactions before.calls
+    ∙ ap (λ n. placed_answer config n past round) before.number in
+    record {
+      stands = record {
         shards = led.0;
         sound = led.1;
         shared = same_calls ∙ before.shared;
@@ -95,51 +102,51 @@ stands_longer shard_of old new config rounds round outputs leads same_calls same
             (past_of config (rounds ++ round ∷ [])).calls) (sym same_cut)
             (subst (λ p. HoldCalls old.calls (shard_of old.cut) led.0 p.calls) same_past
             (led.2.calls config past before.shared before.transactions before.calls)));
-      },
-      answers_from-append config config.first no_past rounds (round ∷ [])
-          ∙ ap (λ n. answers config rounds ++ answer config n past round ∷ []) (sym before.number)
-          ∙ ap (λ os. answers config rounds ++ os ∷ [])
-          (sym (led.2.answered config past before.shared before.transactions before.calls)),
-    )
+      };
+      placed = each_from-append config placed_answer config.first no_past rounds (round ∷ [])
+          ∙ ap (λ os. placed_answers config rounds ++ os ∷ []) (sym answered);
+      alone = each_from-append config answer config.first no_past rounds (round ∷ [])
+          ∙ ap (λ os. answers config rounds ++ map (λ placed. placed.output) os ∷ [])
+          (sym answered);
+    }
 
--- the same of an agent of which nothing happened in it
-pub passed_longer : {C : Type 0} (shard_of : C → List ℕ → ℕ → ℕ) (old new : AgentState C)
-    (config : Config) (rounds : List Round) (round : Round) (outputs : List Output)
+-- the same of an agent of which nothing happened in it, in whatever form outputs are given
+pub passed_longer : {C F : Type 0} (shard_of : C → List ℕ → ℕ → ℕ) (form : ℕ → Output → F)
+    (old new : AgentState C) (round : Round) (given : List F)
     → new ≡ record old { next_round = old.next_round + 1; last_moment = round.moment }
     → IfSome old.shards (λ shards. Deals old.calls (shard_of old.cut) old.next_round round shards
-    shards []) → outputs ≡ [] → StandsFor shard_of old config rounds
-    → StandsFor shard_of new config (rounds ++ round ∷ [])
-    × (answers config (rounds ++ round ∷ []) ≡ answers config rounds ++ outputs ∷ [])
-passed_longer {C} shard_of old new config rounds round outputs same deals none stands =
-    stands_longer shard_of old new config rounds round outputs
-    (λ shards sound. (
-      shards,
-      ap (λ (agent : AgentState C). agent.shards) same ∙ sound,
-      subst (λ out. Deals old.calls (shard_of old.cut) old.next_round round shards shards out)
-          (sym none)
-          (subst (λ held. IfSome held (λ shards. Deals old.calls (shard_of old.cut) old.next_round
-          round shards shards [])) sound deals),
-    ))
-    (ap (λ (agent : AgentState C). agent.calls) same)
-    (ap (λ (agent : AgentState C). agent.cut) same)
-    (ap (λ (agent : AgentState C). agent.next_round) same)
-    (ap (λ (agent : AgentState C). agent.last_moment) same) stands
+    shards []) → given ≡ [] → GivesOneMore shard_of form old new round given
+passed_longer {C} shard_of form old new round given same deals none = (
+  [],
+  none,
+  λ config rounds stands.
+      stands_longer shard_of old new config rounds round []
+      (λ shards sound. (
+        shards,
+        ap (λ (agent : AgentState C). agent.shards) same ∙ sound,
+        subst (λ held. IfSome held (λ shards. Deals old.calls (shard_of old.cut) old.next_round
+            round shards shards [])) sound deals,
+      ))
+      (ap (λ (agent : AgentState C). agent.calls) same)
+      (ap (λ (agent : AgentState C). agent.cut) same)
+      (ap (λ (agent : AgentState C). agent.next_round) same)
+      (ap (λ (agent : AgentState C). agent.last_moment) same) stands,
+)
 
 -- the same of an agent whose shards went through its phases and came back
-pub ended_longer : {C : Type 0} (shard_of : C → List ℕ → ℕ → ℕ) (old mid new : AgentState C)
-    (config : Config) (rounds : List Round) (round : Round) (outputs : List Output)
-    (before led : ShardTables) (calls : Calls) (number : ℕ) → old.shards ≡ Some before
+pub ended_longer : {C F : Type 0} (shard_of : C → List ℕ → ℕ → ℕ) (form : ℕ → Output → F)
+    (old mid new : AgentState C) (round : Round) (given : List F) (before led : ShardTables)
+    (calls : Calls) (number : ℕ) → old.shards ≡ Some before
     → calls ≡ old.calls → number ≡ old.next_round → mid ≡ record old { shards = None }
     → new ≡ record mid {
       next_round = mid.next_round + 1;
       last_moment = round.moment;
       shards = Some led;
-    } → Deals calls (shard_of mid.cut) number round before led outputs
-    → StandsFor shard_of old config rounds
-    → StandsFor shard_of new config (rounds ++ round ∷ [])
-    × (answers config (rounds ++ round ∷ []) ≡ answers config rounds ++ outputs ∷ [])
-ended_longer {C} shard_of old mid new config rounds round outputs before led calls number held
-    same_calls same_number mid_is new_is deals stands =
+    } → DealsInForm form calls (shard_of mid.cut) number round before led given
+    → GivesOneMore shard_of form old new round given
+ended_longer {C} shard_of form old mid new round given before led calls number held same_calls
+    same_number mid_is new_is deals =
+    let outputs = deals.0 in
     let same : new ≡ record old {
       next_round = old.next_round + 1;
       last_moment = round.moment;
@@ -153,18 +160,37 @@ ended_longer {C} shard_of old mid new config rounds round outputs before led cal
     same_calls
     (subst (λ n. Deals calls (shard_of old.cut) n round before led outputs) same_number
     (subst (λ (agent : AgentState C). Deals calls (shard_of agent.cut) number round before led
-    outputs) mid_is deals)) in
-    stands_longer shard_of old new config rounds round outputs
-    (λ shards sound. (
-      led,
-      ap (λ (agent : AgentState C). agent.shards) same,
-      subst (λ tables. Deals old.calls (shard_of old.cut) old.next_round round tables led outputs)
-          (same_Some before shards (sym held ∙ sound)) dealt,
-    ))
-    (ap (λ (agent : AgentState C). agent.calls) same)
-    (ap (λ (agent : AgentState C). agent.cut) same)
-    (ap (λ (agent : AgentState C). agent.next_round) same)
-    (ap (λ (agent : AgentState C). agent.last_moment) same) stands
+    outputs) mid_is deals.2)) in (
+      outputs,
+      deals.1,
+      λ config rounds stands.
+          stands_longer shard_of old new config rounds round outputs
+          (λ shards sound. (
+            led,
+            ap (λ (agent : AgentState C). agent.shards) same,
+            subst (λ tables. Deals old.calls (shard_of old.cut) old.next_round round tables led
+                outputs) (same_Some before shards (sym held ∙ sound)) dealt,
+          ))
+          (ap (λ (agent : AgentState C). agent.calls) same)
+          (ap (λ (agent : AgentState C). agent.cut) same)
+          (ap (λ (agent : AgentState C). agent.next_round) same)
+          (ap (λ (agent : AgentState C). agent.last_moment) same) stands,
+    )
+
+-- the same with the places, where outputs are given with these
+pub placed_longer : {C : Type 0} (shard_of : C → List ℕ → ℕ → ℕ) (old new : AgentState C)
+    (round : Round) (given : List PlacedOutput)
+    → GivesOneMore shard_of (λ place output. record { place = place; output = output }) old new
+    round given → (config : Config) (rounds : List Round) → StandsFor shard_of old config rounds
+    → StandsLonger shard_of new config rounds round given
+placed_longer shard_of old new round given gives config rounds stands =
+    subst (StandsLonger shard_of new config rounds round) (sym (gives.1 ∙ all_placed gives.0))
+    (gives.2 config rounds stands)
+  where
+    all_placed : (outputs : List PlacedOutput)
+        → in_form (λ place output. record { place = place; output = output }) outputs ≡ outputs
+    all_placed [] = refl
+    all_placed (o ∷ os) = ap (λ more. o ∷ more) (all_placed os)
 
 -- ---- the first round that is refused
 

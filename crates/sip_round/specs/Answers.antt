@@ -1,6 +1,6 @@
 -- What rounds answer: the tables folded over each transaction's and each call's own inputs alone,
 -- in stamp order.
-use Rattle.std.specs.Prelude.{suc, ◌≡◌, ◌⊎◌, ◌<◌, ℕ, ◌+◌, zero, Bool, true, List, [], ◌∷◌, ◌++◌, length, take, Option, Some, None}
+use Rattle.std.specs.Prelude.{suc, ◌≡◌, ◌⊎◌, ◌<◌, ℕ, ◌+◌, zero, Bool, true, List, [], ◌∷◌, ◌++◌, length, map, take, Option, Some, None}
 use Rattle.std.specs.List.{flat_map}
 use Rattle.sip_model.specs.Machine.{Timed, tick_at}
 use Rattle.sip_message.specs.declared.id.Id.{Id}
@@ -18,11 +18,12 @@ use Rattle.sip_calls.specs.Call.{call_machine, CallItem}
 use Rattle.sip_calls.specs.CallShard.{call_cmp}
 use Rattle.sip_round.specs.declared.config.Config.{Config}
 use Rattle.sip_round.specs.declared.output.Output.{Output}
+use Rattle.sip_round.specs.declared.output.PlacedOutput.{PlacedOutput}
 use Rattle.sip_round.specs.declared.round.Round.{Round}
 use Rattle.sip_round.specs.declared.round_fault.RoundFault.{RoundFault}
 use Rattle.sip_round.specs.AgentState.{AgentState, ShardTables, calls_held, lives_held, round_fault}
 use Rattle.sip_round.specs.Arrivals.{Arrival, arrivals_from}
-use Rattle.sip_round.specs.Outputs.{sent_of, raised_of, shown_of, command_of, joined, all_said, said_at, outs_of, user_items}
+use Rattle.sip_round.specs.Outputs.{sent_at, raised_of, shown_at, command_of, joined, all_said, said_at, outs_of, place_of, user_items}
 use Rattle.sip_shards.specs.Parts.{owner_of}
 use Rattle.sip_round.specs.Phases.{first_phase, second_phase, third_phase}
 
@@ -48,10 +49,10 @@ abbrev pub said_by_calls : Calls → List (Phase (List ℕ) (Timed CallItem))
     → PhaseOutputs (List ℕ) CallOut
 said_by_calls calls = told_next call_cmp (call_machine calls) tick_at
 
--- what the first phase sends and drops: at the ticks, and then by place
-abbrev pub sent_first : PhaseOutputs Key Out → List (Id × Arrival) → List Output
-sent_first told arrivals = flat_map sent_of (joined told.ticks)
-    ++ flat_map (λ a. flat_map sent_of (outs_of (said_at told) a.0 a.1)) arrivals
+-- what the first phase sends and drops: at the ticks, with place 0, and then by place
+abbrev pub placed_first : PhaseOutputs Key Out → List (Id × Arrival) → List PlacedOutput
+placed_first told arrivals = flat_map (sent_at 0) (joined told.ticks)
+    ++ flat_map (λ a. flat_map (sent_at (a.0).place) (outs_of (said_at told) a.0 a.1)) arrivals
 
 -- the items of the calls: what comes up at the ticks, with place 0, and then what comes up and the
 -- user's commands, by place
@@ -60,6 +61,16 @@ items_first number told arrivals =
     flat_map (raised_of (record { round = number; place = 0 })) (joined told.ticks)
     ++ flat_map (λ a. flat_map (raised_of a.0) (outs_of (said_at told) a.0 a.1)
     ++ user_items a.0 a.1) arrivals
+
+-- what the calls show in the second phase: at the ticks, with place 0, and then of each item of
+-- theirs, with the place of its event
+abbrev pub placed_second : PhaseOutputs (List ℕ) CallOut → List (Id × Item) → List PlacedOutput
+placed_second told items = flat_map (shown_at 0) (joined told.ticks)
+    ++ flat_map (λ said. flat_map (shown_at (place_of items (said.0).0)) said.1) told.items
+
+-- what the third phase sends, for commands of the calls: with place 0
+abbrev pub placed_third : PhaseOutputs Key Out → List PlacedOutput
+placed_third told = flat_map (sent_at 0) (all_said told)
 
 -- ---- one round of this number, after a past
 
@@ -95,12 +106,17 @@ module _ (config : Config) (number : ℕ) (past : Past) (round : Round) where
     calls = past.calls ++ second ∷ [];
   }
 
-  -- sends and drops of the first phase, notices and direct sends of the second, sends of the third
+  -- sends and drops of the first phase, notices and direct sends of the second, sends of the third,
+  -- each with the place of the event that it comes of
+  unfoldable pub placed_answer : List PlacedOutput
+  placed_answer =
+      (placed_first (said_by_transactions past.transactions first) arrivals
+      ++ placed_second (said_by_calls (calls_of config) past.calls second) items_of_round)
+      ++ placed_third (said_by_transactions (past.transactions ++ first ∷ []) third)
+
+  -- the outputs alone
   unfoldable pub answer : List Output
-  answer =
-      (sent_first (said_by_transactions past.transactions first) arrivals
-      ++ flat_map shown_of given_second)
-      ++ flat_map sent_of (all_said (said_by_transactions (past.transactions ++ first ∷ []) third))
+  answer = map (λ placed. placed.output) placed_answer
 
 -- ---- whole lists of rounds
 
@@ -114,12 +130,17 @@ past_from config number past [] = past
 past_from config number past (round ∷ rounds) =
     past_from config (suc number) (past_after config number past round) rounds
 
+-- what each round gives, from one of this number on, where one round after a past gives that
+abbrev pub each_from : {X : Type 0} → (Config → ℕ → Past → Round → X) → Config → ℕ → Past
+    → List Round → List X
+each_from gives config number past [] = []
+each_from gives config number past (round ∷ rounds) =
+    gives config number past round
+    ∷ each_from gives config (suc number) (past_after config number past round) rounds
+
 -- the outputs of the rounds from one of this number on
 abbrev pub answers_from : Config → ℕ → Past → List Round → List (List Output)
-answers_from config number past [] = []
-answers_from config number past (round ∷ rounds) =
-    answer config number past round
-    ∷ answers_from config (suc number) (past_after config number past round) rounds
+answers_from = each_from answer
 
 abbrev pub last_moment_from : ℕ → List Round → ℕ
 last_moment_from moment [] = moment
@@ -132,6 +153,11 @@ past_of config rounds = past_from config config.first no_past rounds
 -- the outputs of each round, from the first
 unfoldable pub answers : Config → List Round → List (List Output)
 answers config rounds = answers_from config config.first no_past rounds
+
+-- the same, each output with the place of the event that it comes of: 0 at the ticks, and for what
+-- the calls' commands send
+unfoldable pub placed_answers : Config → List Round → List (List PlacedOutput)
+placed_answers config rounds = each_from placed_answer config config.first no_past rounds
 
 unfoldable pub last_moment : List Round → ℕ
 last_moment rounds = last_moment_from 0 rounds

@@ -1,6 +1,6 @@
 -- What leaves the agent, and what goes on inside it.
-use Rattle.std.specs.Prelude.{ℕ, nat_eq, List, [], ◌∷◌, ◌++◌, Some, None, filter}
-use Rattle.std.specs.List.{flat_map}
+use Rattle.std.specs.Prelude.{ℕ, nat_eq, List, [], ◌∷◌, ◌++◌, Some, None, filter, map, unwrap_or}
+use Rattle.std.specs.List.{flat_map, slice_get}
 use Rattle.sip_message.specs.declared.id.Id.{Id}
 use Rattle.sip_transactions.specs.declared.input.Command.{Command}
 use Rattle.sip_transactions.specs.declared.output.Out.{Out}
@@ -14,6 +14,7 @@ use Rattle.sip_round.specs.Arrivals.{Arrival}
 use Rattle.sip_round.specs.Arrivals as arrival
 use Rattle.sip_round.specs.declared.output.Output.{Output}
 use Rattle.sip_round.specs.declared.output.Output.TheVariants as output
+use Rattle.sip_round.specs.declared.output.PlacedOutput.{PlacedOutput}
 
 -- what a transaction sends or drops
 abbrev pub sent_of : Out → List Output
@@ -32,6 +33,22 @@ abbrev pub shown_of : CallOut → List Output
 shown_of (call_out.Notice notice) = output.Notice notice ∷ []
 shown_of (call_out.Command id command) = []
 shown_of (call_out.Direct to bytes) = output.Send None to bytes ∷ []
+
+-- outputs that come of the event of a place; of a round's ticks with place 0
+abbrev pub at_place : ℕ → List Output → List PlacedOutput
+at_place place outputs = map (λ output. record { place = place; output = output }) outputs
+
+-- what a transaction sends or drops because of that event
+abbrev pub sent_at : ℕ → Out → List PlacedOutput
+sent_at place out = at_place place (sent_of out)
+
+-- what a call shows because of it
+abbrev pub shown_at : ℕ → CallOut → List PlacedOutput
+shown_at place out = at_place place (shown_of out)
+
+-- the place of the event of the item at an index
+abbrev pub place_of : List (Id × Item) → ℕ → ℕ
+place_of items index = unwrap_or (slice_get (map (λ item. (item.0).place) items) index) 0
 
 -- what a call asks of a transaction
 abbrev pub command_of : CallOut → List (Id × Command)

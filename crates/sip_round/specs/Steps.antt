@@ -2,6 +2,8 @@
 pub mod Alike
 pub mod Arrived
 pub mod EventRuns
+pub mod Form
 pub mod Led
+pub mod OneMore
 pub mod SetOut
 pub mod Waiting

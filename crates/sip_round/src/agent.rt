@@ -9,8 +9,9 @@ ghost use Rattle.sip_round.specs.Steps.SetOut.{IsSetOut};
 ghost use Rattle.sip_shards.specs.Parts.{owner_of};
 
 use crate::config::Config;
+use crate::form::Form;
 use crate::lead::{lead, lead_in_turn};
-use crate::output::Output;
+use crate::output::{Output, PlacedOutput};
 use crate::phases::Begun;
 use crate::reading::set_out_by;
 use crate::round::Round;
@@ -82,8 +83,9 @@ impl<C: Cut + Drop> Drop for Agent<C> {
 
 impl<C: Cut + Drop> Agent<C> {
     ghost use Rattle.sip_round.specs.AgentState.{ShardTables, refusal_of, shard_count};
-    ghost use Rattle.sip_round.specs.Answers.{StandsFor, answers, past_of};
+    ghost use Rattle.sip_round.specs.Answers.{StandsFor, answers, past_of, placed_answers};
     ghost use Rattle.sip_round.specs.Steps.Led.{Deals};
+    ghost use Rattle.sip_round.specs.Steps.OneMore.{GivesOneMore};
     ghost use Rattle.sip_round.specs.Live.{live_of};
     ghost use Rattle.sip_round.specs.NextDue.{IsDueAfter, IsQuietAfter};
     ghost use Rattle.sip_timers.specs.Queue.{is_due};
@@ -182,6 +184,71 @@ impl<C: Cut + Drop> Agent<C> {
             × (answers config (rounds ++ round.now ∷ []) ≡ answers config rounds
             ++ outputs.items ∷ [])) }
     {
+        self.run_in_form(rt, round, workers, gate)
+    }
+
+    /// The same round; each output is given with the place of the event that it comes of, so that a
+    /// host that kept the round's events knows which one a notice tells of.
+    ///
+    /// # Errors
+    ///
+    /// As `run_round`.
+    pub fn run_round_with_places<R: Threads + Sync, G: Gate>(
+        &mut self,
+        rt: &R,
+        round: &Round,
+        workers: usize,
+        gate: &G,
+    ) -> Result<Vec<PlacedOutput>, RoundFault>
+        requires some { 0 < workers }
+        requires most { workers ≤ 64 }
+        ensures refused { IfSome (refusal_of self.old round.now)
+            (λ fault. (result ≡ Err fault) × (self.new ≡ self.old)) }
+        ensures memory { refusal_of self.old round.now ≡ None
+            → OnErr result ((result ≡ Err (round_fault.NoMemory false))
+            ⊎ (result ≡ Err (round_fault.NoMemory true))) }
+        ensures unbroken { result ≡ Err (round_fault.NoMemory false) → self.new ≡ self.old }
+        ensures broken { result ≡ Err (round_fault.NoMemory true) → self.new.shards ≡ None }
+        ensures count { OnOk result (shard_count self.new ≡ shard_count self.old) }
+
+        // Whatever rounds the agent stood for, it stands for these and this one, and answers as
+        // this one is answered after them, each output with its place.
+        ensures answers { IfOk result (λ outputs. (config : Config) (rounds : List Round)
+            → StandsFor C.shard_of self.old config rounds
+            → StandsFor C.shard_of self.new config (rounds ++ round.now ∷ [])
+            × (placed_answers config (rounds ++ round.now ∷ []) ≡ placed_answers config rounds
+            ++ outputs.items ∷ [])) }
+
+        // Without their places the outputs are those of the other call.
+        ensures alone { IfOk result (λ outputs. (config : Config) (rounds : List Round)
+            → StandsFor C.shard_of self.old config rounds
+            → answers config (rounds ++ round.now ∷ []) ≡ answers config rounds
+            ++ map (λ placed. placed.output) outputs.items ∷ []) }
+    {
+        self.run_in_form(rt, round, workers, gate)
+    }
+
+    // A round whose outputs are given in this form.
+    fn run_in_form<F: Form, R: Threads + Sync, G: Gate>(
+        &mut self,
+        rt: &R,
+        round: &Round,
+        workers: usize,
+        gate: &G,
+    ) -> Result<Vec<F>, RoundFault>
+        requires some { 0 < workers }
+        requires most { workers ≤ 64 }
+        ensures refused { IfSome (refusal_of self.old round.now)
+            (λ fault. (result ≡ Err fault) × (self.new ≡ self.old)) }
+        ensures memory { refusal_of self.old round.now ≡ None
+            → OnErr result ((result ≡ Err (round_fault.NoMemory false))
+            ⊎ (result ≡ Err (round_fault.NoMemory true))) }
+        ensures unbroken { result ≡ Err (round_fault.NoMemory false) → self.new ≡ self.old }
+        ensures broken { result ≡ Err (round_fault.NoMemory true) → self.new.shards ≡ None }
+        ensures count { OnOk result (shard_count self.new ≡ shard_count self.old) }
+        ensures gives { IfOk result (λ outputs.
+            GivesOneMore C.shard_of F.form self.old self.new round.now outputs.items) }
+    {
         if let Some(fault) = self.refusal(round) {
             return Err(fault);
         }
@@ -193,13 +260,13 @@ impl<C: Cut + Drop> Agent<C> {
     }
 
     // A round that isn't idle. It stands apart, so that an idle one doesn't pay for its locals.
-    fn run_phases<R: Threads + Sync, G: Gate>(
+    fn run_phases<F: Form, R: Threads + Sync, G: Gate>(
         &mut self,
         rt: &R,
         round: &Round,
         workers: usize,
         gate: &G,
-    ) -> Result<Vec<Output>, RoundFault>
+    ) -> Result<Vec<F>, RoundFault>
         requires some { 0 < workers }
         requires most { workers ≤ 64 }
         requires moment { round.now.moment ≤ 2 ^ 62 }
@@ -210,11 +277,8 @@ impl<C: Cut + Drop> Agent<C> {
         ensures unbroken { result ≡ Err (round_fault.NoMemory false) → self.new ≡ self.old }
         ensures broken { result ≡ Err (round_fault.NoMemory true) → self.new.shards ≡ None }
         ensures count { OnOk result (shard_count self.new ≡ shard_count self.old) }
-        ensures answers { IfOk result (λ outputs. (config : Config) (rounds : List Round)
-            → StandsFor C.shard_of self.old config rounds
-            → StandsFor C.shard_of self.new config (rounds ++ round.now ∷ [])
-            × (answers config (rounds ++ round.now ∷ []) ≡ answers config rounds
-            ++ outputs.items ∷ [])) }
+        ensures gives { IfOk result (λ outputs.
+            GivesOneMore C.shard_of F.form self.old self.new round.now outputs.items) }
     {
         let events = round.events.as_slice();
         let (local, number) = (self.calls.local, self.next_round);
@@ -247,6 +311,57 @@ impl<C: Cut + Drop> Agent<C> {
             → StandsFor C.shard_of self.new config (rounds ++ round.now ∷ [])
             × (answers config (rounds ++ round.now ∷ []) ≡ answers config rounds
             ++ outputs.items ∷ [])) }
+    {
+        self.run_in_turn(round)
+    }
+
+    /// The same round in turn; each output is given with the place of the event that it comes of.
+    ///
+    /// # Errors
+    ///
+    /// As `run_round`.
+    pub fn run_round_in_turn_with_places(
+        &mut self,
+        round: &Round,
+    ) -> Result<Vec<PlacedOutput>, RoundFault>
+        ensures refused { IfSome (refusal_of self.old round.now)
+            (λ fault. (result ≡ Err fault) × (self.new ≡ self.old)) }
+        ensures memory { refusal_of self.old round.now ≡ None
+            → OnErr result ((result ≡ Err (round_fault.NoMemory false))
+            ⊎ (result ≡ Err (round_fault.NoMemory true))) }
+        ensures unbroken { result ≡ Err (round_fault.NoMemory false) → self.new ≡ self.old }
+        ensures broken { result ≡ Err (round_fault.NoMemory true) → self.new.shards ≡ None }
+        ensures count { OnOk result (shard_count self.new ≡ shard_count self.old) }
+
+        // Whatever rounds the agent stood for, it stands for these and this one, and answers as
+        // this one is answered after them, each output with its place.
+        ensures answers { IfOk result (λ outputs. (config : Config) (rounds : List Round)
+            → StandsFor C.shard_of self.old config rounds
+            → StandsFor C.shard_of self.new config (rounds ++ round.now ∷ [])
+            × (placed_answers config (rounds ++ round.now ∷ []) ≡ placed_answers config rounds
+            ++ outputs.items ∷ [])) }
+
+        // Without their places the outputs are those of the other call.
+        ensures alone { IfOk result (λ outputs. (config : Config) (rounds : List Round)
+            → StandsFor C.shard_of self.old config rounds
+            → answers config (rounds ++ round.now ∷ []) ≡ answers config rounds
+            ++ map (λ placed. placed.output) outputs.items ∷ []) }
+    {
+        self.run_in_turn(round)
+    }
+
+    // A round in turn whose outputs are given in this form.
+    fn run_in_turn<F: Form>(&mut self, round: &Round) -> Result<Vec<F>, RoundFault>
+        ensures refused { IfSome (refusal_of self.old round.now)
+            (λ fault. (result ≡ Err fault) × (self.new ≡ self.old)) }
+        ensures memory { refusal_of self.old round.now ≡ None
+            → OnErr result ((result ≡ Err (round_fault.NoMemory false))
+            ⊎ (result ≡ Err (round_fault.NoMemory true))) }
+        ensures unbroken { result ≡ Err (round_fault.NoMemory false) → self.new ≡ self.old }
+        ensures broken { result ≡ Err (round_fault.NoMemory true) → self.new.shards ≡ None }
+        ensures count { OnOk result (shard_count self.new ≡ shard_count self.old) }
+        ensures gives { IfOk result (λ outputs.
+            GivesOneMore C.shard_of F.form self.old self.new round.now outputs.items) }
     {
         if let Some(refused) = self.refusal(round) {
             return Err(refused);
@@ -348,7 +463,7 @@ impl<C: Cut + Drop> Agent<C> {
     }
 
     // A round in which nothing happens goes by.
-    fn pass(&mut self, round: &Round) -> Vec<Output>
+    fn pass<F: Form>(&mut self, round: &Round) -> Vec<F>
         requires { self.old.next_round ≤ 2 ^ 62 }
         ensures outputs { result.items ≡ [] }
         ensures passed { self.new ≡ record self.old {
@@ -402,11 +517,11 @@ impl<C: Cut + Drop> Agent<C> {
 
     // A round that was led through its phases ends: the shards come back. Where memory was refused
     // they are lost.
-    fn end(
+    fn end<F: Form>(
         &mut self,
         round: &Round,
-        led: Result<(Shards, Vec<Output>), NoMemory>,
-    ) -> Result<Vec<Output>, RoundFault>
+        led: Result<(Shards, Vec<F>), NoMemory>,
+    ) -> Result<Vec<F>, RoundFault>
         requires number { self.old.next_round ≤ 2 ^ 62 }
         requires alike { IfOk led
             (λ led. AllByRecursion (λ shard. shard.calls ≡ self.old.calls) led.0.calls) }

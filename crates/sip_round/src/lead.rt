@@ -7,9 +7,9 @@ ghost use Rattle.sip_message.specs.Key.{branch_in};
 ghost use Rattle.sip_round.specs.Arrivals.{arrivals_from};
 ghost use Rattle.sip_shards.specs.Parts.{owner_of};
 ghost use Rattle.sip_round.specs.Steps.Arrived.{IsArrived};
-ghost use Rattle.sip_round.specs.Steps.Led.{Deals};
+ghost use Rattle.sip_round.specs.Steps.Led.{DealsInForm};
 
-use crate::output::Output;
+use crate::form::Form;
 use crate::phases::{Begun, begin_second, begin_third, end_first, end_second, end_third};
 use crate::round::Round;
 use crate::shards::Shards;
@@ -25,14 +25,14 @@ use std::thread::Threads;
 /// # Errors
 ///
 /// `NoMemory`, and then the shards are lost.
-pub(crate) fn lead<R: Threads + Sync, C: Cut, G: Gate>(
+pub(crate) fn lead<F: Form, R: Threads + Sync, C: Cut, G: Gate>(
     rt: &R,
     cut: &C,
     round: &Round,
     begun: Begun,
     workers: usize,
     gate: &G,
-) -> Result<(Shards, Vec<Output>), NoMemory>
+) -> Result<(Shards, Vec<F>), NoMemory>
     requires some { 0 < workers }
     requires most { workers ≤ 64 }
     requires moment { round.now.moment ≤ 2 ^ 62 }
@@ -43,8 +43,8 @@ pub(crate) fn lead<R: Threads + Sync, C: Cut, G: Gate>(
         (map (λ part. part.items) begun.parts.items) begun.waiting.items }
     ensures alike { IfOk result
         (λ led. AllByRecursion (λ shard. shard.calls ≡ begun.calls) led.0.calls) }
-    ensures deals { IfOk result (λ led. Deals begun.calls (C.shard_of cut.now) begun.number
-        round.now begun.shards led.0 led.1.items) }
+    ensures deals { IfOk result (λ led. DealsInForm F.form begun.calls (C.shard_of cut.now)
+        begun.number round.now begun.shards led.0 led.1.items) }
 {
     let Begun {
         alloc,
@@ -65,7 +65,7 @@ pub(crate) fn lead<R: Threads + Sync, C: Cut, G: Gate>(
     };
     let (lives, said) = deal_phase(rt, alloc, phase, workers, gate)?;
     let (mut outputs, items) = end_first(alloc, number, said, waiting)?;
-    let parts = begin_second(alloc, cut, items, held.len())?;
+    let (parts, places) = begin_second::<F, C>(alloc, cut, items, held.len())?;
     let phase = Phase {
         machine: calls,
         shards: held,
@@ -74,7 +74,7 @@ pub(crate) fn lead<R: Threads + Sync, C: Cut, G: Gate>(
         parts,
     };
     let (held, said) = deal_phase(rt, alloc, phase, workers, gate)?;
-    let commands = end_second(alloc, said, &mut outputs)?;
+    let commands = end_second(alloc, said, &places, &mut outputs)?;
     let parts = begin_third(alloc, cut, commands, lives.len())?;
     let phase = Phase {
         machine: Transactions,
@@ -93,11 +93,11 @@ pub(crate) fn lead<R: Threads + Sync, C: Cut, G: Gate>(
 /// # Errors
 ///
 /// As `lead`.
-pub(crate) fn lead_in_turn<C: Cut>(
+pub(crate) fn lead_in_turn<F: Form, C: Cut>(
     cut: &C,
     round: &Round,
     begun: Begun,
-) -> Result<(Shards, Vec<Output>), NoMemory>
+) -> Result<(Shards, Vec<F>), NoMemory>
     requires moment { round.now.moment ≤ 2 ^ 62 }
     requires alike { AllByRecursion (λ shard. shard.calls ≡ begun.calls) begun.shards.calls }
     requires arrived { IsArrived (owner_of (C.shard_of cut.now) branch_in
@@ -106,8 +106,8 @@ pub(crate) fn lead_in_turn<C: Cut>(
         (map (λ part. part.items) begun.parts.items) begun.waiting.items }
     ensures alike { IfOk result
         (λ led. AllByRecursion (λ shard. shard.calls ≡ begun.calls) led.0.calls) }
-    ensures deals { IfOk result (λ led. Deals begun.calls (C.shard_of cut.now) begun.number
-        round.now begun.shards led.0 led.1.items) }
+    ensures deals { IfOk result (λ led. DealsInForm F.form begun.calls (C.shard_of cut.now)
+        begun.number round.now begun.shards led.0 led.1.items) }
 {
     let Begun {
         alloc,
@@ -128,7 +128,7 @@ pub(crate) fn lead_in_turn<C: Cut>(
     };
     let (lives, said) = phase.deal_in_turn(alloc)?;
     let (mut outputs, items) = end_first(alloc, number, said, waiting)?;
-    let parts = begin_second(alloc, cut, items, held.len())?;
+    let (parts, places) = begin_second::<F, C>(alloc, cut, items, held.len())?;
     let phase = Phase {
         machine: calls,
         shards: held,
@@ -137,7 +137,7 @@ pub(crate) fn lead_in_turn<C: Cut>(
         parts,
     };
     let (held, said) = phase.deal_in_turn(alloc)?;
-    let commands = end_second(alloc, said, &mut outputs)?;
+    let commands = end_second(alloc, said, &places, &mut outputs)?;
     let parts = begin_third(alloc, cut, commands, lives.len())?;
     let phase = Phase {
         machine: Transactions,

@@ -5,6 +5,7 @@ mod agent;
 mod arrival;
 mod config;
 mod event_run;
+mod form;
 mod laws;
 mod lead;
 mod output;
@@ -24,7 +25,7 @@ pub use laws::{
     each_request_holds_its_history, each_request_is_held_by_id, each_response_awaits_its_prack,
     nothing_after_each_end, one_request_in_each_life, provisionals_in_each_life,
 };
-pub use output::Output;
+pub use output::{Output, PlacedOutput};
 pub use round::{Event, Round};
 pub use round_fault::RoundFault;
 pub use sip_workers::{Gate, NoMemory};

@@ -23,3 +23,12 @@ pub enum Output {
     /// The user is told this.
     Notice(Notice),
 }
+
+/// An output with the place of the event that it comes of.
+#[derive(Drop)]
+pub struct PlacedOutput {
+    /// From 1, as the events stand in their round. 0: it comes at the round's ticks, or is what a
+    /// command of a call sends.
+    pub place: u32,
+    pub output: Output,
+}

@@ -3,23 +3,26 @@
 ghost use Rattle.std.specs.Prelude.{◌≡◌, ◌++◌, OnOk, option_to_list};
 ghost use Rattle.std.specs.List.{flat_map};
 ghost use Rattle.sip_model.specs.Groups.{groups};
-ghost use Rattle.sip_round.specs.Outputs.{command_of, raised_of, sent_of, shown_of};
+ghost use Rattle.sip_round.specs.Outputs.{command_of, raised_of, sent_of};
+ghost use Rattle.sip_round.specs.Steps.Form.{sent_as, shown_as};
 
+use crate::form::Form;
 use crate::output::Output;
 use sip_message::Id;
 use sip_served::{CallOut, Item};
 use sip_transactions::{Command, Out};
 use std::alloc::AllocError;
 
-/// What transactions say: sends and drops go out, what comes up becomes an item of this id.
-pub(crate) fn part(
+/// What transactions say: sends and drops go out with the place of this id, what comes up becomes
+/// an item of it.
+pub(crate) fn part<F: Form>(
     outs: Vec<Out>,
     id: Id,
-    outputs: &mut Vec<Output>,
+    outputs: &mut Vec<F>,
     items: &mut Vec<(Id, Item)>,
 ) -> Result<(), AllocError>
     ensures outputs { OnOk result (outputs.new.items ≡ outputs.old.items
-        ++ flat_map sent_of outs.items) }
+        ++ flat_map (sent_as F.form id.place) outs.items) }
     ensures items { OnOk result (items.new.items ≡ items.old.items
         ++ flat_map (raised_of id) outs.items) }
 {
@@ -30,14 +33,15 @@ pub(crate) fn part(
 }
 
 /// What groups of transactions say, each as [`part`] does.
-pub(crate) fn part_all<L: Drop>(
+pub(crate) fn part_all<F: Form, L: Drop>(
     told: Vec<(L, Vec<Out>)>,
     id: Id,
-    outputs: &mut Vec<Output>,
+    outputs: &mut Vec<F>,
     items: &mut Vec<(Id, Item)>,
 ) -> Result<(), AllocError>
     ensures outputs { OnOk result (outputs.new.items ≡ outputs.old.items
-        ++ flat_map (λ group. flat_map sent_of group.1) (groups told.items)) }
+        ++ flat_map (λ group. flat_map (sent_as F.form id.place) group.1)
+        (groups told.items)) }
     ensures items { OnOk result (items.new.items ≡ items.old.items
         ++ flat_map (λ group. flat_map (raised_of id) group.1) (groups told.items)) }
 {
@@ -48,33 +52,37 @@ pub(crate) fn part_all<L: Drop>(
 }
 
 // One thing that a transaction says.
-fn put(
+fn put<F: Form>(
     out: Out,
     id: Id,
-    outputs: &mut Vec<Output>,
+    outputs: &mut Vec<F>,
     items: &mut Vec<(Id, Item)>,
 ) -> Result<(), AllocError>
-    ensures outputs { OnOk result (outputs.new.items ≡ outputs.old.items ++ sent_of out) }
+    ensures outputs { OnOk result (outputs.new.items ≡ outputs.old.items
+        ++ sent_as F.form id.place out) }
     ensures items { OnOk result (items.new.items ≡ items.old.items ++ raised_of id out) }
 {
     match out {
         Out::Up(up) => items.push((id, Item::Up(up)))?,
         Out::Send { key, to, bytes } => {
             let key = Some(key);
-            outputs.push(Output::Send { key, to, bytes })?;
+            outputs.push(F::of(id.place, Output::Send { key, to, bytes }))?;
         }
-        Out::Dropped { place, reason } => outputs.push(Output::Dropped { place, reason })?,
+        Out::Dropped { place, reason } => {
+            outputs.push(F::of(id.place, Output::Dropped { place, reason }))?;
+        }
     }
     Ok(())
 }
 
-/// What transactions say to commands, group by group: sends go out. A command hands nothing up.
-pub(crate) fn send_all<L: Drop>(
+/// What transactions say to commands, group by group: sends go out, with place 0. A command hands
+/// nothing up.
+pub(crate) fn send_all<F: Form, L: Drop>(
     told: Vec<(L, Vec<Out>)>,
-    outputs: &mut Vec<Output>,
+    outputs: &mut Vec<F>,
 ) -> Result<(), AllocError>
     ensures { OnOk result (outputs.new.items ≡ outputs.old.items
-        ++ flat_map (λ group. flat_map sent_of group.1) (groups told.items)) }
+        ++ flat_map (λ group. flat_map (sent_as F.form 0) group.1) (groups told.items)) }
 {
     for (_, outs) in told {
         send(outs, outputs)?;
@@ -82,12 +90,13 @@ pub(crate) fn send_all<L: Drop>(
     Ok(())
 }
 
-fn send(outs: Vec<Out>, outputs: &mut Vec<Output>) -> Result<(), AllocError>
-    ensures { OnOk result (outputs.new.items ≡ outputs.old.items ++ flat_map sent_of outs.items) }
+fn send<F: Form>(outs: Vec<Out>, outputs: &mut Vec<F>) -> Result<(), AllocError>
+    ensures { OnOk result (outputs.new.items ≡ outputs.old.items
+        ++ flat_map (sent_as F.form 0) outs.items) }
 {
     for out in outs {
         if let Some(output) = sent(out) {
-            outputs.push(output)?;
+            outputs.push(F::of(0, output))?;
         }
     }
     Ok(())
@@ -107,41 +116,61 @@ fn sent(out: Out) -> Option<Output>
     }
 }
 
-/// What calls say, group by group: notices and direct sends go out, commands wait for the third
-/// phase.
-pub(crate) fn part_calls<L: Drop>(
+/// What calls say to the tick, group by group: notices and direct sends go out, with place 0;
+/// commands wait for the third phase.
+pub(crate) fn part_ticks<F: Form, L: Drop>(
     told: Vec<(L, Vec<CallOut>)>,
-    outputs: &mut Vec<Output>,
+    outputs: &mut Vec<F>,
     commands: &mut Vec<(Id, Command)>,
 ) -> Result<(), AllocError>
     ensures outputs { OnOk result (outputs.new.items ≡ outputs.old.items
-        ++ flat_map (λ group. flat_map shown_of group.1) (groups told.items)) }
+        ++ flat_map (λ group. flat_map (shown_as F.form 0) group.1) (groups told.items)) }
     ensures commands { OnOk result (commands.new.items ≡ commands.old.items
         ++ flat_map (λ group. flat_map command_of group.1) (groups told.items)) }
 {
     for (_, outs) in told {
-        part_call(outs, outputs, commands)?;
+        part_call(outs, 0, outputs, commands)?;
     }
     Ok(())
 }
 
-fn part_call(
-    outs: Vec<CallOut>,
-    outputs: &mut Vec<Output>,
+/// What calls say to their items, by index: the same with the places that were kept of these.
+pub(crate) fn part_items<F: Form>(
+    told: Vec<(usize, Vec<CallOut>)>,
+    places: &F::Places,
+    outputs: &mut Vec<F>,
     commands: &mut Vec<(Id, Command)>,
 ) -> Result<(), AllocError>
     ensures outputs { OnOk result (outputs.new.items ≡ outputs.old.items
-        ++ flat_map shown_of outs.items) }
+        ++ flat_map (λ group. flat_map (shown_as F.form (F.place_at places.now group.0)) group.1)
+        (groups told.items)) }
+    ensures commands { OnOk result (commands.new.items ≡ commands.old.items
+        ++ flat_map (λ group. flat_map command_of group.1) (groups told.items)) }
+{
+    for (index, outs) in told {
+        part_call(outs, F::place(places, index), outputs, commands)?;
+    }
+    Ok(())
+}
+
+fn part_call<F: Form>(
+    outs: Vec<CallOut>,
+    place: u32,
+    outputs: &mut Vec<F>,
+    commands: &mut Vec<(Id, Command)>,
+) -> Result<(), AllocError>
+    ensures outputs { OnOk result (outputs.new.items ≡ outputs.old.items
+        ++ flat_map (shown_as F.form place) outs.items) }
     ensures commands { OnOk result
         (commands.new.items ≡ commands.old.items ++ flat_map command_of outs.items) }
 {
     for out in outs {
         match out {
-            CallOut::Notice(notice) => outputs.push(Output::Notice(notice))?,
+            CallOut::Notice(notice) => outputs.push(F::of(place, Output::Notice(notice)))?,
             CallOut::Command(id, command) => commands.push((id, command))?,
             CallOut::Direct { to, bytes } => {
                 let key = None;
-                outputs.push(Output::Send { key, to, bytes })?;
+                outputs.push(F::of(place, Output::Send { key, to, bytes }))?;
             }
         }
     }

@@ -1,6 +1,6 @@
 //! What begins a round, and what begins and ends its three phases.
 
-ghost use Rattle.std.specs.Prelude.{◌≡◌, ◌<◌, ◌≤◌, ℕ, List, IfOk, OnOk, map, vec_len};
+ghost use Rattle.std.specs.Prelude.{◌≡◌, ◌<◌, ◌≤◌, ◌++◌, ℕ, List, IfOk, OnOk, map, vec_len};
 ghost use Rattle.sip_calls.specs.Call.{call_machine};
 ghost use Rattle.sip_calls.specs.CallShard.{call_cmp};
 ghost use Rattle.sip_calls.specs.declared.call.Call.{Call};
@@ -13,15 +13,17 @@ ghost use Rattle.sip_model.specs.Table.{Held};
 ghost use Rattle.sip_transactions.specs.Machine.{transaction_machine};
 ghost use Rattle.sip_transactions.specs.declared.life.Life.{Life};
 ghost use Rattle.sip_round.specs.Arrivals.{Arrival as AnArrival};
+ghost use Rattle.sip_round.specs.declared.output.PlacedOutput.{PlacedOutput};
 ghost use Rattle.sip_shards.specs.Parts.{cut_by, owner_of};
 ghost use Rattle.sip_round.specs.Phases as phase;
 ghost use Rattle.sip_shards.specs.AllShards.{DealsAll};
 ghost use Rattle.sip_round.specs.Steps.Arrived.{ArePlaced};
+ghost use Rattle.sip_round.specs.Steps.Form.{ArePlacesOf, in_form};
 ghost use Rattle.sip_round.specs.Steps.Led.{LedFirst, LedSecond, LedThird};
 ghost use Rattle.sip_round.specs.Steps.Waiting.{all_waiting};
 
-use crate::output::Output;
-use crate::outs::{part_calls, send_all};
+use crate::form::Form;
+use crate::outs::{part_items, part_ticks, send_all};
 use crate::shards::Shards;
 use crate::waiting::{Waiting, first_outputs};
 use sip_calls::{CallOut, Calls};
@@ -46,37 +48,42 @@ pub(crate) struct Begun {
 }
 
 /// Ends the first phase of the round of this number: the outputs, and the items of the calls.
-pub(crate) fn end_first(
+pub(crate) fn end_first<F: Form>(
     alloc: Global,
     number: u64,
     replies: PhaseOutputs<Key, Out>,
     waiting: Vec<(Id, Waiting)>,
-) -> Result<(Vec<Output>, Vec<(Id, Item)>), NoMemory>
-    ensures { IfOk result (λ both. (owner : AKey → ℕ) (old new : List (Held AKey Life)) (now : ℕ)
+) -> Result<(Vec<F>, Vec<(Id, Item)>), NoMemory>
+    ensures { IfOk result (λ both. (outputs : List PlacedOutput)
+        × (both.0.items ≡ in_form F.form outputs)
+        × ((owner : AKey → ℕ) (old new : List (Held AKey Life)) (now : ℕ)
         (arrivals : List (AnId × AnArrival))
         → ArePlaced 1 arrivals → waiting.items ≡ all_waiting arrivals
         → DealsAll key_cmp transaction_machine tick_at owner old new
         (phase.first_phase now arrivals) (groups replies.ticks.items) (groups replies.items.items)
-        → LedFirst owner old new number now arrivals both.0.items both.1.items) }
+        → LedFirst owner old new number now arrivals outputs both.1.items)) }
 {
     laws_of_phases(&Transactions);
     Ok(first_outputs(alloc, number, replies, waiting)?)
 }
 
-/// Begins the second phase: each item goes to its call, in the part of that call's shard.
-pub(crate) fn begin_second<C: Cut>(
+/// Begins the second phase: each item goes to its call, in the part of that call's shard. Beside
+/// the parts is what has to be kept of the places of the items.
+pub(crate) fn begin_second<F: Form, C: Cut>(
     alloc: Global,
     cut: &C,
     items: Vec<(Id, Item)>,
     shards: usize,
-) -> Result<Vec<Vec<model::Item<CallId, (Id, Item)>>>, AllocError>
+) -> Result<(Vec<Vec<model::Item<CallId, (Id, Item)>>>, F::Places), AllocError>
     requires some { 0 < shards }
     requires most { shards ≤ 256 }
-    ensures count { IfOk result (λ parts. vec_len parts ≡ shards) }
-    ensures parts { IfOk result (λ parts. map (λ part. part.items) parts.items
+    ensures count { IfOk result (λ both. vec_len both.0 ≡ shards) }
+    ensures parts { IfOk result (λ both. map (λ part. part.items) both.0.items
         ≡ cut_by (owner_of (C.shard_of cut.now) (λ call_id. call_id) shards) 0 shards
         (phase.call_items 0 items.items)) }
+    ensures places { IfOk result (λ both. ArePlacesOf F.form F.place_at items.items both.1) }
 {
+    let places = F::places_of(alloc, items.as_slice())?;
     let mut parts = empty_parts(alloc, shards, items.len())?;
     let mut place = 0;
     for (id, item) in items {
@@ -85,27 +92,30 @@ pub(crate) fn begin_second<C: Cut>(
         put(cut, shards, &mut parts, model::Item { place, key, input })?;
         place += 1;
     }
-    Ok(parts)
+    Ok((parts, places))
 }
 
 /// Ends the second phase: notices and direct sends go behind the outputs, and what is left are the
 /// commands of the third phase.
-pub(crate) fn end_second(
+pub(crate) fn end_second<F: Form>(
     alloc: Global,
     replies: PhaseOutputs<CallId, CallOut>,
-    outputs: &mut Vec<Output>,
+    places: &F::Places,
+    outputs: &mut Vec<F>,
 ) -> Result<Vec<(Id, Command)>, AllocError>
-    ensures { IfOk result (λ commands. (calls : Calls) (owner : List ℕ → ℕ)
-        (old new : List (Held (List ℕ) Call)) (now : ℕ) (items : List (AnId × Item))
+    ensures { IfOk result (λ commands. (items : List (AnId × Item))
+        → ArePlacesOf F.form F.place_at items places.now
+        → (shown : List PlacedOutput)
+        × (outputs.new.items ≡ outputs.old.items ++ in_form F.form shown)
+        × ((calls : Calls) (owner : List ℕ → ℕ) (old new : List (Held (List ℕ) Call)) (now : ℕ)
         → DealsAll call_cmp (call_machine calls) tick_at owner old new
         (phase.second_phase now items) (groups replies.ticks.items) (groups replies.items.items)
-        → LedSecond calls owner old new now items outputs.old.items outputs.new.items
-        commands.items) }
+        → LedSecond calls owner old new now items shown commands.items)) }
 {
     let PhaseOutputs { ticks, items } = replies;
     let mut commands = Vec::new(alloc);
-    part_calls(ticks, outputs, &mut commands)?;
-    part_calls(items, outputs, &mut commands)?;
+    part_ticks(ticks, outputs, &mut commands)?;
+    part_items(items, places, outputs, &mut commands)?;
     Ok(commands)
 }
 
@@ -135,15 +145,17 @@ pub(crate) fn begin_third<C: Cut>(
 }
 
 /// Ends the third phase: what the transactions send goes behind the outputs.
-pub(crate) fn end_third(
+pub(crate) fn end_third<F: Form>(
     replies: PhaseOutputs<Key, Out>,
-    outputs: &mut Vec<Output>,
+    outputs: &mut Vec<F>,
 ) -> Result<(), NoMemory>
-    ensures { OnOk result ((owner : AKey → ℕ) (old new : List (Held AKey Life)) (now : ℕ)
+    ensures { OnOk result ((sent : List PlacedOutput)
+        × (outputs.new.items ≡ outputs.old.items ++ in_form F.form sent)
+        × ((owner : AKey → ℕ) (old new : List (Held AKey Life)) (now : ℕ)
         (commands : List (AnId × Command))
         → DealsAll key_cmp transaction_machine tick_at owner old new
         (phase.third_phase now commands) (groups replies.ticks.items) (groups replies.items.items)
-        → LedThird owner old new now commands outputs.old.items outputs.new.items) }
+        → LedThird owner old new now commands sent)) }
 {
     let PhaseOutputs { ticks, items } = replies;
     send_all(ticks, outputs)?;

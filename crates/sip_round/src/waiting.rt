@@ -5,11 +5,13 @@ ghost use Rattle.std.specs.List.{flat_map};
 ghost use Rattle.std.specs.Vec.Iter.{into_iter_items};
 ghost use Rattle.sip_model.specs.Groups.{groups};
 ghost use Rattle.sip_round.specs.Arrivals.{arrivals_from};
-ghost use Rattle.sip_round.specs.Outputs.{joined, raised_of, sent_of};
+ghost use Rattle.sip_round.specs.Outputs.{joined, raised_of};
+ghost use Rattle.sip_round.specs.Steps.Form.{sent_as};
 ghost use Rattle.sip_round.specs.Steps.SetOut.{IsSetOut};
 ghost use Rattle.sip_round.specs.Steps.Waiting.{items_waiting, outs_next, said_rest, by_event};
 
 use crate::arrival::set_out_event;
+use crate::form::Form;
 use crate::output::Output;
 use crate::outs::{part, part_all};
 use crate::round::Event;
@@ -65,15 +67,15 @@ pub(crate) fn set_out(
 
 /// The outputs of the first phase of the round of this number, and the items of the calls: those of
 /// the ticks, and then by place.
-pub(crate) fn first_outputs(
+pub(crate) fn first_outputs<F: Form>(
     alloc: Global,
     round: u64,
     replies: PhaseOutputs<Key, Out>,
     waiting: Vec<(Id, Waiting)>,
-) -> Result<(Vec<Output>, Vec<(Id, Item)>), AllocError>
+) -> Result<(Vec<F>, Vec<(Id, Item)>), AllocError>
     ensures outputs { IfOk result (λ both. both.0.items
-        ≡ flat_map sent_of (joined (groups replies.ticks.items))
-        ++ flat_map (λ w. flat_map sent_of w.1)
+        ≡ flat_map (sent_as F.form 0) (joined (groups replies.ticks.items))
+        ++ flat_map (λ w. flat_map (sent_as F.form (w.0).place) w.1)
         (by_event waiting.items (groups replies.items.items))) }
     ensures items { IfOk result (λ both. both.1.items
         ≡ flat_map (raised_of (record { round = round; place = 0 }))
@@ -89,14 +91,15 @@ pub(crate) fn first_outputs(
     Ok((outputs, items))
 }
 
-fn put_by_place(
+fn put_by_place<F: Form>(
     waiting: Vec<(Id, Waiting)>,
     said: Vec<(usize, Vec<Out>)>,
-    outputs: &mut Vec<Output>,
+    outputs: &mut Vec<F>,
     items: &mut Vec<(Id, Item)>,
 ) -> Result<(), AllocError>
     ensures outputs { OnOk result (outputs.new.items ≡ outputs.old.items
-        ++ flat_map (λ w. flat_map sent_of w.1) (by_event waiting.items (groups said.items))) }
+        ++ flat_map (λ w. flat_map (sent_as F.form (w.0).place) w.1)
+        (by_event waiting.items (groups said.items))) }
     ensures items { OnOk result (items.new.items ≡ items.old.items
         ++ flat_map (λ w. flat_map (raised_of w.0) w.1 ++ w.2)
         (by_event waiting.items (groups said.items))) }
@@ -108,17 +111,18 @@ fn put_by_place(
     Ok(())
 }
 
-fn put_one(
+fn put_one<F: Form>(
     id: Id,
     left: Waiting,
     said: &mut IntoIter<(usize, Vec<Out>)>,
-    outputs: &mut Vec<Output>,
+    outputs: &mut Vec<F>,
     items: &mut Vec<(Id, Item)>,
 ) -> Result<(), AllocError>
     ensures said { OnOk result (groups (into_iter_items said.new)
         ≡ said_rest left (groups (into_iter_items said.old))) }
     ensures outputs { OnOk result (outputs.new.items ≡ outputs.old.items
-        ++ flat_map sent_of (outs_next id left (groups (into_iter_items said.old)))) }
+        ++ flat_map (sent_as F.form id.place)
+        (outs_next id left (groups (into_iter_items said.old)))) }
     ensures items { OnOk result (items.new.items ≡ items.old.items
         ++ (flat_map (raised_of id) (outs_next id left (groups (into_iter_items said.old)))
         ++ items_waiting id left)) }
@@ -131,7 +135,7 @@ fn put_one(
         }
         Waiting::Dropped(reason) => {
             let place = id.place;
-            outputs.push(Output::Dropped { place, reason })?;
+            outputs.push(F::of(place, Output::Dropped { place, reason }))?;
         }
         Waiting::User(command) => items.push((id, Item::User(command)))?,
     }

@@ -20,56 +20,56 @@ use Rattle.sip_calls.specs.Call.{call_machine, CallItem}
 use Rattle.sip_calls.specs.CallShard.{call_cmp}
 use Rattle.sip_round.specs.Arrivals.{Arrival}
 use Rattle.sip_round.specs.declared.output.Output.{Output}
+use Rattle.sip_round.specs.declared.output.PlacedOutput.{PlacedOutput}
 use Rattle.sip_round.specs.declared.config.Config.{Config}
 use Rattle.sip_round.specs.declared.round.Round.{Round}
 use Rattle.sip_round.specs.AgentState.{ShardTables}
-use Rattle.sip_round.specs.Answers.{Past, HoldCalls, HoldTransactions, answer, calls_of, past_after, said_by_transactions, said_by_calls, sent_first, items_first}
-use Rattle.sip_round.specs.Outputs.{sent_of, shown_of, command_of, all_said}
+use Rattle.sip_round.specs.Answers.{Past, HoldCalls, HoldTransactions, calls_of, items_first, past_after, placed_answer, placed_first, placed_second, placed_third, said_by_calls, said_by_transactions}
+use Rattle.sip_round.specs.Outputs.{command_of, all_said}
 use Rattle.sip_round.specs.Phases.{first_phase, second_phase, third_phase}
+use Rattle.sip_round.specs.Steps.Form.{in_form}
 
 module _ (owner : Key → ℕ) (old new : List (Held Key Life)) where
   abbrev pub HoldLives : List (Held Key Life) → List (Phase Key (Timed Input)) → Type 0
   HoldLives tables past = HoldFrom key_cmp transaction_machine tick_at owner zero tables past
 
-  pub record LedFirst (number now : ℕ) (arrivals : List (Id × Arrival)) (outputs : List Output)
-      (items : List (Id × Item)) : Type 0 where
+  pub record LedFirst (number now : ℕ) (arrivals : List (Id × Arrival))
+      (outputs : List PlacedOutput) (items : List (Id × Item)) : Type 0 where
     pub count : length new ≡ length old
     pub stands : (past : List (Phase Key (Timed Input))) → HoldLives old past
         → HoldLives new (past ++ first_phase now arrivals ∷ [])
     pub sent : (past : List (Phase Key (Timed Input))) → HoldLives old past
-        → outputs ≡ sent_first (said_by_transactions past (first_phase now arrivals)) arrivals
+        → outputs ≡ placed_first (said_by_transactions past (first_phase now arrivals)) arrivals
     pub raised : (past : List (Phase Key (Timed Input))) → HoldLives old past
         → items ≡ items_first number (said_by_transactions past (first_phase now arrivals)) arrivals
 
   pub record LedThird (now : ℕ) (commands : List (Id × Command))
-      (before outputs : List Output) : Type 0 where
+      (outputs : List PlacedOutput) : Type 0 where
     pub count : length new ≡ length old
     pub stands : (past : List (Phase Key (Timed Input))) → HoldLives old past
         → HoldLives new (past ++ third_phase now commands ∷ [])
     pub sent : (past : List (Phase Key (Timed Input))) → HoldLives old past
-        → outputs ≡ before ++ flat_map sent_of
-        (all_said (said_by_transactions past (third_phase now commands)))
+        → outputs ≡ placed_third (said_by_transactions past (third_phase now commands))
 
 module _ (shared : Calls) (owner : List ℕ → ℕ) (old new : List (Held (List ℕ) Call)) where
   abbrev pub HoldAll : List (Held (List ℕ) Call) → List (Phase (List ℕ) (Timed CallItem)) → Type 0
   HoldAll tables past = HoldFrom call_cmp (call_machine shared) tick_at owner zero tables past
 
-  pub record LedSecond (now : ℕ) (items : List (Id × Item)) (before outputs : List Output)
+  pub record LedSecond (now : ℕ) (items : List (Id × Item)) (outputs : List PlacedOutput)
       (commands : List (Id × Command)) : Type 0 where
     pub count : length new ≡ length old
     pub stands : (past : List (Phase (List ℕ) (Timed CallItem))) → HoldAll old past
         → HoldAll new (past ++ second_phase now items ∷ [])
     pub shown : (past : List (Phase (List ℕ) (Timed CallItem))) → HoldAll old past
-        → outputs ≡ before ++ flat_map shown_of
-        (all_said (said_by_calls shared past (second_phase now items)))
+        → outputs ≡ placed_second (said_by_calls shared past (second_phase now items)) items
     pub commanded : (past : List (Phase (List ℕ) (Timed CallItem))) → HoldAll old past
         → commands ≡ flat_map command_of
         (all_said (said_by_calls shared past (second_phase now items)))
 
 -- a round of this number leads the shards, and answers: whatever past they held, they hold it with
--- the phases of this round, and the outputs are its answer
+-- the phases of this round, and the outputs are its answer, each with its place
 pub record Deals (shared : Calls) (shard_of : List ℕ → ℕ → ℕ) (number : ℕ) (round : Round)
-    (old new : ShardTables) (outputs : List Output) : Type 0 where
+    (old new : ShardTables) (outputs : List PlacedOutput) : Type 0 where
   pub count : length new.transactions ≡ length old.transactions
   pub transactions : (config : Config) (past : Past) → shared ≡ calls_of config
       → HoldTransactions shard_of old past.transactions → HoldCalls shared shard_of old past.calls
@@ -79,4 +79,11 @@ pub record Deals (shared : Calls) (shard_of : List ℕ → ℕ → ℕ) (number 
       → HoldCalls shared shard_of new (past_after config number past round).calls
   pub answered : (config : Config) (past : Past) → shared ≡ calls_of config
       → HoldTransactions shard_of old past.transactions → HoldCalls shared shard_of old past.calls
-      → outputs ≡ answer config number past round
+      → outputs ≡ placed_answer config number past round
+
+-- the same, where the outputs are given in a form
+abbrev pub DealsInForm : {F : Type 0} → (ℕ → Output → F) → Calls → (List ℕ → ℕ → ℕ) → ℕ → Round
+    → ShardTables → ShardTables → List F → Type 0
+DealsInForm form shared shard_of number round old new given =
+    (outputs : List PlacedOutput) × (given ≡ in_form form outputs)
+    × Deals shared shard_of number round old new outputs

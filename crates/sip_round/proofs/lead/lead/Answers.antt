@@ -1,4 +1,4 @@
-use Rattle.std.proofs.Common.{◌≡◌, ◌<◌, true, false, ℕ, List, length, map, refl, sym, subst, arith}
+use Rattle.std.proofs.Common.{◌≡◌, ◌<◌, true, false, ℕ, List, ◌++◌, length, map, refl, sym, subst, arith}
 use Rattle.std.specs.List.{AllByRecursion}
 use Rattle.sip_calls.specs.Call.{call_machine}
 use Rattle.sip_calls.specs.CallShard.{call_cmp}
@@ -15,6 +15,7 @@ use Rattle.sip_shards.proofs.Climbing.{climbs_in_order}
 use Rattle.sip_shards.proofs.Numbered.{parts_counted}
 use Rattle.sip_round.proofs.ByEvent.{items_climb}
 use Rattle.sip_round.proofs.HeldInShards.{each}
+use Rattle.sip_round.proofs.InForm.{given_together}
 use Rattle.sip_round.proofs.Leading.{dealt, deals}
 use Rattle.sip_round.proofs.Numbered.{calls_climb, commands_climb}
 use Rattle.sip_round.proofs.lead.lead.Goals as goal
@@ -94,19 +95,27 @@ returns-clause-deals g c =
     (omega (arith, c.in_ok-lives.ensures.count, are.0))
     (omega (arith, c.len-2.ensures, c.in_ok-lives.lives.ok)) c.in_ok-parts-2.ensures.parts
     (climbs_in_order 0 _ (commands_climb 0 commands)) c.in_ok-lives-2.ensures.dealt in
-    let led_first = c.in_ok-outputs.ensures
+    let led_first = c.in_ok-outputs.ensures.2
     (owner_of shard_of branch_in (length (lives_held old))) (lives_held old) mid_held now
     arrivals here.placed here.waiting_are first in
-    let led_second = c.in_ok-commands.ensures begun.calls
+    let shown = c.in_ok-commands.ensures items c.in_ok-parts.ensures.places in
+    let led_second = shown.2 begun.calls
     (owner_of shard_of (λ call_id. call_id) (length (calls_held old))) (calls_held old)
-    (calls_held new) now items second in
-    let led_third = c.in_ok-end_third.ensures (owner_of shard_of branch_in (length mid_held))
+    (calls_held new) now second in
+    let led_third = c.in_ok-end_third.ensures.2 (owner_of shard_of branch_in (length mid_held))
     mid_held (lives_held new) now commands third in
-    let outputs = c.end_third.new.outputs.items in
-    let whole = deals shard_of begun.number c.args.round.now old new mid_held items commands
-    c.in_ok-outputs.outputs.items c.end_second.new.outputs.items outputs led_third begun.calls
-    led_first led_second in
-    subst (λ old. Deals begun.calls shard_of begun.number c.args.round.now old c.of.result
-    outputs) same
-    (subst (λ new. Deals begun.calls shard_of begun.number c.args.round.now old new outputs)
-    (sym c.of.ensures) whole)
+    let one = c.in_ok-outputs.ensures.0 in
+    let two = shown.0 in
+    let three = c.in_ok-end_third.ensures.0 in
+    let outputs = (one ++ two) ++ three in
+    let whole = deals shard_of begun.number c.args.round.now old new mid_held items commands one
+    two three led_third begun.calls led_first led_second in (
+      outputs,
+      given_together g.F.Form.form one two three c.in_ok-outputs.outputs.items
+          c.end_second.new.outputs.items c.end_third.new.outputs.items c.in_ok-outputs.ensures.1
+          shown.1 c.in_ok-end_third.ensures.1,
+      subst (λ old. Deals begun.calls shard_of begun.number c.args.round.now old c.of.result
+          outputs) same
+          (subst (λ new. Deals begun.calls shard_of begun.number c.args.round.now old new outputs)
+          (sym c.of.ensures) whole),
+    )

@@ -1,12 +1,14 @@
 use Rattle.std.proofs.Common.{◌≡◌, ◌++◌}
 use Rattle.std.specs.List.{flat_map}
 use Rattle.std.specs.Vec.Iter.{into_iter_items}
-use Rattle.sip_round.specs.Outputs.{sent_of, raised_of}
+use Rattle.sip_round.specs.Outputs.{raised_of}
+use Rattle.sip_round.specs.Steps.Form.{sent_as}
 use Rattle.sip_round.proofs.outs.part.Given as goal
 
 abbrev pub invariant-loop-out : goal.invariant-loop-out
-invariant-loop-out l =
-    (l.outputs.items ++ flat_map sent_of (into_iter_items l.out-iterator) ≡ l.fn.outputs.items
-    ++ flat_map sent_of l.fn.outs.items)
+invariant-loop-out g l =
+    let given = sent_as g.F.Form.form l.id.place in
+    (l.outputs.items ++ flat_map given (into_iter_items l.out-iterator)
+    ≡ l.fn.outputs.items ++ flat_map given l.fn.outs.items)
     × (l.items.items ++ flat_map (raised_of l.id) (into_iter_items l.out-iterator)
     ≡ l.fn.items.items ++ flat_map (raised_of l.id) l.fn.outs.items)

@@ -2,14 +2,16 @@ use Rattle.std.proofs.Common.{◌≡◌, ◌++◌}
 use Rattle.std.specs.List.{flat_map}
 use Rattle.std.specs.Vec.Iter.{into_iter_items}
 use Rattle.sip_model.specs.Groups.{groups}
-use Rattle.sip_round.specs.Outputs.{sent_of, raised_of}
+use Rattle.sip_round.specs.Outputs.{raised_of}
+use Rattle.sip_round.specs.Steps.Form.{sent_as}
 use Rattle.sip_round.proofs.outs.part_all.Given as goal
 
 abbrev pub invariant-loop-outs : goal.invariant-loop-outs
 invariant-loop-outs g l =
-    (l.outputs.items ++ flat_map (λ group. flat_map sent_of group.1)
-    (groups (into_iter_items l.outs-iterator)) ≡ l.fn.outputs.items
-    ++ flat_map (λ group. flat_map sent_of group.1) (groups l.fn.told.items))
+    let given = sent_as g.F.Form.form l.id.place in
+    (l.outputs.items ++ flat_map (λ group. flat_map given group.1)
+    (groups (into_iter_items l.outs-iterator))
+    ≡ l.fn.outputs.items ++ flat_map (λ group. flat_map given group.1) (groups l.fn.told.items))
     × (l.items.items ++ flat_map (λ group. flat_map (raised_of l.id) group.1)
     (groups (into_iter_items l.outs-iterator)) ≡ l.fn.items.items
     ++ flat_map (λ group. flat_map (raised_of l.id) group.1) (groups l.fn.told.items))

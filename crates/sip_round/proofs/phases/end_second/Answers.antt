@@ -1,13 +1,21 @@
 use Rattle.sip_model.specs.Groups.{groups}
-use Rattle.sip_round.proofs.Leading.{led_second}
+use Rattle.sip_round.specs.Outputs.{place_of, shown_of}
+use Rattle.sip_round.proofs.InForm.{by_places}
+use Rattle.sip_round.proofs.Leading.{led_second, second_given}
 use Rattle.sip_round.proofs.phases.end_second.Goals as goal
 
 pub returns : goal.returns
-returns c = λ calls owner old new now items deals.
-    led_second calls owner old new now items (groups c.args.replies.ticks.items)
-    (groups c.args.replies.items.items) c.args.outputs.now.items c.part_calls.new.outputs.items
-    c.part_calls-2.new.outputs.items c.new-commands.result.items
-    c.part_calls.new.commands.items c.part_calls-2.new.commands.items deals
-    c.in_ok-part_calls.ensures.outputs c.in_ok-part_calls-2.ensures.outputs
-    c.new-commands.ensures.items c.in_ok-part_calls.ensures.commands
-    c.in_ok-part_calls-2.ensures.commands
+returns g c = λ items kept.
+    let ticks = groups c.args.replies.ticks.items in
+    let said = groups c.args.replies.items.items in (
+      second_given items ticks said,
+      by_places shown_of g.F.Form.form c.args.outputs.now.items c.part_ticks.new.outputs.items
+          c.part_items.new.outputs.items (place_of items)
+          (g.F.Form.place_at c.args.places.now) ticks said kept
+          c.in_ok-part_ticks.ensures.outputs c.in_ok-part_items.ensures.outputs,
+      λ calls owner old new now deals.
+          led_second calls owner old new now items ticks said c.new-commands.result.items
+          c.part_ticks.new.commands.items c.part_items.new.commands.items deals
+          c.new-commands.ensures.items c.in_ok-part_ticks.ensures.commands
+          c.in_ok-part_items.ensures.commands,
+    )

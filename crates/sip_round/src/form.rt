@@ -1,0 +1,80 @@
+//! The form in which a round gives its outputs. A round is led by one code for both forms, and the
+//! one without places keeps none.
+
+ghost use Rattle.std.specs.Prelude.{◌≡◌, ℕ, IfOk, unwrap_or, slice_get};
+ghost use Rattle.sip_round.specs.Steps.Form.{ArePlacesOf};
+
+use crate::output::{Output, PlacedOutput};
+use sip_message::Id;
+use sip_served::Item;
+use std::alloc::{AllocError, Global};
+
+/// How a round gives its outputs: alone, or each with the place of its event.
+pub(crate) trait Form: Drop {
+    ghost use Rattle.sip_round.specs.declared.output.Output.{Output};
+
+    /// The places of the events of the calls' items, where outputs are given with them.
+    type Places: Drop;
+
+    /// The output of the event of a place, in this form.
+    ghost form: { ℕ → Output → Self };
+
+    /// The place that was kept of the item at an index.
+    ghost place_at: { Self.Places → ℕ → ℕ };
+
+    /// An output of the event of this place, in this form.
+    fn of(place: u32, output: Output) -> Self
+        ensures { result ≡ form place output };
+
+    /// What has to be kept of the places of these items.
+    fn places_of(alloc: Global, items: &[(Id, Item)]) -> Result<Self::Places, AllocError>
+        ensures { IfOk result (ArePlacesOf form place_at items.now) };
+
+    /// The place that was kept of the item at this index.
+    fn place(places: &Self::Places, index: usize) -> u32
+        ensures { result ≡ place_at places.now index };
+}
+
+impl Form for Output {
+    type Places = ();
+
+    ghost form = { λ place output. output };
+
+    ghost place_at = { λ places index. 0 };
+
+    fn of(_place: u32, output: Output) -> Output {
+        output
+    }
+
+    fn places_of(_alloc: Global, _items: &[(Id, Item)]) -> Result<(), AllocError> {
+        Ok(())
+    }
+
+    fn place(_places: &(), _index: usize) -> u32 {
+        0
+    }
+}
+
+impl Form for PlacedOutput {
+    type Places = Vec<u32>;
+
+    ghost form = { λ place output. record { place = place; output = output } };
+
+    ghost place_at = { λ places index. unwrap_or (slice_get places.items index) 0 };
+
+    fn of(place: u32, output: Output) -> PlacedOutput {
+        PlacedOutput { place, output }
+    }
+
+    fn places_of(alloc: Global, items: &[(Id, Item)]) -> Result<Vec<u32>, AllocError> {
+        let mut places = Vec::with_capacity(alloc, items.len())?;
+        for (id, _) in items {
+            places.push(id.place)?;
+        }
+        Ok(places)
+    }
+
+    fn place(places: &Vec<u32>, index: usize) -> u32 {
+        places.get(index).copied().unwrap_or(0)
+    }
+}
