@@ -6,19 +6,21 @@ ghost use Rattle.sip_desk.specs.declared.desk.Desk.{Desk};
 ghost use Rattle.sip_desk.specs.declared.ended.Ended.{Ended};
 ghost use Rattle.sip_desk.specs.declared.settle_fault.SettleFault.TheVariants.{NotDrained};
 ghost use Rattle.sip_desk.specs.Merge.{IsMerge, HoldsParts};
-ghost use Rattle.sip_desk.specs.Lines.{taken, seen, all_posted};
+ghost use Rattle.sip_desk.specs.Lines.{TakesNothing, taken, seen, all_posted};
 ghost use Rattle.sip_desk.specs.Collected.{Collects, IsDry, Because};
 
 /// Laws: a merge of parts that is cut into rounds holds each part whole and in order; what is
-/// collected twice in turn is collected at once; and where nothing was taken before, the rounds
-/// into which all that was collected is cut hold what was taken from each line, in order and each
-/// event once.
+/// collected twice in turn is collected at once; a call that takes nothing, as `settle`, collects
+/// nothing, so it may stand between two that collect; and where nothing was taken before, the
+/// rounds into which all that was collected is cut hold what was taken from each line, in order and
+/// each event once.
 pub fn merges_in_rounds<E>()
     ensures cut { (parts : ℕ → List E) (rounds : List (List E))
         → IsMerge parts (flat_map (λ round. round) rounds) → HoldsParts parts rounds }
     ensures in_turn { (first between last : Desk E) (some more : List E)
         → Collects first between some → Collects between last more
         → Collects first last (some ++ more) }
+    ensures between { (old new : Desk E) → TakesNothing old new → Collects old new [] }
     ensures from_the_opening { (first last : Desk E) (rounds : List (List E))
         → ((line : ℕ) → taken first line ≡ [])
         → Collects first last (flat_map (λ round. round) rounds) → HoldsParts (taken last) rounds }
