@@ -263,21 +263,23 @@ invite_method branch method keeping =
 
 -- of a life that begins so
 few_from : (branch method : List ℕ) (now : ℕ) (id : Id) (call_id : List ℕ) (request : Message)
-    (to : Addr) (rest : List (Timed Input)) → is_request_message request ≡ true
-    → request.cseq.method ≡ method
+    (to : Addr) (rest : List (Timed Input))
+    → (method ≡ codes "INVITE"
+    → (is_request_message request ≡ true) × (request.cseq.method ≡ method))
     → IsWithinLife transaction_machine (key.Client branch method)
     (stepped (key.Client branch method) None (given_at now (Start id call_id request to))).0 rest
     → sends_of (written request) (outputs_from transaction_machine (key.Client branch method) None
     (given_at now (Start id call_id request to) ∷ rest))
     ≤ 1 + most_repeats (role_of (key.Client branch method))
 unfolding FitAfter
-few_from branch method now id call_id request to rest line same within =
+few_from branch method now id call_id request to rest own within =
     let k = key.Client branch method in
     let role = role_of k in
     let client = role_client branch method in
     let text = written request in
     let invite : keeps_request role ≡ true → first_of text ≡ Some 73 =
-    λ keeping. request_first request line (same ∙ invite_method branch method keeping) in
+    λ keeping. let is = invite_method branch method keeping in
+    request_first request (own is).0 ((own is).1 ∙ is) in
     let first = given_at now (Start id call_id request to) in
     let one : Few role text (1 + most_repeats role) (stepped k None first) =
     by_step (Few role text (1 + most_repeats role)) k None first
@@ -292,9 +294,9 @@ few_from branch method now id call_id request to rest line same within =
     omega (arith, later, both, few)
 
 pub few_sends : FewSends
-few_sends branch method inputs life now id call_id request to started line same =
+few_sends branch method inputs life now id call_id request to started own =
     let k = key.Client branch method in
     subst (λ first. IsWithinLife transaction_machine k (stepped k None first).0 life.rest
     → sends_of (written request) (outputs_from transaction_machine k None (first ∷ life.rest))
     ≤ 1 + most_repeats (role_of k)) (sym started)
-    (few_from branch method now id call_id request to life.rest line same) life.within
+    (few_from branch method now id call_id request to life.rest own) life.within

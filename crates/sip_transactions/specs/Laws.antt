@@ -1,5 +1,5 @@
 -- What holds of every transaction, over any list of its inputs.
-use Rattle.std.specs.Prelude.{◌≡◌, ℕ, ◌+◌, ◌≤◌, Bool, true, false, if◌then◌else◌, List, ◌++◌, Option, None, Some, count_by, filter_map}
+use Rattle.std.specs.Prelude.{◌≡◌, ℕ, ◌+◌, ◌≤◌, Bool, true, false, codes, if◌then◌else◌, List, ◌++◌, Option, None, Some, count_by, filter_map}
 use Rattle.std.specs.List.{AllByRecursion, list_any, IsDistinct}
 use Rattle.std.specs.Str.{bytes_eq}
 use Rattle.sip_message.specs.declared.id.Id.{Id}
@@ -150,13 +150,14 @@ is_send_of bytes (out.Dropped place reason) = false
 abbrev pub sends_of : List ℕ → List Out → ℕ
 sends_of bytes outs = count_by (is_send_of bytes) outs
 
--- a life that is begun by a start with a request of its key's method sends that request so often at
--- most
+-- a life that is begun by a start sends that request so often at most; a client of an INVITE where
+-- what it is given is one, since an ACK that it makes may have the bytes of another message
 abbrev pub FewSends : Type 0
 FewSends = (branch method : List ℕ) (inputs : List (Timed Input))
     (life : LifeIn transaction_machine (key.Client branch method) inputs)
     (now : ℕ) (id : Id) (call_id : List ℕ) (request : Message) (to : Addr)
     → life.first ≡ given_at now (Start id call_id request to)
-    → is_request_message request ≡ true → request.cseq.method ≡ method
+    → (method ≡ codes "INVITE"
+    → (is_request_message request ≡ true) × (request.cseq.method ≡ method))
     → sends_of (written request) (said_at_first life ++ said_in_rest life)
     ≤ 1 + most_repeats (role_of (key.Client branch method))
