@@ -3,7 +3,7 @@
 use crate::open::Open;
 use crate::options::options_of;
 use crate::stop::{Stop, expect};
-use sip_message::{Addr, Reason, Spread};
+use sip_message::{Addr, Content, Reason, Spread};
 use sip_round::{Agent, Config, Event, Output, Round};
 use sip_served::{Notice, Reliability, Respond, UserCommand};
 use sip_text::{Series, Text};
@@ -212,7 +212,7 @@ fn answer_to(alloc: Global, notice: &Notice) -> Result<Option<Event>, AllocError
         id: *id,
         status: OK,
         reliability: Reliability::Plain,
-        body: Text::from_vec(Vec::new(alloc)),
+        content: Content::of_body(alloc, Text::from_vec(Vec::new(alloc))),
         reason,
     }))))
 }

@@ -5,7 +5,7 @@ use crate::examples::worked::{LOCAL, PEER};
 use crate::messages::{message, token};
 use crate::stop::{Stop, check};
 use sip_dialog::{Branch, Dialog, DialogFault, DialogState};
-use sip_message::{Addr, Message, StatusCode, Uri};
+use sip_message::{Addr, Content, Message, StatusCode, Uri};
 use sip_text::Text;
 use std::alloc::Global;
 
@@ -139,7 +139,8 @@ fn try_next(
     body: &[u8],
 ) -> Result<Message, Stop> {
     let (method, branch) = (token(alloc, method)?, branch(alloc)?);
-    Ok(dialog.next_request(method, Text::copy_of(alloc, body)?, branch, LOCAL)?)
+    let content = Content::of_body(alloc, Text::copy_of(alloc, body)?);
+    Ok(dialog.next_request(method, content, branch, LOCAL)?)
 }
 
 // The next request has this number.
@@ -175,8 +176,8 @@ pub fn an_ack(alloc: Global) -> Result<(), Stop> {
 }
 
 fn acknowledges(alloc: Global, dialog: &Dialog) -> Result<(), Stop> {
-    let body = Text::copy_of(alloc, b"")?;
-    let ack = dialog.ack(1, body, branch(alloc)?, LOCAL)?;
+    let content = Content::of_body(alloc, Text::copy_of(alloc, b"")?);
+    let ack = dialog.ack(1, content, branch(alloc)?, LOCAL)?;
     is_written(alloc, &ack, ACK)
 }
 

@@ -2,7 +2,7 @@
 //! faults.
 
 use sip_dialog::{Branch, Dialog, DialogFault, DialogState};
-use sip_message::{Addr, Message, Token, Uri};
+use sip_message::{Addr, Content, Message, Token, Uri};
 use sip_reader::read;
 use sip_text::Text;
 use std::alloc::Global;
@@ -59,15 +59,15 @@ fn next_fault(
 ) -> Result<Option<DialogFault>, Fail> {
     let method = token(alloc, method)?;
     let branch = branch(alloc)?;
-    let body = Text::copy_of(alloc, b"")?;
-    Ok(dialog.next_request(method, body, branch, LOCAL).err())
+    let content = Content::of_body(alloc, Text::copy_of(alloc, b"")?);
+    Ok(dialog.next_request(method, content, branch, LOCAL).err())
 }
 
 // Why the ACK of the first INVITE isn't made.
 fn ack_fault(alloc: Global, dialog: &Dialog) -> Result<Option<DialogFault>, Fail> {
     let branch = branch(alloc)?;
-    let body = Text::copy_of(alloc, b"")?;
-    Ok(dialog.ack(1, body, branch, LOCAL).err())
+    let content = Content::of_body(alloc, Text::copy_of(alloc, b"")?);
+    Ok(dialog.ack(1, content, branch, LOCAL).err())
 }
 
 // Why a 200 doesn't confirm the dialog.
