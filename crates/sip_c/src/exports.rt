@@ -136,7 +136,8 @@ pub extern "C" fn sip_ua_raw_next_due(alloc: Global, handle: &mut Handle, due: &
     ensures same { handle.new.owned.host ≡ handle.old.owned.host }
     ensures none { handle.old.owned.host ≡ None → (result ≡ 1) × (due.new ≡ due_of None) }
     ensures told { IfSome handle.old.owned.host (λ host. (moment : Option ℕ) × (result ≡ 0)
-        × (due.new ≡ due_of moment) × ((config : Config) (rounds : List Round)
+        × (due.new ≡ due_of moment) × (host.agent.shards ≡ None → moment ≡ None)
+        × ((config : Config) (rounds : List Round)
         → StandsFor shard_of host.agent config rounds → IsNextDue config rounds moment)) }
 {
     let Some(host) = handle.take(alloc) else {

@@ -1,5 +1,5 @@
 -- The requests that outputs tell the user of; the ends of dialogs tell of none.
-use Rattle.std.proofs.Common.{◌≡◌, Bool, true, false, cond, List, [], ◌∷◌, ◌++◌, map, refl, ◌∙◌}
+use Rattle.std.proofs.Common.{◌≡◌, List, [], ◌∷◌, ◌++◌, map, refl, ◌∙◌}
 use Rattle.std.specs.Prelude.{Option, None, Some, filter, filter_map}
 use Rattle.std.specs.Map.{values_of}
 use Rattle.std.specs.Option.{option_map_or}
@@ -29,11 +29,6 @@ end_shown name dialogs = by_dialog (dialog_at name dialogs)
         → shown (option_map_or (λ held. ended_notice held ∷ []) found []) ≡ []
     by_dialog None = refl
     by_dialog (Some held) = refl
-
-pub end_or_not : (b : Bool) (name : DialogName) (dialogs : Dialogs)
-    → shown (cond {A = Dialogs × List CallOut} b (ended_at name dialogs) (dialogs, [])).1 ≡ []
-end_or_not true name dialogs = end_shown name dialogs
-end_or_not false name dialogs = refl
 
 pub early_shown : (invite : Id) (dialogs : Dialogs) → shown (early_ended invite dialogs).1 ≡ []
 early_shown invite dialogs = ends_shown (filter (is_early_of invite) (values_of dialogs))

@@ -161,6 +161,7 @@ impl Host {
     /// The first moment, in ms, at which something is due of what is held, if there is one: until
     /// then a host without events may sleep. Takes no memory.
     pub fn next_due(&self) -> Option<u64>
+        ensures broken { self.now.agent.shards ≡ None → result ≡ None }
         ensures before { (config : AConfig) (rounds : List ARound)
             → StandsFor shard_of self.now.agent config rounds
             → (moment : ℕ) → is_due moment result ≡ false → IsQuietAfter config rounds moment }

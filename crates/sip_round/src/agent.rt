@@ -135,6 +135,8 @@ impl<C: Cut + Drop> Agent<C> {
     /// The first moment, in ms, at which something is due of what is held, if there is one: until
     /// then a host may sleep. Takes no memory.
     pub fn next_due(&self) -> Option<u64>
+        ensures broken { self.now.shards ≡ None → result ≡ None }
+
         // Of an agent that stands for rounds: a round without events at an earlier moment gives
         // nothing and changes nothing of what is held; at this moment something is due.
         ensures before { (config : Config) (rounds : List Round)

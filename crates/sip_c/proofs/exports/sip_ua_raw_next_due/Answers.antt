@@ -1,4 +1,4 @@
-use Rattle.std.proofs.Common.{◌≡◌, ℕ, List, Option, refl, sym, subst}
+use Rattle.std.proofs.Common.{◌≡◌, ℕ, List, Option, None, ap, refl, sym, subst, ◌∙◌}
 use Rattle.std.specs.Prelude.{IfSome}
 use Rattle.sip_round.specs.Answers.{StandsFor}
 use Rattle.sip_round.specs.NextDue.{IsDueAfter}
@@ -11,12 +11,14 @@ use Rattle.sip_c.proofs.exports.sip_ua_raw_next_due.Goals as goal
 pub returns-clause-told : goal.returns-clause-told
 returns-clause-told c =
     subst (λ held. IfSome held (λ host. (moment : Option ℕ) × ◌≡◌ {A = ℕ} 0 0
-    × (c.due_of-2.result ≡ due_of moment) × ((config : Config) (rounds : List Round)
+    × (c.due_of-2.result ≡ due_of moment) × (host.agent.shards ≡ None → moment ≡ None)
+    × ((config : Config) (rounds : List Round)
     → StandsFor shard_of host.agent config rounds → IsNextDue config rounds moment)))
     (sym c.in-Some.ensures.taken) (
       c.next_due.result,
       refl,
       c.due_of-2.ensures,
+      λ broken. c.next_due.ensures.broken (ap (λ host. host.agent.shards) c.deref.ensures ∙ broken),
       λ config rounds stands.
           let here = subst (λ host. StandsFor shard_of host.agent config rounds)
           (sym c.deref.ensures) stands in
