@@ -32,7 +32,7 @@ use std::thread::Threads;
 use worked::{CONFIG, LOCAL, SEED};
 
 /// The names of the examples, in the order of their numbers.
-const NAMES: [&str; 43] = [
+const NAMES: [&str; 45] = [
     "unfold",
     "lines",
     "split_values",
@@ -76,6 +76,8 @@ const NAMES: [&str; 43] = [
     "read_command_line",
     "send_all",
     "Desk",
+    "Message::with_content",
+    "Agent::run_round_with_places",
 ];
 
 // The example of this number.
@@ -124,6 +126,10 @@ fn example<T: Threads + Sync>(threads: &T, alloc: Global, number: usize) -> Resu
         40 => files::a_command_is_read(alloc),
         41 => files::a_failed_send_is_told(alloc, &mut FirstFails::default()),
         42 => lines::a_line_is_settled(alloc),
+        43 => messages::a_content_of_the_user(alloc),
+        44 => {
+            rounds::outputs_have_the_places_of_their_events(threads, alloc, &mut agent(alloc)?)
+        }
         _ => Err(Stop::Words),
     }
 }

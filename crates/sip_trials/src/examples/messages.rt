@@ -4,7 +4,8 @@ use crate::examples::worked::{OK, OPTIONS, key_in};
 use crate::messages::{TAG, message, success_to, token};
 use crate::stop::{Stop, check};
 use sip_message::{
-    Addr, Cut, First, Header, Key, Message, Spread, Token, ack_for, cancel_for, stamp_source, write,
+    Addr, Content, Cut, First, Header, Key, Message, Spread, Token, ack_for, cancel_for,
+    stamp_source, write,
 };
 use std::alloc::{AllocError, Global};
 
@@ -55,6 +56,38 @@ x: gzip\r
 Content-Length: 2\r
 \r
 ab";
+
+/// A message whose headers and body the user puts into another.
+const GIVEN: &[u8] = b"OPTIONS sip:192.0.2.1 SIP/2.0\r
+Via: SIP/2.0/UDP 192.0.2.9;branch=z9hG4bKa2\r
+From: <sip:a@192.0.2.9>;tag=f2\r
+To: <sip:192.0.2.1>\r
+Call-ID: c2\r
+CSeq: 8 OPTIONS\r
+Contact: <sip:u@192.0.2.7>;expires=60\r
+Require: x\r
+Supported: timer\r
+Subject: a b\r
+Content-Type: text/plain\r
+Content-Length: 2\r
+\r
+hi";
+
+/// The request of the examples with them.
+const WITH_CONTENT: &[u8] = b"OPTIONS sip:192.0.2.1 SIP/2.0\r
+Via: SIP/2.0/UDP 192.0.2.9;branch=z9hG4bKa1\r
+From: <sip:a@192.0.2.9>;tag=f1\r
+To: <sip:192.0.2.1>\r
+Call-ID: c1\r
+CSeq: 7 OPTIONS\r
+Contact: <sip:u@192.0.2.7>;expires=60\r
+Require: x\r
+Supported: timer\r
+Subject: a b\r
+Content-Type: text/plain\r
+Content-Length: 2\r
+\r
+hi";
 
 /// The names and values of the headers that are kept of it as they stand.
 const KEPT: [(&[u8], &[u8]); 5] = [
@@ -254,4 +287,21 @@ pub fn names_are_cut() -> Result<(), Stop> {
             && First.shard(b"ab", 7) == 0
             && First.shard(b"", 7) == 0,
     )
+}
+
+pub fn a_content_of_the_user(alloc: Global) -> Result<(), Stop> {
+    let content = content_of(&message(alloc, GIVEN)?)?;
+    let made = message(alloc, OPTIONS)?.with_content(alloc, content)?;
+    check(write(alloc, &made)?.as_slice() == WITH_CONTENT)
+}
+
+// The headers of a message that a content may have, and its body.
+fn content_of(given: &Message) -> Result<Content, Stop> {
+    Ok(Content {
+        contacts: given.contacts.clone()?,
+        supported: given.supported.clone()?,
+        require: given.require.clone()?,
+        others: given.others.clone()?,
+        body: given.body.clone()?,
+    })
 }

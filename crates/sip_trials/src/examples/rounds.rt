@@ -8,7 +8,7 @@ use crate::refusals::{SHARDS, WORKERS, has_left, outputs_of};
 use crate::stop::{Stop, broken_where, check};
 use sip_files::{read_events, write_outputs};
 use sip_message::Spread;
-use sip_round::{Agent, Event, Output, Round, RoundFault, run};
+use sip_round::{Agent, Event, Output, PlacedOutput, Round, RoundFault, run};
 use sip_text::{Series, Text};
 use std::alloc::Global;
 use std::thread::Threads;
@@ -156,4 +156,50 @@ pub fn a_failed_client_is_gone<R: Threads + Sync>(
         check(outputs_of(rt, agent, round)?.len() == 1)?;
     }
     check(agent.live() == (0, 0))
+}
+
+// The outputs of a round with their places. Where it was refused memory and the agent stands, the
+// same round gives them.
+fn placed<R: Threads + Sync>(
+    rt: &R,
+    agent: &mut Agent<Spread>,
+    round: &Round,
+) -> Result<Vec<PlacedOutput>, Stop> {
+    match agent.run_round_with_places(rt, round, WORKERS, &Open) {
+        Ok(outputs) => Ok(outputs),
+        Err(RoundFault::NoMemory { broken: false }) => {
+            Ok(agent.run_round_with_places(rt, round, WORKERS, &Open)?)
+        }
+        Err(RoundFault::NoMemory { broken: true }) => Err(broken_where(has_left(agent))),
+        Err(_) => Err(Stop::Different),
+    }
+}
+
+// A datagram that is no message is the first event, a request the second.
+pub fn outputs_have_the_places_of_their_events<R: Threads + Sync>(
+    rt: &R,
+    alloc: Global,
+    agent: &mut Agent<Spread>,
+) -> Result<(), Stop> {
+    let mut events = Series::new(alloc);
+    for text in [b"none".as_slice(), OPTIONS] {
+        let bytes = Text::copy_of(alloc, text)?;
+        events.push(Event::Datagram { from: PEER, bytes })?;
+    }
+    let outputs = placed(rt, agent, &Round { moment: 0, events })?;
+    check(are_a_drop_and_a_notice(&outputs))?;
+    let quiet = agent.run_round_in_turn_with_places(&quiet(alloc, 10))?;
+    check(quiet.is_empty())
+}
+
+fn are_a_drop_and_a_notice(outputs: &[PlacedOutput]) -> bool {
+    match outputs {
+        [dropped, told] => {
+            dropped.place == 1
+                && matches!(dropped.output, Output::Dropped { .. })
+                && told.place == 2
+                && matches!(told.output, Output::Notice(_))
+        }
+        _ => false,
+    }
 }
