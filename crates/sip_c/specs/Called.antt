@@ -20,8 +20,6 @@ use Rattle.sip_c.specs.declared.values.Configuration.{Configuration}
 use Rattle.sip_c.specs.declared.values.Due.{Due}
 use Rattle.sip_c.specs.declared.values.Told.{Told}
 
--- ---- values of C
-
 -- an address as C gives it
 abbrev pub addr_of : Address → Addr
 addr_of address = record { ip = address.ip; port = address.port }
@@ -51,8 +49,6 @@ told_of (Some next) =
 abbrev pub due_of : Option ℕ → Due
 due_of None = record { is_due = false; moment = 0 }
 due_of (Some moment) = record { is_due = true; moment = moment }
-
--- ---- calls
 
 -- without an agent nothing is done; else the number of the answer is given, and the agent is after
 -- a good answer what the call says, and after a fault as it was
