@@ -206,8 +206,7 @@ goes_on kind version lines said draft header headers fits e says =
     let went_on : went waits plain_line ≡ Some (waiting next []) =
     ap (λ o. option_map (λ d. waiting d [])
     (option_map (λ rounds. record draft { rounds = rounds }) o)) more.1 in
-    let text = command_text (command.Plain least_plain) in
-    (
+    let text = command_text (command.Plain least_plain) in (
       with_ends (text ∷ []),
       next.config,
       next.rounds,

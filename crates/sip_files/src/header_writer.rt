@@ -60,10 +60,17 @@ fn push_addresses(file: &mut Vec<u8>, name: &[u8], addresses: &[NameAddr]) -> Re
         ++ flat_map (written.address_line name.now) addresses.now) }
 {
     for address in addresses {
-        let value = address_value(*file.allocator(), address)?;
-        push_line(file, name, value.as_slice())?;
+        push_address(file, name, address)?;
     }
     Ok(())
+}
+
+fn push_address(file: &mut Vec<u8>, name: &[u8], address: &NameAddr) -> Result<(), AllocError>
+    ensures { OnOk result (file.new.items ≡ file.old.items
+        ++ written.address_line name.now address.now) }
+{
+    let value = address_value(*file.allocator(), address)?;
+    push_line(file, name, value.as_slice())
 }
 
 fn push_tokens(file: &mut Vec<u8>, name: &[u8], tokens: &[Token]) -> Result<(), AllocError>

@@ -52,10 +52,7 @@ pub(crate) fn with_next(
 }
 
 // Header lines stand in rounds.
-fn with_header(
-    mut progress: Progress,
-    header: GivenHeader,
-) -> Result<Option<Progress>, AllocError>
+fn with_header(mut progress: Progress, header: GivenHeader) -> Result<Option<Progress>, AllocError>
     ensures { IfOk result (λ next. next ≡ drafting.header_went progress header) }
 {
     match progress.draft.rounds.as_slice() {

@@ -51,7 +51,11 @@ pub(crate) fn version_in(kind: FileKind, line: &[u8]) -> Option<Version>
     ensures { result ≡ lines.version_in kind line.now }
 {
     let version = read_version(line)?;
-    if version.is_of_kind(kind) { Some(version) } else { None }
+    if version.is_of_kind(kind) {
+        Some(version)
+    } else {
+        None
+    }
 }
 
 fn read_version(line: &[u8]) -> Option<Version>
