@@ -184,9 +184,9 @@ cancel_reads =
 abbrev IsCancelIn : Version → Cancel → Type 0
 IsCancelIn version c = IsTrue (has_cancel version) × IsCancel c
 
-cancel_where : {version : Version} → has_cancel version ≡ true
+cancel_where : (version : Version) → has_cancel version ≡ true
     → Reads (IsCancelIn version) cancel_fields cancel_at
-cancel_where is = record {
+cancel_where version is = record {
   took = λ fields c e. (let t = cancel_reads.took fields c e in ((is, t.0), t.1));
   again = λ c fits. cancel_reads.again c fits.1;
 }
@@ -194,8 +194,8 @@ cancel_where is = record {
 pub cancel_reads_in : (version : Version)
     → Reads (IsCancelIn version) cancel_fields (cancel_in version)
 cancel_reads_in One = record { took = λ fields c e. absurd cc; again = λ c fits. absurd cc }
-cancel_reads_in Two = cancel_where refl
-cancel_reads_in Session = cancel_where refl
+cancel_reads_in Two = cancel_where Two refl
+cancel_reads_in Session = cancel_where Session refl
 
 -- the space behind the keyword stands before the first field
 onward : (k x y : List ℕ) → k ++ 32 ∷ (x ++ 32 ∷ y) ≡ (k ++ 32 ∷ x) ++ 32 ∷ y

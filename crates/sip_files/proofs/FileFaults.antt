@@ -214,7 +214,7 @@ goes_on kind version lines said draft header headers fits e says =
           (file_text version lines ++ with_ends (text ∷ [])) fits
           (gone-push went no_lines waits said plain_line e ∙ went_on)
           (begun_unless next.stage (in_rounds waits said h some))
-          (zip_push (λ l x. SpellsLine version l x) lines said text plain_line says
+          (zip_push (SpellsLine version) lines said text plain_line says
           (least_is_plain, refl))
           (ended_lines version lines text),
     )

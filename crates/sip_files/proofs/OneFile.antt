@@ -15,7 +15,7 @@ use Rattle.sip_files.specs.declared.draft.Stage.{Stage}
 use Rattle.sip_files.specs.declared.draft.Stage.TheVariants as stage
 use Rattle.sip_files.specs.declared.progress.Progress.{Progress}
 use Rattle.sip_files.specs.EventFile.{config_of, file_lines, headed_lines, with_ends, version_line, SpellsIn, SpellsFile, HasVersion}
-use Rattle.sip_files.specs.Drafting.{no_lines, is_begun, is_whole, went, gone}
+use Rattle.sip_files.specs.Drafting.{nothing_read, no_lines, is_begun, is_whole, went, gone}
 use Rattle.sip_files.specs.Lines.{FollowsVersion, Drafts, Stuck}
 use Rattle.sip_files.proofs.Drafts.{next_gone, Begun, Gives, file_gives}
 use Rattle.sip_files.proofs.HeadedLines.{waiting, headed_gone}
@@ -52,7 +52,7 @@ pub goes : (version : Version) (config : Config) (rounds : List Round) (text : L
     → gone no_lines (said_by s) ≡ Some (waiting (gives version config rounds text s).draft [])
 goes version config rounds text s =
     let g = gives version config rounds text s in
-    headed_gone no_lines.draft g.draft s.headed (file_lines s.head rounds) s.made g.taken_all
+    headed_gone nothing_read g.draft s.headed (file_lines s.head rounds) s.made g.taken_all
 
 pub record Same (config : Config) (rounds : List Round) (draft : Draft) : Type 0 where
   pub configured : draft.config ≡ config

@@ -1,10 +1,7 @@
 //! The header lines before the line of a command, put into its content.
 
 ghost use Rattle.std.specs.Prelude.{◌≡◌, ◌++◌, [], IfOk, OnOk};
-ghost use Rattle.std.specs.Option.{option_map};
 ghost use Rattle.sip_files.specs.Given as given;
-ghost use Rattle.sip_files.specs.declared.event_line.EventLine.TheVariants as line;
-ghost use Rattle.sip_round.specs.declared.round.Event.TheVariants as event;
 
 use crate::event_line::EventLine;
 use crate::given_header::GivenHeader;
