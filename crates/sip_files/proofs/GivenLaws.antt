@@ -114,7 +114,8 @@ other_again header parts k =
     ap is_other_name (sym k.name_is) ∙ k.good_name in
     let valued : is_header_value parts.1 ≡ true =
     ap is_header_value (sym k.value_is) ∙ k.good_value in
-    ap (λ r. other_given (cond r (cond (is_header_value parts.1) (Some (one ∷ [])) None) None)) named
+    ap (λ r. other_given (cond r (cond (is_header_value parts.1) (Some (one ∷ [])) None) None))
+    named
     ∙ ap (λ r. other_given (cond r (Some (one ∷ [])) None)) valued
     ∙ ap (λ (n : List ℕ). Some (given.Other (record { name = n; value = parts.1 }))) (sym k.name_is)
     ∙ ap (λ (v : List ℕ). Some (given.Other (record { name = header.name; value = v })))

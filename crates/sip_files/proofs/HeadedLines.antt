@@ -96,11 +96,16 @@ line_goes draft next headers item x e f =
 item_goes : (draft next : Draft) (headers : List GivenHeader) (item x : EventLine)
     → with_headers headers item ≡ Some x → taken draft x ≡ Some next
     → went (waiting draft headers) item ≡ Some (waiting next [])
-item_goes draft next headers (line.Local a) x e f = line_goes draft next headers (line.Local a) x e f
-item_goes draft next headers (line.Seed a) x e f = line_goes draft next headers (line.Seed a) x e f
-item_goes draft next headers (line.First a) x e f = line_goes draft next headers (line.First a) x e f
-item_goes draft next headers (line.Round a) x e f = line_goes draft next headers (line.Round a) x e f
-item_goes draft next headers (line.Event a) x e f = line_goes draft next headers (line.Event a) x e f
+item_goes draft next headers (line.Local a) x e f =
+    line_goes draft next headers (line.Local a) x e f
+item_goes draft next headers (line.Seed a) x e f =
+    line_goes draft next headers (line.Seed a) x e f
+item_goes draft next headers (line.First a) x e f =
+    line_goes draft next headers (line.First a) x e f
+item_goes draft next headers (line.Round a) x e f =
+    line_goes draft next headers (line.Round a) x e f
+item_goes draft next headers (line.Event a) x e f =
+    line_goes draft next headers (line.Event a) x e f
 item_goes draft next [] (line.Header a) x e f =
     let none : ◌≡◌ {A = Option Draft} None (Some next) =
     ap (taken draft) (same_some (line.Header a) x e) ∙ f in absurd cc

@@ -288,8 +288,8 @@ header_in_session Two text header s = elim s [ ]
 header_in_session Session text header s = s
 
 -- a session has every line
-pub in_session : (version : Version) (text : List ℕ) (item : EventLine) → SpellsLine version text item
-    → SpellsLine Session text item
+pub in_session : (version : Version) (text : List ℕ) (item : EventLine)
+    → SpellsLine version text item → SpellsLine Session text item
 in_session version text (line.Local address) s = s
 in_session version text (line.Seed seed) s = s
 in_session version text (line.First number) s = s

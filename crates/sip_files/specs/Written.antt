@@ -1,5 +1,5 @@
--- The event file and the session file that are written: of each configuration and list of rounds one
--- text of either. The event file is of version 2; neither leaves a line of the head out.
+-- The event file and the session file that are written: of each configuration and list of rounds
+-- one text of either. The event file is of version 2; neither leaves a line of the head out.
 use Rattle.std.specs.Prelude.{◌≡◌, ℕ, ◌≤◌, ◌^◌, ◌-◌, List, [], ◌∷◌, ◌++◌, map, Option, Some, None, IsTrue, codes}
 use Rattle.std.specs.List.{flat_map, AllByRecursion}
 use Rattle.std.specs.Str.{str_to_ascii_lowercase}

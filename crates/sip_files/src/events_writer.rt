@@ -1,5 +1,5 @@
-//! Writes event files and session files: the head, and then one round after the other, as a run goes
-//! on.
+//! Writes event files and session files: the head, and then one round after the other, as a run
+//! goes on.
 
 ghost use Rattle.std.specs.Prelude.{◌≡◌, ◌++◌, IfOk, OnOk, codes};
 ghost use Rattle.std.specs.List.{flat_map};

@@ -54,8 +54,8 @@ pub fn one_meaning_of_a_session()
 {}
 
 /// Every event file is a session of the same configuration and rounds. And lines of which none
-/// begins with a space, so that none is a header line, are a session where they are an event file of
-/// version 2, but for the line of the version.
+/// begins with a space, so that none is a header line, are a session where they are an event file
+/// of version 2, but for the line of the version.
 pub fn an_event_file_is_a_session()
     ensures session { (config : Config) (rounds : List Round) (text : List ℕ)
         → SpellsEvents config rounds text → SpellsSession config rounds text }

@@ -1,4 +1,5 @@
-//! How far the lines of a file were read: a draft, and the header lines that wait for their command.
+//! How far the lines of a file were read: a draft, and the header lines that wait for their
+//! command.
 
 ghost use Rattle.std.specs.Prelude.{◌≡◌, IfOk};
 ghost use Rattle.sip_files.specs.Drafting as drafting;

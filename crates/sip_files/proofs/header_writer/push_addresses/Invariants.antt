@@ -5,4 +5,5 @@ use Rattle.sip_files.proofs.header_writer.push_addresses.Given as goal
 
 abbrev pub invariant-loop-address : goal.invariant-loop-address
 invariant-loop-address l =
-    l.file.items ≡ l.fn.file.items ++ flat_map (written.address_line l.name) (take l.address-index l.addresses)
+    l.file.items ≡ l.fn.file.items
+    ++ flat_map (written.address_line l.name) (take l.address-index l.addresses)

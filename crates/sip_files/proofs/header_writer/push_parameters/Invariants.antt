@@ -5,4 +5,5 @@ use Rattle.sip_files.proofs.header_writer.push_parameters.Given as goal
 
 abbrev pub invariant-loop-parameter : goal.invariant-loop-parameter
 invariant-loop-parameter l =
-    l.text.items ≡ l.fn.text.items ++ flat_map message.parameter_text (take l.parameter-index l.parameters)
+    l.text.items ≡ l.fn.text.items
+    ++ flat_map message.parameter_text (take l.parameter-index l.parameters)

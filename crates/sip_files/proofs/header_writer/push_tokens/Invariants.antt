@@ -5,4 +5,5 @@ use Rattle.sip_files.proofs.header_writer.push_tokens.Given as goal
 
 abbrev pub invariant-loop-token : goal.invariant-loop-token
 invariant-loop-token l =
-    l.file.items ≡ l.fn.file.items ++ flat_map (written.header_line l.name) (take l.token-index l.tokens)
+    l.file.items ≡ l.fn.file.items
+    ++ flat_map (written.header_line l.name) (take l.token-index l.tokens)
