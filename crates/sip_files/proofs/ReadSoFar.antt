@@ -109,7 +109,8 @@ module _ (version : Version) (progress : Progress) (number : ℕ) (text left : L
 
   pub all_read : left ≡ [] → is_whole progress ≡ true → Drafts version progress.draft text
   all_read none whole =
-      let both = and_parts (is_begun progress.draft.stage) (eqb (length progress.headers) 0) whole in
+      let both = and_parts (is_begun progress.draft.stage)
+      (eqb (length progress.headers) 0) whole in
       let empty : progress.headers ≡ [] =
       nil_from_length progress.headers (eqb-true (length progress.headers) 0 both.1) in
       record {
