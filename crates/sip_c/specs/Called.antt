@@ -1,5 +1,5 @@
 -- What calls through a handle do.
-use Rattle.std.specs.Prelude.{◌≡◌, ◌⊎◌, ◌^◌, ℕ, Bool, ◌&&◌, false, List, Option, None, Some, IsSomeAnd, length, nat_le, replicate, if◌then◌else◌}
+use Rattle.std.specs.Prelude.{◌≡◌, ◌⊎◌, ◌^◌, ℕ, Bool, ◌&&◌, false, true, List, Option, None, Some, IsSomeAnd, length, nat_le, replicate}
 use Rattle.std.specs.List.{slice_get}
 use Rattle.sip_message.specs.declared.addr.Addr.{Addr}
 use Rattle.sip_round.specs.NextDue.{IsDueAfter, IsQuietAfter}
@@ -55,13 +55,11 @@ due_of (Some moment) = record { is_due = true; moment = moment }
 abbrev pub can_begin : Config → ℕ → Bool
 can_begin config shards = nat_le 1 shards && nat_le shards 256 && nat_le config.first (2 ^ 62)
 
--- a handle that holds an agent keeps it; where an agent can be started so, it is, or memory was
--- refused
-abbrev pub Makes : Option Host → Option Host → ℕ → Config → ℕ → Type 0
-Makes (Some old) new number config shards = (number ≡ 2) × (new ≡ Some old)
-Makes None new number config shards = if can_begin config shards
-    then ((number ≡ 0) × IsSomeAnd new (Begins config shards)) ⊎ ((number ≡ 10) × (new ≡ None))
-    else (number ≡ 12) × (new ≡ None)
+-- an agent is started in a handle that held none, where it can be started so, or memory was refused
+abbrev pub Makes : Bool → Option Host → ℕ → Config → ℕ → Type 0
+Makes true new number config shards =
+    ((number ≡ 0) × IsSomeAnd new (Begins config shards)) ⊎ ((number ≡ 10) × (new ≡ None))
+Makes false new number config shards = (number ≡ 12) × (new ≡ None)
 
 -- without an agent nothing is done; else the call does to the agent what it says, by its answer, of
 -- which the number is given

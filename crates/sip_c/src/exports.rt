@@ -1,11 +1,11 @@
 //! The functions that C calls. Each takes the agent out of its handle, calls it, and puts it back.
 
-ghost use Rattle.std.specs.Prelude.{◌≡◌, ℕ, IfSome, List, None, Option, is_some, if◌then◌else◌};
+ghost use Rattle.std.specs.Prelude.{◌≡◌, ℕ, IfSome, IsSome, List, None, Option, is_some, if◌then◌else◌};
 ghost use Rattle.sip_round.specs.Answers.{StandsFor};
 ghost use Rattle.sip_host.specs.Hosting.{RunsRound, TakesDatagram, TakesFailure, TakesLine, shard_of};
 ghost use Rattle.sip_round.specs.declared.config.Config.{Config};
 ghost use Rattle.sip_round.specs.declared.round.Round.{Round};
-ghost use Rattle.sip_c.specs.Called.{Calls, GivesNext, IsNextDue, Makes, addr_of, config_of, due_of};
+ghost use Rattle.sip_c.specs.Called.{Calls, GivesNext, IsNextDue, Makes, addr_of, can_begin, config_of, due_of};
 
 use crate::handle::Handle;
 use crate::status::{
@@ -27,13 +27,16 @@ pub extern "C" fn sip_ua_raw_new(
     configuration: &Configuration,
     shards: usize,
 ) -> u32
-    ensures { Makes handle.old.owned.host handle.new.owned.host result
+    ensures held { IsSome handle.old.owned.host
+        → (result ≡ 2) × (handle.new.owned.host ≡ handle.old.owned.host) }
+    ensures made { handle.old.owned.host ≡ None
+        → Makes (can_begin (config_of configuration.now) shards) handle.new.owned.host result
         (config_of configuration.now) shards }
 {
     if handle.is_held() {
         return HELD;
     }
-    if shards == 0 || shards > MAX_SHARDS || configuration.first > MAX_MOMENT {
+    if !can_begin(configuration, shards) {
         return BAD_CONFIGURATION;
     }
     let Ok(host) = Host::new(alloc, configuration.config(), shards) else {
@@ -44,6 +47,13 @@ pub extern "C" fn sip_ua_raw_new(
     };
     handle.put(host);
     OK
+}
+
+// Whether an agent of so many shards can be started with this.
+fn can_begin(configuration: &Configuration, shards: usize) -> bool
+    ensures { result ≡ can_begin (config_of configuration.now) shards }
+{
+    1 <= shards && shards <= MAX_SHARDS && configuration.first <= MAX_MOMENT
 }
 
 /// A datagram came in.

@@ -16,7 +16,7 @@ use Rattle.sip_round.specs.declared.round_fault.RoundFault.TheVariants as round_
 use Rattle.sip_host.specs.Handing.{sent_key, text_of, told_failure}
 use Rattle.sip_host.specs.declared.host.Host.{Host}
 use Rattle.sip_host.specs.declared.host_fault.HostFault.{HostFault}
-use Rattle.sip_host.specs.declared.host_fault.HostFault.TheVariants as fault
+use Rattle.sip_host.specs.declared.host_fault.HostFault.TheVariants as host_fault
 
 -- how the names of a host's agent are cut among its shards
 abbrev pub shard_of : Spread → List ℕ → ℕ → ℕ
@@ -78,40 +78,40 @@ pub record TakesDatagram (from : Addr) (bytes : List ℕ) (old new : Host) (answ
     Type 0 where
   pub added : OnOk answer (new ≡ with_events old (Datagram from bytes ∷ []))
   pub same : OnErr answer (new ≡ old)
-  pub full : 65536 ≤ length old.events → answer ≡ Err fault.TooManyEvents
-  pub fault : length old.events < 65536 → OnErr answer (answer ≡ Err fault.NoMemory)
+  pub full : 65536 ≤ length old.events → answer ≡ Err host_fault.TooManyEvents
+  pub fault : length old.events < 65536 → OnErr answer (answer ≡ Err host_fault.NoMemory)
 
 -- so is what a line says; a line that says no event is bad
 pub record TakesLine (line : List ℕ) (old new : Host) (answer : Answer) : Type 0 where
   pub added : OnOk answer (SaysEvent line old new)
   pub same : OnErr answer (new ≡ old)
-  pub full : 65536 ≤ length old.events → answer ≡ Err fault.TooManyEvents
+  pub full : 65536 ≤ length old.events → answer ≡ Err host_fault.TooManyEvents
   pub fault : length old.events < 65536
-      → OnErr answer ((answer ≡ Err fault.BadLine) ⊎ (answer ≡ Err fault.NoMemory))
-  pub bad : answer ≡ Err fault.BadLine → (event : Event) → ¬ SpellsEventLine line event
+      → OnErr answer ((answer ≡ Err host_fault.BadLine) ⊎ (answer ≡ Err host_fault.NoMemory))
+  pub bad : answer ≡ Err host_fault.BadLine → (event : Event) → ¬ SpellsEventLine line event
 
 -- so is the failure of the send of this index, where a transaction stands behind the send
 pub record TakesFailure (output : ℕ) (old new : Host) (answer : Answer) : Type 0 where
-  pub no_send : sent_key (slice_get old.outputs.items output) ≡ None → answer ≡ Err fault.NoSend
+  pub no_send : sent_key (slice_get old.outputs.items output) ≡ None → answer ≡ Err host_fault.NoSend
   pub told : OnOk answer (Reports output old new)
   pub same : OnErr answer (new ≡ old)
   pub fault : IfSome (sent_key (slice_get old.outputs.items output))
-      (λ key. OnErr answer ((answer ≡ Err fault.NoMemory)
-      ⊎ ((answer ≡ Err fault.TooManyEvents) × (65536 ≤ length old.events))))
+      (λ key. OnErr answer ((answer ≡ Err host_fault.NoMemory)
+      ⊎ ((answer ≡ Err host_fault.TooManyEvents) × (65536 ≤ length old.events))))
 
 -- the events are dealt with at a moment, which is one round; a fault changes nothing, but that an
 -- agent to which memory was refused in the midst of its round holds nothing from then on
 pub record RunsRound (moment : ℕ) (old new : Host) (answer : Answer) : Type 0 where
   pub left : old.taken < length old.outputs.items
-      → (answer ≡ Err fault.OutputsLeft) × (new ≡ old)
+      → (answer ≡ Err host_fault.OutputsLeft) × (new ≡ old)
   pub refused : length old.outputs.items ≤ old.taken
       → IfSome (refusal_of old.agent (round_at moment old))
-      (λ why. (answer ≡ Err (fault.Round why)) × (new ≡ old))
+      (λ why. (answer ≡ Err (host_fault.Round why)) × (new ≡ old))
   pub memory : length old.outputs.items ≤ old.taken
       → refusal_of old.agent (round_at moment old) ≡ None
-      → OnErr answer ((answer ≡ Err (fault.Round (round_fault.NoMemory false)))
-      ⊎ (answer ≡ Err (fault.Round (round_fault.NoMemory true))))
-  pub same : OnErr answer (¬ (answer ≡ Err (fault.Round (round_fault.NoMemory true)))
+      → OnErr answer ((answer ≡ Err (host_fault.Round (round_fault.NoMemory false)))
+      ⊎ (answer ≡ Err (host_fault.Round (round_fault.NoMemory true))))
+  pub same : OnErr answer (¬ (answer ≡ Err (host_fault.Round (round_fault.NoMemory true)))
       → new ≡ old)
-  pub broken : answer ≡ Err (fault.Round (round_fault.NoMemory true)) → new.agent.shards ≡ None
+  pub broken : answer ≡ Err (host_fault.Round (round_fault.NoMemory true)) → new.agent.shards ≡ None
   pub answers : OnOk answer (IsAnswered moment old new)

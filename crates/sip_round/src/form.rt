@@ -1,7 +1,7 @@
 //! The form in which a round gives its outputs. A round is led by one code for both forms, and the
 //! one without places keeps none.
 
-ghost use Rattle.std.specs.Prelude.{◌≡◌, ℕ, IfOk, unwrap_or, slice_get};
+ghost use Rattle.std.specs.Prelude.{◌≡◌, ℕ, ◌++◌, ◌∷◌, [], IfOk, OnOk, unwrap_or, slice_get};
 ghost use Rattle.sip_round.specs.Steps.Form.{ArePlacesOf};
 
 use crate::output::{Output, PlacedOutput};
@@ -10,7 +10,7 @@ use sip_served::Item;
 use std::alloc::{AllocError, Global};
 
 /// How a round gives its outputs: alone, or each with the place of its event.
-pub(crate) trait Form: Drop {
+pub(crate) trait Form: Sized + Drop {
     ghost use Rattle.sip_round.specs.declared.output.Output.{Output};
 
     /// The places of the events of the calls' items, where outputs are given with them.
@@ -22,9 +22,9 @@ pub(crate) trait Form: Drop {
     /// The place that was kept of the item at an index.
     ghost place_at: { Self.Places → ℕ → ℕ };
 
-    /// An output of the event of this place, in this form.
-    fn of(place: u32, output: Output) -> Self
-        ensures { result ≡ form place output };
+    /// An output of the event of this place goes behind the others, in this form.
+    fn push(outputs: &mut Vec<Self>, place: u32, output: Output) -> Result<(), AllocError>
+        ensures { OnOk result (outputs.new.items ≡ outputs.old.items ++ form place output ∷ []) };
 
     /// What has to be kept of the places of these items.
     fn places_of(alloc: Global, items: &[(Id, Item)]) -> Result<Self::Places, AllocError>
@@ -42,8 +42,8 @@ impl Form for Output {
 
     ghost place_at = { λ places index. 0 };
 
-    fn of(_place: u32, output: Output) -> Output {
-        output
+    fn push(outputs: &mut Vec<Output>, _place: u32, output: Output) -> Result<(), AllocError> {
+        Ok(outputs.push(output)?)
     }
 
     fn places_of(_alloc: Global, _items: &[(Id, Item)]) -> Result<(), AllocError> {
@@ -62,8 +62,8 @@ impl Form for PlacedOutput {
 
     ghost place_at = { λ places index. unwrap_or (slice_get places.items index) 0 };
 
-    fn of(place: u32, output: Output) -> PlacedOutput {
-        PlacedOutput { place, output }
+    fn push(outputs: &mut Vec<PlacedOutput>, place: u32, output: Output) -> Result<(), AllocError> {
+        Ok(outputs.push(PlacedOutput { place, output })?)
     }
 
     fn places_of(alloc: Global, items: &[(Id, Item)]) -> Result<Vec<u32>, AllocError> {

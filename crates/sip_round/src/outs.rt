@@ -66,10 +66,10 @@ fn put<F: Form>(
         Out::Up(up) => items.push((id, Item::Up(up)))?,
         Out::Send { key, to, bytes } => {
             let key = Some(key);
-            outputs.push(F::of(id.place, Output::Send { key, to, bytes }))?;
+            F::push(outputs, id.place, Output::Send { key, to, bytes })?;
         }
         Out::Dropped { place, reason } => {
-            outputs.push(F::of(id.place, Output::Dropped { place, reason }))?;
+            F::push(outputs, id.place, Output::Dropped { place, reason })?;
         }
     }
     Ok(())
@@ -96,7 +96,7 @@ fn send<F: Form>(outs: Vec<Out>, outputs: &mut Vec<F>) -> Result<(), AllocError>
 {
     for out in outs {
         if let Some(output) = sent(out) {
-            outputs.push(F::of(0, output))?;
+            F::push(outputs, 0, output)?;
         }
     }
     Ok(())
@@ -166,11 +166,11 @@ fn part_call<F: Form>(
 {
     for out in outs {
         match out {
-            CallOut::Notice(notice) => outputs.push(F::of(place, Output::Notice(notice)))?,
+            CallOut::Notice(notice) => F::push(outputs, place, Output::Notice(notice))?,
             CallOut::Command(id, command) => commands.push((id, command))?,
             CallOut::Direct { to, bytes } => {
                 let key = None;
-                outputs.push(F::of(place, Output::Send { key, to, bytes }))?;
+                F::push(outputs, place, Output::Send { key, to, bytes })?;
             }
         }
     }

@@ -135,7 +135,7 @@ fn put_one<F: Form>(
         }
         Waiting::Dropped(reason) => {
             let place = id.place;
-            outputs.push(F::of(place, Output::Dropped { place, reason }))?;
+            F::push(outputs, place, Output::Dropped { place, reason })?;
         }
         Waiting::User(command) => items.push((id, Item::User(command)))?,
     }

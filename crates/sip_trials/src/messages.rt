@@ -63,7 +63,9 @@ fn written_answer(alloc: Global, request: &Message, tag: &Token) -> Result<Vec<u
 ///
 /// Want of memory.
 pub fn success_to(alloc: Global, request: &Message, tag: &Token) -> Result<Message, Stop> {
-    let status = StatusCode::new(OK).ok_or(Stop::Different)?;
+    let Some(status) = StatusCode::new(OK) else {
+        return Err(Stop::Different);
+    };
     let reason = Reason::new(Text::copy_of(alloc, REASON)?).ok_or(Stop::Different)?;
     Ok(response_to(alloc, request, status, reason, tag)?)
 }

@@ -112,7 +112,9 @@ fn callee(alloc: Global) -> Result<Dialog, Stop> {
 }
 
 fn opened(alloc: Global, request: &Message) -> Result<Dialog, Stop> {
-    let status = StatusCode::new(183).ok_or(Stop::Different)?;
+    let Some(status) = StatusCode::new(183) else {
+        return Err(Stop::Different);
+    };
     Ok(Dialog::from_request(alloc, request, token(alloc, b"t1")?, status)?)
 }
 

@@ -37,7 +37,8 @@ invariant_of-phase g c =
     }
 
 pub deal_phase-requires-clause-alike : goal.deal_phase-requires-clause-alike
-deal_phase-requires-clause-alike g c κs within = each _ (λ shard. refl) c.into_parts-lives.result.0.items
+deal_phase-requires-clause-alike g c κs within =
+    each _ (λ shard. refl) c.into_parts-lives.result.0.items
 
 pub deal_phase-requires-2-clause-alike : goal.deal_phase-requires-2-clause-alike
 deal_phase-requires-2-clause-alike g c κs within =
