@@ -14,7 +14,7 @@ use Rattle.sip_common.specs.declared.command.Cancel.{Cancel}
 use Rattle.sip_common.specs.declared.command.UserCommand.{UserCommand}
 use Rattle.sip_common.specs.declared.command.UserCommand.TheVariants as command
 use Rattle.sip_files.specs.declared.version.Version.{Version}
-use Rattle.sip_files.specs.declared.version.Version.TheVariants.{One, Two, Session}
+use Rattle.sip_files.specs.declared.version.Version.TheVariants.{One, Two, SessionOne}
 use Rattle.sip_files.specs.Word.{spelled_word, spelled_rest}
 use Rattle.sip_files.specs.Field.{id_text, plain_field, number_field, id_field, address_field, word_field, rest_field}
 use Rattle.sip_files.specs.Events.{IsInvite, IsPlain, IsRequest, IsDialogBody, IsRespond, IsCancel, IsCommandLine, has_cancel, reliability_text, support_text, command_text}
@@ -195,7 +195,7 @@ pub cancel_reads_in : (version : Version)
     → Reads (IsCancelIn version) cancel_fields (cancel_in version)
 cancel_reads_in One = record { took = λ fields c e. absurd cc; again = λ c fits. absurd cc }
 cancel_reads_in Two = cancel_where Two refl
-cancel_reads_in Session = cancel_where Session refl
+cancel_reads_in SessionOne = cancel_where SessionOne refl
 
 -- the space behind the keyword stands before the first field
 onward : (k x y : List ℕ) → k ++ 32 ∷ (x ++ 32 ∷ y) ≡ (k ++ 32 ∷ x) ++ 32 ∷ y

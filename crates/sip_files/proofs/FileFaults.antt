@@ -24,7 +24,7 @@ use Rattle.sip_round.specs.declared.round.Event.{Event}
 use Rattle.sip_round.specs.declared.round.Event.TheVariants.{Command}
 use Rattle.sip_round.specs.declared.round.Round.{Round}
 use Rattle.sip_files.specs.declared.version.Version.{Version}
-use Rattle.sip_files.specs.declared.version.Version.TheVariants.{One, Two, Session}
+use Rattle.sip_files.specs.declared.version.Version.TheVariants.{One, Two, SessionOne}
 use Rattle.sip_files.specs.declared.version.FileKind.{FileKind}
 use Rattle.sip_files.specs.declared.version.FileKind.TheVariants as file_kind
 use Rattle.sip_files.specs.declared.event_line.EventLine.{EventLine}
@@ -358,13 +358,13 @@ version_named line version e =
     let P : Version → Type 0 = λ v. line ≡ version_line v in
     elim (chosen (bytes_eq line (version_line One)) (Some One)
     (cond (bytes_eq line (version_line Two)) (Some Two)
-    (cond (bytes_eq line (version_line Session)) (Some Session) None)) (Some version) e) [
+    (cond (bytes_eq line (version_line SessionOne)) (Some SessionOne) None)) (Some version) e) [
       | inl a ↦ subst P (same_some One version a.1) (same_text line (version_line One) a.0)
       | inr a ↦ elim (chosen (bytes_eq line (version_line Two)) (Some Two)
-          (cond (bytes_eq line (version_line Session)) (Some Session) None) (Some version) a.1) [
+          (cond (bytes_eq line (version_line SessionOne)) (Some SessionOne) None) (Some version) a.1) [
             | inl b ↦ subst P (same_some Two version b.1) (same_text line (version_line Two) b.0)
-            | inr b ↦ (let g = passed (bytes_eq line (version_line Session)) Session version b.1 in
-                subst P g.1 (same_text line (version_line Session) g.0))
+            | inr b ↦ (let g = passed (bytes_eq line (version_line SessionOne)) SessionOne version b.1 in
+                subst P g.1 (same_text line (version_line SessionOne) g.0))
           ]
     ]
 
@@ -381,7 +381,7 @@ version_found kind line version e =
 named_again : (version : Version) → version_at (version_line version) ≡ Some version
 named_again One = refl
 named_again Two = refl
-named_again Session = refl
+named_again SessionOne = refl
 
 version_again : (kind : FileKind) (version : Version) → IsTrue (is_of_kind kind version)
     → version_in kind (version_line version) ≡ Some version

@@ -11,7 +11,7 @@ use Rattle.sip_round.specs.declared.config.Config.{Config}
 use Rattle.sip_round.specs.declared.round.Round.{Round}
 use Rattle.sip_files.specs.declared.version.Version.{Version}
 use Rattle.sip_files.specs.declared.version.FileKind.{FileKind}
-use Rattle.sip_files.specs.declared.version.Version.TheVariants.{One, Two, Session}
+use Rattle.sip_files.specs.declared.version.Version.TheVariants.{One, Two, SessionOne}
 use Rattle.sip_files.specs.declared.event_line.EventLine.{EventLine}
 use Rattle.sip_files.specs.Events.{SpellsLine}
 use Rattle.sip_files.specs.EventFile.{with_ends, version_line, file_text, SpellsIn, SpellsFile, IsOneLine}
@@ -151,12 +151,12 @@ module _ (version : Version) where
 pub version_no : (version : Version) → has_no 10 (version_line version) ≡ true
 version_no One = refl
 version_no Two = refl
-version_no Session = refl
+version_no SessionOne = refl
 
 version_again : (version : Version) → version_at (version_line version) ≡ Some version
 version_again One = refl
 version_again Two = refl
-version_again Session = refl
+version_again SessionOne = refl
 
 same_version : (version another : Version) → version_line version ≡ version_line another
     → version ≡ another

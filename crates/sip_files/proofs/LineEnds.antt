@@ -16,7 +16,7 @@ use Rattle.sip_common.specs.declared.command.UserCommand.{UserCommand}
 use Rattle.sip_common.specs.declared.command.UserCommand.TheVariants as command
 use Rattle.sip_round.specs.declared.round.Event.TheVariants.{Datagram, Failed, Command}
 use Rattle.sip_files.specs.declared.version.Version.{Version}
-use Rattle.sip_files.specs.declared.version.Version.TheVariants.{One, Two, Session}
+use Rattle.sip_files.specs.declared.version.Version.TheVariants.{One, Two, SessionOne}
 use Rattle.sip_files.specs.declared.given_header.GivenHeader.{GivenHeader}
 use Rattle.sip_files.specs.declared.event_line.EventLine.{EventLine}
 use Rattle.sip_files.specs.declared.event_line.EventLine.TheVariants as line
@@ -136,7 +136,7 @@ header_no : (version : Version) (text : List ℕ) (header : GivenHeader)
 unfolding rest_field
 header_no One text header s = elim s [ ]
 header_no Two text header s = elim s [ ]
-header_no Session text header s =
+header_no SessionOne text header s =
     ap (has_no 10) s.spelled
     ∙ fields_no 10 (codes " ") (spelled_rest s.header_line) space
     (rest_no 10 s.header_line (omega arith) refl)

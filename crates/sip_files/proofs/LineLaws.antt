@@ -19,7 +19,7 @@ use Rattle.sip_common.specs.declared.command.UserCommand.TheVariants as command
 use Rattle.sip_round.specs.declared.round.Event.{Event}
 use Rattle.sip_round.specs.declared.round.Event.TheVariants.{Datagram, Failed, Command}
 use Rattle.sip_files.specs.declared.version.Version.{Version}
-use Rattle.sip_files.specs.declared.version.Version.TheVariants.{One, Two, Session}
+use Rattle.sip_files.specs.declared.version.Version.TheVariants.{One, Two, SessionOne}
 use Rattle.sip_files.specs.declared.given_header.GivenHeader.{GivenHeader}
 use Rattle.sip_files.specs.declared.event_line.EventLine.{EventLine}
 use Rattle.sip_files.specs.declared.event_line.EventLine.TheVariants as line
@@ -149,7 +149,7 @@ header_took : (version : Version) (fields : List ℕ) (header : GivenHeader)
 unfolding header_at rest_field
 header_took One fields header e = absurd cc
 header_took Two fields header e = absurd cc
-header_took Session fields header e =
+header_took SessionOne fields header e =
     let read = bind_some (rest_at fields) given_at header e in
     let rest = rest_took fields read.0 read.1 in
     record {
@@ -239,8 +239,8 @@ header_again : (version : Version) (text : List ℕ) (header : GivenHeader)
 unfolding line_at header_at rest_field
 header_again One text header s = elim s [ ]
 header_again Two text header s = elim s [ ]
-header_again Session text header s =
-    ap (line_at Session) s.spelled
+header_again SessionOne text header s =
+    ap (line_at SessionOne) s.spelled
     ∙ ap (λ o. option_map line.Header (o >>= given_at)) (rest_again s.header_line s.bytes)
     ∙ ap (option_map line.Header) (given_again s.header_line header s.given)
 
@@ -272,7 +272,7 @@ line_again version text (line.Header header) s = header_again version text heade
 -- ---- a line means the same in all versions
 
 command_in_session : (version : Version) (c : UserCommand) → IsCommandLine version c
-    → IsCommandLine Session c
+    → IsCommandLine SessionOne c
 command_in_session version (command.Invite c) fits = fits
 command_in_session version (command.Plain c) fits = fits
 command_in_session version (command.Request c) fits = fits
@@ -282,14 +282,14 @@ command_in_session version (command.Prack c) fits = fits
 command_in_session version (command.Cancel c) fits = (refl, fits.1)
 
 header_in_session : (version : Version) (text : List ℕ) (header : GivenHeader)
-    → SpellsHeaderIn version text header → SpellsHeaderIn Session text header
+    → SpellsHeaderIn version text header → SpellsHeaderIn SessionOne text header
 header_in_session One text header s = elim s [ ]
 header_in_session Two text header s = elim s [ ]
-header_in_session Session text header s = s
+header_in_session SessionOne text header s = s
 
 -- a session has every line
 pub in_session : (version : Version) (text : List ℕ) (item : EventLine)
-    → SpellsLine version text item → SpellsLine Session text item
+    → SpellsLine version text item → SpellsLine SessionOne text item
 in_session version text (line.Local address) s = s
 in_session version text (line.Seed seed) s = s
 in_session version text (line.First number) s = s
@@ -302,5 +302,5 @@ in_session version text (line.Header header) s = header_in_session version text 
 pub one_meaning : (version another : Version) (text : List ℕ) (item other : EventLine)
     → SpellsLine version text item → SpellsLine another text other → item ≡ other
 one_meaning version another text item other says others =
-    same_some item other (sym (line_again Session text item (in_session version text item says))
-    ∙ line_again Session text other (in_session another text other others))
+    same_some item other (sym (line_again SessionOne text item (in_session version text item says))
+    ∙ line_again SessionOne text other (in_session another text other others))

@@ -35,7 +35,7 @@ use Rattle.sip_headers.proofs.WrittenAddresses.{name_addr_again}
 use Rattle.sip_headers.proofs.WrittenTokens.{tokens_again}
 use Rattle.sip_files.specs.declared.event_line.EventLine.{EventLine}
 use Rattle.sip_files.specs.declared.event_line.EventLine.TheVariants as line
-use Rattle.sip_files.specs.declared.version.Version.TheVariants.{Session}
+use Rattle.sip_files.specs.declared.version.Version.TheVariants.{SessionOne}
 use Rattle.sip_files.specs.declared.given_header.GivenHeader.{GivenHeader}
 use Rattle.sip_files.specs.declared.given_header.GivenHeader.TheVariants as given
 use Rattle.sip_files.specs.declared.given_headers.GivenHeaders.{GivenHeaders}
@@ -86,7 +86,7 @@ text_bytes name value p q =
 -- ---- the header lines of a command
 
 abbrev SpelledHeader : GivenHeader → Type 0
-SpelledHeader header = SpellsLine Session (line_text (line.Header header)) (line.Header header)
+SpelledHeader header = SpellsLine SessionOne (line_text (line.Header header)) (line.Header header)
 
 contact_spelled : (a : NameAddr) → IsAddressValue a → SpelledHeader (given.Contact (a ∷ []))
 unfolding is_named is_token is_token_byte
@@ -228,18 +228,18 @@ headers_with routes content =
 
 each_spelled : {A : Type 0} (make : A → GivenHeader) (Fits : A → Type 0)
     → ((x : A) → Fits x → SpelledHeader (make x)) → (xs : List A) → AllByRecursion Fits xs
-    → Spelled Session (map line.Header (map make xs))
+    → Spelled SessionOne (map line.Header (map make xs))
 each_spelled make Fits one [] fits = tt
 each_spelled make Fits one (x ∷ xs) fits =
     (one x fits.0, each_spelled make Fits one xs fits.1)
 
-spelled_both : (xs ys : List GivenHeader) → Spelled Session (map line.Header xs)
-    → Spelled Session (map line.Header ys) → Spelled Session (map line.Header (xs ++ ys))
+spelled_both : (xs ys : List GivenHeader) → Spelled SessionOne (map line.Header xs)
+    → Spelled SessionOne (map line.Header ys) → Spelled SessionOne (map line.Header (xs ++ ys))
 spelled_both [] ys none more = more
 spelled_both (x ∷ xs) ys some more = (some.0, spelled_both xs ys some.1 more)
 
 pub headers_spelled : (routes : List NameAddr) (content : Content) → AreHeaders routes content
-    → Spelled Session (map line.Header (headers_with routes content))
+    → Spelled SessionOne (map line.Header (headers_with routes content))
 headers_spelled routes content fits =
     let a = map contact_of content.contacts in
     let b = map route_of routes in

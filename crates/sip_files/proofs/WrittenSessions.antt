@@ -12,7 +12,7 @@ use Rattle.sip_round.specs.declared.config.Config.{Config}
 use Rattle.sip_round.specs.declared.round.Event.{Event}
 use Rattle.sip_round.specs.declared.round.Event.TheVariants.{Datagram, Failed, Command}
 use Rattle.sip_round.specs.declared.round.Round.{Round}
-use Rattle.sip_files.specs.declared.version.Version.TheVariants.{Session}
+use Rattle.sip_files.specs.declared.version.Version.TheVariants.{SessionOne}
 use Rattle.sip_files.specs.declared.version.FileKind.TheVariants as file_kind
 use Rattle.sip_files.specs.declared.event_line.EventLine.{EventLine}
 use Rattle.sip_files.specs.declared.event_line.EventLine.TheVariants as line
@@ -82,7 +82,7 @@ command_made (command.Prack c) =
 command_made (command.Cancel c) = refl
 
 command_headers_spelled : (c : UserCommand) → HaveHeaders c
-    → Spelled Session (map line.Header (headers_of c))
+    → Spelled SessionOne (map line.Header (headers_of c))
 command_headers_spelled (command.Invite c) fits = headers_spelled c.routes c.content fits
 command_headers_spelled (command.Plain c) fits = headers_spelled c.routes c.content fits
 command_headers_spelled (command.Request c) fits = headers_spelled [] c.content fits
@@ -126,11 +126,11 @@ event_made (Failed key) = refl
 event_made (Command c) = command_made c
 
 event_spelled : (event : Event) → IsSessionEvent event
-    → Spelled Session (headed_lines (event_headed event))
+    → Spelled SessionOne (headed_lines (event_headed event))
 event_spelled (Datagram from bytes) fits = ((fits, refl), tt)
-event_spelled (Failed key) fits = (failed_spelled Session key fits, tt)
+event_spelled (Failed key) fits = (failed_spelled SessionOne key fits, tt)
 event_spelled (Command c) fits =
-    each_zip Session (map line.Header (headers_of c)) (line.Event (Command (bare c)) ∷ [])
+    each_zip SessionOne (map line.Header (headers_of c)) (line.Event (Command (bare c)) ∷ [])
     (command_headers_spelled c fits.1) ((fits.0, refl), tt)
 
 event_written : (event : Event)
@@ -177,20 +177,20 @@ abbrev all_lines : List HeadedLine → List EventLine
 all_lines headed = flat_map headed_lines headed
 
 events_spelled : (events : List Event) → AllByRecursion IsSessionEvent events
-    → Spelled Session (all_lines (map event_headed events))
+    → Spelled SessionOne (all_lines (map event_headed events))
 events_spelled [] fits = tt
 events_spelled (event ∷ events) fits =
-    each_zip Session (headed_lines (event_headed event)) (all_lines (map event_headed events))
+    each_zip SessionOne (headed_lines (event_headed event)) (all_lines (map event_headed events))
     (event_spelled event fits.0) (events_spelled events fits.1)
 
-spelled_after : (xs ys : List HeadedLine) → Spelled Session (all_lines xs)
-    → Spelled Session (all_lines ys) → Spelled Session (all_lines (xs ++ ys))
+spelled_after : (xs ys : List HeadedLine) → Spelled SessionOne (all_lines xs)
+    → Spelled SessionOne (all_lines ys) → Spelled SessionOne (all_lines (xs ++ ys))
 spelled_after xs ys some more =
-    subst (λ (ls : List EventLine). Spelled Session ls) (sym (flat_map-append headed_lines xs ys))
-    (each_zip Session (all_lines xs) (all_lines ys) some more)
+    subst (λ (ls : List EventLine). Spelled SessionOne ls) (sym (flat_map-append headed_lines xs ys))
+    (each_zip SessionOne (all_lines xs) (all_lines ys) some more)
 
 rounds_spelled : (rounds : List Round) → AllByRecursion IsSessionRound rounds
-    → Spelled Session (all_lines (rounds_headed rounds))
+    → Spelled SessionOne (all_lines (rounds_headed rounds))
 rounds_spelled [] fits = tt
 rounds_spelled (round ∷ rounds) fits =
     spelled_after (round_headed round) (rounds_headed rounds)
@@ -237,8 +237,8 @@ session_is_spelled config rounds fits each =
     let front = unheaded first in
     let headed = front ++ rounds_headed rounds in
     let said = all_lines headed in
-    let v = version_line Session ++ 10 ∷ [] in (
-      Session,
+    let v = version_line SessionOne ++ 10 ∷ [] in (
+      SessionOne,
       refl,
       record {
         head = head;
@@ -248,10 +248,10 @@ session_is_spelled config rounds fits each =
         made = zip_both front first (rounds_headed rounds) (flat_map round_lines rounds)
             (unheaded_made first) (rounds_made rounds);
         says = spelled_after front (rounds_headed rounds)
-            (subst (λ (ls : List EventLine). Spelled Session ls) (sym (unheaded_lines first))
-            (head_spelled Session config fits)) (rounds_spelled rounds each);
+            (subst (λ (ls : List EventLine). Spelled SessionOne ls) (sym (unheaded_lines first))
+            (head_spelled SessionOne config fits)) (rounds_spelled rounds each);
         spelled =
-            ap (λ (t : List ℕ). t ++ flat_map session_round_text rounds) (head_is Session config)
+            ap (λ (t : List ℕ). t ++ flat_map session_round_text rounds) (head_is SessionOne config)
             ∙ append_assoc v (text_of first) (flat_map session_round_text rounds)
             ∙ ap (λ (t : List ℕ). v ++ (text_of first ++ t)) (sym (rounds_written rounds))
             ∙ ap (λ (ls : List EventLine). v ++ (text_of ls

@@ -6,7 +6,7 @@ use Rattle.sip_message.specs.declared.addr.Addr.{Addr}
 use Rattle.sip_round.specs.declared.config.Config.{Config}
 use Rattle.sip_round.specs.declared.round.Round.{Round}
 use Rattle.sip_files.specs.declared.version.Version.{Version}
-use Rattle.sip_files.specs.declared.version.Version.TheVariants.{One, Two, Session}
+use Rattle.sip_files.specs.declared.version.Version.TheVariants.{One, Two, SessionOne}
 use Rattle.sip_files.specs.declared.version.FileKind.{FileKind}
 use Rattle.sip_files.specs.declared.version.FileKind.TheVariants as file_kind
 use Rattle.sip_files.specs.declared.given_header.GivenHeader.{GivenHeader}
@@ -72,7 +72,7 @@ with_ends lines = flat_map (λ text. text ++ 10 ∷ []) lines
 abbrev pub version_line : Version → List ℕ
 version_line One = codes "sip-events 1"
 version_line Two = codes "sip-events 2"
-version_line Session = codes "sip-session 1"
+version_line SessionOne = codes "sip-session 1"
 
 abbrev pub file_text : Version → List (List ℕ) → List ℕ
 file_text version lines = with_ends (version_line version ∷ lines)
@@ -94,8 +94,8 @@ pub record SpellsIn (version : Version) (config : Config) (rounds : List Round) 
 abbrev pub is_of_kind : FileKind → Version → Bool
 is_of_kind kind One = true
 is_of_kind kind Two = true
-is_of_kind file_kind.Events Session = false
-is_of_kind file_kind.Session Session = true
+is_of_kind file_kind.Events SessionOne = false
+is_of_kind file_kind.Session SessionOne = true
 
 -- in some version of the kind the text is that of the configuration and the rounds
 abbrev pub SpellsFile : FileKind → Config → List Round → List ℕ → Type 0

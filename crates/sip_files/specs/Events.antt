@@ -27,7 +27,7 @@ use Rattle.sip_common.specs.declared.command.UserCommand.TheVariants as command
 use Rattle.sip_round.specs.declared.round.Event.{Event}
 use Rattle.sip_round.specs.declared.round.Event.TheVariants.{Datagram, Failed, Command}
 use Rattle.sip_files.specs.declared.version.Version.{Version}
-use Rattle.sip_files.specs.declared.version.Version.TheVariants.{One, Two, Session}
+use Rattle.sip_files.specs.declared.version.Version.TheVariants.{One, Two, SessionOne}
 use Rattle.sip_files.specs.declared.given_header.GivenHeader.{GivenHeader}
 use Rattle.sip_files.specs.declared.event_line.EventLine.{EventLine}
 use Rattle.sip_files.specs.declared.event_line.EventLine.TheVariants as line
@@ -112,7 +112,7 @@ pub record IsCancel (cancel : Cancel) : Type 0 where
 abbrev pub has_cancel : Version → Bool
 has_cancel One = false
 has_cancel Two = true
-has_cancel Session = true
+has_cancel SessionOne = true
 
 -- the commands that a file of the version may have
 abbrev pub IsCommandLine : Version → UserCommand → Type 0
@@ -206,7 +206,7 @@ pub record SpellsHeader (text : List ℕ) (header : GivenHeader) : Type 0 where
 abbrev pub SpellsHeaderIn : Version → List ℕ → GivenHeader → Type 0
 SpellsHeaderIn One text header = ⊥
 SpellsHeaderIn Two text header = ⊥
-SpellsHeaderIn Session text header = SpellsHeader text header
+SpellsHeaderIn SessionOne text header = SpellsHeader text header
 
 -- in a file of the version the text is a line that says this
 abbrev pub SpellsLine : Version → List ℕ → EventLine → Type 0

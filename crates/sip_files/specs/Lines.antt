@@ -4,7 +4,7 @@ use Rattle.std.specs.List.{AllZip}
 use Rattle.std.specs.Str.{bytes_eq}
 use Rattle.sip_text.specs.Options.{◌>>=◌}
 use Rattle.sip_files.specs.declared.version.Version.{Version}
-use Rattle.sip_files.specs.declared.version.Version.TheVariants.{One, Two, Session}
+use Rattle.sip_files.specs.declared.version.Version.TheVariants.{One, Two, SessionOne}
 use Rattle.sip_files.specs.declared.version.FileKind.{FileKind}
 use Rattle.sip_files.specs.declared.draft.Draft.{Draft}
 use Rattle.sip_files.specs.declared.progress.Progress.{Progress}
@@ -20,7 +20,7 @@ abbrev pub version_at : List ℕ → Option Version
 version_at line =
     if bytes_eq line (version_line One) then Some One
     else (if bytes_eq line (version_line Two) then Some Two
-    else (if bytes_eq line (version_line Session) then Some Session
+    else (if bytes_eq line (version_line SessionOne) then Some SessionOne
     else None))
 
 -- the same, where a file of the kind may have it

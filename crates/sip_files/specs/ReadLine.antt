@@ -30,7 +30,7 @@ use Rattle.sip_common.specs.declared.command.UserCommand.TheVariants as command
 use Rattle.sip_round.specs.declared.round.Event.{Event}
 use Rattle.sip_round.specs.declared.round.Event.TheVariants.{Datagram, Failed, Command}
 use Rattle.sip_files.specs.declared.version.Version.{Version}
-use Rattle.sip_files.specs.declared.version.Version.TheVariants.{One, Two, Session}
+use Rattle.sip_files.specs.declared.version.Version.TheVariants.{One, Two, SessionOne}
 use Rattle.sip_files.specs.declared.given_header.GivenHeader.{GivenHeader}
 use Rattle.sip_files.specs.declared.event_line.EventLine.{EventLine}
 use Rattle.sip_files.specs.declared.fields.Dialog.{Dialog}
@@ -186,7 +186,7 @@ cancel_at fields = option_map cancel_of (ended_by (field_at 32 call_id_at) id_at
 abbrev pub cancel_in : Version → List ℕ → Option Cancel
 cancel_in One fields = None
 cancel_in Two fields = cancel_at fields
-cancel_in Session fields = cancel_at fields
+cancel_in SessionOne fields = cancel_at fields
 
 abbrev pub command_at : Version → List ℕ → List ℕ → Option UserCommand
 command_at version keyword fields =
@@ -235,7 +235,7 @@ header_at fields = rest_at fields >>= given_at
 abbrev pub header_in : Version → List ℕ → Option GivenHeader
 header_in One fields = None
 header_in Two fields = None
-header_in Session fields = header_at fields
+header_in SessionOne fields = header_at fields
 
 -- ---- a line
 

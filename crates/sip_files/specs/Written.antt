@@ -20,7 +20,7 @@ use Rattle.sip_round.specs.declared.round.Round.{Round}
 use Rattle.sip_common.specs.declared.command.UserCommand.{UserCommand}
 use Rattle.sip_common.specs.declared.command.UserCommand.TheVariants as command
 use Rattle.sip_files.specs.declared.version.Version.{Version}
-use Rattle.sip_files.specs.declared.version.Version.TheVariants.{Two, Session}
+use Rattle.sip_files.specs.declared.version.Version.TheVariants.{Two, SessionOne}
 use Rattle.sip_files.specs.declared.version.FileKind.{FileKind}
 use Rattle.sip_files.specs.declared.version.FileKind.TheVariants as file_kind
 use Rattle.sip_files.specs.declared.given_header.GivenHeader.{GivenHeader}
@@ -133,7 +133,7 @@ abbrev pub head_text : Config → List ℕ
 head_text config = head_in Two config
 
 abbrev pub session_head_text : Config → List ℕ
-session_head_text config = head_in Session config
+session_head_text config = head_in SessionOne config
 
 -- the round's moment, and its events in order
 unfoldable pub round_in : FileKind → Round → List ℕ
@@ -188,9 +188,9 @@ abbrev pub IsKeptHeader : Header → Type 0
 IsKeptHeader header =
     IsOtherHeader header × IsTrue (are_bytes header.name) × IsTrue (are_bytes header.value)
 
-pub record AreHeaders (routes : List NameAddr) (content : Content) : Type 0 where
+pub record AreHeaders (route : List NameAddr) (content : Content) : Type 0 where
   pub contacts : AllByRecursion IsAddressValue content.contacts
-  pub routes : AllByRecursion IsAddressValue routes
+  pub routes : AllByRecursion IsAddressValue route
   pub require : AllByRecursion IsOptionTag content.require
   pub supported : AllByRecursion IsOptionTag content.supported
   pub others : AllByRecursion IsKeptHeader content.others
@@ -220,7 +220,7 @@ bare (command.Cancel c) = command.Cancel c
 abbrev pub IsSessionEvent : Event → Type 0
 IsSessionEvent (Datagram from bytes) = IsAddr from × IsTrue (are_bytes bytes)
 IsSessionEvent (Failed key) = IsKey key
-IsSessionEvent (Command c) = IsCommandLine Session (bare c) × HaveHeaders c
+IsSessionEvent (Command c) = IsCommandLine SessionOne (bare c) × HaveHeaders c
 
 pub record IsSessionRound (round : Round) : Type 0 where
   pub moment : round.moment ≤ 2 ^ 64 - 1

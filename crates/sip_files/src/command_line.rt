@@ -193,7 +193,7 @@ fn cancel_in(alloc: Global, version: Version, fields: &[u8]) -> Result<Option<Ca
 {
     match version {
         Version::One => Ok(None),
-        Version::Two | Version::Session => read_cancel(alloc, fields),
+        Version::Two | Version::SessionOne => read_cancel(alloc, fields),
     }
 }
 

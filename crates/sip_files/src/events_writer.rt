@@ -31,7 +31,7 @@ pub fn write_head(alloc: Global, config: &Config) -> Result<Vec<u8>, AllocError>
 pub fn write_session_head(alloc: Global, config: &Config) -> Result<Vec<u8>, AllocError>
     ensures { IfOk result (λ text. text.items ≡ written.session_head_text config.now) }
 {
-    head_in(alloc, Version::Session, config)
+    head_in(alloc, Version::SessionOne, config)
 }
 
 /// The lines of a round in an event file.

@@ -36,7 +36,7 @@ pub(crate) fn header_in(
 {
     match version {
         Version::One | Version::Two => Ok(None),
-        Version::Session => read_header(alloc, fields),
+        Version::SessionOne => read_header(alloc, fields),
     }
 }
 

@@ -4,7 +4,7 @@
 ghost use Rattle.std.specs.Prelude.{◌≡◌, ◌↔◌, ℕ, List, IsTrue, codes, nat_eq, not};
 ghost use Rattle.sip_files.specs.declared.event_line.EventLine.{EventLine};
 ghost use Rattle.sip_files.specs.declared.version.Version.{Version};
-ghost use Rattle.sip_files.specs.declared.version.Version.TheVariants.{Two, Session};
+ghost use Rattle.sip_files.specs.declared.version.Version.TheVariants.{Two, SessionOne};
 ghost use Rattle.sip_files.specs.Word.{are_bytes, spelled_rest, spelled_word};
 ghost use Rattle.sip_round.specs.declared.config.Config.{Config};
 ghost use Rattle.sip_round.specs.declared.round.Round.{Round};
@@ -62,7 +62,7 @@ pub fn an_event_file_is_a_session()
     ensures without_headers { (config : Config) (rounds : List Round) (lines : List (List ℕ))
         → AllByRecursion IsOneLine lines
         → AllByRecursion (λ line. IsTrue (not (starts_with nat_eq line (codes " ")))) lines
-        → (SpellsIn Session config rounds (file_text Session lines)
+        → (SpellsIn SessionOne config rounds (file_text SessionOne lines)
         ↔ SpellsIn Two config rounds (file_text Two lines)) }
 {}
 

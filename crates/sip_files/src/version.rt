@@ -12,7 +12,7 @@ pub enum Version {
     /// An event file: all lines but header lines.
     Two,
     /// A session file: all lines.
-    Session,
+    SessionOne,
 }
 
 /// The kind of a file: which versions it may have.
@@ -32,7 +32,7 @@ impl Version {
         match self {
             Version::One => b"sip-events 1",
             Version::Two => b"sip-events 2",
-            Version::Session => b"sip-session 1",
+            Version::SessionOne => b"sip-session 1",
         }
     }
 
@@ -40,7 +40,7 @@ impl Version {
         ensures { result ≡ spelling.is_of_kind kind self }
     {
         match (kind, self) {
-            (FileKind::Events, Version::Session) => false,
+            (FileKind::Events, Version::SessionOne) => false,
             _ => true,
         }
     }
@@ -67,8 +67,8 @@ fn read_version(line: &[u8]) -> Option<Version>
     if line == Version::Two.line() {
         return Some(Version::Two);
     }
-    if line == Version::Session.line() {
-        return Some(Version::Session);
+    if line == Version::SessionOne.line() {
+        return Some(Version::SessionOne);
     }
     None
 }

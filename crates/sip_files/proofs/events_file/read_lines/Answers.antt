@@ -1,5 +1,6 @@
-use Rattle.std.proofs.Common.{◌<◌, length, ap, sym, ◌∙◌, arith}
+use Rattle.std.proofs.Common.{◌≡◌, ◌<◌, length, ap, sym, ◌∙◌, arith}
 use Rattle.std.proofs.lemmas.Bool.Decides.{nat_tests}
+use Rattle.std.proofs.lemmas.List.{nil_from_length}
 use Rattle.sip_files.proofs.ReadSoFar.{nothing_yet, one_further, without_end, no_such_line, not_there, ends_early, all_read}
 use Rattle.sip_files.proofs.events_file.read_lines.Goals as goal
 
@@ -44,12 +45,14 @@ loop-left-preserved c = record {
 
 pub returns-then-not-is_whole : goal.returns-then-not-is_whole
 returns-then-not-is_whole c =
+    let none : length c.loop-left.left.now ≡ 0 = grind (arith, nat_tests) in
     ends_early c.args.version c.loop-left.progress c.loop-left.number c.args.text.now
-    c.loop-left.left.now c.loop-left.invariant.so_far ?
+    c.loop-left.left.now c.loop-left.invariant.so_far (nil_from_length c.loop-left.left.now none)
     (sym c.is_whole.ensures ∙ c.if-not-is_whole.true)
 
 pub returns : goal.returns
 returns c =
+    let none : length c.loop-left.left.now ≡ 0 = grind (arith, nat_tests) in
     all_read c.args.version c.loop-left.progress c.loop-left.number c.args.text.now
-    c.loop-left.left.now c.loop-left.invariant.so_far ?
+    c.loop-left.left.now c.loop-left.invariant.so_far (nil_from_length c.loop-left.left.now none)
     (sym c.is_whole.ensures ∙ c.if-not-is_whole.false)
