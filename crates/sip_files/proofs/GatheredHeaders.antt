@@ -1,13 +1,18 @@
 -- Header lines gathered one after the other.
-use Rattle.std.proofs.Common.{◌≡◌, ℕ, List, [], ◌∷◌, ◌++◌, refl, sym, ap, ◌∙◌, append_assoc, append-nil}
+use Rattle.std.proofs.Common.{◌≡◌, ℕ, false, eqb, length, Option, Some, List, [], ◌∷◌, ◌++◌, refl, sym, ap, ◌∙◌, append_assoc, append-nil}
 use Rattle.std.specs.Prelude.{fold}
 use Rattle.std.specs.List.{flat_map}
 use Rattle.sip_message.specs.declared.header.Header.{Header}
 use Rattle.sip_message.specs.declared.name_addr.NameAddr.{NameAddr}
+use Rattle.std.specs.Option.{option_map}
+use Rattle.sip_common.specs.declared.command.UserCommand.{UserCommand}
+use Rattle.sip_round.specs.declared.round.Event.TheVariants.{Command}
+use Rattle.sip_files.specs.declared.event_line.EventLine.{EventLine}
+use Rattle.sip_files.specs.declared.event_line.EventLine.TheVariants as line
 use Rattle.sip_files.specs.declared.given_header.GivenHeader.{GivenHeader}
 use Rattle.sip_files.specs.declared.given_header.GivenHeader.TheVariants as given
 use Rattle.sip_files.specs.declared.given_headers.GivenHeaders.{GivenHeaders}
-use Rattle.sip_files.specs.Given.{contacts_in, routes_in, supported_in, require_in, others_in, gathered, with_one}
+use Rattle.sip_files.specs.Given.{contacts_in, routes_in, supported_in, require_in, others_in, gathered, with_one, with_given, with_headers}
 
 abbrev with_all : GivenHeaders → List GivenHeader → GivenHeaders
 with_all all headers = record {
@@ -51,3 +56,12 @@ folded all (header ∷ headers) =
 pub all_gathered : (headers : List GivenHeader)
     → fold with_one (gathered []) headers ≡ gathered headers
 all_gathered headers = folded (gathered []) headers
+
+-- a command with some header before it
+pub headed_command : (headers : List GivenHeader) (item : EventLine) (c made : UserCommand)
+    → eqb (length headers) 0 ≡ false → item ≡ line.Event (Command c)
+    → with_given headers c ≡ Some made
+    → with_headers headers item ≡ Some (line.Event (Command made))
+headed_command [] item c made some is e = absurd cc
+headed_command (header ∷ headers) item c made some is e =
+    ap (with_headers (header ∷ headers)) is ∙ ap (option_map (λ d. line.Event (Command d))) e

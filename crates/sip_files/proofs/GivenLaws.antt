@@ -1,6 +1,6 @@
 -- Header lines: what is read of one is what it says.
-use Rattle.std.proofs.Common.{◌≡◌, ℕ, Bool, true, false, cond, List, [], ◌∷◌, Option, Some, None, refl, sym, ap, subst, ◌∙◌}
-use Rattle.std.specs.Option.{option_map}
+use Rattle.std.proofs.Common.{◌≡◌, ◌⊎◌, inl, inr, ℕ, Bool, true, false, cond, List, [], ◌∷◌, ◌++◌, Option, Some, None, refl, sym, ap, subst, ◌∙◌, MatchOption, IsSomeAnd}
+use Rattle.std.specs.Option.{option_map, option_to_list}
 use Rattle.sip_text.proofs.Options.{same_some}
 use Rattle.sip_text.proofs.ReadForms.{Reads}
 use Rattle.sip_parts.specs.HeaderEntry.{header_named}
@@ -13,8 +13,9 @@ use Rattle.sip_message.specs.declared.name_addr.NameAddr.{NameAddr}
 use Rattle.sip_values.specs.Address.{AreNameAddrs, name_addrs_from}
 use Rattle.sip_values.specs.Sequence.{AreTokens, tokens_from}
 use Rattle.sip_values.proofs.Rows.{name_addrs_reads, tokens_reads}
-use Rattle.sip_headers.specs.Draft.{long_name, other_from}
-use Rattle.sip_headers.specs.HeaderLine.{IsHeaderLine, class_by_name, class_by_parts, class_from, line_from}
+use Rattle.sip_headers.specs.Draft.{no_draft, with_value, with_class, with_line, long_name, other_from}
+use Rattle.sip_headers.specs.Slot.{listed}
+use Rattle.sip_headers.specs.HeaderLine.{Class, bad, known, other, IsHeaderLine, class_by_name, class_by_parts, class_from, line_from}
 use Rattle.sip_headers.specs.Headers.{IsOther}
 use Rattle.sip_headers.proofs.NamedLines.{line_reads}
 use Rattle.sip_files.specs.declared.given_header.GivenHeader.{GivenHeader}
@@ -137,3 +138,84 @@ given_again text (given.Require tokens) l =
     ∙ ap (option_map given.Require) (tokens_reads.again (l.parts).1 tokens l.form)
 given_again text (given.Other header) l =
     cut_as text l.parts None l.is_line l.named ∙ other_again header l.parts l.kept
+
+-- ---- the other header of a line, taken out of a draft
+
+-- one line adds one such header to a draft at most
+abbrev Few : List Header → Type 0
+Few others = (others ≡ []) ⊎ ((header : Header) × (others ≡ header ∷ []))
+
+few_others : (good_name good_value : Bool) (header : Header) (others : List Header)
+    → listed (Some []) (cond good_name (cond good_value (Some (header ∷ [])) None) None)
+    ≡ Some others → Few others
+few_others true true header others e = inr (header, sym (same_some (header ∷ []) others e))
+few_others true false header others e = absurd cc
+few_others false good_value header others e = absurd cc
+
+no_others : (others : List Header) → ◌≡◌ {A = Option (List Header)} (Some []) (Some others)
+    → Few others
+no_others others e = inl (sym (same_some [] others e))
+
+few_of_value : (header : HeaderName) (value : List ℕ) (others : List Header)
+    → (with_value no_draft header value).others ≡ Some others → Few others
+few_of_value name.Via value others e = no_others others e
+few_of_value name.MaxForwards value others e = no_others others e
+few_of_value name.From value others e = no_others others e
+few_of_value name.To value others e = no_others others e
+few_of_value name.CallId value others e = no_others others e
+few_of_value name.CSeq value others e = no_others others e
+few_of_value name.Contact value others e = no_others others e
+few_of_value name.RecordRoute value others e = no_others others e
+few_of_value name.Route value others e = no_others others e
+few_of_value name.Require value others e = no_others others e
+few_of_value name.Supported value others e = no_others others e
+few_of_value name.RSeq value others e = no_others others e
+few_of_value name.RAck value others e = no_others others e
+few_of_value name.ContentLength value others e = no_others others e
+
+few_of_class : (class : Class) (others : List Header)
+    → (with_class no_draft class).others ≡ Some others → Few others
+few_of_class bad others e = no_others others e
+few_of_class (known header value) others e = few_of_value header value others e
+few_of_class (other name value) others e =
+    few_others (is_other_name (long_name name)) (is_header_value value)
+    (record { name = long_name name; value = value }) others e
+
+not_last : (left : List Header) (x : Header) → [] ≡ left ++ x ∷ [] → ⊥
+not_last [] x e = absurd cc
+not_last (y ∷ left) x e = absurd cc
+
+same_last : (left : List Header) (x y : Header) → y ∷ [] ≡ left ++ x ∷ [] → y ≡ x
+same_last [] x y e = cc
+same_last (z ∷ []) x y e = absurd cc
+same_last (z ∷ w ∷ left) x y e = absurd cc
+
+-- the last of so few is the first
+last_by : (others left : List Header) (last : Option Header) → Few others
+    → others ≡ left ++ option_to_list last → (last ≡ None → others ≡ [])
+    → option_map given.Other last ≡ other_given (Some others)
+last_by others left None few parts none =
+    ap (λ (hs : List Header). other_given (Some hs)) (sym (none refl))
+last_by others left (Some x) (inl empty) parts none =
+    absurd (not_last left x (sym empty ∙ parts))
+last_by others left (Some x) (inr one) parts none =
+    ap (λ h. Some (given.Other h)) (sym (same_last left x one.0 (sym one.1 ∙ parts)))
+    ∙ ap (λ (hs : List Header). other_given (Some hs)) (sym one.1)
+
+-- what is made of the last of the other headers, where a draft has any after one line
+pub last_given : (text : List ℕ) (others left : List Header) (last : Option Header)
+    (made : Option GivenHeader) → (with_line no_draft text).others ≡ Some others
+    → others ≡ left ++ option_to_list last → (last ≡ None → others ≡ [])
+    → MatchOption last (made ≡ None) (λ x. IsSomeAnd made (λ y. y ≡ given.Other x))
+    → made ≡ other_given (with_line no_draft text).others
+last_given text others left last made is parts none maps =
+    made_of last made maps
+    ∙ last_by others left last (few_of_class (class_from text) others is) parts none
+    ∙ ap other_given (sym is)
+  where
+    made_of : (o : Option Header) (r : Option GivenHeader)
+        → MatchOption o (r ≡ None) (λ x. IsSomeAnd r (λ y. y ≡ given.Other x))
+        → r ≡ option_map given.Other o
+    made_of None r e = e
+    made_of (Some x) (Some y) e = ap (λ z. Some z) e
+    made_of (Some x) None e = absurd e
