@@ -1,6 +1,6 @@
 -- What a reader of a file finds: a draft, or the line with which no file begins, and the fault that
 -- says so.
-use Rattle.std.proofs.Common.{◌≡◌, ℕ, ◌≤◌, ◌^◌, Bool, true, false, IsTrue, cond, List, [], ◌∷◌, ◌++◌, length, map, Option, Some, None, refl, sym, ap, subst, ◌∙◌, append_assoc, append-nil, arith, inl, inr, codes}
+use Rattle.std.proofs.Common.{◌≡◌, ℕ, ◌≤◌, ◌^◌, true, IsTrue, cond, List, [], ◌∷◌, ◌++◌, length, map, Option, Some, None, refl, sym, ap, subst, ◌∙◌, append_assoc, append-nil, arith, inl, inr, codes}
 use Rattle.std.specs.List.{flat_map, AllZip}
 use Rattle.std.specs.Option.{option_map}
 use Rattle.std.specs.Str.{bytes_eq}
@@ -17,7 +17,6 @@ use Rattle.sip_parts.specs.Word.{is_word, is_word_byte}
 use Rattle.sip_message.specs.declared.addr.Addr.{Addr}
 use Rattle.sip_message.specs.Content.{content_of_body}
 use Rattle.sip_common.specs.declared.command.Plain.{Plain}
-use Rattle.sip_common.specs.declared.command.UserCommand.{UserCommand}
 use Rattle.sip_common.specs.declared.command.UserCommand.TheVariants as command
 use Rattle.sip_round.specs.declared.config.Config.{Config}
 use Rattle.sip_round.specs.declared.round.Event.{Event}
@@ -38,17 +37,17 @@ use Rattle.sip_files.specs.declared.events_fault.EventsFault.{EventsFault}
 use Rattle.sip_files.specs.declared.events_fault.EventsFault.TheVariants.{TooLong, BadVersion, BadLine, NoMemory}
 use Rattle.sip_files.specs.Field.{address_field}
 use Rattle.sip_files.specs.Events.{IsPlain, SpellsLine, command_text}
-use Rattle.sip_files.specs.EventFile.{Head, config_of, file_lines, HeadedLine, SaysHeaded, headed_lines, with_ends, version_line, file_text, is_of_kind, SpellsFile, SpellsIn, IsFile, IsEventFile, IsBegun, IsBadLine, HasVersion, TellsFault, TellsFileFault}
+use Rattle.sip_files.specs.EventFile.{Head, config_of, HeadedLine, SaysHeaded, headed_lines, with_ends, version_line, file_text, is_of_kind, SpellsFile, SpellsIn, IsEventFile, IsBegun, IsBadLine, HasVersion, TellsFault, TellsFileFault}
 use Rattle.sip_files.specs.Given.{gathered, plain_with}
-use Rattle.sip_files.specs.Drafting.{is_begun, nothing_read, no_lines, with_event, taken, event_drafted, line_went, went, all_gone, drafted, gone}
+use Rattle.sip_files.specs.Drafting.{is_begun, nothing_read, no_lines, with_event, went, all_gone, drafted, gone}
 use Rattle.sip_files.specs.Lines.{version_at, version_in, FollowsVersion, TellsVersion, TellsLine, Drafts, Stuck}
 use Rattle.sip_files.proofs.FieldLaws.{same_text}
 use Rattle.sip_files.proofs.FileLines.{SayAll, no_line, same_line, with_end, same_front, longer, each_one, no_text, version_no, first_line, in_version}
 use Rattle.sip_files.proofs.LineEnds.{line_no}
-use Rattle.sip_files.proofs.DraftStages.{file_of, nothing_of, begun_unless, not_local}
+use Rattle.sip_files.proofs.DraftStages.{file_of, nothing_of, begun_unless}
 use Rattle.sip_files.proofs.Drafts.{gone-push, next_gone, Begun}
 use Rattle.sip_files.proofs.HeadedLines.{zip_push, waiting, Headed, headed_of}
-use Rattle.sip_files.proofs.OneFile.{after_version, said_by, lines_of, gives, goes, only_draft, further_of, not_stuck, has_version, not_alone}
+use Rattle.sip_files.proofs.OneFile.{after_version, said_by, lines_of, gives, goes, further_of, not_stuck, has_version, not_alone}
 
 -- ---- what a reader finds
 

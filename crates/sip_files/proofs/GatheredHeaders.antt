@@ -1,5 +1,5 @@
 -- Header lines gathered one after the other.
-use Rattle.std.proofs.Common.{◌≡◌, ℕ, false, eqb, length, Option, Some, List, [], ◌∷◌, ◌++◌, refl, sym, ap, ◌∙◌, append_assoc, append-nil}
+use Rattle.std.proofs.Common.{◌≡◌, ℕ, false, eqb, length, Some, List, [], ◌∷◌, ◌++◌, sym, ap, ◌∙◌, append_assoc, append-nil}
 use Rattle.std.specs.Prelude.{fold}
 use Rattle.std.specs.List.{flat_map}
 use Rattle.sip_message.specs.declared.header.Header.{Header}

@@ -9,7 +9,6 @@ use Rattle.sip_parts.specs.OtherName.{is_other_name}
 use Rattle.sip_parts.specs.declared.header_name.HeaderName.{HeaderName}
 use Rattle.sip_parts.specs.declared.header_name.HeaderName.TheVariants as name
 use Rattle.sip_message.specs.declared.header.Header.{Header}
-use Rattle.sip_message.specs.declared.name_addr.NameAddr.{NameAddr}
 use Rattle.sip_values.specs.Address.{AreNameAddrs, name_addrs_from}
 use Rattle.sip_values.specs.Sequence.{AreTokens, tokens_from}
 use Rattle.sip_values.proofs.Rows.{name_addrs_reads, tokens_reads}
@@ -20,7 +19,7 @@ use Rattle.sip_headers.specs.Headers.{IsOther}
 use Rattle.sip_headers.proofs.NamedLines.{line_reads}
 use Rattle.sip_files.specs.declared.given_header.GivenHeader.{GivenHeader}
 use Rattle.sip_files.specs.declared.given_header.GivenHeader.TheVariants as given
-use Rattle.sip_files.specs.Given.{IsLineOf, IsOtherLine, IsGiven, value_given, other_given, class_given, given_at}
+use Rattle.sip_files.specs.Given.{IsLineOf, IsGiven, value_given, other_given, class_given, given_at}
 use Rattle.sip_files.proofs.CommandLines.{mapped}
 
 -- ---- what is read

@@ -1,6 +1,6 @@
 -- Lines with the header lines before them: they go on as what they say together is taken, and what
 -- goes on is such lines.
-use Rattle.std.proofs.Common.{◌≡◌, ℕ, List, [], ◌∷◌, ◌++◌, map, Option, Some, None, refl, sym, ap, subst, ◌∙◌, append_assoc, append-nil}
+use Rattle.std.proofs.Common.{◌≡◌, List, [], ◌∷◌, ◌++◌, map, Option, Some, None, refl, sym, ap, subst, ◌∙◌, append_assoc, append-nil}
 use Rattle.std.specs.List.{flat_map, AllZip}
 use Rattle.std.specs.Option.{option_map}
 use Rattle.std.proofs.lemmas.List.{map-append}
@@ -18,7 +18,7 @@ use Rattle.sip_files.specs.declared.given_header.GivenHeader.{GivenHeader}
 use Rattle.sip_files.specs.declared.progress.Progress.{Progress}
 use Rattle.sip_files.specs.EventFile.{HeadedLine, SaysHeaded, headed_lines}
 use Rattle.sip_files.specs.Given.{with_given, with_headers}
-use Rattle.sip_files.specs.Drafting.{nothing_read, no_lines, with_event, taken, header_in_round, header_went, line_went, went, all_gone, drafted, gone}
+use Rattle.sip_files.specs.Drafting.{nothing_read, no_lines, with_event, taken, header_in_round, line_went, went, all_gone, drafted, gone}
 use Rattle.sip_files.proofs.CommandLines.{mapped}
 use Rattle.sip_files.proofs.Drafts.{gone-append, gone-one, gone-push}
 use Rattle.sip_files.proofs.DraftStages.{event_none}

@@ -1,7 +1,7 @@
 -- The header lines that are written are spelled, and give the content of their command again.
-use Rattle.std.proofs.Common.{◌≡◌, ℕ, Bool, true, false, cond, not, ◌&&◌, ◌||◌, is_some, List, [], ◌∷◌, ◌++◌, map, codes, Option, Some, None, refl, sym, ap, subst, ◌∙◌, append_assoc, append-nil}
-use Rattle.std.specs.Prelude.{IsTrue, option_and_then}
-use Rattle.std.specs.List.{flat_map, AllByRecursion, AllZip}
+use Rattle.std.proofs.Common.{◌≡◌, ℕ, true, false, cond, not, ◌||◌, is_some, List, [], ◌∷◌, ◌++◌, map, codes, Option, Some, None, refl, sym, ap, subst, ◌∙◌, append_assoc, append-nil}
+use Rattle.std.specs.Prelude.{option_and_then}
+use Rattle.std.specs.List.{flat_map, AllByRecursion}
 use Rattle.std.specs.Option.{option_map}
 use Rattle.std.specs.Str.{str_eq_ignore_ascii_case}
 use Rattle.std.proofs.lemmas.Bool.{and_from, and_parts, or_parts, not-true}
@@ -16,14 +16,10 @@ use Rattle.sip_parts.specs.HeaderEntry.{header_named, is_named}
 use Rattle.sip_parts.specs.HeaderValue.{has_no_line_byte}
 use Rattle.sip_parts.specs.OtherName.{is_compact_name, is_other_name}
 use Rattle.sip_parts.specs.declared.header_name.HeaderName.{HeaderName}
-use Rattle.sip_parts.specs.declared.header_name.HeaderName.TheVariants as name
 use Rattle.sip_message.specs.declared.content.Content.{Content}
 use Rattle.sip_message.specs.declared.header.Header.{Header}
 use Rattle.sip_message.specs.declared.name_addr.NameAddr.{NameAddr}
-use Rattle.sip_message.specs.Rules.{IsOtherHeader}
-use Rattle.sip_message.specs.Written.{joined}
-use Rattle.sip_values.specs.Address.{AreNameAddrs}
-use Rattle.sip_values.specs.Sequence.{AreTokens, tokens_from}
+use Rattle.sip_values.specs.Sequence.{tokens_from}
 use Rattle.sip_values.proofs.Passing.{cut_here, token_passes}
 use Rattle.sip_values.proofs.Rows.{name_addrs_reads, tokens_reads}
 use Rattle.sip_values.proofs.WrittenBytes.{solid_end, token_solid, header_value_kept, header_value_plain}
@@ -33,17 +29,15 @@ use Rattle.sip_headers.proofs.NamedLines.{line_reads}
 use Rattle.sip_headers.proofs.TextEnds.{Good, Again, moved}
 use Rattle.sip_headers.proofs.WrittenAddresses.{name_addr_again}
 use Rattle.sip_headers.proofs.WrittenTokens.{tokens_again}
-use Rattle.sip_files.specs.declared.event_line.EventLine.{EventLine}
 use Rattle.sip_files.specs.declared.event_line.EventLine.TheVariants as line
 use Rattle.sip_files.specs.declared.version.Version.TheVariants.{SessionOne}
 use Rattle.sip_files.specs.declared.given_header.GivenHeader.{GivenHeader}
 use Rattle.sip_files.specs.declared.given_header.GivenHeader.TheVariants as given
-use Rattle.sip_files.specs.declared.given_headers.GivenHeaders.{GivenHeaders}
 use Rattle.sip_files.specs.Word.{are_bytes}
 use Rattle.sip_files.specs.Events.{SpellsLine}
-use Rattle.sip_files.specs.Given.{IsLineOf, IsGiven, contacts_in, routes_in, supported_in, require_in, others_in, gathered}
+use Rattle.sip_files.specs.Given.{contacts_in, routes_in, supported_in, require_in, others_in, gathered}
 use Rattle.sip_files.specs.Written.{header_text, address_value, given_text, line_text, header_line, address_line, other_line, content_lines, IsAddressValue, IsOptionTag, IsKeptHeader, AreHeaders}
-use Rattle.sip_files.proofs.WrittenLaws.{Spelled, each_zip, text_of, text_of-append}
+use Rattle.sip_files.proofs.WrittenLaws.{Spelled, text_of}
 
 -- ---- one header line
 

@@ -1,11 +1,9 @@
 -- What is written of a session is the session.
-use Rattle.std.proofs.Common.{◌≡◌, ℕ, List, [], ◌∷◌, ◌++◌, map, Option, Some, None, refl, sym, ap, subst, ◌∙◌, append_assoc, append-nil}
+use Rattle.std.proofs.Common.{◌≡◌, ℕ, List, [], ◌∷◌, ◌++◌, map, Some, refl, sym, ap, subst, ◌∙◌, append_assoc, append-nil}
 use Rattle.std.specs.List.{flat_map, AllByRecursion, AllZip}
 use Rattle.std.specs.Option.{option_map}
 use Rattle.std.proofs.lemmas.List.Concat.{flat_map-append}
 use Rattle.sip_text.proofs.Options.{same_some}
-use Rattle.sip_message.specs.declared.content.Content.{Content}
-use Rattle.sip_message.specs.declared.name_addr.NameAddr.{NameAddr}
 use Rattle.sip_common.specs.declared.command.UserCommand.{UserCommand}
 use Rattle.sip_common.specs.declared.command.UserCommand.TheVariants as command
 use Rattle.sip_round.specs.declared.config.Config.{Config}
@@ -18,10 +16,9 @@ use Rattle.sip_files.specs.declared.event_line.EventLine.{EventLine}
 use Rattle.sip_files.specs.declared.event_line.EventLine.TheVariants as line
 use Rattle.sip_files.specs.declared.given_header.GivenHeader.{GivenHeader}
 use Rattle.sip_files.specs.declared.given_headers.GivenHeaders.{GivenHeaders}
-use Rattle.sip_files.specs.Events.{SpellsLine}
-use Rattle.sip_files.specs.EventFile.{HeadedLine, SaysHeaded, SpellsSession, file_lines, head_lines, headed_lines, round_lines, version_line}
+use Rattle.sip_files.specs.EventFile.{HeadedLine, SaysHeaded, SpellsSession, head_lines, headed_lines, round_lines, version_line}
 use Rattle.sip_files.specs.Given.{gathered, command_with, with_given, with_headers}
-use Rattle.sip_files.specs.Written.{HaveHeaders, IsConfig, IsSessionEvent, IsSessionRound, bare, command_headers, ended_text, event_headers, event_lines, head_in, line_text, round_in, session_round_text, session_text}
+use Rattle.sip_files.specs.Written.{HaveHeaders, IsConfig, IsSessionEvent, IsSessionRound, bare, command_headers, ended_text, event_lines, line_text, round_in, session_round_text, session_text}
 use Rattle.sip_files.proofs.WrittenHeaders.{headers_with, headers_spelled, headers_written, gathered_again}
 use Rattle.sip_files.proofs.WrittenLaws.{Spelled, each_zip, text_of, text_of-append, failed_spelled, whole_head, head_is, head_spelled, unheaded, unheaded_made, unheaded_lines}
 
