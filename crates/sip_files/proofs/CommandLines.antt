@@ -90,7 +90,8 @@ plain_reads =
       routes = refl;
       content = record { alone = refl; bytes = f.1 };
     })
-    (λ c f. ((((f.call_id, f.address), f.method), ((f.request_uri, f.from), f.to)), f.content.bytes))
+    (λ c f.
+    ((((f.call_id, f.address), f.method), ((f.request_uri, f.from), f.to)), f.content.bytes))
     (ended_reads (both_front (both_front (both_front call_id_front address_front) method_front)
     uris_front) word_reads)
 

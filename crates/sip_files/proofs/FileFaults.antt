@@ -360,7 +360,8 @@ version_named line version e =
     (cond (bytes_eq line (version_line SessionOne)) (Some SessionOne) None)) (Some version) e) [
       | inl a ↦ subst P (same_some One version a.1) (same_text line (version_line One) a.0)
       | inr a ↦ elim (chosen (bytes_eq line (version_line Two)) (Some Two)
-          (cond (bytes_eq line (version_line SessionOne)) (Some SessionOne) None) (Some version) a.1) [
+          (cond (bytes_eq line (version_line SessionOne)) (Some SessionOne) None)
+          (Some version) a.1) [
             | inl b ↦ subst P (same_some Two version b.1) (same_text line (version_line Two) b.0)
             | inr b ↦ (let g = passed (bytes_eq line (version_line SessionOne)) SessionOne version b.1 in
                 subst P g.1 (same_text line (version_line SessionOne) g.0))

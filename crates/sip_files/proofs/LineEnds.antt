@@ -66,7 +66,8 @@ no_reliability reliability.Reliable = record { none = refl }
 
 no_body : (c : DialogBody) → NoEnd (body_fields c)
 no_body c = behind (no_dialog (record
-    { call_id = c.call_id; local_tag = c.local_tag; remote_tag = c.remote_tag })) (no_word c.content.body)
+    { call_id = c.call_id; local_tag = c.local_tag; remote_tag = c.remote_tag }))
+    (no_word c.content.body)
 
 -- a keyword and the fields behind it
 line_none : (text k fields : List ℕ) → text ≡ k ++ 32 ∷ fields → has_no 10 k ≡ true → NoEnd fields

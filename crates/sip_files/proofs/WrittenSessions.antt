@@ -183,7 +183,8 @@ events_spelled (event ∷ events) fits =
 spelled_after : (xs ys : List HeadedLine) → Spelled SessionOne (all_lines xs)
     → Spelled SessionOne (all_lines ys) → Spelled SessionOne (all_lines (xs ++ ys))
 spelled_after xs ys some more =
-    subst (λ (ls : List EventLine). Spelled SessionOne ls) (sym (flat_map-append headed_lines xs ys))
+    subst (λ (ls : List EventLine). Spelled SessionOne ls)
+    (sym (flat_map-append headed_lines xs ys))
     (each_zip SessionOne (all_lines xs) (all_lines ys) some more)
 
 rounds_spelled : (rounds : List Round) → AllByRecursion IsSessionRound rounds
