@@ -18,7 +18,7 @@ use Rattle.sip_files.specs.declared.given_header.GivenHeader.{GivenHeader}
 use Rattle.sip_files.specs.declared.given_headers.GivenHeaders.{GivenHeaders}
 use Rattle.sip_files.specs.EventFile.{HeadedLine, SaysHeaded, SpellsSession, head_lines, headed_lines, round_lines, version_line}
 use Rattle.sip_files.specs.Given.{gathered, command_with, with_given, with_headers}
-use Rattle.sip_files.specs.Written.{HaveHeaders, IsConfig, IsSessionEvent, IsSessionRound, bare, command_headers, ended_text, event_lines, line_text, round_in, session_round_text, session_text}
+use Rattle.sip_files.specs.Written.{HaveHeaders, IsConfig, IsEventOf, IsSessionCommand, IsSessionRound, bare, command_headers, ended_text, event_lines, line_text, round_in, session_round_text, session_text}
 use Rattle.sip_files.proofs.WrittenHeaders.{headers_with, headers_spelled, headers_written, gathered_again}
 use Rattle.sip_files.proofs.WrittenLaws.{Spelled, each_zip, text_of, text_of-append, failed_spelled, whole_head, head_is, head_spelled, unheaded, unheaded_made, unheaded_lines}
 
@@ -122,7 +122,7 @@ event_made (Datagram from bytes) = refl
 event_made (Failed key) = refl
 event_made (Command c) = command_made c
 
-event_spelled : (event : Event) → IsSessionEvent event
+event_spelled : (event : Event) → IsEventOf IsSessionCommand event
     → Spelled SessionOne (headed_lines (event_headed event))
 event_spelled (Datagram from bytes) fits = ((fits, refl), tt)
 event_spelled (Failed key) fits = (failed_spelled SessionOne key fits, tt)
@@ -173,7 +173,7 @@ rounds_made (round ∷ rounds) =
 abbrev all_lines : List HeadedLine → List EventLine
 all_lines headed = flat_map headed_lines headed
 
-events_spelled : (events : List Event) → AllByRecursion IsSessionEvent events
+events_spelled : (events : List Event) → AllByRecursion (IsEventOf IsSessionCommand) events
     → Spelled SessionOne (all_lines (map event_headed events))
 events_spelled [] fits = tt
 events_spelled (event ∷ events) fits =

@@ -162,19 +162,26 @@ IsKey (Server branch sent_by method) =
     × (str_to_ascii_lowercase sent_by.host ≡ sent_by.host) × IsTrue (are_bytes sent_by.host)
     × (sent_by.port ≤ 65535)
 
+-- an event that has a line, where this holds of a command
+abbrev pub IsEventOf : (UserCommand → Type 0) → Event → Type 0
+IsEventOf P (Datagram from bytes) = IsAddr from × IsTrue (are_bytes bytes)
+IsEventOf P (Failed key) = IsKey key
+IsEventOf P (Command command) = P command
+
 abbrev pub IsEvent : Event → Type 0
-IsEvent (Datagram from bytes) = IsAddr from × IsTrue (are_bytes bytes)
-IsEvent (Failed key) = IsKey key
-IsEvent (Command command) = IsCommandLine Two command
+IsEvent event = IsEventOf (IsCommandLine Two) event
 
 pub record IsConfig (config : Config) : Type 0 where
   pub local : IsAddr config.local
   pub seed : IsSeed config.seed
   pub first : config.first ≤ 2 ^ 62
 
-pub record IsRound (round : Round) : Type 0 where
+pub record IsRoundOf (P : UserCommand → Type 0) (round : Round) : Type 0 where
   pub moment : round.moment ≤ 2 ^ 64 - 1
-  pub events : AllByRecursion IsEvent round.events
+  pub events : AllByRecursion (IsEventOf P) round.events
+
+abbrev pub IsRound : Round → Type 0
+IsRound round = IsRoundOf (IsCommandLine Two) round
 
 -- ---- what can be written of a session
 
@@ -217,14 +224,12 @@ bare (command.Ack c) = command.Ack (record c { content = content_of_body c.conte
 bare (command.Prack c) = command.Prack (record c { content = content_of_body c.content.body })
 bare (command.Cancel c) = command.Cancel c
 
-abbrev pub IsSessionEvent : Event → Type 0
-IsSessionEvent (Datagram from bytes) = IsAddr from × IsTrue (are_bytes bytes)
-IsSessionEvent (Failed key) = IsKey key
-IsSessionEvent (Command c) = IsCommandLine SessionOne (bare c) × HaveHeaders c
+-- its line can be written, and its headers before it
+abbrev pub IsSessionCommand : UserCommand → Type 0
+IsSessionCommand c = IsCommandLine SessionOne (bare c) × HaveHeaders c
 
-pub record IsSessionRound (round : Round) : Type 0 where
-  pub moment : round.moment ≤ 2 ^ 64 - 1
-  pub events : AllByRecursion IsSessionEvent round.events
+abbrev pub IsSessionRound : Round → Type 0
+IsSessionRound round = IsRoundOf IsSessionCommand round
 
 -- ---- an event or a command by itself
 

@@ -20,7 +20,7 @@ use sip_round::{Config, Round};
 use sip_text::{Series, cut};
 use std::alloc::Global;
 
-/// The greatest length of an event file, in bytes.
+/// The greatest length of an event file or a session file, in bytes.
 pub const MAX_EVENTS: usize = 1 << 26;
 
 /// The configuration and the rounds that an event file spells.
