@@ -1,5 +1,5 @@
 -- The lines of the user's commands: what is read is spelled so, and what is spelled so is read.
-use Rattle.std.proofs.Common.{◌≡◌, ℕ, cond, List, ◌∷◌, ◌++◌, Option, Some, None, refl, sym, ap, subst, ◌∙◌, append_assoc, inl, inr, codes, decimal}
+use Rattle.std.proofs.Common.{◌≡◌, ℕ, true, IsTrue, cond, List, ◌∷◌, ◌++◌, Option, Some, None, refl, sym, ap, subst, ◌∙◌, append_assoc, inl, inr, codes, decimal}
 use Rattle.std.specs.Option.{option_map}
 use Rattle.std.specs.Str.{bytes_eq}
 use Rattle.sip_text.proofs.Cuts.{Reads}
@@ -14,10 +14,10 @@ use Rattle.sip_common.specs.declared.command.Cancel.{Cancel}
 use Rattle.sip_common.specs.declared.command.UserCommand.{UserCommand}
 use Rattle.sip_common.specs.declared.command.UserCommand.TheVariants as command
 use Rattle.sip_files.specs.declared.version.Version.{Version}
-use Rattle.sip_files.specs.declared.version.Version.TheVariants.{One, Two}
+use Rattle.sip_files.specs.declared.version.Version.TheVariants.{One, Two, SessionOne}
 use Rattle.sip_files.specs.Word.{spelled_word, spelled_rest}
 use Rattle.sip_files.specs.Field.{id_text, plain_field, number_field, id_field, address_field, word_field, rest_field}
-use Rattle.sip_files.specs.Events.{IsInvite, IsPlain, IsRequest, IsDialogBody, IsRespond, IsCancel, IsCommandLine, reliability_text, support_text, command_text}
+use Rattle.sip_files.specs.Events.{IsInvite, IsPlain, IsRequest, IsDialogBody, IsRespond, IsCancel, IsCommandLine, has_cancel, reliability_text, support_text, command_text}
 use Rattle.sip_files.specs.ReadLine.{invite_read, invite_at, plain_read, plain_at, request_read, request_at, body_of, body_at, respond_of, respond_at, cancel_of, cancel_at, cancel_in, command_at}
 use Rattle.sip_files.proofs.Cuts.{both_front, ended_reads, made_reads}
 use Rattle.sip_files.proofs.NumberLaws.{id_reads}
@@ -90,7 +90,8 @@ plain_reads =
       routes = refl;
       content = record { alone = refl; bytes = f.1 };
     })
-    (λ c f. ((((f.call_id, f.address), f.method), ((f.request_uri, f.from), f.to)), f.content.bytes))
+    (λ c f.
+    ((((f.call_id, f.address), f.method), ((f.request_uri, f.from), f.to)), f.content.bytes))
     (ended_reads (both_front (both_front (both_front call_id_front address_front) method_front)
     uris_front) word_reads)
 
@@ -182,16 +183,20 @@ cancel_reads =
     (ended_reads call_id_front id_reads)
 
 abbrev IsCancelIn : Version → Cancel → Type 0
-IsCancelIn version c = (version ≡ Two) × IsCancel c
+IsCancelIn version c = IsTrue (has_cancel version) × IsCancel c
+
+cancel_where : (version : Version) → has_cancel version ≡ true
+    → Reads (IsCancelIn version) cancel_fields cancel_at
+cancel_where version is = record {
+  took = λ fields c e. (let t = cancel_reads.took fields c e in ((is, t.0), t.1));
+  again = λ c fits. cancel_reads.again c fits.1;
+}
 
 pub cancel_reads_in : (version : Version)
     → Reads (IsCancelIn version) cancel_fields (cancel_in version)
 cancel_reads_in One = record { took = λ fields c e. absurd cc; again = λ c fits. absurd cc }
-cancel_reads_in Two = record {
-  took = λ fields c e.
-      (let t = cancel_reads.took fields c e in ((refl, t.0), t.1));
-  again = λ c fits. cancel_reads.again c fits.1;
-}
+cancel_reads_in Two = cancel_where Two refl
+cancel_reads_in SessionOne = cancel_where SessionOne refl
 
 -- the space behind the keyword stands before the first field
 onward : (k x y : List ℕ) → k ++ 32 ∷ (x ++ 32 ∷ y) ≡ (k ++ 32 ∷ x) ++ 32 ∷ y

@@ -16,7 +16,7 @@ use Rattle.sip_files.specs.declared.draft.Stage.{Stage}
 use Rattle.sip_files.specs.declared.draft.Stage.TheVariants as stage
 use Rattle.sip_files.specs.declared.draft.Draft.{Draft}
 use Rattle.sip_files.specs.EventFile.{Head, config_of, head_lines, round_lines, file_lines}
-use Rattle.sip_files.specs.Drafting.{nothing_read, local_taken, seed_taken, first_taken, begun_round, round_taken, with_event, taken, drafted}
+use Rattle.sip_files.specs.Drafting.{nothing_read, local_taken, seed_taken, first_taken, begun_round, round_taken, with_event, taken, all_gone, drafted}
 use Rattle.sip_files.proofs.Drafts.{one_more, Begun, draft_of}
 
 abbrev zeros : List ℕ
@@ -173,7 +173,7 @@ event_added (round ∷ next ∷ rounds) changed event e =
     further round (next ∷ rounds) changed event (with_event (next ∷ rounds) event)
     (λ rs is. event_added (next ∷ rounds) rs event is) refl e
 
-event_none : (rounds changed : List Round) (event : Event) → rounds ≡ []
+pub event_none : (rounds changed : List Round) (event : Event) → rounds ≡ []
     → with_event rounds event ≡ Some changed → ⊥
 event_none rounds changed event none e =
     let stop : ◌≡◌ {A = Option (List Round)} None (Some changed) =
@@ -222,10 +222,11 @@ step draft lines (line.Round moment) next r e =
 step draft lines (line.Event event) next r e =
     event_by draft.config draft.stage draft.rounds lines event next
     (with_event draft.rounds event) refl r e
+step draft lines (line.Header header) next r e = absurd (no_draft next e)
 
 all_steps : (draft : Draft) (before lines : List EventLine) (end : Draft) → ReachedBy draft before
     → drafted draft lines ≡ Some end → ReachedBy end (before ++ lines)
-unfolding drafted
+unfolding all_gone
 all_steps draft before [] end r e =
     subst (λ (d : Draft). ReachedBy d (before ++ [])) (same_some draft end e)
     (subst (λ (ls : List EventLine). ReachedBy draft ls) (sym (append-nil before)) r)

@@ -14,7 +14,7 @@ use Rattle.sip_files.specs.declared.draft.Stage.{Stage}
 use Rattle.sip_files.specs.declared.draft.Stage.TheVariants as stage
 use Rattle.sip_files.specs.declared.draft.Draft.{Draft}
 use Rattle.sip_files.specs.EventFile.{config_of, round_lines, file_lines}
-use Rattle.sip_files.specs.Drafting.{nothing_read, begun_round, round_taken, with_event, taken, drafted}
+use Rattle.sip_files.specs.Drafting.{nothing_read, begun_round, round_taken, with_event, all_gone, drafted}
 
 abbrev pub one_more : Round → Event → Round
 one_more round event = record round { events = round.events ++ event ∷ [] }
@@ -26,49 +26,54 @@ with_event-last (first ∷ []) round event = refl
 with_event-last (first ∷ next ∷ rounds) round event =
     ap (option_map (λ rs. first ∷ rs)) (with_event-last (next ∷ rounds) round event)
 
--- ---- what is taken one after the other
+-- ---- one step after the other
 
-pub drafted-append : (draft : Draft) (lines more : List EventLine)
-    → drafted draft (lines ++ more) ≡ (drafted draft lines >>= λ next. drafted next more)
-unfolding drafted
-drafted-append draft [] more = refl
-drafted-append draft (next ∷ lines) more =
-    further (taken draft next) (λ d. drafted-append d lines more)
-  where
-    further : (o : Option Draft) → ((d : Draft)
-        → drafted d (lines ++ more) ≡ (drafted d lines >>= λ n. drafted n more))
-        → (o >>= λ d. drafted d (lines ++ more))
-        ≡ ((o >>= λ d. drafted d lines) >>= λ n. drafted n more)
-    further None same = refl
-    further (Some d) same = same d
+module _ {S I : Type 0} (step : S → I → Option S) where
+  pub gone-append : (start : S) (items more : List I)
+      → all_gone step start (items ++ more)
+      ≡ (all_gone step start items >>= λ next. all_gone step next more)
+  unfolding all_gone
+  gone-append start [] more = refl
+  gone-append start (item ∷ items) more =
+      further (step start item) (λ s. gone-append s items more)
+    where
+      further : (o : Option S) → ((s : S) → all_gone step s (items ++ more)
+          ≡ (all_gone step s items >>= λ n. all_gone step n more))
+          → (o >>= λ s. all_gone step s (items ++ more))
+          ≡ ((o >>= λ s. all_gone step s items) >>= λ n. all_gone step n more)
+      further None same = refl
+      further (Some s) same = same s
 
-pub drafted-one : (draft : Draft) (next : EventLine) → drafted draft (next ∷ []) ≡ taken draft next
-unfolding drafted
-drafted-one draft next = whole (taken draft next)
-  where
-    whole : (o : Option Draft) → (o >>= λ d. Some d) ≡ o
-    whole None = refl
-    whole (Some d) = refl
+  pub gone-one : (start : S) (item : I) → all_gone step start (item ∷ []) ≡ step start item
+  unfolding all_gone
+  gone-one start item = whole (step start item)
+    where
+      whole : (o : Option S) → (o >>= λ s. Some s) ≡ o
+      whole None = refl
+      whole (Some s) = refl
 
-pub drafted-push : (draft next : Draft) (lines : List EventLine) (last : EventLine)
-    → drafted draft lines ≡ Some next → drafted draft (lines ++ last ∷ []) ≡ taken next last
-drafted-push draft next lines last e =
-    drafted-append draft lines (last ∷ []) ∙ ap (λ o. o >>= λ d. drafted d (last ∷ [])) e
-    ∙ drafted-one next last
+  pub gone-push : (start next : S) (items : List I) (last : I)
+      → all_gone step start items ≡ Some next
+      → all_gone step start (items ++ last ∷ []) ≡ step next last
+  gone-push start next items last e =
+      gone-append start items (last ∷ [])
+      ∙ ap (λ o. o >>= λ s. all_gone step s (last ∷ [])) e
+      ∙ gone-one next last
 
--- what goes on was taken
-pub next_taken : (draft next end : Draft) (lines more : List EventLine) (item : EventLine)
-    → drafted draft lines ≡ Some next → drafted draft (lines ++ item ∷ more) ≡ Some end
-    → taken next item ≡ None → ⊥
-unfolding drafted
-next_taken draft next end lines more item e whole none =
-    let split : (drafted draft lines >>= λ d. drafted d (item ∷ more)) ≡ Some end =
-    sym (drafted-append draft lines (item ∷ more)) ∙ whole in
-    let after : (taken next item >>= λ d. drafted d more) ≡ Some end =
-    sym (ap (λ o. o >>= λ d. drafted d (item ∷ more)) e) ∙ split in
-    let stop : ◌≡◌ {A = Option Draft} None (Some end) =
-    sym (ap (λ o. o >>= λ d. drafted d more) none) ∙ after in
-    absurd cc
+  -- what goes on made its next step
+  pub next_gone : (start next end : S) (items more : List I) (item : I)
+      → all_gone step start items ≡ Some next
+      → all_gone step start (items ++ item ∷ more) ≡ Some end
+      → step next item ≡ None → ⊥
+  unfolding all_gone
+  next_gone start next end items more item e whole none =
+      let split : (all_gone step start items >>= λ s. all_gone step s (item ∷ more)) ≡ Some end =
+      sym (gone-append start items (item ∷ more)) ∙ whole in
+      let after : (step next item >>= λ s. all_gone step s more) ≡ Some end =
+      sym (ap (λ o. o >>= λ s. all_gone step s (item ∷ more)) e) ∙ split in
+      let stop : ◌≡◌ {A = Option S} None (Some end) =
+      sym (ap (λ o. o >>= λ s. all_gone step s more) none) ∙ after in
+      absurd cc
 
 -- ---- a file's lines are taken
 
@@ -87,7 +92,7 @@ events_taken : (config : Config) (at : Stage) (rounds : List Round) (moment : �
     (map line.Event events ++ more)
     ≡ drafted (draft_of config at (rounds
     ++ (record { moment = moment; events = done ++ events }) ∷ [])) more
-unfolding drafted
+unfolding all_gone
 events_taken config at rounds moment done [] more =
     ap (λ (es : List Event). drafted
     (draft_of config at (rounds ++ (record { moment = moment; events = es }) ∷ [])) more)
@@ -120,7 +125,7 @@ stage_after_rounds (round ∷ rounds) = refl
 rounds_taken : (config : Config) (at : Stage) (done rounds : List Round) → Begun at
     → drafted (draft_of config at done) (flat_map round_lines rounds)
     ≡ Some (draft_of config (stage_after at rounds) (done ++ rounds))
-unfolding drafted
+unfolding all_gone
 rounds_taken config at done [] begun =
     ap (λ (rs : List Round). Some (draft_of config at rs)) (sym (append-nil done))
 rounds_taken config at done (round ∷ rounds) begun =
@@ -160,7 +165,7 @@ gives_by config at rounds lines begun e = record {
 pub file_gives : (local : Addr) (seed : Option (List ℕ)) (first : Option ℕ) (rounds : List Round)
     → Gives (config_of (record { local = local; seed = seed; first = first })) rounds
     (file_lines (record { local = local; seed = seed; first = first }) rounds)
-unfolding drafted
+unfolding all_gone
 file_gives local None None rounds = gives_by _ stage.Seed rounds _ tt refl
 file_gives local None (Some n) rounds = gives_by _ stage.Rounds rounds _ tt refl
 file_gives local (Some s) None rounds = gives_by _ stage.First rounds _ tt refl

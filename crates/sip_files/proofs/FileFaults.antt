@@ -1,51 +1,96 @@
--- What a reader of an event file finds: a draft, or the line with which no event file begins, and
--- the fault that says so.
-use Rattle.std.proofs.Common.{◌≡◌, ℕ, ◌≤◌, ◌^◌, true, false, cond, List, [], ◌∷◌, ◌++◌, length, Option, Some, None, refl, sym, ap, subst, ◌∙◌, append_assoc, arith, inl, inr, codes}
+-- What a reader of a file finds: a draft, or the line with which no file begins, and the fault that
+-- says so.
+use Rattle.std.proofs.Common.{◌≡◌, ℕ, ◌≤◌, ◌^◌, true, IsTrue, cond, List, [], ◌∷◌, ◌++◌, length, map, Option, Some, None, refl, sym, ap, subst, ◌∙◌, append_assoc, append-nil, arith, inl, inr, codes}
+use Rattle.std.specs.List.{flat_map, AllZip}
+use Rattle.std.specs.Option.{option_map}
 use Rattle.std.specs.Str.{bytes_eq}
-use Rattle.std.proofs.lemmas.List.{append-nil}
 use Rattle.std.proofs.lemmas.List.Concat.{flat_map-append}
+use Rattle.std.proofs.lemmas.Option.{some_pair_parts}
+use Rattle.sip_text.specs.Options.{◌>>=◌}
 use Rattle.sip_text.proofs.Cuts.{has_no, cut_again, uncut}
-use Rattle.sip_text.proofs.Options.{same_some, chosen, passed}
+use Rattle.sip_text.proofs.Options.{bind_some, same_some, chosen, passed}
 use Rattle.sip_text.specs.Cut.{cut_at}
+use Rattle.sip_text.specs.Character.{is_token_byte}
+use Rattle.sip_text.specs.Token.{is_token}
+use Rattle.sip_parts.specs.Uri.{is_uri, is_uri_byte}
+use Rattle.sip_parts.specs.Word.{is_word, is_word_byte}
 use Rattle.sip_message.specs.declared.addr.Addr.{Addr}
+use Rattle.sip_message.specs.Content.{content_of_body}
+use Rattle.sip_common.specs.declared.command.Plain.{Plain}
+use Rattle.sip_common.specs.declared.command.UserCommand.TheVariants as command
 use Rattle.sip_round.specs.declared.config.Config.{Config}
+use Rattle.sip_round.specs.declared.round.Event.{Event}
+use Rattle.sip_round.specs.declared.round.Event.TheVariants.{Command}
 use Rattle.sip_round.specs.declared.round.Round.{Round}
 use Rattle.sip_files.specs.declared.version.Version.{Version}
-use Rattle.sip_files.specs.declared.version.Version.TheVariants.{One, Two}
+use Rattle.sip_files.specs.declared.version.Version.TheVariants.{One, Two, SessionOne}
+use Rattle.sip_files.specs.declared.version.FileKind.{FileKind}
+use Rattle.sip_files.specs.declared.version.FileKind.TheVariants as file_kind
 use Rattle.sip_files.specs.declared.event_line.EventLine.{EventLine}
+use Rattle.sip_files.specs.declared.event_line.EventLine.TheVariants as line
 use Rattle.sip_files.specs.declared.draft.Stage.{Stage}
 use Rattle.sip_files.specs.declared.draft.Stage.TheVariants as stage
 use Rattle.sip_files.specs.declared.draft.Draft.{Draft}
+use Rattle.sip_files.specs.declared.given_header.GivenHeader.{GivenHeader}
+use Rattle.sip_files.specs.declared.progress.Progress.{Progress}
 use Rattle.sip_files.specs.declared.events_fault.EventsFault.{EventsFault}
 use Rattle.sip_files.specs.declared.events_fault.EventsFault.TheVariants.{TooLong, BadVersion, BadLine, NoMemory}
 use Rattle.sip_files.specs.Field.{address_field}
-use Rattle.sip_files.specs.EventFile.{Head, config_of, file_lines, with_ends, version_line, file_text, SpellsIn, SpellsEvents, IsEventFile, IsBegun, IsBadLine, TellsFileFault}
-use Rattle.sip_files.specs.Drafting.{is_begun, nothing_read, drafted}
-use Rattle.sip_files.specs.Lines.{version_at, FollowsVersion, TellsVersion, TellsLine, Drafts, Stuck}
+use Rattle.sip_files.specs.Events.{IsPlain, SpellsLine, command_text}
+use Rattle.sip_files.specs.EventFile.{Head, config_of, HeadedLine, SaysHeaded, headed_lines, with_ends, version_line, file_text, is_of_kind, SpellsFile, SpellsIn, IsEventFile, IsBegun, IsBadLine, HasVersion, TellsFault, TellsFileFault}
+use Rattle.sip_files.specs.Given.{gathered, plain_with}
+use Rattle.sip_files.specs.Drafting.{is_begun, nothing_read, no_lines, with_event, went, all_gone, drafted, gone}
+use Rattle.sip_files.specs.Lines.{version_at, version_in, FollowsVersion, TellsVersion, TellsLine, Drafts, Stuck}
 use Rattle.sip_files.proofs.FieldLaws.{same_text}
 use Rattle.sip_files.proofs.FileLines.{SayAll, no_line, same_line, with_end, same_front, longer, each_one, no_text, version_no, first_line, in_version}
 use Rattle.sip_files.proofs.LineEnds.{line_no}
-use Rattle.sip_files.proofs.DraftStages.{file_of, nothing_of, begun_unless, not_local}
-use Rattle.sip_files.proofs.Drafts.{next_taken, Begun}
-use Rattle.sip_files.proofs.OneFile.{after_version, lines_of, gives, only_draft, further_of, not_stuck, has_version, not_alone}
+use Rattle.sip_files.proofs.DraftStages.{file_of, nothing_of, begun_unless}
+use Rattle.sip_files.proofs.Drafts.{gone-push, next_gone, Begun}
+use Rattle.sip_files.proofs.HeadedLines.{zip_push, waiting, Headed, headed_of}
+use Rattle.sip_files.proofs.OneFile.{after_version, said_by, lines_of, gives, goes, further_of, not_stuck, has_version, not_alone}
 
 -- ---- what a reader finds
 
-pub found : (version : Version) (text after : List ℕ) (draft : Draft)
-    → FollowsVersion version text after → Drafts version draft after
-    → (draft.stage ≡ stage.Local → ⊥) → SpellsEvents draft.config draft.rounds text
-found version text after draft follows d other =
-    let f = file_of d.said draft d.gives (begun_unless draft.stage other) in (
+pub begun_of : (at : Stage) → is_begun at ≡ true → Begun at
+begun_of stage.Local e = absurd cc
+begun_of stage.Seed e = tt
+begun_of stage.First e = tt
+begun_of stage.Rounds e = tt
+
+-- lines that give a draft, and after which no header line waits, are those of a file
+spelled_by : (kind : FileKind) (version : Version) (lines : List (List ℕ)) (said : List EventLine)
+    (draft : Draft) (text : List ℕ) → IsTrue (is_of_kind kind version)
+    → gone no_lines said ≡ Some (waiting draft []) → Begun draft.stage
+    → SayAll version lines said → text ≡ file_text version lines
+    → SpellsFile kind draft.config draft.rounds text
+spelled_by kind version lines said draft text fits e begun says is =
+    let h = headed_of said (waiting draft []) e in
+    let f = file_of h.items draft h.takes begun in
+    let whole : said ≡ flat_map headed_lines h.headed =
+    h.whole ∙ append-nil (flat_map headed_lines h.headed) in (
       version,
+      fits,
       record {
         head = f.head;
-        lines = d.lines;
+        headed = h.headed;
+        lines = lines;
         configured = f.configured;
-        says = subst (λ (said : List EventLine). SayAll version d.lines said) f.spelled d.says;
-        spelled = follows ∙ ap (λ (t : List ℕ). version_line version ++ 10 ∷ t) d.spelled
-            ∙ sym (first_line version d.lines);
+        made = subst (λ (xs : List EventLine). AllZip SaysHeaded h.headed xs) f.spelled h.made;
+        says = subst (λ (xs : List EventLine). SayAll version lines xs) whole says;
+        spelled = is;
       },
     )
+
+pub found : (kind : FileKind) (version : Version) (text after : List ℕ) (draft : Draft)
+    → IsTrue (is_of_kind kind version) → FollowsVersion version text after
+    → Drafts version draft after → SpellsFile kind draft.config draft.rounds text
+found kind version text after draft fits follows d =
+    spelled_by kind version d.lines d.said draft text fits d.gives (begun_of draft.stage d.begun)
+    d.says
+    (follows ∙ ap (λ (t : List ℕ). version_line version ++ 10 ∷ t) d.spelled
+    ∙ sym (first_line version d.lines))
+
+-- ---- lines with which a file begins
 
 abbrev some_address : Addr
 some_address = record { ip = 0 ∷ 0 ∷ 0 ∷ 0 ∷ []; port = 0 }
@@ -56,71 +101,183 @@ least_head = record { local = some_address; seed = None; first = None }
 abbrev least_lines : List (List ℕ)
 least_lines = (codes "local" ++ address_field some_address) ∷ []
 
-least_says : (version : Version) → SayAll version least_lines (file_lines least_head [])
+abbrev least_headed : List HeadedLine
+least_headed = (record { headers = []; item = line.Local some_address }) ∷ []
+
+least_says : (version : Version)
+    → SayAll version least_lines (flat_map headed_lines least_headed)
 least_says version = ((((refl, refl), omega arith), refl), tt)
 
 -- a file that has its first two lines alone
-least_spelled : (version : Version) (text : List ℕ) → text ≡ file_text version least_lines
-    → SpellsEvents (config_of least_head) [] text
-least_spelled version text e = (
+least_spelled : (kind : FileKind) (version : Version) (text : List ℕ)
+    → IsTrue (is_of_kind kind version) → text ≡ file_text version least_lines
+    → SpellsFile kind (config_of least_head) [] text
+least_spelled kind version text fits e = (
   version,
+  fits,
   record {
     head = least_head;
+    headed = least_headed;
     lines = least_lines;
     configured = refl;
+    made = (refl, tt);
     says = least_says version;
     spelled = e;
   },
 )
 
-no_lines_begun : (version : Version) → IsBegun (file_text version [])
-no_lines_begun version = (
+no_lines_begun : (kind : FileKind) (version : Version) → IsTrue (is_of_kind kind version)
+    → IsBegun kind (file_text version [])
+no_lines_begun kind version fits = (
   with_ends least_lines,
   config_of least_head,
   [],
-  least_spelled version (file_text version [] ++ with_ends least_lines)
+  least_spelled kind version (file_text version [] ++ with_ends least_lines) fits
       (sym (flat_map-append (λ text. text ++ 10 ∷ []) (version_line version ∷ []) least_lines)),
 )
 
-begun_at : (version : Version) (lines : List (List ℕ)) (said : List EventLine) (draft : Draft)
-    (at : Stage) → draft.stage ≡ at → drafted nothing_read said ≡ Some draft
-    → SayAll version lines said → (Begun at → IsBegun (file_text version lines))
-    → IsBegun (file_text version lines)
-begun_at version lines said draft stage.Local is e says further =
-    let none = no_text version lines said says (nothing_of said draft e is) in
-    subst (λ (ls : List (List ℕ)). IsBegun (file_text version ls)) (sym none)
-    (no_lines_begun version)
-begun_at version lines said draft stage.Seed is e says further = further tt
-begun_at version lines said draft stage.First is e says further = further tt
-begun_at version lines said draft stage.Rounds is e says further = further tt
+-- a command before which any header may stand
+abbrev least_plain : Plain
+least_plain = record {
+  call_id = codes "c";
+  address = some_address;
+  method = codes "A";
+  request_uri = codes "a";
+  from = codes "a";
+  to = codes "a";
+  routes = [];
+  content = content_of_body [];
+}
 
--- lines that give a draft are how some event file begins
-pub begun_by : (version : Version) (lines : List (List ℕ)) (said : List EventLine) (draft : Draft)
-    → drafted nothing_read said ≡ Some draft → SayAll version lines said
-    → IsBegun (file_text version lines)
-begun_by version lines said draft e says =
-    begun_at version lines said draft draft.stage refl e says (λ begun.
-    let f = file_of said draft e begun in (
+abbrev plain_line : EventLine
+plain_line = line.Event (Command (command.Plain least_plain))
+
+least_is_plain : IsPlain least_plain
+unfolding is_token is_token_byte is_word is_word_byte is_uri is_uri_byte
+least_is_plain = record {
+  call_id = (refl, refl);
+  address = ((refl, refl), omega arith);
+  method = refl;
+  request_uri = (refl, refl);
+  from = (refl, refl);
+  to = (refl, refl);
+  routes = refl;
+  content = record { alone = refl; bytes = refl };
+}
+
+some_event : (rounds : List Round) (event : Event) → (rounds ≡ [] → ⊥)
+    → (changed : List Round) × (with_event rounds event ≡ Some changed)
+some_event [] event some = absurd (some refl)
+some_event (round ∷ []) event some =
+    ((record round { events = round.events ++ event ∷ [] }) ∷ [], refl)
+some_event (round ∷ next ∷ rounds) event some =
+    let more = some_event (next ∷ rounds) event (λ e. cc) in
+    (round ∷ more.0, ap (option_map (λ rs. round ∷ rs)) more.1)
+
+-- the first of its lines was taken, since header lines stand in rounds
+in_rounds : (progress : Progress) (said : List EventLine) → Headed progress said
+    → (progress.headers ≡ [] → ⊥) → progress.draft.stage ≡ stage.Local → ⊥
+unfolding all_gone
+in_rounds progress said h some at =
+    let none = nothing_of h.items progress.draft h.takes at in
+    let same : nothing_read ≡ progress.draft =
+    same_some nothing_read progress.draft (sym (ap (drafted nothing_read) none) ∙ h.takes) in
+    h.in_round some (sym (ap (λ (d : Draft). d.rounds) same))
+
+ended_lines : (version : Version) (lines : List (List ℕ)) (next : List ℕ)
+    → file_text version lines ++ with_ends (next ∷ []) ≡ file_text version (lines ++ next ∷ [])
+ended_lines version lines next =
+    sym (flat_map-append (λ text. text ++ 10 ∷ []) (version_line version ∷ lines) (next ∷ []))
+
+-- after header lines a file goes on with such a command
+goes_on : (kind : FileKind) (version : Version) (lines : List (List ℕ)) (said : List EventLine)
+    (draft : Draft) (header : GivenHeader) (headers : List GivenHeader)
+    → IsTrue (is_of_kind kind version)
+    → gone no_lines said ≡ Some (waiting draft (header ∷ headers)) → SayAll version lines said
+    → IsBegun kind (file_text version lines)
+goes_on kind version lines said draft header headers fits e says =
+    let waits = waiting draft (header ∷ headers) in
+    let h = headed_of said waits e in
+    let event = Command (command.Plain (plain_with (gathered (header ∷ headers)) least_plain)) in
+    let some : header ∷ headers ≡ [] → ⊥ = λ none. cc in
+    let more = some_event draft.rounds event (h.in_round some) in
+    let next : Draft = record draft { rounds = more.0 } in
+    let went_on : went waits plain_line ≡ Some (waiting next []) =
+    ap (λ o. option_map (λ d. waiting d [])
+    (option_map (λ rounds. record draft { rounds = rounds }) o)) more.1 in
+    let text = command_text (command.Plain least_plain) in (
+      with_ends (text ∷ []),
+      next.config,
+      next.rounds,
+      spelled_by kind version (lines ++ text ∷ []) (said ++ plain_line ∷ []) next
+          (file_text version lines ++ with_ends (text ∷ [])) fits
+          (gone-push went no_lines waits said plain_line e ∙ went_on)
+          (begun_unless next.stage (in_rounds waits said h some))
+          (zip_push (SpellsLine version) lines said text plain_line says
+          (least_is_plain, refl))
+          (ended_lines version lines text),
+    )
+
+none_headed : (headed : List HeadedLine) (items : List EventLine)
+    → AllZip SaysHeaded headed items → items ≡ [] → headed ≡ []
+none_headed [] items all none = refl
+none_headed (h ∷ headed) items all none =
+    elim (subst (λ (xs : List EventLine). AllZip SaysHeaded (h ∷ headed) xs) none all) [ ]
+
+nothing_said : (said : List EventLine) (progress : Progress) → (h : Headed progress said)
+    → progress.headers ≡ [] → h.items ≡ [] → said ≡ []
+nothing_said said progress h none no_items =
+    let no_lines_headed : h.headed ≡ [] =
+    none_headed h.headed h.items h.made no_items in
+    h.whole ∙ ap (λ (hs : List HeadedLine). flat_map headed_lines hs
+    ++ map line.Header progress.headers) no_lines_headed
+    ∙ ap (λ (hs : List GivenHeader). map line.Header hs) none
+
+begun_at : (kind : FileKind) (version : Version) (lines : List (List ℕ)) (said : List EventLine)
+    (draft : Draft) (at : Stage) → IsTrue (is_of_kind kind version) → draft.stage ≡ at
+    → gone no_lines said ≡ Some (waiting draft []) → SayAll version lines said
+    → (Begun at → IsBegun kind (file_text version lines))
+    → IsBegun kind (file_text version lines)
+begun_at kind version lines said draft stage.Local fits is e says further =
+    let h = headed_of said (waiting draft []) e in
+    let none = no_text version lines said says (nothing_said said (waiting draft []) h refl
+    (nothing_of h.items draft h.takes is)) in
+    subst (λ (ls : List (List ℕ)). IsBegun kind (file_text version ls)) (sym none)
+    (no_lines_begun kind version fits)
+begun_at kind version lines said draft stage.Seed fits is e says further = further tt
+begun_at kind version lines said draft stage.First fits is e says further = further tt
+begun_at kind version lines said draft stage.Rounds fits is e says further = further tt
+
+begun_with : (kind : FileKind) (version : Version) (lines : List (List ℕ)) (said : List EventLine)
+    (draft : Draft) (headers : List GivenHeader) → IsTrue (is_of_kind kind version)
+    → gone no_lines said ≡ Some (waiting draft headers) → SayAll version lines said
+    → IsBegun kind (file_text version lines)
+begun_with kind version lines said draft [] fits e says =
+    begun_at kind version lines said draft draft.stage fits refl e says (λ begun. (
       [],
       draft.config,
       draft.rounds,
-      (
-        version,
-        record {
-          head = f.head;
-          lines = lines;
-          configured = f.configured;
-          says = subst (λ (xs : List EventLine). SayAll version lines xs) f.spelled says;
-          spelled = append-nil (file_text version lines);
-        },
-      ),
+      spelled_by kind version lines said draft (file_text version lines ++ []) fits e begun says
+          (append-nil (file_text version lines)),
     ))
+begun_with kind version lines said draft (header ∷ headers) fits e says =
+    goes_on kind version lines said draft header headers fits e says
+
+-- lines that give a progress are how some file begins
+pub begun_by : (kind : FileKind) (version : Version) (lines : List (List ℕ))
+    (said : List EventLine) (progress : Progress) → IsTrue (is_of_kind kind version)
+    → gone no_lines said ≡ Some progress → SayAll version lines said
+    → IsBegun kind (file_text version lines)
+begun_by kind version lines said progress fits e says =
+    begun_with kind version lines said progress.draft progress.headers fits e says
+
+-- ---- a line with which none does
 
 stuck_by : (version : Version) (number : ℕ) (after : List ℕ) (k : Stuck version number after)
     (next rest rest' : List ℕ) (config : Config) (rounds : List Round) (text : List ℕ)
     (s : SpellsIn version config rounds text) (others : List (List ℕ)) (further : List EventLine)
     → k.left ≡ next ++ 10 ∷ rest → has_no 10 next ≡ true
-    → file_lines s.head rounds ≡ k.said ++ further → SayAll version others further
+    → said_by s ≡ k.said ++ further → SayAll version others further
     → next ++ 10 ∷ rest' ≡ with_ends others → ⊥
 stuck_by version number after k next rest rest' config rounds text s [] further is none whole says
     e = no_line next rest' none (sym e)
@@ -132,19 +289,20 @@ stuck_by version number after k next rest rest' config rounds text s (line ∷ o
     let same = same_line next rest' line (with_ends others) none (line_no version line item says.0)
     (e ∙ append_assoc line (10 ∷ []) (with_ends others)) in
     let stop = k.no_next line rest item says.0 (is ∙ ap (λ (t : List ℕ). t ++ 10 ∷ rest) same.0) in
-    next_taken nothing_read k.draft g.draft k.said further item k.gives
-    (sym (ap (drafted nothing_read) whole) ∙ g.taken_all) stop
+    next_gone went no_lines k.progress (waiting g.draft []) k.said further item k.gives
+    (sym (ap (gone no_lines) whole) ∙ goes version config rounds text s) stop
 
 -- with the line that stands next no file begins
-not_begun : (version : Version) (number : ℕ) (after : List ℕ) (k : Stuck version number after)
-    (next rest : List ℕ) → k.left ≡ next ++ 10 ∷ rest → has_no 10 next ≡ true
-    → IsBegun (file_text version (k.before ++ next ∷ [])) → ⊥
-not_begun version number after k next rest is none begun =
+not_begun : (kind : FileKind) (version : Version) (number : ℕ) (after : List ℕ)
+    (k : Stuck version number after) (next rest : List ℕ) → k.left ≡ next ++ 10 ∷ rest
+    → has_no 10 next ≡ true → IsBegun kind (file_text version (k.before ++ next ∷ [])) → ⊥
+not_begun kind version number after k next rest is none begun =
     let lines = k.before ++ next ∷ [] in
     let text = file_text version lines ++ begun.0 in
     let follows : FollowsVersion version text (with_ends lines ++ begun.0) =
     with_end (version_line version) (with_ends lines) begun.0 in
-    let s = in_version version begun.1 begun.2 text (with_ends lines ++ begun.0) follows begun.3 in
+    let s = in_version kind version begun.1 begun.2 text (with_ends lines ++ begun.0) follows
+    begun.3 in
     let f = same_front k.before s.lines (next ++ 10 ∷ begun.0)
     (each_one version k.before k.said k.says) (lines_of version begun.1 begun.2 text s)
     (sym (longer k.before next begun.0)
@@ -153,41 +311,26 @@ not_begun version number after k next rest is none begun =
     stuck_by version number after k next rest begun.0 begun.1 begun.2 text s f.others on.further is
     none on.whole on.says f.rest
 
-pub bad_line : (version : Version) (number : ℕ) (text after : List ℕ)
-    → FollowsVersion version text after → Stuck version number after → IsBadLine number text
-bad_line version number text after follows k = record {
-  none = λ file. not_stuck version file.0 file.1 text after number file.2 follows k;
+pub bad_line : (kind : FileKind) (version : Version) (number : ℕ) (text after : List ℕ)
+    → IsTrue (is_of_kind kind version) → FollowsVersion version text after
+    → Stuck version number after → IsBadLine kind number text
+bad_line kind version number text after fits follows k = record {
+  none = λ file. not_stuck kind version file.0 file.1 text after number file.2 follows k;
   before = version_line version ∷ k.before;
   left = k.left;
   parts = follows ∙ ap (λ (t : List ℕ). version_line version ++ 10 ∷ t) k.parts
       ∙ sym (with_end (version_line version) (with_ends k.before) k.left);
   one_each = (version_no version, each_one version k.before k.said k.says);
   counted = omega (arith, k.counted);
-  begun = begun_by version k.before k.said k.draft k.gives k.says;
-  stuck = λ next rest is none begun. not_begun version number after k next rest is none begun;
+  begun = begun_by kind version k.before k.said k.progress fits k.gives k.says;
+  stuck = λ next rest is none begun.
+      not_begun kind version number after k next rest is none begun;
 }
 
-pub no_local : (version : Version) (text after : List ℕ) (draft : Draft)
-    → FollowsVersion version text after → Drafts version draft after → draft.stage ≡ stage.Local
-    → IsBadLine 2 text
-no_local version text after draft follows d at =
-    let none = no_text version d.lines d.said d.says (nothing_of d.said draft d.gives at) in
-    let nothing : after ≡ [] = d.spelled ∙ ap with_ends none in
-    record {
-      none = λ file. not_local draft.stage
-          (only_draft version file.0 file.1 text after draft file.2 follows d).begun at;
-      before = version_line version ∷ [];
-      left = after;
-      parts = follows ∙ sym (with_end (version_line version) [] after);
-      one_each = (version_no version, tt);
-      counted = refl;
-      begun = no_lines_begun version;
-      stuck = λ next rest is one begun. no_line next rest one (sym nothing ∙ is);
-    }
-
-pub no_end : (version : Version) (text : List ℕ) → text ≡ version_line version → IsBadLine 1 text
-no_end version text e = record {
-  none = λ file. not_alone version file.0 file.1 text e file.2;
+pub no_end : (kind : FileKind) (version : Version) (text : List ℕ)
+    → IsTrue (is_of_kind kind version) → text ≡ version_line version → IsBadLine kind 1 text
+no_end kind version text fits e = record {
+  none = λ file. not_alone kind version file.0 file.1 text e file.2;
   before = [];
   left = text;
   parts = refl;
@@ -197,7 +340,7 @@ no_end version text e = record {
     file_text version least_lines,
     config_of least_head,
     [],
-    least_spelled version (file_text version least_lines) refl,
+    least_spelled kind version (file_text version least_lines) fits refl,
   );
   stuck = λ next rest is one begun.
       (let cut : ◌≡◌ {A = Option (List ℕ × List ℕ)} None (Some (next, rest)) =
@@ -208,71 +351,127 @@ no_end version text e = record {
 -- ---- faults
 
 -- what names a version is its line
-pub version_named : (line : List ℕ) (version : Version) → version_at line ≡ Some version
+version_named : (line : List ℕ) (version : Version) → version_at line ≡ Some version
     → line ≡ version_line version
 version_named line version e =
     let P : Version → Type 0 = λ v. line ≡ version_line v in
     elim (chosen (bytes_eq line (version_line One)) (Some One)
-    (cond (bytes_eq line (version_line Two)) (Some Two) None) (Some version) e) [
+    (cond (bytes_eq line (version_line Two)) (Some Two)
+    (cond (bytes_eq line (version_line SessionOne)) (Some SessionOne) None)) (Some version) e) [
       | inl a ↦ subst P (same_some One version a.1) (same_text line (version_line One) a.0)
-      | inr a ↦ (let g = passed (bytes_eq line (version_line Two)) Two version a.1 in
-          subst P g.1 (same_text line (version_line Two) g.0))
+      | inr a ↦ elim (chosen (bytes_eq line (version_line Two)) (Some Two)
+          (cond (bytes_eq line (version_line SessionOne)) (Some SessionOne) None)
+          (Some version) a.1) [
+            | inl b ↦ subst P (same_some Two version b.1) (same_text line (version_line Two) b.0)
+            | inr b ↦ (let g = passed (bytes_eq line (version_line SessionOne)) SessionOne version b.1 in
+                subst P g.1 (same_text line (version_line SessionOne) g.0))
+          ]
     ]
 
-pub version_only : (fault : EventsFault) (text : List ℕ) (config : Config) (rounds : List Round)
-    → TellsVersion fault text → SpellsEvents config rounds text → fault ≡ NoMemory
-version_only TooLong text config rounds tells s = elim tells [ ]
-version_only BadVersion text config rounds tells s =
-    absurd (tells (has_version config rounds text s))
-version_only (BadLine number) text config rounds tells s =
-    absurd (not_alone tells.0 config rounds text tells.2 s)
-version_only NoMemory text config rounds tells s = elim tells [ ]
+pub version_found : (kind : FileKind) (line : List ℕ) (version : Version)
+    → version_in kind line ≡ Some version
+    → IsTrue (is_of_kind kind version) × (line ≡ version_line version)
+version_found kind line version e =
+    let v = bind_some (version_at line)
+    (λ version. cond (is_of_kind kind version) (Some version) None) version e in
+    let g = passed (is_of_kind kind v.0) v.0 version v.2 in
+    let P : Version → Type 0 = λ v. IsTrue (is_of_kind kind v) × (line ≡ version_line v) in
+    subst P g.1 (g.0, version_named line v.0 v.1)
 
-pub version_tells : (fault : EventsFault) (text : List ℕ) → length text ≤ 2 ^ 26
-    → TellsVersion fault text → TellsFileFault fault text
-version_tells TooLong text small tells = elim tells [ ]
-version_tells BadVersion text small tells = (small, tells)
-version_tells (BadLine number) text small tells = (
+named_again : (version : Version) → version_at (version_line version) ≡ Some version
+named_again One = refl
+named_again Two = refl
+named_again SessionOne = refl
+
+version_again : (kind : FileKind) (version : Version) → IsTrue (is_of_kind kind version)
+    → version_in kind (version_line version) ≡ Some version
+version_again kind version fits =
+    ap (λ o. o >>= λ v. cond (is_of_kind kind v) (Some v) None) (named_again version)
+    ∙ ap (λ r. cond r (Some version) None) fits
+
+-- a line that names no version of the kind
+unlike : (kind : FileKind) (line : List ℕ) → version_in kind line ≡ None → (version : Version)
+    → IsTrue (is_of_kind kind version) → line ≡ version_line version → ⊥
+unlike kind line none version fits is =
+    let no : ◌≡◌ {A = Option Version} None (Some version) =
+    sym none ∙ ap (version_in kind) is ∙ version_again kind version fits in
+    absurd cc
+
+-- a text of one line without an end
+pub no_version : (kind : FileKind) (text : List ℕ) → cut_at 10 text ≡ None
+    → version_in kind text ≡ None → HasVersion kind text → ⊥
+no_version kind text uncut none has =
+    elim (has.2) [
+      | inl alone ↦ unlike kind text none has.0 has.1 alone
+      | inr more ↦ (let cut : ◌≡◌ {A = Option (List ℕ × List ℕ)} None
+          (Some (version_line has.0, more.0)) =
+          sym uncut ∙ ap (cut_at 10) more.1
+          ∙ cut_again 10 (version_line has.0) more.0 (version_no has.0) in absurd cc)
+    ]
+
+-- a text with a first line
+pub no_version_line : (kind : FileKind) (text line after : List ℕ)
+    → cut_at 10 text ≡ Some (line, after) → version_in kind line ≡ None → HasVersion kind text → ⊥
+no_version_line kind text line after cut none has =
+    elim (has.2) [
+      | inl alone ↦ (let no : ◌≡◌ {A = Option (List ℕ × List ℕ)} (Some (line, after)) None =
+          sym cut ∙ ap (cut_at 10) alone
+          ∙ uncut 10 (version_line has.0) (version_no has.0) in absurd cc)
+      | inr more ↦ (let same = some_pair_parts line (version_line has.0) after more.0
+          (sym cut ∙ ap (cut_at 10) more.1
+          ∙ cut_again 10 (version_line has.0) more.0 (version_no has.0)) in
+          unlike kind line none has.0 has.1 same.0)
+    ]
+
+pub version_only : (kind : FileKind) (fault : EventsFault) (text : List ℕ) (config : Config)
+    (rounds : List Round) → TellsVersion kind fault text → SpellsFile kind config rounds text
+    → fault ≡ NoMemory
+version_only kind TooLong text config rounds tells s = elim tells [ ]
+version_only kind BadVersion text config rounds tells s =
+    absurd (tells (has_version kind config rounds text s))
+version_only kind (BadLine number) text config rounds tells s =
+    absurd (not_alone kind tells.0 config rounds text tells.3 s)
+version_only kind NoMemory text config rounds tells s = elim tells [ ]
+
+pub version_tells : (kind : FileKind) (fault : EventsFault) (text : List ℕ)
+    → length text ≤ 2 ^ 26 → TellsVersion kind fault text → TellsFault kind fault text
+version_tells kind TooLong text small tells = elim tells [ ]
+version_tells kind BadVersion text small tells = (small, tells)
+version_tells kind (BadLine number) text small tells = (
   small,
-  (tells.0, inl tells.2),
-  subst (λ (n : ℕ). IsBadLine n text) (sym tells.1) (no_end tells.0 text tells.2),
+  (tells.0, tells.1, inl tells.3),
+  subst (λ (n : ℕ). IsBadLine kind n text) (sym tells.2)
+      (no_end kind tells.0 text tells.1 tells.3),
 )
-version_tells NoMemory text small tells = tt
+version_tells kind NoMemory text small tells = tt
 
-pub line_only : (version : Version) (fault : EventsFault) (text after : List ℕ) (config : Config)
-    (rounds : List Round) → FollowsVersion version text after → TellsLine version fault after
-    → SpellsEvents config rounds text → fault ≡ NoMemory
-line_only version TooLong text after config rounds follows tells s = elim tells [ ]
-line_only version BadVersion text after config rounds follows tells s = elim tells [ ]
-line_only version (BadLine number) text after config rounds follows tells s =
-    absurd (not_stuck version config rounds text after number s follows tells)
-line_only version NoMemory text after config rounds follows tells s = refl
+pub line_only : (kind : FileKind) (version : Version) (fault : EventsFault) (text after : List ℕ)
+    (config : Config) (rounds : List Round) → FollowsVersion version text after
+    → TellsLine version fault after → SpellsFile kind config rounds text → fault ≡ NoMemory
+line_only kind version TooLong text after config rounds follows tells s = elim tells [ ]
+line_only kind version BadVersion text after config rounds follows tells s = elim tells [ ]
+line_only kind version (BadLine number) text after config rounds follows tells s =
+    absurd (not_stuck kind version config rounds text after number s follows tells)
+line_only kind version NoMemory text after config rounds follows tells s = refl
 
-pub line_tells : (version : Version) (fault : EventsFault) (text after : List ℕ)
-    → length text ≤ 2 ^ 26 → FollowsVersion version text after → TellsLine version fault after
-    → TellsFileFault fault text
-line_tells version TooLong text after small follows tells = elim tells [ ]
-line_tells version BadVersion text after small follows tells = elim tells [ ]
-line_tells version (BadLine number) text after small follows tells =
-    (small, (version, inr (after, follows)), bad_line version number text after follows tells)
-line_tells version NoMemory text after small follows tells = tt
+pub line_tells : (kind : FileKind) (version : Version) (fault : EventsFault)
+    (text after : List ℕ) → length text ≤ 2 ^ 26 → IsTrue (is_of_kind kind version)
+    → FollowsVersion version text after → TellsLine version fault after
+    → TellsFault kind fault text
+line_tells kind version TooLong text after small fits follows tells = elim tells [ ]
+line_tells kind version BadVersion text after small fits follows tells = elim tells [ ]
+line_tells kind version (BadLine number) text after small fits follows tells = (
+  small,
+  (version, fits, inr (after, follows)),
+  bad_line kind version number text after fits follows tells,
+)
+line_tells kind version NoMemory text after small fits follows tells = tt
 
 -- no fault fits an event file but want of memory
 pub never_bad : (fault : EventsFault) (text : List ℕ) → TellsFileFault fault text → IsEventFile text
     → fault ≡ NoMemory
 never_bad TooLong text tells file = absurd (omega (arith, file.3, tells))
-never_bad BadVersion text tells file = absurd (tells.1 (has_version file.0 file.1 text file.2))
+never_bad BadVersion text tells file =
+    absurd (tells.1 (has_version file_kind.Events file.0 file.1 text file.2))
 never_bad (BadLine number) text tells file = absurd ((tells.2).none file)
 never_bad NoMemory text tells file = refl
-
-pub local_at : (at : Stage) → is_begun at ≡ false → at ≡ stage.Local
-local_at stage.Local e = refl
-local_at stage.Seed e = absurd cc
-local_at stage.First e = absurd cc
-local_at stage.Rounds e = absurd cc
-
-pub begun_stage : (at : Stage) → is_begun at ≡ true → at ≡ stage.Local → ⊥
-begun_stage stage.Local e is = absurd cc
-begun_stage stage.Seed e is = cc
-begun_stage stage.First e is = cc
-begun_stage stage.Rounds e is = cc

@@ -10,10 +10,11 @@ use Rattle.sip_text.specs.Cut.{cut_at}
 use Rattle.sip_round.specs.declared.config.Config.{Config}
 use Rattle.sip_round.specs.declared.round.Round.{Round}
 use Rattle.sip_files.specs.declared.version.Version.{Version}
-use Rattle.sip_files.specs.declared.version.Version.TheVariants.{One, Two}
+use Rattle.sip_files.specs.declared.version.FileKind.{FileKind}
+use Rattle.sip_files.specs.declared.version.Version.TheVariants.{One, Two, SessionOne}
 use Rattle.sip_files.specs.declared.event_line.EventLine.{EventLine}
 use Rattle.sip_files.specs.Events.{SpellsLine}
-use Rattle.sip_files.specs.EventFile.{with_ends, version_line, file_text, SpellsIn, SpellsEvents, IsOneLine}
+use Rattle.sip_files.specs.EventFile.{with_ends, version_line, file_text, SpellsIn, SpellsFile, IsOneLine}
 use Rattle.sip_files.specs.Lines.{version_at, FollowsVersion}
 use Rattle.sip_files.proofs.LineEnds.{line_no}
 use Rattle.sip_files.proofs.LineLaws.{one_meaning}
@@ -150,10 +151,12 @@ module _ (version : Version) where
 pub version_no : (version : Version) → has_no 10 (version_line version) ≡ true
 version_no One = refl
 version_no Two = refl
+version_no SessionOne = refl
 
 version_again : (version : Version) → version_at (version_line version) ≡ Some version
 version_again One = refl
 version_again Two = refl
+version_again SessionOne = refl
 
 same_version : (version another : Version) → version_line version ≡ version_line another
     → version ≡ another
@@ -167,11 +170,11 @@ pub first_line : (version : Version) (lines : List (List ℕ))
 first_line version lines = append_assoc (version_line version) (10 ∷ []) (with_ends lines)
 
 -- a text that begins with the line of the version spells what it spells in this version
-pub in_version : (version : Version) (config : Config) (rounds : List Round) (text after : List ℕ)
-    → FollowsVersion version text after → SpellsEvents config rounds text
+pub in_version : (kind : FileKind) (version : Version) (config : Config) (rounds : List Round)
+    (text after : List ℕ) → FollowsVersion version text after → SpellsFile kind config rounds text
     → SpellsIn version config rounds text
-in_version version config rounds text after follows s =
-    let cut = same_line (version_line s.0) (with_ends (s.1).lines) (version_line version) after
+in_version kind version config rounds text after follows s =
+    let cut = same_line (version_line s.0) (with_ends (s.2).lines) (version_line version) after
     (version_no s.0) (version_no version)
-    (sym ((s.1).spelled ∙ first_line s.0 (s.1).lines) ∙ follows) in
-    subst (λ (v : Version). SpellsIn v config rounds text) (same_version s.0 version cut.0) s.1
+    (sym ((s.2).spelled ∙ first_line s.0 (s.2).lines) ∙ follows) in
+    subst (λ (v : Version). SpellsIn v config rounds text) (same_version s.0 version cut.0) s.2

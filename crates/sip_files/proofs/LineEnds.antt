@@ -16,13 +16,15 @@ use Rattle.sip_common.specs.declared.command.UserCommand.{UserCommand}
 use Rattle.sip_common.specs.declared.command.UserCommand.TheVariants as command
 use Rattle.sip_round.specs.declared.round.Event.TheVariants.{Datagram, Failed, Command}
 use Rattle.sip_files.specs.declared.version.Version.{Version}
+use Rattle.sip_files.specs.declared.version.Version.TheVariants.{One, Two, SessionOne}
+use Rattle.sip_files.specs.declared.given_header.GivenHeader.{GivenHeader}
 use Rattle.sip_files.specs.declared.event_line.EventLine.{EventLine}
 use Rattle.sip_files.specs.declared.event_line.EventLine.TheVariants as line
 use Rattle.sip_files.specs.declared.fields.Dialog.{Dialog}
 use Rattle.sip_files.specs.declared.fields.Uris.{Uris}
 use Rattle.sip_files.specs.Word.{hex_pair, spelled_word, spelled_rest}
 use Rattle.sip_files.specs.Field.{plain_field, number_field, address_field, rest_field}
-use Rattle.sip_files.specs.Events.{IsMethod, IsCommandLine, reliability_text, support_text, command_text, SpellsClient, SpellsServer, SpellsLine}
+use Rattle.sip_files.specs.Events.{IsMethod, IsCommandLine, reliability_text, support_text, command_text, SpellsClient, SpellsServer, SpellsHeaderIn, SpellsLine}
 use Rattle.sip_files.proofs.CommandLines.{invite_fields, plain_fields, request_fields, body_fields, respond_fields, cancel_fields, invite_text, plain_text, request_text, respond_text, ack_text, prack_text, cancel_text}
 use Rattle.sip_files.proofs.FailedLines.{client_fields, client_text, server_fields, server_text}
 use Rattle.sip_files.proofs.Shown.{word_no, rest_no, pairs_no}
@@ -64,7 +66,8 @@ no_reliability reliability.Reliable = record { none = refl }
 
 no_body : (c : DialogBody) → NoEnd (body_fields c)
 no_body c = behind (no_dialog (record
-    { call_id = c.call_id; local_tag = c.local_tag; remote_tag = c.remote_tag })) (no_word c.content.body)
+    { call_id = c.call_id; local_tag = c.local_tag; remote_tag = c.remote_tag }))
+    (no_word c.content.body)
 
 -- a keyword and the fields behind it
 line_none : (text k fields : List ℕ) → text ≡ k ++ 32 ∷ fields → has_no 10 k ≡ true → NoEnd fields
@@ -129,6 +132,16 @@ server_no text key s =
     (behind (behind (behind (no_word s.branch) (no_word s.host)) (no_number s.port s.bound))
     (no_method_end s.method s.token))
 
+header_no : (version : Version) (text : List ℕ) (header : GivenHeader)
+    → SpellsHeaderIn version text header → has_no 10 text ≡ true
+unfolding rest_field
+header_no One text header s = elim s [ ]
+header_no Two text header s = elim s [ ]
+header_no SessionOne text header s =
+    ap (has_no 10) s.spelled
+    ∙ fields_no 10 (codes " ") (spelled_rest s.header_line) space
+    (rest_no 10 s.header_line (omega arith) refl)
+
 pub line_no : (version : Version) (text : List ℕ) (item : EventLine) → SpellsLine version text item
     → has_no 10 text ≡ true
 unfolding address_field plain_field number_field rest_field
@@ -157,3 +170,4 @@ line_no version text (line.Event (Failed key)) s =
     ]
 line_no version text (line.Event (Command c)) s =
     ap (has_no 10) s.1 ∙ command_no version c s.0
+line_no version text (line.Header header) s = header_no version text header s

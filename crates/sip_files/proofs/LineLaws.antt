@@ -1,8 +1,10 @@
 -- The lines of an event file: what is read is spelled so, and what is spelled so is read.
-use Rattle.std.proofs.Common.{◌≡◌, ℕ, true, cond, List, ◌∷◌, ◌++◌, Option, Some, refl, sym, ap, subst, ◌∙◌, arith, inl, inr, codes, decimal}
+use Rattle.std.proofs.Common.{◌≡◌, ℕ, true, cond, eqb, List, ◌∷◌, ◌++◌, length, Option, Some, refl, sym, ap, subst, ◌∙◌, arith, inl, inr, codes, decimal}
 use Rattle.std.specs.List.{flat_map}
 use Rattle.std.specs.Option.{option_map}
 use Rattle.std.specs.Str.{bytes_eq}
+use Rattle.std.proofs.lemmas.Bool.{eqb-true}
+use Rattle.std.proofs.lemmas.List.{nil_from_length}
 use Rattle.sip_text.proofs.Numerals.{number_reads}
 use Rattle.sip_text.proofs.Cuts.{cut_took, field_took, field_again}
 use Rattle.sip_text.proofs.Options.{bind_some, chosen, same_some}
@@ -17,19 +19,22 @@ use Rattle.sip_common.specs.declared.command.UserCommand.TheVariants as command
 use Rattle.sip_round.specs.declared.round.Event.{Event}
 use Rattle.sip_round.specs.declared.round.Event.TheVariants.{Datagram, Failed, Command}
 use Rattle.sip_files.specs.declared.version.Version.{Version}
-use Rattle.sip_files.specs.declared.version.Version.TheVariants.{Two}
+use Rattle.sip_files.specs.declared.version.Version.TheVariants.{One, Two, SessionOne}
+use Rattle.sip_files.specs.declared.given_header.GivenHeader.{GivenHeader}
 use Rattle.sip_files.specs.declared.event_line.EventLine.{EventLine}
 use Rattle.sip_files.specs.declared.event_line.EventLine.TheVariants as line
 use Rattle.sip_files.specs.Word.{hex_pair, are_bytes, spelled_rest}
 use Rattle.sip_files.specs.Field.{plain_field, number_field, address_field, rest_field}
-use Rattle.sip_files.specs.Events.{IsCommandLine, command_text, SpellsClient, SpellsServer, SpellsEvent, SpellsLine}
+use Rattle.sip_files.specs.Events.{IsCommandLine, command_text, SpellsClient, SpellsServer, SpellsEvent, SpellsHeaderIn, SpellsLine}
+use Rattle.sip_files.specs.Given.{given_at}
 use Rattle.sip_files.specs.Reading.{rest_at, address_at, seed_at}
-use Rattle.sip_files.specs.ReadLine.{command_at, datagram_at, client_key_of, client_at, server_of, server_at, failed_at, event_at, keyword_line, line_at}
+use Rattle.sip_files.specs.ReadLine.{command_at, datagram_at, client_key_of, client_at, server_of, server_at, failed_at, event_at, header_at, header_in, keyword_line, parts_line, line_at}
 use Rattle.sip_files.proofs.CommandLines.{mapped, invite_reads, plain_reads, request_reads, body_reads, respond_reads, cancel_reads_in, invite_text, plain_text, request_text, respond_text, ack_text, prack_text, cancel_text, command_took}
 use Rattle.sip_files.proofs.FailedLines.{client_fields, client_words, client_text, server_fields, server_words, server_text, failed_took}
 use Rattle.sip_files.proofs.WordLaws.{rest_took, rest_again}
 use Rattle.sip_files.proofs.NumberLaws.{address_reads, seed_reads, address_no}
 use Rattle.sip_files.proofs.FieldLaws.{same_text}
+use Rattle.sip_files.proofs.GivenLaws.{given_took, given_again}
 
 -- ---- a datagram
 
@@ -139,14 +144,43 @@ keyword_took version keyword fields item e =
           ]
     ]
 
+header_took : (version : Version) (fields : List ℕ) (header : GivenHeader)
+    → header_in version fields ≡ Some header → SpellsHeaderIn version (32 ∷ fields) header
+unfolding header_at rest_field
+header_took One fields header e = absurd cc
+header_took Two fields header e = absurd cc
+header_took SessionOne fields header e =
+    let read = bind_some (rest_at fields) given_at header e in
+    let rest = rest_took fields read.0 read.1 in
+    record {
+      header_line = read.0;
+      bytes = rest.0;
+      given = given_took read.0 header read.2;
+      spelled = ap (λ (x : List ℕ). 32 ∷ x) rest.1;
+    }
+
+parts_took : (version : Version) (keyword fields : List ℕ) (item : EventLine)
+    → parts_line version keyword fields ≡ Some item
+    → SpellsLine version (keyword ++ 32 ∷ fields) item
+parts_took version keyword fields item e =
+    elim (chosen (eqb (length keyword) 0) (option_map line.Header (header_in version fields))
+    (keyword_line version keyword fields) (Some item) e) [
+      | inl a ↦ (let x = mapped line.Header (header_in version fields) item a.1 in
+          let none = nil_from_length keyword (eqb-true (length keyword) 0 a.0) in
+          let P : List ℕ → Type 0 = λ k. SpellsLine version (k ++ 32 ∷ fields) item in
+          let Q : EventLine → Type 0 = SpellsLine version (32 ∷ fields) in
+          subst P (sym none) (subst Q x.2 (header_took version fields x.0 x.1)))
+      | inr a ↦ keyword_took version keyword fields item a.1
+    ]
+
 -- what is read is said by the text
 pub line_took : (version : Version) (text : List ℕ) (item : EventLine)
     → line_at version text ≡ Some item → SpellsLine version text item
 unfolding line_at
 line_took version text item e =
-    let p = bind_some (cut_at 32 text) (λ p. keyword_line version p.0 p.1) item e in
+    let p = bind_some (cut_at 32 text) (λ p. parts_line version p.0 p.1) item e in
     let P : List ℕ → Type 0 = λ t. SpellsLine version t item in
-    subst P (sym (cut_took 32 text p.0 p.1).whole) (keyword_took version p.0.0 p.0.1 item p.2)
+    subst P (sym (cut_took 32 text p.0 p.1).whole) (parts_took version p.0.0 p.0.1 item p.2)
 
 abbrev as_line : {A : Type 0} → (A → UserCommand) → Option A → Option EventLine
 as_line make o = option_map line.Event (option_map Command (option_map make o))
@@ -200,6 +234,16 @@ server_again version text key s =
     (((s.bytes, s.host_bytes), s.bound), s.token))
     ∙ ap (λ (k : Key). Some (line.Event (Failed k))) (sym s.named))
 
+header_again : (version : Version) (text : List ℕ) (header : GivenHeader)
+    → SpellsHeaderIn version text header → line_at version text ≡ Some (line.Header header)
+unfolding line_at header_at rest_field
+header_again One text header s = elim s [ ]
+header_again Two text header s = elim s [ ]
+header_again SessionOne text header s =
+    ap (line_at SessionOne) s.spelled
+    ∙ ap (λ o. option_map line.Header (o >>= given_at)) (rest_again s.header_line s.bytes)
+    ∙ ap (option_map line.Header) (given_again s.header_line header s.given)
+
 -- what a text says is read from it
 pub line_again : (version : Version) (text : List ℕ) (item : EventLine)
     → SpellsLine version text item → line_at version text ≡ Some item
@@ -223,32 +267,40 @@ line_again version text (line.Event (Failed key)) s =
     ]
 line_again version text (line.Event (Command c)) s =
     ap (line_at version) s.1 ∙ command_again version c s.0
+line_again version text (line.Header header) s = header_again version text header s
 
--- ---- a line means the same in both versions
+-- ---- a line means the same in all versions
 
-command_in_two : (version : Version) (c : UserCommand) → IsCommandLine version c
-    → IsCommandLine Two c
-command_in_two version (command.Invite c) fits = fits
-command_in_two version (command.Plain c) fits = fits
-command_in_two version (command.Request c) fits = fits
-command_in_two version (command.Respond c) fits = fits
-command_in_two version (command.Ack c) fits = fits
-command_in_two version (command.Prack c) fits = fits
-command_in_two version (command.Cancel c) fits = (refl, fits.1)
+command_in_session : (version : Version) (c : UserCommand) → IsCommandLine version c
+    → IsCommandLine SessionOne c
+command_in_session version (command.Invite c) fits = fits
+command_in_session version (command.Plain c) fits = fits
+command_in_session version (command.Request c) fits = fits
+command_in_session version (command.Respond c) fits = fits
+command_in_session version (command.Ack c) fits = fits
+command_in_session version (command.Prack c) fits = fits
+command_in_session version (command.Cancel c) fits = (refl, fits.1)
 
--- version 2 has every line
-in_two : (version : Version) (text : List ℕ) (item : EventLine) → SpellsLine version text item
-    → SpellsLine Two text item
-in_two version text (line.Local address) s = s
-in_two version text (line.Seed seed) s = s
-in_two version text (line.First number) s = s
-in_two version text (line.Round moment) s = s
-in_two version text (line.Event (Datagram from bytes)) s = s
-in_two version text (line.Event (Failed key)) s = s
-in_two version text (line.Event (Command c)) s = (command_in_two version c s.0, s.1)
+header_in_session : (version : Version) (text : List ℕ) (header : GivenHeader)
+    → SpellsHeaderIn version text header → SpellsHeaderIn SessionOne text header
+header_in_session One text header s = elim s [ ]
+header_in_session Two text header s = elim s [ ]
+header_in_session SessionOne text header s = s
+
+-- a session has every line
+pub in_session : (version : Version) (text : List ℕ) (item : EventLine)
+    → SpellsLine version text item → SpellsLine SessionOne text item
+in_session version text (line.Local address) s = s
+in_session version text (line.Seed seed) s = s
+in_session version text (line.First number) s = s
+in_session version text (line.Round moment) s = s
+in_session version text (line.Event (Datagram from bytes)) s = s
+in_session version text (line.Event (Failed key)) s = s
+in_session version text (line.Event (Command c)) s = (command_in_session version c s.0, s.1)
+in_session version text (line.Header header) s = header_in_session version text header s
 
 pub one_meaning : (version another : Version) (text : List ℕ) (item other : EventLine)
     → SpellsLine version text item → SpellsLine another text other → item ≡ other
 one_meaning version another text item other says others =
-    same_some item other (sym (line_again Two text item (in_two version text item says))
-    ∙ line_again Two text other (in_two another text other others))
+    same_some item other (sym (line_again SessionOne text item (in_session version text item says))
+    ∙ line_again SessionOne text other (in_session another text other others))

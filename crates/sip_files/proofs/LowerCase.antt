@@ -197,3 +197,4 @@ one_text version another (line.Event (Failed key)) text other s t =
       ]
     ]
 one_text version another (line.Event (Command c)) text other s t = s.1 ∙ sym t.1
+one_text version another (line.Header header) text other s t = tt

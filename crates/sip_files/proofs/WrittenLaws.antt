@@ -1,9 +1,8 @@
 -- What is written of a configuration and rounds is their event file; and a line that says an event
 -- or a command is read as it.
-use Rattle.std.proofs.Common.{◌≡◌, ℕ, List, [], ◌∷◌, ◌++◌, Option, Some, None, map, refl, sym, ap, ◌∙◌, append_assoc, append-nil, inl, inr, codes}
+use Rattle.std.proofs.Common.{◌≡◌, ℕ, List, [], ◌∷◌, ◌++◌, Option, Some, None, map, refl, sym, ap, subst, ◌∙◌, append_assoc, append-nil, inl, inr}
 use Rattle.std.specs.Prelude.{IfNone, IfSome}
 use Rattle.std.specs.List.{flat_map, AllByRecursion, AllZip}
-use Rattle.std.proofs.lemmas.Grind.{flat_map-append}
 use Rattle.std.specs.Str.{str_to_ascii_lowercase}
 use Rattle.sip_message.specs.declared.key.Key.{Key}
 use Rattle.sip_message.specs.declared.key.Key.TheVariants.{Client, Server}
@@ -12,19 +11,22 @@ use Rattle.sip_round.specs.declared.config.Config.{Config}
 use Rattle.sip_round.specs.declared.round.Event.{Event}
 use Rattle.sip_round.specs.declared.round.Event.TheVariants.{Datagram, Failed, Command}
 use Rattle.sip_round.specs.declared.round.Round.{Round}
+use Rattle.sip_files.specs.declared.version.Version.{Version}
 use Rattle.sip_files.specs.declared.version.Version.TheVariants.{Two}
+use Rattle.sip_files.specs.declared.version.FileKind.TheVariants as file_kind
 use Rattle.sip_files.specs.declared.event_line.EventLine.{EventLine}
 use Rattle.sip_files.specs.declared.event_line.EventLine.TheVariants as line
-use Rattle.sip_files.specs.Events.{SpellsClient, SpellsServer, SpellsEvent, SpellsLine}
-use Rattle.sip_files.specs.EventFile.{Head, SpellsEvents, file_lines, head_lines, round_lines, with_ends, version_line, file_text}
+use Rattle.sip_files.specs.Events.{SpellsEvent, SpellsLine}
+use Rattle.sip_files.specs.EventFile.{Head, HeadedLine, SaysHeaded, headed_lines, SpellsEvents, file_lines, head_lines, round_lines, with_ends, version_line}
 use Rattle.sip_files.specs.ReadLine.{line_at}
-use Rattle.sip_files.specs.Written.{IsConfig, IsEvent, IsKey, IsRound, SpellsCommand, SpellsEventLine, user_command_of, ended_text, event_of_line, events_text, failed_text, head_text, line_text, round_text}
+use Rattle.sip_files.specs.Written.{IsConfig, IsEvent, IsKey, IsRound, SpellsCommand, SpellsEventLine, user_command_of, ended_text, event_lines, event_of_line, events_text, failed_text, head_in, line_text, round_in, round_text}
 use Rattle.sip_files.proofs.LineLaws.{line_took, line_again}
 
 -- ---- the lines are spelled
 
-failed_spelled : (key : Key) → IsKey key → SpellsEvent Two (failed_text key) (Failed key)
-failed_spelled (Client branch method) fits =
+pub failed_spelled : (version : Version) (key : Key) → IsKey key
+    → SpellsEvent version (failed_text key) (Failed key)
+failed_spelled version (Client branch method) fits =
     inl (record {
       branch = branch;
       method = method;
@@ -33,7 +35,7 @@ failed_spelled (Client branch method) fits =
       named = ap (λ b. Client b method) (sym fits.0);
       spelled = refl;
     })
-failed_spelled (Server branch sent_by method) fits =
+failed_spelled version (Server branch sent_by method) fits =
     inr (record {
       branch = branch;
       host = sent_by.host;
@@ -53,51 +55,52 @@ failed_spelled (Server branch sent_by method) fits =
 event_spelled : (event : Event) → IsEvent event
     → SpellsLine Two (line_text (line.Event event)) (line.Event event)
 event_spelled (Datagram from bytes) fits = (fits, refl)
-event_spelled (Failed key) fits = failed_spelled key fits
+event_spelled (Failed key) fits = failed_spelled Two key fits
 event_spelled (Command command) fits = (fits, refl)
 
 -- ---- the lines of a file
 
-each_zip : (xs ys : List EventLine)
-    → AllZip (SpellsLine Two) (map line_text xs) xs
-    → AllZip (SpellsLine Two) (map line_text ys) ys
-    → AllZip (SpellsLine Two) (map line_text (xs ++ ys)) (xs ++ ys)
-each_zip [] ys none more = more
-each_zip (x ∷ xs) ys some more = (some.0, each_zip xs ys some.1 more)
+-- each line has the text that is written of it
+abbrev pub Spelled : Version → List EventLine → Type 0
+Spelled version items = AllZip (SpellsLine version) (map line_text items) items
+
+pub each_zip : (version : Version) (xs ys : List EventLine) → Spelled version xs
+    → Spelled version ys → Spelled version (xs ++ ys)
+each_zip version [] ys none more = more
+each_zip version (x ∷ xs) ys some more = (some.0, each_zip version xs ys some.1 more)
 
 events_zip : (events : List Event) → AllByRecursion IsEvent events
-    → AllZip (SpellsLine Two) (map line_text (map line.Event events)) (map line.Event events)
+    → Spelled Two (map line.Event events)
 events_zip [] fits = tt
 events_zip (event ∷ events) fits = (event_spelled event fits.0, events_zip events fits.1)
 
 rounds_zip : (rounds : List Round) → AllByRecursion IsRound rounds
-    → AllZip (SpellsLine Two) (map line_text (flat_map round_lines rounds))
-    (flat_map round_lines rounds)
+    → Spelled Two (flat_map round_lines rounds)
 rounds_zip [] fits = tt
 rounds_zip (round ∷ rounds) fits =
-    each_zip (round_lines round) (flat_map round_lines rounds)
+    each_zip Two (round_lines round) (flat_map round_lines rounds)
     (((fits.0).moment, refl), events_zip round.events (fits.0).events) (rounds_zip rounds fits.1)
 
 -- ---- their text
 
-abbrev text_of : List EventLine → List ℕ
+abbrev pub text_of : List EventLine → List ℕ
 text_of lines = with_ends (map line_text lines)
 
-text_of-append : (xs ys : List EventLine) → text_of (xs ++ ys) ≡ text_of xs ++ text_of ys
+pub text_of-append : (xs ys : List EventLine) → text_of (xs ++ ys) ≡ text_of xs ++ text_of ys
 text_of-append [] ys = refl
 text_of-append (x ∷ xs) ys =
     ap (λ t. (line_text x ++ 10 ∷ []) ++ t) (text_of-append xs ys)
     ∙ sym (append_assoc (line_text x ++ 10 ∷ []) (text_of xs) (text_of ys))
 
 text_of-events : (events : List Event) → text_of (map line.Event events)
-    ≡ flat_map (λ event. ended_text (line.Event event)) events
+    ≡ flat_map (event_lines file_kind.Events) events
 unfolding ended_text
 text_of-events [] = refl
 text_of-events (event ∷ events) =
     ap (λ t. (line_text (line.Event event) ++ 10 ∷ []) ++ t) (text_of-events events)
 
 text_of-round : (round : Round) → text_of (round_lines round) ≡ round_text round
-unfolding round_text ended_text
+unfolding round_in ended_text
 text_of-round round =
     ap (λ t. (line_text (line.Round round.moment) ++ 10 ∷ []) ++ t) (text_of-events round.events)
 
@@ -111,23 +114,42 @@ text_of-rounds (round ∷ rounds) =
 
 -- ---- the file
 
-abbrev whole_head : Config → Head
+abbrev pub whole_head : Config → Head
 whole_head config = record {
   local = config.local;
   seed = Some config.seed;
   first = Some config.first;
 }
 
-head_is : (config : Config)
-    → head_text config ≡ (version_line Two ++ 10 ∷ []) ++ text_of (head_lines (whole_head config))
-unfolding head_text ended_text
-head_is config =
+pub head_is : (version : Version) (config : Config)
+    → head_in version config
+    ≡ (version_line version ++ 10 ∷ []) ++ text_of (head_lines (whole_head config))
+unfolding head_in ended_text
+head_is version config =
     let a = line_text (line.Local config.local) ++ 10 ∷ [] in
     let b = line_text (line.Seed config.seed) ++ 10 ∷ [] in
     let c = line_text (line.First config.first) ++ 10 ∷ [] in
-    let v = codes "sip-events 2\n" in
+    let v = version_line version ++ 10 ∷ [] in
     append_assoc (v ++ a) b c ∙ append_assoc v a (b ++ c)
     ∙ ap (λ t. v ++ (a ++ (b ++ t))) (sym (append-nil c))
+
+pub head_spelled : (version : Version) (config : Config) → IsConfig config
+    → Spelled version (head_lines (whole_head config))
+head_spelled version config fits =
+    ((fits.local, refl), ((fits.seed, refl), ((fits.first, refl), tt)))
+
+-- lines without header lines before them
+abbrev pub unheaded : List EventLine → List HeadedLine
+unheaded items = map (λ item. record { headers = []; item = item }) items
+
+pub unheaded_made : (items : List EventLine) → AllZip SaysHeaded (unheaded items) items
+unheaded_made [] = tt
+unheaded_made (item ∷ items) = (refl, unheaded_made items)
+
+pub unheaded_lines : (items : List EventLine) → flat_map headed_lines (unheaded items) ≡ items
+unheaded_lines [] = refl
+unheaded_lines (item ∷ items) =
+    ap (λ (xs : List EventLine). item ∷ xs) (unheaded_lines items)
 
 pub written_is_spelled : (config : Config) (rounds : List Round) → IsConfig config
     → AllByRecursion IsRound rounds → SpellsEvents config rounds (events_text config rounds)
@@ -136,15 +158,19 @@ written_is_spelled config rounds fits each =
     let head = whole_head config in
     let lines = file_lines head rounds in (
       Two,
+      refl,
       record {
         head = head;
+        headed = unheaded lines;
         lines = map line_text lines;
         configured = refl;
-        says = each_zip (head_lines head) (flat_map round_lines rounds)
-            ((fits.local, refl), ((fits.seed, refl), ((fits.first, refl), tt)))
-            (rounds_zip rounds each);
+        made = unheaded_made lines;
+        says = subst (λ (xs : List EventLine). AllZip (SpellsLine Two) (map line_text lines) xs)
+            (sym (unheaded_lines lines))
+            (each_zip Two (head_lines head) (flat_map round_lines rounds)
+            (head_spelled Two config fits) (rounds_zip rounds each));
         spelled =
-            ap (λ t. t ++ flat_map round_text rounds) (head_is config)
+            ap (λ t. t ++ flat_map round_text rounds) (head_is Two config)
             ∙ append_assoc (version_line Two ++ 10 ∷ []) (text_of (head_lines head))
             (flat_map round_text rounds)
             ∙ ap (λ t. (version_line Two ++ 10 ∷ []) ++ (text_of (head_lines head) ++ t))
@@ -168,6 +194,7 @@ in_line text (line.Seed seed) s = tt
 in_line text (line.First number) s = tt
 in_line text (line.Round moment) s = tt
 in_line text (line.Event event) s = s
+in_line text (line.Header header) s = tt
 
 pub says_event : (text : List ℕ) (item : EventLine) → Some item ≡ line_at Two text
     → IfSome (event_of_line item) (SpellsEventLine text)

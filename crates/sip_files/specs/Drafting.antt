@@ -1,5 +1,5 @@
--- Reading the lines of an event file one after the other, each where it may stand.
-use Rattle.std.specs.Prelude.{ℕ, Bool, true, false, List, [], ◌∷◌, ◌++◌, Option, Some, None, replicate}
+-- Reading the lines of a file one after the other, each where it may stand.
+use Rattle.std.specs.Prelude.{ℕ, Bool, true, false, ◌&&◌, ◌==◌, List, [], ◌∷◌, ◌++◌, length, Option, Some, None, replicate}
 use Rattle.std.specs.Option.{option_map}
 use Rattle.sip_text.specs.Options.{◌>>=◌}
 use Rattle.sip_message.specs.declared.addr.Addr.{Addr}
@@ -10,6 +10,9 @@ use Rattle.sip_files.specs.declared.event_line.EventLine.TheVariants as line
 use Rattle.sip_files.specs.declared.draft.Stage.{Stage}
 use Rattle.sip_files.specs.declared.draft.Stage.TheVariants as stage
 use Rattle.sip_files.specs.declared.draft.Draft.{Draft}
+use Rattle.sip_files.specs.declared.given_header.GivenHeader.{GivenHeader}
+use Rattle.sip_files.specs.declared.progress.Progress.{Progress}
+use Rattle.sip_files.specs.Given.{with_headers}
 
 abbrev pub nothing_read : Draft
 nothing_read = record {
@@ -74,13 +77,49 @@ abbrev pub event_drafted : Draft → Event → Option Draft
 event_drafted draft event =
     option_map (λ rounds. record draft { rounds = rounds }) (with_event draft.rounds event)
 
+-- a header line is taken with the line that follows it
 abbrev pub taken : Draft → EventLine → Option Draft
 taken draft (line.Local local) = local_taken draft.stage draft local
 taken draft (line.Seed seed) = seed_taken draft.stage draft seed
 taken draft (line.First number) = first_taken draft.stage draft number
 taken draft (line.Round moment) = round_taken draft.stage draft moment
 taken draft (line.Event event) = event_drafted draft event
+taken draft (line.Header header) = None
 
-unfoldable pub drafted : Draft → List EventLine → Option Draft
-drafted draft [] = Some draft
-drafted draft (next ∷ lines) = taken draft next >>= λ more. drafted more lines
+-- one step after the other, where each may be gone
+unfoldable pub all_gone : {S I : Type 0} → (S → I → Option S) → S → List I → Option S
+all_gone step start [] = Some start
+all_gone step start (item ∷ items) = step start item >>= λ next. all_gone step next items
+
+abbrev pub drafted : Draft → List EventLine → Option Draft
+drafted = all_gone taken
+
+-- ---- header lines, and the lines that they stand before
+
+abbrev pub no_lines : Progress
+no_lines = record { draft = nothing_read; headers = [] }
+
+-- the lines may be all of a file
+abbrev pub is_whole : Progress → Bool
+is_whole progress = is_begun progress.draft.stage && (length progress.headers == 0)
+
+-- header lines stand in a round
+abbrev pub header_in_round : List Round → Progress → GivenHeader → Option Progress
+header_in_round [] progress header = None
+header_in_round (round ∷ rounds) progress header =
+    Some (record progress { headers = progress.headers ++ header ∷ [] })
+
+abbrev pub header_went : Progress → GivenHeader → Option Progress
+header_went progress header = header_in_round progress.draft.rounds progress header
+
+abbrev pub line_went : Progress → EventLine → Option Progress
+line_went progress item =
+    with_headers progress.headers item >>= λ whole.
+    option_map (λ draft. record { draft = draft; headers = [] }) (taken progress.draft whole)
+
+abbrev pub went : Progress → EventLine → Option Progress
+went progress (line.Header header) = header_went progress header
+went progress item = line_went progress item
+
+abbrev pub gone : Progress → List EventLine → Option Progress
+gone = all_gone went

@@ -1,5 +1,5 @@
--- The lines of an event file, by its version, and what may stand in them.
-use Rattle.std.specs.Prelude.{◌≡◌, ℕ, ◌≤◌, ◌^◌, ◌-◌, List, [], ◌++◌, length, Option, Some, None, IsTrue, codes, unwrap_or, ◌⊎◌}
+-- The lines of an event file or of a session file, by its version, and what may stand in them.
+use Rattle.std.specs.Prelude.{◌≡◌, ℕ, ◌≤◌, ◌^◌, ◌-◌, Bool, true, false, List, [], ◌++◌, length, Option, Some, None, IsTrue, codes, unwrap_or, ◌⊎◌}
 use Rattle.std.specs.List.{flat_map}
 use Rattle.std.specs.Str.{str_to_ascii_lowercase}
 use Rattle.sip_parts.specs.Word.{is_word}
@@ -27,10 +27,12 @@ use Rattle.sip_common.specs.declared.command.UserCommand.TheVariants as command
 use Rattle.sip_round.specs.declared.round.Event.{Event}
 use Rattle.sip_round.specs.declared.round.Event.TheVariants.{Datagram, Failed, Command}
 use Rattle.sip_files.specs.declared.version.Version.{Version}
-use Rattle.sip_files.specs.declared.version.Version.TheVariants.{Two}
+use Rattle.sip_files.specs.declared.version.Version.TheVariants.{One, Two, SessionOne}
+use Rattle.sip_files.specs.declared.given_header.GivenHeader.{GivenHeader}
 use Rattle.sip_files.specs.declared.event_line.EventLine.{EventLine}
 use Rattle.sip_files.specs.declared.event_line.EventLine.TheVariants as line
 use Rattle.sip_files.specs.Word.{hex_pair, are_bytes}
+use Rattle.sip_files.specs.Given.{IsGiven}
 use Rattle.sip_files.specs.Field.{plain_field, number_field, id_field, address_field, word_field, rest_field}
 
 -- ---- what has a spelling
@@ -106,6 +108,12 @@ pub record IsCancel (cancel : Cancel) : Type 0 where
   pub call_id : IsCallIdWord cancel.call_id
   pub id : IsId cancel.id
 
+-- version 1 doesn't have the line `cancel`
+abbrev pub has_cancel : Version → Bool
+has_cancel One = false
+has_cancel Two = true
+has_cancel SessionOne = true
+
 -- the commands that a file of the version may have
 abbrev pub IsCommandLine : Version → UserCommand → Type 0
 IsCommandLine version (command.Invite invite) = IsInvite invite
@@ -114,7 +122,7 @@ IsCommandLine version (command.Request request) = IsRequest request
 IsCommandLine version (command.Respond respond) = IsRespond respond
 IsCommandLine version (command.Ack body) = IsDialogBody body
 IsCommandLine version (command.Prack body) = IsDialogBody body
-IsCommandLine version (command.Cancel cancel) = (version ≡ Two) × IsCancel cancel
+IsCommandLine version (command.Cancel cancel) = IsTrue (has_cancel version) × IsCancel cancel
 
 -- ---- the lines
 
@@ -187,6 +195,19 @@ SpellsEvent version text (Failed key) = SpellsClient text key ⊎ SpellsServer t
 SpellsEvent version text (Command command) =
     IsCommandLine version command × (text ≡ command_text command)
 
+-- the text is a space and, as a rest, the header line of a message that says this
+pub record SpellsHeader (text : List ℕ) (header : GivenHeader) : Type 0 where
+  pub header_line : List ℕ
+  pub bytes : IsTrue (are_bytes header_line)
+  pub given : IsGiven header header_line
+  pub spelled : text ≡ rest_field header_line
+
+-- sessions alone have header lines
+abbrev pub SpellsHeaderIn : Version → List ℕ → GivenHeader → Type 0
+SpellsHeaderIn One text header = ⊥
+SpellsHeaderIn Two text header = ⊥
+SpellsHeaderIn SessionOne text header = SpellsHeader text header
+
 -- in a file of the version the text is a line that says this
 abbrev pub SpellsLine : Version → List ℕ → EventLine → Type 0
 SpellsLine version text (line.Local address) =
@@ -198,9 +219,12 @@ SpellsLine version text (line.First number) =
 SpellsLine version text (line.Round moment) =
     (moment ≤ 2 ^ 64 - 1) × (text ≡ codes "round" ++ number_field moment)
 SpellsLine version text (line.Event event) = SpellsEvent version text event
+SpellsLine version text (line.Header header) = SpellsHeaderIn version text header
 
--- texts that are the same, or for a failed send the same up to the case of letters
+-- Texts that are the same, or for a failed send the same up to the case of letters. A header has
+-- several texts, and of these nothing is said (RFC 3261, section 7.3.1).
 abbrev pub AreAlike : EventLine → List ℕ → List ℕ → Type 0
 AreAlike (line.Event (Failed key)) text other =
     str_to_ascii_lowercase text ≡ str_to_ascii_lowercase other
+AreAlike (line.Header header) text other = Unit {0}
 AreAlike item text other = text ≡ other

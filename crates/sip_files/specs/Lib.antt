@@ -3,6 +3,7 @@ pub mod Form
 pub mod Field
 pub mod Outputs
 pub mod Events
+pub mod Given
 pub mod Reading
 pub mod Reads
 pub mod Replay

@@ -1,4 +1,4 @@
--- Reading a line of an event file, by its version, from left to right. What is read is said by the
+-- Reading a line of a file, by its version, from left to right. What is read is said by the
 -- lines' texts.
 use Rattle.std.specs.Prelude.{ℕ, ◌^◌, ◌-◌, ◌==◌, List, [], length, Option, Some, None, codes, if◌then◌else◌}
 use Rattle.std.specs.Option.{option_map}
@@ -30,11 +30,13 @@ use Rattle.sip_common.specs.declared.command.UserCommand.TheVariants as command
 use Rattle.sip_round.specs.declared.round.Event.{Event}
 use Rattle.sip_round.specs.declared.round.Event.TheVariants.{Datagram, Failed, Command}
 use Rattle.sip_files.specs.declared.version.Version.{Version}
-use Rattle.sip_files.specs.declared.version.Version.TheVariants.{One, Two}
+use Rattle.sip_files.specs.declared.version.Version.TheVariants.{One, Two, SessionOne}
+use Rattle.sip_files.specs.declared.given_header.GivenHeader.{GivenHeader}
 use Rattle.sip_files.specs.declared.event_line.EventLine.{EventLine}
 use Rattle.sip_files.specs.declared.fields.Dialog.{Dialog}
 use Rattle.sip_files.specs.declared.fields.Uris.{Uris}
 use Rattle.sip_files.specs.declared.event_line.EventLine.TheVariants as line
+use Rattle.sip_files.specs.Given.{given_at}
 use Rattle.sip_files.specs.Reading.{word_at, rest_at, id_at, address_at, seed_at, both_at, ended_by}
 
 unfoldable pub call_id_at : List ℕ → Option (List ℕ)
@@ -180,10 +182,11 @@ cancel_of read = record { call_id = read.0; id = read.1 }
 unfoldable pub cancel_at : List ℕ → Option Cancel
 cancel_at fields = option_map cancel_of (ended_by (field_at 32 call_id_at) id_at fields)
 
--- version 2 alone has this line
+-- version 1 alone doesn't have this line
 abbrev pub cancel_in : Version → List ℕ → Option Cancel
 cancel_in One fields = None
 cancel_in Two fields = cancel_at fields
+cancel_in SessionOne fields = cancel_at fields
 
 abbrev pub command_at : Version → List ℕ → List ℕ → Option UserCommand
 command_at version keyword fields =
@@ -223,6 +226,17 @@ key_at side fields =
 unfoldable pub failed_at : List ℕ → Option Key
 failed_at fields = cut_at 32 fields >>= λ p. key_at p.0 p.1
 
+-- ---- header lines
+
+unfoldable pub header_at : List ℕ → Option GivenHeader
+header_at fields = rest_at fields >>= given_at
+
+-- sessions alone have them
+abbrev pub header_in : Version → List ℕ → Option GivenHeader
+header_in One fields = None
+header_in Two fields = None
+header_in SessionOne fields = header_at fields
+
 -- ---- a line
 
 unfoldable pub event_at : Version → List ℕ → List ℕ → Option Event
@@ -240,5 +254,11 @@ keyword_line version keyword fields =
     then option_map line.Round (number_at (2 ^ 64 - 1) fields)
     else option_map line.Event (event_at version keyword fields))))
 
+-- a header line begins with the space, so it has no keyword
+abbrev pub parts_line : Version → List ℕ → List ℕ → Option EventLine
+parts_line version keyword fields =
+    if length keyword == 0 then option_map line.Header (header_in version fields)
+    else keyword_line version keyword fields
+
 unfoldable pub line_at : Version → List ℕ → Option EventLine
-line_at version text = cut_at 32 text >>= λ p. keyword_line version p.0 p.1
+line_at version text = cut_at 32 text >>= λ p. parts_line version p.0 p.1

@@ -187,13 +187,13 @@ fn read_respond(alloc: Global, fields: &[u8]) -> Result<Option<Respond>, AllocEr
     }))
 }
 
-// Version 2 alone has the line.
+// Version 1 alone doesn't have the line.
 fn cancel_in(alloc: Global, version: Version, fields: &[u8]) -> Result<Option<Cancel>, AllocError>
     ensures { IfOk result (λ cancel. cancel ≡ reading.cancel_in version fields.now) }
 {
     match version {
         Version::One => Ok(None),
-        Version::Two => read_cancel(alloc, fields),
+        Version::Two | Version::SessionOne => read_cancel(alloc, fields),
     }
 }
 

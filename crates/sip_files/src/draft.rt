@@ -59,7 +59,7 @@ impl Draft {
     }
 }
 
-/// The draft with the next line, where that may stand there.
+/// The draft with the next line, where that may stand there. A header line is none by itself.
 pub(crate) fn with_line(draft: Draft, line: EventLine) -> Result<Option<Draft>, AllocError>
     ensures { IfOk result (λ next. next ≡ drafting.taken draft line) }
 {
@@ -69,6 +69,7 @@ pub(crate) fn with_line(draft: Draft, line: EventLine) -> Result<Option<Draft>, 
         EventLine::First(first) => Ok(with_first(draft, first)),
         EventLine::Round(moment) => with_round(draft, moment),
         EventLine::Event(event) => with_event(draft, event),
+        EventLine::Header(_) => Ok(None),
     }
 }
 

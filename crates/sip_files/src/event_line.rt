@@ -1,4 +1,4 @@
-//! One line of an event file.
+//! One line of an event file or of a session file.
 
 ghost use Rattle.std.specs.Prelude.{◌≡◌, IfNone, IfOk, IfSome};
 ghost use Rattle.sip_common.specs.declared.command.UserCommand as command;
@@ -9,6 +9,7 @@ ghost use Rattle.sip_round.specs.declared.round.Event as event;
 
 use crate::command_line::read_command;
 use crate::failed_line::read_failed;
+use crate::given_header::{GivenHeader, header_in};
 use crate::numbers::{read_address, read_seed};
 use crate::version::Version;
 use crate::words::read_rest;
@@ -21,7 +22,7 @@ use std::alloc::{AllocError, Global};
 /// The greatest number of a first round.
 const MAX_FIRST: u64 = 1 << 62;
 
-/// What a line of an event file says, after the line of the version.
+/// What a line of a file says, after the line of the version.
 #[derive(Drop)]
 pub enum EventLine {
     /// The address of the agent.
@@ -32,8 +33,10 @@ pub enum EventLine {
     First(u64),
     /// A round begins, at this moment.
     Round(u64),
-    /// An event of the round.
+    /// An event of the round. The content of a command has its body alone.
     Event(Event),
+    /// A header of the command that follows.
+    Header(GivenHeader),
 }
 
 /// What a line says, where a file of this version may have it.
@@ -48,6 +51,9 @@ pub(crate) fn read_line(
     let Some((keyword, fields)) = cut(b' ', line) else {
         return Ok(None);
     };
+    if keyword.is_empty() {
+        return Ok(header_in(alloc, version, fields)?.map(EventLine::Header));
+    }
     read_keyword(alloc, version, keyword, fields)
 }
 
@@ -88,9 +94,11 @@ fn event_in(line: EventLine) -> Option<Event>
 {
     match line {
         EventLine::Event(event) => Some(event),
-        EventLine::Local(_) | EventLine::Seed(_) | EventLine::First(_) | EventLine::Round(_) => {
-            None
-        }
+        EventLine::Local(_)
+        | EventLine::Seed(_)
+        | EventLine::First(_)
+        | EventLine::Round(_)
+        | EventLine::Header(_) => None,
     }
 }
 

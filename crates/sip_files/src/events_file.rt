@@ -1,8 +1,9 @@
-//! Event files: the configuration and the rounds of a run.
+//! Event files and session files: the configuration and the rounds of a run.
 //!
 //! Lines end in LF. After `sip-events 1` or `sip-events 2` comes `local ADDR`, then optionally
 //! `seed` and optionally `first N`, in this order, and then the rounds: `round MOMENT`, each
-//! followed by the lines of its events.
+//! followed by the lines of its events. After `sip-session 1` the same comes, and header lines may
+//! stand before the line of a command: the headers of its content.
 
 ghost use Rattle.std.specs.Prelude.{◌≡◌, ℕ, List, ◌≤◌, ◌^◌, IfErr, IfOk, MatchResult, length};
 ghost use Rattle.sip_round.specs.declared.config.Config as config;
@@ -10,15 +11,16 @@ ghost use Rattle.sip_round.specs.declared.round.Round as round;
 ghost use Rattle.sip_files.specs.EventFile as spelling;
 ghost use Rattle.sip_files.specs.Lines as lines;
 
-use crate::draft::{Draft, with_line};
+use crate::draft::Draft;
 use crate::event_line::read_line;
 use crate::events_fault::EventsFault;
-use crate::version::{Version, read_version};
+use crate::progress::{Progress, with_next};
+use crate::version::{FileKind, Version, version_in};
 use sip_round::{Config, Round};
 use sip_text::{Series, cut};
 use std::alloc::Global;
 
-/// The greatest length of an event file, in bytes.
+/// The greatest length of an event file or a session file, in bytes.
 pub const MAX_EVENTS: usize = 1 << 26;
 
 /// The configuration and the rounds that an event file spells.
@@ -34,29 +36,58 @@ pub fn read_events(alloc: Global, text: &[u8]) -> Result<(Config, Series<Round>)
         → spelling.IsReadAs config rounds result }
     ensures fault { IfErr result (λ fault. spelling.TellsFileFault fault text.now) }
 {
+    read_file(alloc, FileKind::Events, text)
+}
+
+/// The configuration and the rounds that a session file spells, or an event file.
+///
+/// # Errors
+///
+/// The first fault that fits; `NoMemory` may stand in place of any answer.
+pub fn read_session(alloc: Global, text: &[u8]) -> Result<(Config, Series<Round>), EventsFault>
+    ensures found { IfOk result (λ read. spelling.SpellsSession read.0 read.1 text.now) }
+    ensures size { IfOk result (λ read. length text.now ≤ 2 ^ 26) }
+    ensures only { (config : config.Config) (rounds : List round.Round)
+        → spelling.SpellsSession config rounds text.now → length text.now ≤ 2 ^ 26
+        → spelling.IsReadAs config rounds result }
+    ensures fault { IfErr result (λ fault. spelling.TellsSessionFault fault text.now) }
+{
+    read_file(alloc, FileKind::Session, text)
+}
+
+// The configuration and the rounds that a file of this kind spells.
+fn read_file(
+    alloc: Global,
+    kind: FileKind,
+    text: &[u8],
+) -> Result<(Config, Series<Round>), EventsFault>
+    ensures found { IfOk result (λ read. spelling.SpellsFile kind read.0 read.1 text.now) }
+    ensures size { IfOk result (λ read. length text.now ≤ 2 ^ 26) }
+    ensures only { (config : config.Config) (rounds : List round.Round)
+        → spelling.SpellsFile kind config rounds text.now → length text.now ≤ 2 ^ 26
+        → spelling.IsReadAs config rounds result }
+    ensures fault { IfErr result (λ fault. spelling.TellsFault kind fault text.now) }
+{
     if text.len() > MAX_EVENTS {
         return Err(EventsFault::TooLong);
     }
-    let (version, after) = after_version(text)?;
+    let (version, after) = after_version(kind, text)?;
     let draft = read_lines(alloc, version, after)?;
-    if !draft.stage.is_begun() {
-        return Err(EventsFault::BadLine(2));
-    }
     Ok((draft.config, draft.rounds))
 }
 
 // The version, and what follows its line.
-fn after_version(text: &[u8]) -> Result<(Version, &[u8]), EventsFault>
-    ensures { MatchResult result (λ read. lines.FollowsVersion read.0 text.now read.1.now)
-        (λ fault. lines.TellsVersion fault text.now) }
+fn after_version(kind: FileKind, text: &[u8]) -> Result<(Version, &[u8]), EventsFault>
+    ensures { MatchResult result (λ read. lines.FollowsLine kind read.0 text.now read.1.now)
+        (λ fault. lines.TellsVersion kind fault text.now) }
 {
     let Some((line, after)) = cut(b'\n', text) else {
-        return Err(match read_version(text) {
+        return Err(match version_in(kind, text) {
             Some(_) => EventsFault::BadLine(1),
             None => EventsFault::BadVersion,
         });
     };
-    match read_version(line) {
+    match version_in(kind, line) {
         Some(version) => Ok((version, after)),
         None => Err(EventsFault::BadVersion),
     }
@@ -68,7 +99,7 @@ fn read_lines(alloc: Global, version: Version, text: &[u8]) -> Result<Draft, Eve
     ensures { MatchResult result (λ draft. lines.Drafts version draft text.now)
         (λ fault. lines.TellsLine version fault text.now) }
 {
-    let mut draft = Draft::new(alloc);
+    let mut progress = Progress::new(alloc);
     let mut left = text;
     let mut number = 2u64;
     while !left.is_empty() {
@@ -78,12 +109,15 @@ fn read_lines(alloc: Global, version: Version, text: &[u8]) -> Result<Draft, Eve
         let Some(line) = read_line(alloc, version, line)? else {
             return Err(EventsFault::BadLine(number));
         };
-        let Some(next) = with_line(draft, line)? else {
+        let Some(next) = with_next(alloc, progress, line)? else {
             return Err(EventsFault::BadLine(number));
         };
-        draft = next;
+        progress = next;
         left = after;
         number += 1;
     }
-    Ok(draft)
+    if !progress.is_whole() {
+        return Err(EventsFault::BadLine(number));
+    }
+    Ok(progress.draft)
 }

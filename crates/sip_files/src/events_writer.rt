@@ -1,4 +1,5 @@
-//! Writes event files: the head, and then one round after the other, as a run goes on.
+//! Writes event files and session files: the head, and then one round after the other, as a run
+//! goes on.
 
 ghost use Rattle.std.specs.Prelude.{◌≡◌, ◌++◌, IfOk, OnOk, codes};
 ghost use Rattle.std.specs.List.{flat_map};
@@ -10,6 +11,8 @@ ghost use Rattle.sip_message.specs.declared.key.Key.TheVariants as key;
 
 use crate::command_writer::push_command;
 use crate::field_writer::{push_address, push_number, push_plain, push_rest_field, push_text};
+use crate::header_writer::push_headers;
+use crate::version::{FileKind, Version};
 use crate::words::push_hex;
 use sip_message::{Addr, Key, SentBy, Token};
 use sip_parts::LowerText;
@@ -17,26 +20,54 @@ use sip_round::{Config, Event, Round};
 use std::alloc::{AllocError, Global};
 
 /// The head of the event file of an agent with this configuration: version 2, and its three lines.
-#[tactic(auto, unfolding(crate::specs::Written::head_text))]
 pub fn write_head(alloc: Global, config: &Config) -> Result<Vec<u8>, AllocError>
     ensures { IfOk result (λ text. text.items ≡ written.head_text config.now) }
 {
+    head_in(alloc, Version::Two, config)
+}
+
+/// The head of the session file of an agent with this configuration: its version, and the three
+/// lines of an event file's.
+pub fn write_session_head(alloc: Global, config: &Config) -> Result<Vec<u8>, AllocError>
+    ensures { IfOk result (λ text. text.items ≡ written.session_head_text config.now) }
+{
+    head_in(alloc, Version::SessionOne, config)
+}
+
+/// The lines of a round in an event file.
+pub fn write_round(alloc: Global, round: &Round) -> Result<Vec<u8>, AllocError>
+    ensures { IfOk result (λ text. text.items ≡ written.round_text round.now) }
+{
+    round_in(alloc, FileKind::Events, round)
+}
+
+/// The lines of a round in a session file, with the headers of its commands.
+pub fn write_session_round(alloc: Global, round: &Round) -> Result<Vec<u8>, AllocError>
+    ensures { IfOk result (λ text. text.items ≡ written.session_round_text round.now) }
+{
+    round_in(alloc, FileKind::Session, round)
+}
+
+#[tactic(auto, unfolding(crate::specs::Written::head_in))]
+fn head_in(alloc: Global, version: Version, config: &Config) -> Result<Vec<u8>, AllocError>
+    ensures { IfOk result (λ text. text.items ≡ written.head_in version config.now) }
+{
     let mut file = Vec::new(alloc);
-    file.extend_from_slice(b"sip-events 2\n")?;
+    file.extend_from_slice(version.line())?;
+    file.push(b'\n')?;
     push_local(&mut file, config.local)?;
     push_seed(&mut file, &config.seed)?;
     push_first(&mut file, config.first)?;
     Ok(file)
 }
 
-/// The lines of a round.
-#[tactic(auto, unfolding(crate::specs::Written::round_text))]
-pub fn write_round(alloc: Global, round: &Round) -> Result<Vec<u8>, AllocError>
-    ensures { IfOk result (λ text. text.items ≡ written.round_text round.now) }
+#[tactic(auto, unfolding(crate::specs::Written::round_in))]
+fn round_in(alloc: Global, kind: FileKind, round: &Round) -> Result<Vec<u8>, AllocError>
+    ensures { IfOk result (λ text. text.items ≡ written.round_in kind round.now) }
 {
     let mut file = Vec::new(alloc);
     push_moment(&mut file, round.moment)?;
-    push_events(&mut file, round.events.as_slice())?;
+    push_events(&mut file, kind, round.events.as_slice())?;
     Ok(file)
 }
 
@@ -94,14 +125,27 @@ fn push_hex_pairs(file: &mut Vec<u8>, bytes: &[u8]) -> Result<(), AllocError>
     Ok(())
 }
 
-fn push_events(file: &mut Vec<u8>, events: &[Event]) -> Result<(), AllocError>
+fn push_events(file: &mut Vec<u8>, kind: FileKind, events: &[Event]) -> Result<(), AllocError>
     ensures { OnOk result (file.new.items ≡ file.old.items
-        ++ flat_map (λ event. written.ended_text (line.Event event)) events.now) }
+        ++ flat_map (written.event_lines kind) events.now) }
 {
     for event in events {
-        push_event(file, event)?;
+        push_lines(file, kind, event)?;
     }
     Ok(())
+}
+
+fn push_lines(file: &mut Vec<u8>, kind: FileKind, event: &Event) -> Result<(), AllocError>
+    ensures { OnOk result (file.new.items ≡ file.old.items
+        ++ written.event_lines kind event.now) }
+{
+    match kind {
+        FileKind::Events => push_event(file, event),
+        FileKind::Session => {
+            push_headers(file, event)?;
+            push_event(file, event)
+        }
+    }
 }
 
 // The line of an event, with its end.

@@ -1,4 +1,4 @@
-//! The event file and the output file, and the replay of the one into the other.
+//! The event file, the session file and the output file, and replays of events into outputs.
 #![tactic(auto)]
 
 mod command_line;
@@ -13,16 +13,20 @@ mod failed_line;
 mod field_writer;
 mod fields;
 mod file_replay;
+mod given_header;
+mod given_headers;
+mod header_writer;
 pub mod laws;
 mod numbers;
 mod outputs_file;
+mod progress;
 mod version;
 mod words;
 
 pub use counted_read::CountedRead;
 pub use event_line::{read_command_line, read_event_line};
 pub use events_fault::EventsFault;
-pub use events_file::{MAX_EVENTS, read_events};
-pub use events_writer::{write_head, write_round};
+pub use events_file::{MAX_EVENTS, read_events, read_session};
+pub use events_writer::{write_head, write_round, write_session_head, write_session_round};
 pub use file_replay::{ReplayFault, read_all, replay, write_whole};
 pub use outputs_file::{write_output, write_outputs};

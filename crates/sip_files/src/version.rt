@@ -1,26 +1,74 @@
-//! The versions of event files.
+//! The versions of event files and of session files.
 
 ghost use Rattle.std.specs.Prelude.{◌≡◌};
+ghost use Rattle.sip_files.specs.EventFile as spelling;
 ghost use Rattle.sip_files.specs.Lines as lines;
 
-/// The version of an event file: which lines it may have.
+/// The version of a file: which lines it may have.
 #[derive(Clone, Copy)]
 pub enum Version {
-    /// All lines but `cancel`.
+    /// An event file: all lines but `cancel` and header lines.
     One,
-    /// All lines.
+    /// An event file: all lines but header lines.
     Two,
+    /// A session file: all lines.
+    SessionOne,
 }
 
-/// The version that the first line of a file names.
-pub(crate) fn read_version(line: &[u8]) -> Option<Version>
+/// The kind of a file: which versions it may have.
+#[derive(Clone, Copy)]
+pub enum FileKind {
+    /// An event file.
+    Events,
+    /// A session file, or an event file.
+    Session,
+}
+
+impl Version {
+    /// The first line of a file of this version.
+    pub(crate) fn line(self) -> &'static [u8]
+        ensures { result.now ≡ spelling.version_line self }
+    {
+        match self {
+            Version::One => b"sip-events 1",
+            Version::Two => b"sip-events 2",
+            Version::SessionOne => b"sip-session 1",
+        }
+    }
+
+    fn is_of_kind(self, kind: FileKind) -> bool
+        ensures { result ≡ spelling.is_of_kind kind self }
+    {
+        match (kind, self) {
+            (FileKind::Events, Version::SessionOne) => false,
+            _ => true,
+        }
+    }
+}
+
+/// The version that the first line of a file of this kind names.
+pub(crate) fn version_in(kind: FileKind, line: &[u8]) -> Option<Version>
+    ensures { result ≡ lines.version_in kind line.now }
+{
+    let version = read_version(line)?;
+    if version.is_of_kind(kind) {
+        Some(version)
+    } else {
+        None
+    }
+}
+
+fn read_version(line: &[u8]) -> Option<Version>
     ensures { result ≡ lines.version_at line.now }
 {
-    if line == b"sip-events 1".as_slice() {
+    if line == Version::One.line() {
         return Some(Version::One);
     }
-    if line == b"sip-events 2".as_slice() {
+    if line == Version::Two.line() {
         return Some(Version::Two);
+    }
+    if line == Version::SessionOne.line() {
+        return Some(Version::SessionOne);
     }
     None
 }

@@ -6,7 +6,7 @@ use Rattle.sip_files.proofs.events_file.read_lines.Given as goal
 abbrev pub invariant-loop-left : goal.invariant-loop-left
 invariant-loop-left l =
     record {
-      so_far : SoFar l.version l.draft l.number l.text l.left;
+      so_far : SoFar l.version l.progress l.number l.text l.left;
       few : l.number + length l.left ≤ 2 + length l.text;
     }
 

@@ -1,0 +1,9 @@
+use Rattle.std.proofs.Common.{◌≡◌, ◌++◌, take}
+use Rattle.std.specs.List.{flat_map}
+use Rattle.sip_files.specs.Written as written
+use Rattle.sip_files.proofs.header_writer.push_addresses.Given as goal
+
+abbrev pub invariant-loop-address : goal.invariant-loop-address
+invariant-loop-address l =
+    l.file.items ≡ l.fn.file.items
+    ++ flat_map (written.address_line l.name) (take l.address-index l.addresses)

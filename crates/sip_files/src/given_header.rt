@@ -1,0 +1,92 @@
+//! The header lines of a session file: each says a header of the command that follows it
+//! (RFC 3261, section 7.3.1).
+
+ghost use Rattle.std.specs.Prelude.{◌≡◌, IfOk};
+ghost use Rattle.sip_files.specs.Given as given;
+ghost use Rattle.sip_files.specs.ReadLine as reading;
+ghost use Rattle.sip_headers.specs.Draft.{no_draft, with_line};
+
+use crate::version::Version;
+use crate::words::read_rest;
+use sip_headers::{Draft, LineClass, class_of};
+use sip_message::{Header, HeaderName, NameAddr, Token};
+use sip_text::Series;
+use sip_values::{AddressListRow, Row, TokenListRow};
+use std::alloc::{AllocError, Global};
+
+/// What a header line says. Of the headers that the profile reads only these four are the user's.
+#[derive(Drop)]
+pub enum GivenHeader {
+    Contact(Series<NameAddr>),
+    Route(Series<NameAddr>),
+    Supported(Series<Token>),
+    Require(Series<Token>),
+    /// A header that stays as it stands.
+    Other(Header),
+}
+
+/// What the fields of a header line say, where a file of this version may have one: a session file
+/// alone has them.
+pub(crate) fn header_in(
+    alloc: Global,
+    version: Version,
+    fields: &[u8],
+) -> Result<Option<GivenHeader>, AllocError>
+    ensures { IfOk result (λ header. header ≡ reading.header_in version fields.now) }
+{
+    match version {
+        Version::One | Version::Two => Ok(None),
+        Version::SessionOne => read_header(alloc, fields),
+    }
+}
+
+// A header line of a message, as a rest.
+#[tactic(auto, unfolding(crate::specs::ReadLine::header_at))]
+fn read_header(alloc: Global, fields: &[u8]) -> Result<Option<GivenHeader>, AllocError>
+    ensures { IfOk result (λ header. header ≡ reading.header_at fields.now) }
+{
+    let Some(line) = read_rest(alloc, fields)? else {
+        return Ok(None);
+    };
+    read_given(alloc, line.as_slice())
+}
+
+// What a header line of a message says.
+fn read_given(alloc: Global, line: &[u8]) -> Result<Option<GivenHeader>, AllocError>
+    ensures { IfOk result (λ header. header ≡ given.given_at line.now) }
+{
+    match class_of(line) {
+        LineClass::Bad => Ok(None),
+        LineClass::Known(header, value) => read_value(alloc, header, value),
+        LineClass::Other(_, _) => read_other(alloc, line),
+    }
+}
+
+// The value of a header of the profile, where the header is the user's.
+fn read_value(
+    alloc: Global,
+    header: HeaderName,
+    value: &[u8],
+) -> Result<Option<GivenHeader>, AllocError>
+    ensures { IfOk result (λ made. made ≡ given.value_given header value.now) }
+{
+    match header {
+        HeaderName::Contact => Ok(AddressListRow::read(alloc, value)?.map(GivenHeader::Contact)),
+        HeaderName::Route => Ok(AddressListRow::read(alloc, value)?.map(GivenHeader::Route)),
+        HeaderName::Supported => Ok(TokenListRow::read(alloc, value)?.map(GivenHeader::Supported)),
+        HeaderName::Require => Ok(TokenListRow::read(alloc, value)?.map(GivenHeader::Require)),
+        _ => Ok(None),
+    }
+}
+
+// A header of its own name. The draft of a message puts it under its long name.
+fn read_other(alloc: Global, line: &[u8]) -> Result<Option<GivenHeader>, AllocError>
+    ensures { IfOk result (λ made. made ≡ given.other_given (with_line no_draft line.now).others) }
+{
+    let mut draft = Draft::new(alloc);
+    draft.add(alloc, line)?;
+    let Some(others) = draft.others.take() else {
+        return Ok(None);
+    };
+    Ok(others.into_vec().pop().map(GivenHeader::Other))
+}
