@@ -1,24 +1,23 @@
 -- What calls through a handle do.
-use Rattle.std.specs.Prelude.{◌≡◌, ◌⊎◌, ℕ, false, true, List, Option, None, Some, Result, Err, IsSomeAnd, OnOk, OnErr, length, replicate}
+use Rattle.std.specs.Prelude.{◌≡◌, ◌⊎◌, ◌^◌, ℕ, Bool, ◌&&◌, false, true, List, Option, None, Some, IsSomeAnd, length, nat_le, replicate}
 use Rattle.std.specs.List.{slice_get}
 use Rattle.sip_message.specs.declared.addr.Addr.{Addr}
 use Rattle.sip_round.specs.NextDue.{IsDueAfter, IsQuietAfter}
 use Rattle.sip_round.specs.declared.config.Config.{Config}
 use Rattle.sip_round.specs.declared.output.Output.{Output}
 use Rattle.sip_round.specs.declared.round.Round.{Round}
-use Rattle.sip_round.specs.declared.round_fault.RoundFault.TheVariants.{NoMemory}
 use Rattle.sip_timers.specs.Queue.{is_due}
 use Rattle.sip_host.specs.Handing.{head_of, put_in, text_of}
-use Rattle.sip_host.specs.Hosting.{after_taking}
+use Rattle.sip_host.specs.Hosting.{Answer, Begins, after_taking}
 use Rattle.sip_host.specs.declared.host.Host.{Host}
-use Rattle.sip_host.specs.declared.host_fault.HostFault.{HostFault}
-use Rattle.sip_host.specs.declared.host_fault.HostFault.TheVariants as fault
 use Rattle.sip_host.specs.declared.next_output.NextOutput.{NextOutput}
 use Rattle.sip_c.specs.Status.{number_of_answer}
 use Rattle.sip_c.specs.declared.values.Address.{Address}
 use Rattle.sip_c.specs.declared.values.Configuration.{Configuration}
 use Rattle.sip_c.specs.declared.values.Due.{Due}
 use Rattle.sip_c.specs.declared.values.Told.{Told}
+
+-- ---- values of C
 
 -- an address as C gives it
 abbrev pub addr_of : Address → Addr
@@ -50,21 +49,24 @@ abbrev pub due_of : Option ℕ → Due
 due_of None = record { is_due = false; moment = 0 }
 due_of (Some moment) = record { is_due = true; moment = moment }
 
--- without an agent nothing is done; else the number of the answer is given, and the agent is after
--- a good answer what the call says, and after a fault as it was
-abbrev pub Answers : Option Host → Option Host → ℕ → (Host → Host → Type 0) → Type 0
-Answers None new number Does = (number ≡ 1) × (new ≡ None)
-Answers (Some old) new number Does = IsSomeAnd new (λ after.
-    (answer : Result (Unit {0}) HostFault) × (number ≡ number_of_answer answer)
-    × OnOk answer (Does old after) × OnErr answer (after ≡ old))
+-- ---- calls
 
--- the same of a call that may break the agent, for want of memory
-abbrev pub AnswersUnbroken : Option Host → Option Host → ℕ → (Host → Host → Type 0) → Type 0
-AnswersUnbroken None new number Does = (number ≡ 1) × (new ≡ None)
-AnswersUnbroken (Some old) new number Does = IsSomeAnd new (λ after.
-    (answer : Result (Unit {0}) HostFault) × (number ≡ number_of_answer answer)
-    × OnOk answer (Does old after)
-    × OnErr answer (¬ (answer ≡ Err (fault.Round (NoMemory true))) → after ≡ old))
+-- whether an agent can be started so
+abbrev pub can_begin : Config → ℕ → Bool
+can_begin config shards = nat_le 1 shards && nat_le shards 256 && nat_le config.first (2 ^ 62)
+
+-- an agent is started in a handle that held none, where it can be started so, or memory was refused
+abbrev pub Makes : Bool → Option Host → ℕ → Config → ℕ → Type 0
+Makes true new number config shards =
+    ((number ≡ 0) × IsSomeAnd new (Begins config shards)) ⊎ ((number ≡ 10) × (new ≡ None))
+Makes false new number config shards = (number ≡ 12) × (new ≡ None)
+
+-- without an agent nothing is done; else the call does to the agent what it says, by its answer, of
+-- which the number is given
+abbrev pub Calls : Option Host → Option Host → ℕ → (Host → Host → Answer → Type 0) → Type 0
+Calls None new number Does = (number ≡ 1) × (new ≡ None)
+Calls (Some old) new number Does = IsSomeAnd new (λ after.
+    (answer : Answer) × (number ≡ number_of_answer answer) × Does old after answer)
 
 -- the next output is told, or that there is none; for want of memory nothing has changed
 abbrev pub Gives : Option Output → Host → Host → ℕ → Told → List ℕ → List ℕ → Type 0

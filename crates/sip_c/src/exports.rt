@@ -1,12 +1,11 @@
 //! The functions that C calls. Each takes the agent out of its handle, calls it, and puts it back.
 
-ghost use Rattle.std.specs.Prelude.{◌≡◌, ℕ, [], ◌∷◌, IfSome, IsSomeAnd, List, None, Option, is_some, if◌then◌else◌};
+ghost use Rattle.std.specs.Prelude.{◌≡◌, ℕ, IfSome, IsSome, List, None, Option, is_some, if◌then◌else◌};
 ghost use Rattle.sip_round.specs.Answers.{StandsFor};
-ghost use Rattle.sip_round.specs.declared.round.Event.TheVariants as event;
-ghost use Rattle.sip_host.specs.Hosting.{IsAnswered, Reports, SaysEvent, shard_of, with_events};
+ghost use Rattle.sip_host.specs.Hosting.{RunsRound, TakesDatagram, TakesFailure, TakesLine, shard_of};
 ghost use Rattle.sip_round.specs.declared.config.Config.{Config};
 ghost use Rattle.sip_round.specs.declared.round.Round.{Round};
-ghost use Rattle.sip_c.specs.Called.{Answers, AnswersUnbroken, GivesNext, IsNextDue, addr_of, config_of, due_of};
+ghost use Rattle.sip_c.specs.Called.{Calls, GivesNext, IsNextDue, Makes, addr_of, can_begin, config_of, due_of};
 
 use crate::handle::Handle;
 use crate::status::{
@@ -28,14 +27,16 @@ pub extern "C" fn sip_ua_raw_new(
     configuration: &Configuration,
     shards: usize,
 ) -> u32
-    ensures made { result ≡ 0 → IsSomeAnd handle.new.owned.host (λ host.
-        StandsFor shard_of host.agent (config_of configuration.now) []) }
-    ensures refused { ¬ (result ≡ 0) → handle.new.owned.host ≡ handle.old.owned.host }
+    ensures held { IsSome handle.old.owned.host
+        → (result ≡ 2) × (handle.new.owned.host ≡ handle.old.owned.host) }
+    ensures made { handle.old.owned.host ≡ None
+        → Makes (can_begin (config_of configuration.now) shards) handle.new.owned.host result
+        (config_of configuration.now) shards }
 {
     if handle.is_held() {
         return HELD;
     }
-    if shards == 0 || shards > MAX_SHARDS || configuration.first > MAX_MOMENT {
+    if !can_begin(configuration, shards) {
         return BAD_CONFIGURATION;
     }
     let Ok(host) = Host::new(alloc, configuration.config(), shards) else {
@@ -48,6 +49,13 @@ pub extern "C" fn sip_ua_raw_new(
     OK
 }
 
+// Whether an agent of so many shards can be started with this.
+fn can_begin(configuration: &Configuration, shards: usize) -> bool
+    ensures { result ≡ can_begin (config_of configuration.now) shards }
+{
+    1 <= shards && shards <= MAX_SHARDS && configuration.first <= MAX_MOMENT
+}
+
 /// A datagram came in.
 #[unsafe(no_mangle)]
 pub extern "C" fn sip_ua_raw_datagram(
@@ -56,9 +64,8 @@ pub extern "C" fn sip_ua_raw_datagram(
     from: &Address,
     bytes: &[u8],
 ) -> u32
-    ensures { Answers handle.old.owned.host handle.new.owned.host result
-        (λ before after. after
-        ≡ with_events before (event.Datagram (addr_of from.now) bytes.now ∷ [])) }
+    ensures { Calls handle.old.owned.host handle.new.owned.host result
+        (TakesDatagram (addr_of from.now) bytes.now) }
 {
     let Some(mut host) = handle.take(alloc) else {
         return NOT_HELD;
@@ -71,7 +78,7 @@ pub extern "C" fn sip_ua_raw_datagram(
 /// A line of an event file that says an event, without its end.
 #[unsafe(no_mangle)]
 pub extern "C" fn sip_ua_raw_event_line(alloc: Global, handle: &mut Handle, line: &[u8]) -> u32
-    ensures { Answers handle.old.owned.host handle.new.owned.host result (SaysEvent line.now) }
+    ensures { Calls handle.old.owned.host handle.new.owned.host result (TakesLine line.now) }
 {
     let Some(mut host) = handle.take(alloc) else {
         return NOT_HELD;
@@ -84,7 +91,7 @@ pub extern "C" fn sip_ua_raw_event_line(alloc: Global, handle: &mut Handle, line
 /// The send of this index among the outputs of the last round could not be sent.
 #[unsafe(no_mangle)]
 pub extern "C" fn sip_ua_raw_failed(alloc: Global, handle: &mut Handle, output: usize) -> u32
-    ensures { Answers handle.old.owned.host handle.new.owned.host result (Reports output) }
+    ensures { Calls handle.old.owned.host handle.new.owned.host result (TakesFailure output) }
 {
     let Some(mut host) = handle.take(alloc) else {
         return NOT_HELD;
@@ -97,8 +104,7 @@ pub extern "C" fn sip_ua_raw_failed(alloc: Global, handle: &mut Handle, output: 
 /// Deals with the events at a moment in ms.
 #[unsafe(no_mangle)]
 pub extern "C" fn sip_ua_raw_run(alloc: Global, handle: &mut Handle, moment: u64) -> u32
-    ensures { AnswersUnbroken handle.old.owned.host handle.new.owned.host result
-        (IsAnswered moment) }
+    ensures { Calls handle.old.owned.host handle.new.owned.host result (RunsRound moment) }
 {
     let Some(mut host) = handle.take(alloc) else {
         return NOT_HELD;

@@ -1,16 +1,22 @@
 -- What a host's calls do to it.
-use Rattle.std.specs.Prelude.{◌≡◌, ℕ, ◌+◌, IsSomeAnd, List, [], ◌∷◌, ◌++◌, Option, None, Some, length, nat_lt, if◌then◌else◌}
+use Rattle.std.specs.Prelude.{◌≡◌, ◌⊎◌, ◌<◌, ◌≤◌, ℕ, ◌+◌, false, true, IfSome, IsSomeAnd, List, [], ◌∷◌, ◌++◌, OnErr, OnOk, Option, None, Some, Result, Err, length, nat_lt, if◌then◌else◌}
 use Rattle.std.specs.List.{slice_get}
 use Rattle.sip_files.specs.Written.{SpellsEventLine}
 use Rattle.sip_message.specs.Cut.{spread_shard}
+use Rattle.sip_message.specs.declared.addr.Addr.{Addr}
 use Rattle.sip_message.specs.declared.cut.Spread.{Spread}
+use Rattle.sip_round.specs.AgentState.{refusal_of, shard_count}
 use Rattle.sip_round.specs.Answers.{StandsFor, answers}
 use Rattle.sip_round.specs.declared.config.Config.{Config}
 use Rattle.sip_round.specs.declared.output.Output.{Output}
 use Rattle.sip_round.specs.declared.round.Event.{Event}
+use Rattle.sip_round.specs.declared.round.Event.TheVariants.{Datagram}
 use Rattle.sip_round.specs.declared.round.Round.{Round}
+use Rattle.sip_round.specs.declared.round_fault.RoundFault.TheVariants as round_fault
 use Rattle.sip_host.specs.Handing.{sent_key, text_of, told_failure}
 use Rattle.sip_host.specs.declared.host.Host.{Host}
+use Rattle.sip_host.specs.declared.host_fault.HostFault.{HostFault}
+use Rattle.sip_host.specs.declared.host_fault.HostFault.TheVariants as host_fault
 
 -- how the names of a host's agent are cut among its shards
 abbrev pub shard_of : Spread → List ℕ → ℕ → ℕ
@@ -52,3 +58,60 @@ pub record IsAnswered (moment : ℕ) (old new : Host) : Type 0 where
       ≡ answers config rounds ++ new.outputs.items ∷ []
   pub no_events : new.events ≡ []
   pub none_taken : new.taken ≡ 0
+
+-- ---- all that a call says, by its answer
+
+-- how a call that gives nothing but its success ends
+abbrev pub Answer : Type 0
+Answer = Result (Unit {0}) HostFault
+
+-- a host before its first round, whose agent has so many shards
+pub record Begins (config : Config) (shards : ℕ) (host : Host) : Type 0 where
+  pub stands : StandsFor shard_of host.agent config []
+  pub count : shard_count host.agent ≡ shards
+  pub no_events : host.events ≡ []
+  pub no_outputs : host.outputs.items ≡ []
+  pub none_taken : host.taken ≡ 0
+
+-- a datagram is an event of the next round; a fault changes nothing
+pub record TakesDatagram (from : Addr) (bytes : List ℕ) (old new : Host) (answer : Answer) :
+    Type 0 where
+  pub added : OnOk answer (new ≡ with_events old (Datagram from bytes ∷ []))
+  pub same : OnErr answer (new ≡ old)
+  pub full : 65536 ≤ length old.events → answer ≡ Err host_fault.TooManyEvents
+  pub fault : length old.events < 65536 → OnErr answer (answer ≡ Err host_fault.NoMemory)
+
+-- so is what a line says; a line that says no event is bad
+pub record TakesLine (line : List ℕ) (old new : Host) (answer : Answer) : Type 0 where
+  pub added : OnOk answer (SaysEvent line old new)
+  pub same : OnErr answer (new ≡ old)
+  pub full : 65536 ≤ length old.events → answer ≡ Err host_fault.TooManyEvents
+  pub fault : length old.events < 65536
+      → OnErr answer ((answer ≡ Err host_fault.BadLine) ⊎ (answer ≡ Err host_fault.NoMemory))
+  pub bad : answer ≡ Err host_fault.BadLine → (event : Event) → ¬ SpellsEventLine line event
+
+-- so is the failure of the send of this index, where a transaction stands behind the send
+pub record TakesFailure (output : ℕ) (old new : Host) (answer : Answer) : Type 0 where
+  pub no_send : sent_key (slice_get old.outputs.items output) ≡ None → answer ≡ Err host_fault.NoSend
+  pub told : OnOk answer (Reports output old new)
+  pub same : OnErr answer (new ≡ old)
+  pub fault : IfSome (sent_key (slice_get old.outputs.items output))
+      (λ key. OnErr answer ((answer ≡ Err host_fault.NoMemory)
+      ⊎ ((answer ≡ Err host_fault.TooManyEvents) × (65536 ≤ length old.events))))
+
+-- the events are dealt with at a moment, which is one round; a fault changes nothing, but that an
+-- agent to which memory was refused in the midst of its round holds nothing from then on
+pub record RunsRound (moment : ℕ) (old new : Host) (answer : Answer) : Type 0 where
+  pub left : old.taken < length old.outputs.items
+      → (answer ≡ Err host_fault.OutputsLeft) × (new ≡ old)
+  pub refused : length old.outputs.items ≤ old.taken
+      → IfSome (refusal_of old.agent (round_at moment old))
+      (λ why. (answer ≡ Err (host_fault.Round why)) × (new ≡ old))
+  pub memory : length old.outputs.items ≤ old.taken
+      → refusal_of old.agent (round_at moment old) ≡ None
+      → OnErr answer ((answer ≡ Err (host_fault.Round (round_fault.NoMemory false)))
+      ⊎ (answer ≡ Err (host_fault.Round (round_fault.NoMemory true))))
+  pub same : OnErr answer (¬ (answer ≡ Err (host_fault.Round (round_fault.NoMemory true)))
+      → new ≡ old)
+  pub broken : answer ≡ Err (host_fault.Round (round_fault.NoMemory true)) → new.agent.shards ≡ None
+  pub answers : OnOk answer (IsAnswered moment old new)

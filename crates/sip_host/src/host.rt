@@ -1,19 +1,14 @@
 //! A host's agent: events in, rounds, outputs out.
 
-ghost use Rattle.std.specs.Prelude.{◌≡◌, ◌⊎◌, ◌<◌, ◌≤◌, ◌+◌, ◌++◌, ◌∷◌, [], ℕ, List, IfOk, IfSome, Err, None, Ok, OnErr, OnOk, Some, length, vec_len, false, true, nat_lt, if◌then◌else◌};
+ghost use Rattle.std.specs.Prelude.{◌≡◌, ◌⊎◌, ◌<◌, ◌≤◌, ◌+◌, ◌++◌, ◌∷◌, [], ℕ, List, IfOk, IfSome, Err, None, Ok, OnErr, OnOk, Some, length, false, nat_lt, if◌then◌else◌};
 ghost use Rattle.std.specs.List.{slice_get};
 ghost use Rattle.sip_timers.specs.Queue.{is_due};
-ghost use Rattle.sip_files.specs.Written.{SpellsEventLine};
-ghost use Rattle.sip_round.specs.AgentState.{refusal_of};
 ghost use Rattle.sip_round.specs.Answers.{StandsFor};
 ghost use Rattle.sip_round.specs.NextDue.{IsDueAfter, IsQuietAfter};
 ghost use Rattle.sip_round.specs.declared.config.Config.{Config as AConfig};
-ghost use Rattle.sip_round.specs.declared.round.Event.{Event as AnEvent};
-ghost use Rattle.sip_round.specs.declared.round.Event.TheVariants as event;
 ghost use Rattle.sip_round.specs.declared.round.Round.{Round as ARound};
-ghost use Rattle.sip_round.specs.declared.round_fault.RoundFault.TheVariants as round_fault;
-ghost use Rattle.sip_host.specs.Handing.{head_of, put_in, sent_key, text_of};
-ghost use Rattle.sip_host.specs.Hosting.{IsAnswered, Reports, SaysEvent, after_taking, round_at, shard_of, with_events};
+ghost use Rattle.sip_host.specs.Handing.{head_of, put_in, text_of};
+ghost use Rattle.sip_host.specs.Hosting.{Begins, RunsRound, TakesDatagram, TakesFailure, TakesLine, after_taking, shard_of, with_events};
 ghost use Rattle.sip_host.specs.declared.host_fault.HostFault.TheVariants as fault;
 
 use crate::handing::{failure_of, put_output};
@@ -45,9 +40,7 @@ impl Host {
     pub fn new(alloc: Global, config: Config, shards: usize) -> Result<Host, NoMemory>
         requires some { 0 < shards }
         requires most { shards ≤ 256 }
-        ensures stands { IfOk result (λ host. StandsFor shard_of host.agent config []) }
-        ensures no_events { IfOk result (λ host. host.events ≡ []) }
-        ensures no_outputs { IfOk result (λ host. host.outputs.items ≡ []) }
+        ensures { IfOk result (Begins config shards) }
     {
         Ok(Host {
             alloc,
@@ -64,12 +57,7 @@ impl Host {
     ///
     /// `TooManyEvents`, and else `NoMemory`. Nothing has changed then.
     pub fn datagram(&mut self, from: Addr, bytes: &[u8]) -> Result<(), HostFault>
-        ensures added { OnOk result
-            (self.new ≡ with_events self.old (event.Datagram from bytes.now ∷ [])) }
-        ensures same { OnErr result (self.new ≡ self.old) }
-        ensures full { 65536 ≤ length self.old.events → result ≡ Err fault.TooManyEvents }
-        ensures fault { length self.old.events < 65536
-            → OnErr result (result ≡ Err fault.NoMemory) }
+        ensures { TakesDatagram from bytes.now self.old self.new result }
     {
         self.has_room()?;
         let bytes = Text::copy_of(self.alloc, bytes)?;
@@ -85,13 +73,7 @@ impl Host {
     /// `TooManyEvents`, and else `BadLine` where the line says no event, or `NoMemory`. Nothing has
     /// changed then.
     pub fn event_line(&mut self, line: &[u8]) -> Result<(), HostFault>
-        ensures added { OnOk result (SaysEvent line.now self.old self.new) }
-        ensures same { OnErr result (self.new ≡ self.old) }
-        ensures full { 65536 ≤ length self.old.events → result ≡ Err fault.TooManyEvents }
-        ensures fault { length self.old.events < 65536 → OnErr result
-            ((result ≡ Err fault.BadLine) ⊎ (result ≡ Err fault.NoMemory)) }
-        ensures bad { result ≡ Err fault.BadLine
-            → (given : AnEvent) → ¬ SpellsEventLine line.now given }
+        ensures { TakesLine line.now self.old self.new result }
     {
         self.has_room()?;
         let Some(event) = read_event_line(self.alloc, line)? else {
@@ -109,13 +91,7 @@ impl Host {
     /// `NoSend` where that output is no send, and else `TooManyEvents` or `NoMemory`. Nothing has
     /// changed then.
     pub fn failed(&mut self, output: usize) -> Result<(), HostFault>
-        ensures no_send { sent_key (slice_get self.old.outputs.items output) ≡ None
-            → result ≡ Err fault.NoSend }
-        ensures told { OnOk result (Reports output self.old self.new) }
-        ensures same { OnErr result (self.new ≡ self.old) }
-        ensures fault { IfSome (sent_key (slice_get self.old.outputs.items output))
-            (λ key. OnErr result ((result ≡ Err fault.NoMemory)
-            ⊎ ((result ≡ Err fault.TooManyEvents) × (65536 ≤ length self.old.events)))) }
+        ensures { TakesFailure output self.old self.new result }
     {
         let Some(output) = self.outputs.get(output) else {
             return Err(HostFault::NoSend);
@@ -135,21 +111,7 @@ impl Host {
     /// `OutputsLeft`, and else what the agent's round is refused for. All faults but
     /// `Round(NoMemory)` with `broken` leave the host as it is, and its events with it.
     pub fn run(&mut self, moment: u64) -> Result<(), HostFault>
-        ensures left { self.old.taken < length self.old.outputs.items
-            → (result ≡ Err fault.OutputsLeft) × (self.new ≡ self.old) }
-        ensures refused { length self.old.outputs.items ≤ self.old.taken
-            → IfSome (refusal_of self.old.agent (round_at moment self.old))
-            (λ why. (result ≡ Err (fault.Round why)) × (self.new ≡ self.old)) }
-        ensures memory { length self.old.outputs.items ≤ self.old.taken
-            → refusal_of self.old.agent (round_at moment self.old) ≡ None
-            → OnErr result ((result ≡ Err (fault.Round (round_fault.NoMemory false)))
-            ⊎ (result ≡ Err (fault.Round (round_fault.NoMemory true)))) }
-        ensures same { OnErr result (¬ (result ≡ Err (fault.Round (round_fault.NoMemory true)))
-            → self.new ≡ self.old) }
-        ensures broken { result ≡ Err (fault.Round (round_fault.NoMemory true))
-            → self.new.agent.shards ≡ None }
-
-        ensures answers { OnOk result (IsAnswered moment self.old self.new) }
+        ensures { RunsRound moment self.old self.new result }
     {
         if self.taken < self.outputs.len() {
             return Err(HostFault::OutputsLeft);
