@@ -1,7 +1,7 @@
 -- What is sent in a dialog, owed, paid and ended on the client side, is what happens in it.
 use Rattle.std.proofs.Common.{ℕ, Bool, true, false, not, cond, List, [], refl, sym, subst}
 use Rattle.std.specs.Prelude.{Option, None, Some, codes, filter, fold}
-use Rattle.sip_message.specs.declared.content.Content.{Content}
+use Rattle.sip_message.specs.Content.{Content}
 use Rattle.sip_dialog.specs.declared.dialog.Dialog.{Dialog}
 use Rattle.sip_dialog.specs.declared.fault.DialogFault.{DialogFault}
 use Rattle.sip_dialog.specs.Fault.{request_fault}

@@ -2,8 +2,7 @@
 use Rattle.std.proofs.Common.{◌≡◌, ℕ, ◌+◌, Bool, true, false, cond, List, [], ◌∷◌, refl, sym, ap, subst, ◌∙◌}
 use Rattle.std.specs.Prelude.{Option, None, Some, IfSome, codes}
 use Rattle.std.specs.Str.{bytes_eq}
-use Rattle.sip_message.specs.declared.content.Content.{Content}
-use Rattle.sip_message.specs.Content.{with_content_of}
+use Rattle.sip_message.specs.Content.{Content, with_content_of}
 use Rattle.sip_model.proofs.Ordered.{by_bool}
 use Rattle.sip_message.specs.declared.message.Message.{Message}
 use Rattle.sip_message.specs.declared.rack.RAck.{RAck}

@@ -3,7 +3,7 @@
 use Rattle.std.specs.Prelude.{ℕ, Bool, true, false, ◌&&◌, ◌||◌, nat_le, List, [], ◌∷◌, Option, None, Some, Result, Ok, Err, codes, find, if◌then◌else◌}
 use Rattle.std.specs.Option.{option_map_or}
 use Rattle.std.specs.Str.{bytes_eq}
-use Rattle.sip_message.specs.declared.content.Content.{Content}
+use Rattle.sip_message.specs.Content.{Content}
 use Rattle.sip_dialog.specs.declared.dialog.Side.{Side}
 use Rattle.sip_dialog.specs.declared.dialog.Side.TheVariants.{Caller, Callee}
 use Rattle.sip_dialog.specs.declared.dialog.Dialog.{Dialog}

@@ -3,8 +3,7 @@
 use Rattle.std.specs.Prelude.{ℕ, ◌+◌, Bool, not, ◌||◌, ◌==◌, List, [], ◌∷◌, ◌++◌, length, Option, None, Some, unwrap_or, if◌then◌else◌}
 use Rattle.std.specs.Option.{option_map_or}
 use Rattle.indexmap.specs.IndexMap.{insert_entry}
-use Rattle.sip_message.specs.declared.content.Content.{Content}
-use Rattle.sip_message.specs.Content.{content_of_body}
+use Rattle.sip_message.specs.Content.{Content, content_of_body}
 use Rattle.sip_message.specs.declared.message.Message.{Message}
 use Rattle.sip_reliable.specs.Inbound.{latest_after, offered}
 use Rattle.sip_common.specs.declared.debt.Debt.TheVariants.{Ack, Prack}

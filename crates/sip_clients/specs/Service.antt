@@ -7,7 +7,7 @@ use Rattle.sip_dialog.specs.Fault.{ack_fault, request_fault}
 use Rattle.sip_dialog.specs.Life.{Happening, Requests}
 use Rattle.sip_dialog.specs.Request.{ack_in, request_in}
 use Rattle.sip_dialog.specs.Route.{hop_of}
-use Rattle.sip_message.specs.declared.content.Content.{Content}
+use Rattle.sip_message.specs.Content.{Content}
 use Rattle.sip_message.specs.declared.message.Message.{Message}
 use Rattle.sip_message.specs.declared.rack.RAck.{RAck}
 use Rattle.sip_common.specs.declared.debt.Debt.{Debt}

@@ -1,7 +1,7 @@
 //! Laws of made names, of ticks, and of the Call-ID of what is held and told.
 
 ghost use Rattle.std.specs.Prelude.{◌≡◌, ℕ, Bool, List, Option, Some, false};
-ghost use Rattle.sip_message.specs.declared.content.Content.{Content};
+ghost use Rattle.sip_message.specs.Content.{Content};
 ghost use Rattle.sip_message.specs.declared.id.Id.{Id};
 ghost use Rattle.sip_message.specs.declared.message.Message.{Message};
 ghost use Rattle.sip_message.specs.declared.rack.RAck.{RAck};

@@ -237,7 +237,7 @@ fn offer_to(alloc: Global, client: &Client, response: &Message) -> Option<Conten
 {
     if !client.request.body.is_empty() || response.body.is_empty() {
         let no_body = Text::from_vec(Vec::new(alloc));
-        Some(Content::of_body(alloc, no_body))
+        Some(Content::of_body(no_body))
     } else {
         None
     }

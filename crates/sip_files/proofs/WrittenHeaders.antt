@@ -16,7 +16,7 @@ use Rattle.sip_parts.specs.HeaderEntry.{header_named, is_named}
 use Rattle.sip_parts.specs.HeaderValue.{has_no_line_byte}
 use Rattle.sip_parts.specs.OtherName.{is_compact_name, is_other_name}
 use Rattle.sip_parts.specs.declared.header_name.HeaderName.{HeaderName}
-use Rattle.sip_message.specs.declared.content.Content.{Content}
+use Rattle.sip_message.specs.Content.{Content}
 use Rattle.sip_message.specs.declared.header.Header.{Header}
 use Rattle.sip_message.specs.declared.name_addr.NameAddr.{NameAddr}
 use Rattle.sip_values.specs.Sequence.{tokens_from}

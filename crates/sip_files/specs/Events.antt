@@ -6,11 +6,10 @@ use Rattle.sip_parts.specs.Word.{is_word}
 use Rattle.sip_parts.specs.Reason.{is_reason}
 use Rattle.sip_parts.specs.Uri.{is_uri}
 use Rattle.sip_text.specs.Token.{is_token}
-use Rattle.sip_message.specs.declared.content.Content.{Content}
 use Rattle.sip_message.specs.declared.id.Id.{Id}
 use Rattle.sip_message.specs.declared.key.Key.{Key}
 use Rattle.sip_message.specs.Addr.{IsAddr}
-use Rattle.sip_message.specs.Content.{content_of_body}
+use Rattle.sip_message.specs.Content.{Content, content_of_body}
 use Rattle.sip_message.specs.Key.{client_key, server_key}
 use Rattle.sip_common.specs.declared.command.Reliability.{Reliability}
 use Rattle.sip_common.specs.declared.command.Reliability.TheVariants as reliability

@@ -6,7 +6,7 @@ use Rattle.std.specs.Option.{option_map}
 use Rattle.sip_parts.specs.HeaderEntry.{header_named}
 use Rattle.sip_parts.specs.declared.header_name.HeaderName.{HeaderName}
 use Rattle.sip_parts.specs.declared.header_name.HeaderName.TheVariants as name
-use Rattle.sip_message.specs.declared.content.Content.{Content}
+use Rattle.sip_message.specs.Content.{Content}
 use Rattle.sip_message.specs.declared.header.Header.{Header}
 use Rattle.sip_message.specs.declared.name_addr.NameAddr.{NameAddr}
 use Rattle.sip_values.specs.Address.{AreNameAddrs, name_addrs_from}

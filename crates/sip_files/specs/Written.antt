@@ -4,13 +4,12 @@ use Rattle.std.specs.Prelude.{◌≡◌, ℕ, ◌≤◌, ◌^◌, ◌-◌, List,
 use Rattle.std.specs.List.{flat_map, AllByRecursion}
 use Rattle.std.specs.Str.{str_to_ascii_lowercase}
 use Rattle.sip_text.specs.Token.{is_token}
-use Rattle.sip_message.specs.declared.content.Content.{Content}
 use Rattle.sip_message.specs.declared.header.Header.{Header}
 use Rattle.sip_message.specs.declared.key.Key.{Key}
 use Rattle.sip_message.specs.declared.key.Key.TheVariants.{Client, Server}
 use Rattle.sip_message.specs.declared.name_addr.NameAddr.{NameAddr}
 use Rattle.sip_message.specs.Addr.{IsAddr}
-use Rattle.sip_message.specs.Content.{content_of_body}
+use Rattle.sip_message.specs.Content.{Content, content_of_body}
 use Rattle.sip_message.specs.Rules.{IsNameAddr, IsOtherHeader}
 use Rattle.sip_message.specs.Written.{address_text}
 use Rattle.sip_round.specs.declared.config.Config.{Config}

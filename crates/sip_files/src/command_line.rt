@@ -75,7 +75,7 @@ fn read_invite(alloc: Global, fields: &[u8]) -> Result<Option<Invite>, AllocErro
         to,
         routes: Series::new(alloc),
         support,
-        content: Content::of_body(alloc, body),
+        content: Content::of_body(body),
     }))
 }
 
@@ -105,7 +105,7 @@ fn read_plain(alloc: Global, fields: &[u8]) -> Result<Option<Plain>, AllocError>
         from,
         to,
         routes: Series::new(alloc),
-        content: Content::of_body(alloc, body),
+        content: Content::of_body(body),
     }))
 }
 
@@ -129,7 +129,7 @@ fn read_request(alloc: Global, fields: &[u8]) -> Result<Option<DialogRequest>, A
         local_tag,
         remote_tag,
         method,
-        content: Content::of_body(alloc, body),
+        content: Content::of_body(body),
     }))
 }
 
@@ -149,7 +149,7 @@ fn read_body(alloc: Global, fields: &[u8]) -> Result<Option<DialogBody>, AllocEr
         call_id,
         local_tag,
         remote_tag,
-        content: Content::of_body(alloc, body),
+        content: Content::of_body(body),
     }))
 }
 
@@ -182,7 +182,7 @@ fn read_respond(alloc: Global, fields: &[u8]) -> Result<Option<Respond>, AllocEr
         id,
         status,
         reliability,
-        content: Content::of_body(alloc, body),
+        content: Content::of_body(body),
         reason,
     }))
 }

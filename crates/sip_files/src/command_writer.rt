@@ -44,7 +44,7 @@ fn push_invite(file: &mut Vec<u8>, invite: &Invite) -> Result<(), AllocError>
     push_call(file, &invite.call_id, invite.address)?;
     push_uris(file, &invite.request_uri, &invite.from, &invite.to)?;
     push_plain(file, support_text(invite.support))?;
-    push_text(file, invite.content.body.as_slice())
+    push_text(file, invite.content.body().as_slice())
 }
 
 fn push_plain_request(file: &mut Vec<u8>, plain: &Plain) -> Result<(), AllocError>
@@ -55,7 +55,7 @@ fn push_plain_request(file: &mut Vec<u8>, plain: &Plain) -> Result<(), AllocErro
     push_call(file, &plain.call_id, plain.address)?;
     push_plain(file, plain.method.as_slice())?;
     push_uris(file, &plain.request_uri, &plain.from, &plain.to)?;
-    push_text(file, plain.content.body.as_slice())
+    push_text(file, plain.content.body().as_slice())
 }
 
 fn push_dialog_request(file: &mut Vec<u8>, request: &DialogRequest) -> Result<(), AllocError>
@@ -70,7 +70,7 @@ fn push_dialog_request(file: &mut Vec<u8>, request: &DialogRequest) -> Result<()
         &request.remote_tag,
     )?;
     push_plain(file, request.method.as_slice())?;
-    push_text(file, request.content.body.as_slice())
+    push_text(file, request.content.body().as_slice())
 }
 
 fn push_respond(file: &mut Vec<u8>, respond: &Respond) -> Result<(), AllocError>
@@ -82,7 +82,7 @@ fn push_respond(file: &mut Vec<u8>, respond: &Respond) -> Result<(), AllocError>
     push_id(file, respond.id)?;
     push_number(file, u64::from(respond.status))?;
     push_plain(file, reliability_text(respond.reliability))?;
-    push_text(file, respond.content.body.as_slice())?;
+    push_text(file, respond.content.body().as_slice())?;
     push_rest_field(file, respond.reason.as_slice())
 }
 
@@ -93,7 +93,7 @@ fn push_dialog_body(file: &mut Vec<u8>, given: &DialogBody) -> Result<(), AllocE
         ++ field.word_field given.now.content.body)) }
 {
     push_dialog(file, &given.call_id, &given.local_tag, &given.remote_tag)?;
-    push_text(file, given.content.body.as_slice())
+    push_text(file, given.content.body().as_slice())
 }
 
 fn push_cancel(file: &mut Vec<u8>, cancel: &Cancel) -> Result<(), AllocError>

@@ -48,11 +48,11 @@ fn push_content(
     ensures { OnOk result (file.new.items ≡ file.old.items
         ++ written.content_lines routes.now content.now) }
 {
-    push_addresses(file, b"Contact", content.contacts.as_slice())?;
+    push_addresses(file, b"Contact", content.contacts())?;
     push_addresses(file, b"Route", routes)?;
-    push_tokens(file, b"Require", content.require.as_slice())?;
-    push_tokens(file, b"Supported", content.supported.as_slice())?;
-    push_others(file, content.others.as_slice())
+    push_tokens(file, b"Require", content.require())?;
+    push_tokens(file, b"Supported", content.supported())?;
+    push_others(file, content.others())
 }
 
 fn push_addresses(file: &mut Vec<u8>, name: &[u8], addresses: &[NameAddr]) -> Result<(), AllocError>

@@ -74,7 +74,7 @@ fn with_whole(
     ensures { IfOk result (λ next. next ≡ drafting.line_went progress line) }
 {
     let Progress { draft, headers } = progress;
-    let Some(line) = with_headers(headers, line)? else {
+    let Some(line) = with_headers(alloc, headers, line)? else {
         return Ok(None);
     };
     let Some(draft) = with_line(draft, line)? else {

@@ -1,17 +1,42 @@
 -- What the user puts into a message of his own (RFC 3261, section 7.4.1; section 20.10 for Contact,
 -- 20.15 for Content-Type).
-use Rattle.std.specs.Prelude.{ℕ, Bool, List, [], ◌∷◌, ◌++◌, codes, if◌then◌else◌}
+use Rattle.std.specs.Prelude.{ℕ, Bool, List, [], ◌∷◌, ◌++◌, Option, Some, None, codes, if◌then◌else◌}
 use Rattle.std.specs.List.{list_any}
 use Rattle.std.specs.Str.{str_eq_ignore_ascii_case}
-use Rattle.sip_message.specs.declared.content.Content.{Content}
+use Rattle.sip_message.specs.declared.content.ContentHeaders.{ContentHeaders}
 use Rattle.sip_message.specs.declared.header.Header.{Header}
 use Rattle.sip_message.specs.declared.message.Message.{Message}
 use Rattle.sip_message.specs.declared.name_addr.NameAddr.{NameAddr}
 
+-- headers and a body; each list in order
+pub record Content : Type 0 where
+  pub contacts : List NameAddr
+  pub supported : List (List ℕ)
+  pub require : List (List ℕ)
+  pub others : List Header
+  pub body : List ℕ
+
+-- these headers, and this body
+abbrev pub content_with : ContentHeaders → List ℕ → Content
+content_with headers body = record {
+  contacts = headers.contacts;
+  supported = headers.supported;
+  require = headers.require;
+  others = headers.others;
+  body = body;
+}
+
+abbrev pub no_headers : ContentHeaders
+no_headers = record { contacts = []; supported = []; require = []; others = [] }
+
 -- no header, and this body
 abbrev pub content_of_body : List ℕ → Content
-content_of_body body =
-    record { contacts = []; supported = []; require = []; others = []; body = body }
+content_of_body body = content_with no_headers body
+
+-- where a content without a header keeps no list
+abbrev pub content_of : Option ContentHeaders → List ℕ → Content
+content_of None body = content_of_body body
+content_of (Some headers) body = content_with headers body
 
 -- `Content-Type: application/sdp`
 abbrev pub content_type : Header

@@ -1,5 +1,5 @@
 //! What the user puts into a message of his own (RFC 3261, section 7.4.1).
-ghost use Rattle.std.specs.Prelude.{◌≡◌, ◌++◌, ◌↔◌, IfOk, IsTrue, OnOk};
+ghost use Rattle.std.specs.Prelude.{◌≡◌, ◌↔◌, IfOk, IsTrue, OnOk};
 ghost use Rattle.std.specs.List.{list_any};
 ghost use Rattle.sip_message.specs.Content as spec;
 
@@ -7,12 +7,12 @@ use crate::header::Header;
 use crate::message::Message;
 use crate::name_addr::NameAddr;
 use sip_parts::{HeaderValue, OtherName, Token};
-use sip_text::{Series, Text, token_eq};
+use sip_text::{Boxed, Series, Text, token_eq};
 use std::alloc::{AllocError, Global};
-use std::mem;
+use std::marker::Model;
 
-/// What the user puts into a message of his own: headers, and the body.
-pub struct Content {
+/// The headers that a user gives a message of his own.
+pub struct ContentHeaders {
     /// Where there are any, they stand in place of the agent's own Contact.
     pub contacts: Series<NameAddr>,
     /// After the agent's own, in Supported.
@@ -21,28 +21,23 @@ pub struct Content {
     pub require: Series<Token>,
     /// In order. By their type none of them is a header that the profile reads.
     pub others: Series<Header>,
-    pub body: Text,
 }
 
-impl Content {
-    ghost use Rattle.sip_message.specs.Content.{content_of_body, with_content_of};
-
-    /// This body, and no header. Takes no memory.
-    pub fn of_body(alloc: Global, body: Text) -> Content
-        ensures { result ≡ content_of_body body }
+impl ContentHeaders {
+    // Takes no memory.
+    fn none(alloc: Global) -> ContentHeaders
+        ensures { result ≡ spec.no_headers }
     {
-        Content {
+        ContentHeaders {
             contacts: Series::new(alloc),
             supported: Series::new(alloc),
             require: Series::new(alloc),
             others: Series::new(alloc),
-            body,
         }
     }
 
-    /// Whether it has no header.
-    pub fn is_body_alone(&self) -> bool
-        ensures { IsTrue result ↔ (self.now ≡ content_of_body self.now.body) }
+    fn is_none(&self) -> bool
+        ensures { IsTrue result ↔ (self.now ≡ spec.no_headers) }
     {
         self.contacts.is_empty()
             && self.supported.is_empty()
@@ -50,27 +45,154 @@ impl Content {
             && self.others.is_empty()
     }
 
-    // Puts it into a message.
+    // Puts them and this body into a message.
     #[tactic(auto, unfolding(crate::specs::Content::with_content_of))]
-    pub(crate) fn put_into(self, alloc: Global, message: &mut Message) -> Result<(), AllocError>
-        ensures { OnOk result (message.new ≡ with_content_of message.old self) }
+    fn put_into(
+        self,
+        alloc: Global,
+        body: Text,
+        message: &mut Message,
+    ) -> Result<(), AllocError>
+        ensures { OnOk result
+            (message.new ≡ spec.with_content_of message.old (spec.content_with self body)) }
     {
-        let Content {
+        let ContentHeaders {
             contacts,
             supported,
             require,
             others,
-            body,
         } = self;
         if !contacts.is_empty() {
             message.contacts = contacts;
         }
-        append(alloc, &mut message.require, require)?;
-        append(alloc, &mut message.supported, supported)?;
-        let others = with_type(alloc, &body, others)?;
-        append(alloc, &mut message.others, others)?;
+        message.require.append(require)?;
+        message.supported.append(supported)?;
+        message.others.append(with_type(alloc, &body, others)?)?;
         message.body = body;
         Ok(())
+    }
+}
+
+/// What a user puts into a message of his own: headers, and the body. A contract sees the record
+/// of all of them.
+pub struct Content {
+    // None where there is no header: commands are moved often, and most have none.
+    headers: Option<Boxed<ContentHeaders>>,
+    body: Text,
+}
+
+impl Model for Content {
+    ghost use Rattle.sip_message.specs.Content.{Content, content_of};
+
+    ghost Value = { Content };
+
+    ghost view = { λ c. content_of c.headers c.body };
+}
+
+impl Content {
+    ghost use Rattle.sip_message.specs.Content.{content_of_body, content_with, with_content_of};
+
+    /// These headers, and this body. Takes memory where there is a header.
+    pub fn new(
+        alloc: Global,
+        headers: ContentHeaders,
+        body: Text,
+    ) -> Result<Content, AllocError>
+        ensures { IfOk result (λ content. content ≡ content_with headers body) }
+    {
+        let mut content = Content::of_body(body);
+        content.set_headers(alloc, headers)?;
+        Ok(content)
+    }
+
+    /// This body, and no header. Takes no memory.
+    pub fn of_body(body: Text) -> Content
+        ensures { result ≡ content_of_body body }
+    {
+        Content {
+            headers: None,
+            body,
+        }
+    }
+
+    /// Gives it these headers in place of those that it has. Takes memory where there is a header.
+    pub fn set_headers(
+        &mut self,
+        alloc: Global,
+        headers: ContentHeaders,
+    ) -> Result<(), AllocError>
+        ensures { OnOk result (self.new ≡ content_with headers self.old.body) }
+    {
+        self.headers = if headers.is_none() {
+            None
+        } else {
+            Some(Boxed::new(alloc, headers)?)
+        };
+        Ok(())
+    }
+
+    pub fn contacts(&self) -> &[NameAddr]
+        ensures { result.now ≡ self.now.contacts }
+    {
+        match &self.headers {
+            Some(headers) => headers.get().contacts.as_slice(),
+            None => &[],
+        }
+    }
+
+    pub fn supported(&self) -> &[Token]
+        ensures { result.now ≡ self.now.supported }
+    {
+        match &self.headers {
+            Some(headers) => headers.get().supported.as_slice(),
+            None => &[],
+        }
+    }
+
+    pub fn require(&self) -> &[Token]
+        ensures { result.now ≡ self.now.require }
+    {
+        match &self.headers {
+            Some(headers) => headers.get().require.as_slice(),
+            None => &[],
+        }
+    }
+
+    pub fn others(&self) -> &[Header]
+        ensures { result.now ≡ self.now.others }
+    {
+        match &self.headers {
+            Some(headers) => headers.get().others.as_slice(),
+            None => &[],
+        }
+    }
+
+    pub fn body(&self) -> &Text
+        ensures { result.now ≡ self.now.body }
+    {
+        &self.body
+    }
+
+    /// Whether it has no header.
+    pub fn is_body_alone(&self) -> bool
+        ensures { IsTrue result ↔ (self.now ≡ content_of_body self.now.body) }
+    {
+        match &self.headers {
+            Some(headers) => headers.get().is_none(),
+            None => true,
+        }
+    }
+
+    // Puts it into a message.
+    pub(crate) fn put_into(self, alloc: Global, message: &mut Message) -> Result<(), AllocError>
+        ensures { OnOk result (message.new ≡ with_content_of message.old self) }
+    {
+        let Content { headers, body } = self;
+        let headers = match headers {
+            Some(headers) => headers.into_inner(),
+            None => ContentHeaders::none(alloc),
+        };
+        headers.put_into(alloc, body, message)
     }
 }
 
@@ -112,37 +234,36 @@ fn content_type(alloc: Global) -> Result<Header, AllocError>
     })
 }
 
-// The values stand at the end of the list.
-fn append<T: Drop>(alloc: Global, list: &mut Series<T>, values: Series<T>) -> Result<(), AllocError>
-    ensures { OnOk result (list.new ≡ list.old ++ values) }
-{
-    let before = mem::replace(list, Series::new(alloc));
-    *list = joined(before, values)?;
-    Ok(())
-}
-
-// Takes no memory where one of the lists is empty.
-fn joined<T: Drop>(before: Series<T>, values: Series<T>) -> Result<Series<T>, AllocError>
-    ensures { IfOk result (λ all. all ≡ before ++ values) }
-{
-    if before.is_empty() {
-        return Ok(values);
+impl Drop for ContentHeaders {
+    fn drop(self) {
+        let ContentHeaders {
+            contacts: _,
+            supported: _,
+            require: _,
+            others: _,
+        } = self;
     }
-    let mut all = before.into_vec();
-    let mut values = values.into_vec();
-    all.append(&mut values)?;
-    Ok(Series::from_vec(all))
 }
 
 impl Drop for Content {
     fn drop(self) {
         let Content {
-            contacts: _,
-            supported: _,
-            require: _,
-            others: _,
+            headers: _,
             body: _,
         } = self;
+    }
+}
+
+impl Clone for ContentHeaders {
+    ghost is_clone = { λ original copy. copy ≡ original };
+
+    fn clone(&self) -> Result<ContentHeaders, AllocError> {
+        Ok(ContentHeaders {
+            contacts: self.contacts.clone()?,
+            supported: self.supported.clone()?,
+            require: self.require.clone()?,
+            others: self.others.clone()?,
+        })
     }
 }
 
@@ -150,11 +271,12 @@ impl Clone for Content {
     ghost is_clone = { λ original copy. copy ≡ original };
 
     fn clone(&self) -> Result<Content, AllocError> {
+        let headers = match &self.headers {
+            Some(headers) => Some(headers.clone()?),
+            None => None,
+        };
         Ok(Content {
-            contacts: self.contacts.clone()?,
-            supported: self.supported.clone()?,
-            require: self.require.clone()?,
-            others: self.others.clone()?,
+            headers,
             body: self.body.clone()?,
         })
     }

@@ -26,7 +26,7 @@ mod vias;
 mod writer;
 
 pub use addr::{Addr, ip_in, ip_text};
-pub use content::Content;
+pub use content::{Content, ContentHeaders};
 pub use cseq::CSeq;
 pub use cut::{Cut, First, Spread};
 pub use fault::ReadFault;

@@ -7,7 +7,7 @@ use std::marker::Model;
 
 /// A value that stands on the heap, so that it is moved as one pointer, and takes no more room than
 /// that where there is none. A contract sees the value.
-#[derive(Drop)]
+#[derive(Clone, Drop)]
 pub struct Boxed<T> {
     value: Box<T>,
 }

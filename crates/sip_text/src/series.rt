@@ -81,6 +81,22 @@ impl<T> Series<T> {
         self.values.push(value)?;
         Ok(())
     }
+
+    /// Adds these values at its end. Takes no memory where one of the lists is empty. Without
+    /// memory it is not known what the list holds.
+    pub fn append(&mut self, values: Series<T>) -> Result<(), AllocError>
+    where
+        T: Drop,
+        ensures { OnOk result (self.new ≡ self.old ++ values) }
+    {
+        if self.is_empty() {
+            *self = values;
+            return Ok(());
+        }
+        let mut values = values.into_vec();
+        self.values.append(&mut values)?;
+        Ok(())
+    }
 }
 
 impl<T: PartialEq> PartialEq for Series<T> {

@@ -212,7 +212,7 @@ fn answer_to(alloc: Global, notice: &Notice) -> Result<Option<Event>, AllocError
         id: *id,
         status: OK,
         reliability: Reliability::Plain,
-        content: Content::of_body(alloc, Text::from_vec(Vec::new(alloc))),
+        content: Content::of_body(Text::from_vec(Vec::new(alloc))),
         reason,
     }))))
 }

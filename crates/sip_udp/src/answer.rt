@@ -61,7 +61,7 @@ pub(crate) fn respond(
         id,
         status,
         reliability,
-        content: Content::of_body(alloc, body),
+        content: Content::of_body(body),
         reason: reason.unwrap_or(Reason::nothing(alloc)),
     })))
 }

@@ -57,7 +57,7 @@ impl CallPlan {
             to: uri,
             routes: Series::new(alloc),
             support: ProvisionalSupport::None,
-            content: Content::of_body(alloc, body),
+            content: Content::of_body(body),
         })
     }
 }

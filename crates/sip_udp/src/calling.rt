@@ -68,7 +68,7 @@ impl Calling {
         let invite = plan.invite(alloc, from)?;
         Ok(Calling {
             call_id: invite.call_id.clone()?,
-            has_offer: !invite.content.body.is_empty(),
+            has_offer: !invite.content.body().is_empty(),
             invite: Some(invite),
             hold,
             leaves,
@@ -218,7 +218,7 @@ fn nothing(alloc: Global) -> Content
     ensures { result ≡ content_of_body [] }
 {
     let body = Text::from_vec(Vec::new(alloc));
-    Content::of_body(alloc, body)
+    Content::of_body(body)
 }
 
 // The ACK of a dialog, without a body.

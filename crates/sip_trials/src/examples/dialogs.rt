@@ -141,7 +141,7 @@ fn try_next(
     body: &[u8],
 ) -> Result<Message, Stop> {
     let (method, branch) = (token(alloc, method)?, branch(alloc)?);
-    let content = Content::of_body(alloc, Text::copy_of(alloc, body)?);
+    let content = Content::of_body(Text::copy_of(alloc, body)?);
     Ok(dialog.next_request(method, content, branch, LOCAL)?)
 }
 
@@ -178,7 +178,7 @@ pub fn an_ack(alloc: Global) -> Result<(), Stop> {
 }
 
 fn acknowledges(alloc: Global, dialog: &Dialog) -> Result<(), Stop> {
-    let content = Content::of_body(alloc, Text::copy_of(alloc, b"")?);
+    let content = Content::of_body(Text::copy_of(alloc, b"")?);
     let ack = dialog.ack(1, content, branch(alloc)?, LOCAL)?;
     is_written(alloc, &ack, ACK)
 }

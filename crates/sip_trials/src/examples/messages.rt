@@ -4,7 +4,7 @@ use crate::examples::worked::{OK, OPTIONS, key_in};
 use crate::messages::{TAG, message, success_to, token};
 use crate::stop::{Stop, check};
 use sip_message::{
-    Addr, Content, Cut, First, Header, Key, Message, Spread, Token, ack_for, cancel_for,
+    Addr, Content, ContentHeaders, Cut, First, Header, Key, Message, Spread, Token, ack_for, cancel_for,
     stamp_source, write,
 };
 use std::alloc::{AllocError, Global};
@@ -290,18 +290,18 @@ pub fn names_are_cut() -> Result<(), Stop> {
 }
 
 pub fn a_content_of_the_user(alloc: Global) -> Result<(), Stop> {
-    let content = content_of(&message(alloc, GIVEN)?)?;
+    let content = content_of(alloc, &message(alloc, GIVEN)?)?;
     let made = message(alloc, OPTIONS)?.with_content(alloc, content)?;
     check(write(alloc, &made)?.as_slice() == WITH_CONTENT)
 }
 
 // The headers of a message that a content may have, and its body.
-fn content_of(given: &Message) -> Result<Content, Stop> {
-    Ok(Content {
+fn content_of(alloc: Global, given: &Message) -> Result<Content, Stop> {
+    let headers = ContentHeaders {
         contacts: given.contacts.clone()?,
         supported: given.supported.clone()?,
         require: given.require.clone()?,
         others: given.others.clone()?,
-        body: given.body.clone()?,
-    })
+    };
+    Ok(Content::new(alloc, headers, given.body.clone()?)?)
 }

@@ -59,14 +59,14 @@ fn next_fault(
 ) -> Result<Option<DialogFault>, Fail> {
     let method = token(alloc, method)?;
     let branch = branch(alloc)?;
-    let content = Content::of_body(alloc, Text::copy_of(alloc, b"")?);
+    let content = Content::of_body(Text::copy_of(alloc, b"")?);
     Ok(dialog.next_request(method, content, branch, LOCAL).err())
 }
 
 // Why the ACK of the first INVITE isn't made.
 fn ack_fault(alloc: Global, dialog: &Dialog) -> Result<Option<DialogFault>, Fail> {
     let branch = branch(alloc)?;
-    let content = Content::of_body(alloc, Text::copy_of(alloc, b"")?);
+    let content = Content::of_body(Text::copy_of(alloc, b"")?);
     Ok(dialog.ack(1, content, branch, LOCAL).err())
 }
 

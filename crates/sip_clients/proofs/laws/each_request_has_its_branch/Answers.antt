@@ -1,10 +1,9 @@
 use Rattle.std.proofs.Common.{◌≡◌, ℕ, ◌+◌, List, [], ◌∷◌, refl, sym, ◌∙◌}
 use Rattle.std.specs.Prelude.{Some, codes, take}
 use Rattle.sip_dialog.specs.Request.{agent_via, bare_request_in}
-use Rattle.sip_message.specs.declared.content.Content.{Content}
 use Rattle.sip_message.specs.declared.message.Message.{Message}
 use Rattle.sip_message.specs.declared.via.Via.{Via}
-use Rattle.sip_message.specs.Content.{with_content_of}
+use Rattle.sip_message.specs.Content.{Content, with_content_of}
 use Rattle.sip_message.specs.TopVia.{top_via}
 use Rattle.sip_common.specs.declared.command.ProvisionalSupport.{ProvisionalSupport}
 use Rattle.sip_common.specs.declared.command.ProvisionalSupport.TheVariants as support
