@@ -48,11 +48,7 @@ impl GivenHeaders {
     }
 
     // Puts them into a content which has none, and gives the routes, which are no part of it.
-    fn put_into(
-        self,
-        alloc: Global,
-        content: &mut Content,
-    ) -> Result<Series<NameAddr>, AllocError>
+    fn put_into(self, alloc: Global, content: &mut Content) -> Result<Series<NameAddr>, AllocError>
         ensures content { OnOk result (content.new ≡ given.content_with self content.old.body) }
         ensures routes { IfOk result (λ routes. routes ≡ self.routes) }
     {
@@ -130,7 +126,11 @@ fn command_with(
     })
 }
 
-fn invite_with(alloc: Global, headers: GivenHeaders, mut invite: Invite) -> Result<Invite, AllocError>
+fn invite_with(
+    alloc: Global,
+    headers: GivenHeaders,
+    mut invite: Invite,
+) -> Result<Invite, AllocError>
     ensures { IfOk result (λ made. made ≡ given.invite_with headers invite) }
 {
     invite.routes = headers.put_into(alloc, &mut invite.content)?;

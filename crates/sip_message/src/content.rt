@@ -47,12 +47,7 @@ impl ContentHeaders {
 
     // Puts them and this body into a message.
     #[tactic(auto, unfolding(crate::specs::Content::with_content_of))]
-    fn put_into(
-        self,
-        alloc: Global,
-        body: Text,
-        message: &mut Message,
-    ) -> Result<(), AllocError>
+    fn put_into(self, alloc: Global, body: Text, message: &mut Message) -> Result<(), AllocError>
         ensures { OnOk result
             (message.new ≡ spec.with_content_of message.old (spec.content_with self body)) }
     {
@@ -93,11 +88,7 @@ impl Content {
     ghost use Rattle.sip_message.specs.Content.{content_of_body, content_with, with_content_of};
 
     /// These headers, and this body. Takes memory where there is a header.
-    pub fn new(
-        alloc: Global,
-        headers: ContentHeaders,
-        body: Text,
-    ) -> Result<Content, AllocError>
+    pub fn new(alloc: Global, headers: ContentHeaders, body: Text) -> Result<Content, AllocError>
         ensures { IfOk result (λ content. content ≡ content_with headers body) }
     {
         let mut content = Content::of_body(body);
@@ -116,11 +107,7 @@ impl Content {
     }
 
     /// Gives it these headers in place of those that it has. Takes memory where there is a header.
-    pub fn set_headers(
-        &mut self,
-        alloc: Global,
-        headers: ContentHeaders,
-    ) -> Result<(), AllocError>
+    pub fn set_headers(&mut self, alloc: Global, headers: ContentHeaders) -> Result<(), AllocError>
         ensures { OnOk result (self.new ≡ content_with headers self.old.body) }
     {
         self.headers = if headers.is_none() {

@@ -4,8 +4,8 @@ use crate::examples::worked::{OK, OPTIONS, key_in};
 use crate::messages::{TAG, message, success_to, token};
 use crate::stop::{Stop, check};
 use sip_message::{
-    Addr, Content, ContentHeaders, Cut, First, Header, Key, Message, Spread, Token, ack_for, cancel_for,
-    stamp_source, write,
+    Addr, Content, ContentHeaders, Cut, First, Header, Key, Message, Spread, Token, ack_for,
+    cancel_for, stamp_source, write,
 };
 use std::alloc::{AllocError, Global};
 
