@@ -363,7 +363,8 @@ version_named line version e =
           (cond (bytes_eq line (version_line SessionOne)) (Some SessionOne) None)
           (Some version) a.1) [
             | inl b ↦ subst P (same_some Two version b.1) (same_text line (version_line Two) b.0)
-            | inr b ↦ (let g = passed (bytes_eq line (version_line SessionOne)) SessionOne version b.1 in
+            | inr b ↦ (let g =
+                passed (bytes_eq line (version_line SessionOne)) SessionOne version b.1 in
                 subst P g.1 (same_text line (version_line SessionOne) g.0))
           ]
     ]

@@ -92,7 +92,8 @@ pub record TakesLine (line : List ℕ) (old new : Host) (answer : Answer) : Type
 
 -- so is the failure of the send of this index, where a transaction stands behind the send
 pub record TakesFailure (output : ℕ) (old new : Host) (answer : Answer) : Type 0 where
-  pub no_send : sent_key (slice_get old.outputs.items output) ≡ None → answer ≡ Err host_fault.NoSend
+  pub no_send :
+      sent_key (slice_get old.outputs.items output) ≡ None → answer ≡ Err host_fault.NoSend
   pub told : OnOk answer (Reports output old new)
   pub same : OnErr answer (new ≡ old)
   pub fault : IfSome (sent_key (slice_get old.outputs.items output))

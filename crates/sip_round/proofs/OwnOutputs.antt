@@ -1,5 +1,5 @@
--- A transaction speaks under its own key alone: so it is with all that is chosen of its outputs, where
--- it is so with an output of each kind.
+-- A transaction speaks under its own key alone: so it is with all that is chosen of its outputs,
+-- where it is so with an output of each kind.
 use Rattle.std.proofs.Common.{◌≡◌, ℕ, Bool, true, false, cond, List, [], ◌∷◌, ◌++◌, refl}
 use Rattle.std.specs.Prelude.{Option, None, Some, option_map, option_to_list}
 use Rattle.std.specs.BTreeMap.{is_at}

@@ -433,7 +433,9 @@ impl<C: Cut + Drop> Agent<C> {
         }
     }
 
-    // Whether a round has no events, and nothing is due in it: then nothing changes.
+    // Whether a round has no events, and nothing is due in it: then nothing changes. Four calls ask
+    // it, each in every round.
+    #[inline(always)]
     fn is_idle(&self, round: &Round) -> bool
         ensures { IsTrue result → IfSome self.now.shards (λ shards.
             Deals self.now.calls (C.shard_of self.now.cut) self.now.next_round round.now shards

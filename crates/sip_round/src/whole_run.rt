@@ -37,8 +37,8 @@ use std::thread::Threads;
 ///
 /// The first round that is refused, by its index from 0, with its fault; or `NoMemory`, with the
 /// index of the round in which memory was refused, where neither it nor one before it is refused
-/// otherwise. Where the agent itself found no memory, before the first round and whatever the rounds
-/// are, the index is 0 and `broken` is true.
+/// otherwise. Where the agent itself found no memory, before the first round and whatever the
+/// rounds are, the index is 0 and `broken` is true.
 pub fn run<R: Threads + Sync, C: Cut + Drop, G: Gate>(
     rt: &R,
     alloc: Global,

@@ -184,7 +184,7 @@ impl User for Answering {
         false
     }
 
-    fn is_content(&self) -> bool {
+    fn is_satisfied(&self) -> bool {
         true
     }
 }

@@ -204,7 +204,7 @@ impl User for Calling {
         false
     }
 
-    fn is_content(&self) -> bool {
+    fn is_satisfied(&self) -> bool {
         !self.must_answer || self.stage == Stage::Answered
     }
 }

@@ -85,7 +85,7 @@ impl User for Piped {
         true
     }
 
-    fn is_content(&self) -> bool {
+    fn is_satisfied(&self) -> bool {
         true
     }
 }

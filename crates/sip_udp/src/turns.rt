@@ -128,7 +128,7 @@ impl<U: User, F: Write + Drop> Turns<U, F> {
     ///
     /// `NotAnswered`, where it hasn't.
     pub(crate) fn verdict(&self) -> Result<(), UaFault> {
-        if self.user.is_content() {
+        if self.user.is_satisfied() {
             Ok(())
         } else {
             Err(UaFault::NotAnswered)

@@ -50,5 +50,5 @@ pub(crate) trait User: Drop {
     fn is_eager(&self) -> bool;
 
     /// Whether it has had what it was to have at least, at the end.
-    fn is_content(&self) -> bool;
+    fn is_satisfied(&self) -> bool;
 }

@@ -6,4 +6,5 @@ use Rattle.sip_round.specs.AgentState.{ShardTables}
 
 -- the calls of all shards, where there are any, share this
 abbrev pub AreAlike : Calls → Option ShardTables → Type 0
-AreAlike calls shards = IfSome shards (λ shards. AllByRecursion (λ shard. shard.calls ≡ calls) shards.calls)
+AreAlike calls shards =
+    IfSome shards (λ shards. AllByRecursion (λ shard. shard.calls ≡ calls) shards.calls)

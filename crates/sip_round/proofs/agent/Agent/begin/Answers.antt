@@ -16,7 +16,8 @@ returns-clause-arrived g c =
     let shards = c.in-Some-take.shards in
     let parts = map (λ part. part.items) c.in-Ok.parts.items in
     let set_out : IsSetOut (arrivals_from agent.calls.local agent.next_round 1 events) out =
-    subst (λ read. IfSome read (IsSetOut (arrivals_from agent.calls.local agent.next_round 1 events)))
+    subst (λ read. IfSome read
+    (IsSetOut (arrivals_from agent.calls.local agent.next_round 1 events)))
     c.in-Some.is c.requires in
     arrived_here (λ n. owner_of (g.C.Cut.shard_of agent.cut) branch_in n) c.count.result
     (length shards.transactions) agent.calls.local agent.next_round events

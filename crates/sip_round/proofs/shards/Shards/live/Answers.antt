@@ -19,7 +19,8 @@ returns-clause-transactions c = λ keys covers.
     (map (λ shard. shard.held) shards)) (sym same) covers) in
     let live : Held Key Life → ℕ =
     λ held. count_by (λ key. is_some (state_at key_cmp held key)) keys in
-    c.live_in.ensures keys each ∙ sum_of_held {X = Lives} live (λ shard. shard.held) c.as_slice.result.now
+    c.live_in.ensures keys each
+    ∙ sum_of_held {X = Lives} live (λ shard. shard.held) c.as_slice.result.now
     ∙ ap (λ shards. sum_by live (map (λ shard. shard.held) shards)) same
 
 pub returns-clause-calls : goal.returns-clause-calls
@@ -31,5 +32,6 @@ returns-clause-calls c = λ keys covers.
     (map (λ shard. shard.held) shards)) (sym same) covers) in
     let live : Held (List ℕ) Call → ℕ =
     λ held. count_by (λ key. is_some (state_at call_cmp held key)) keys in
-    c.live_in-2.ensures keys each ∙ sum_of_held {X = HeldCalls} live (λ shard. shard.held) c.as_slice-2.result.now
+    c.live_in-2.ensures keys each
+    ∙ sum_of_held {X = HeldCalls} live (λ shard. shard.held) c.as_slice-2.result.now
     ∙ ap (λ shards. sum_by live (map (λ shard. shard.held) shards)) same
