@@ -37,7 +37,7 @@ use Rattle.sip_files.specs.declared.events_fault.EventsFault.{EventsFault}
 use Rattle.sip_files.specs.declared.events_fault.EventsFault.TheVariants.{TooLong, BadVersion, BadLine, NoMemory}
 use Rattle.sip_files.specs.Field.{address_field}
 use Rattle.sip_files.specs.Events.{IsPlain, SpellsLine, command_text}
-use Rattle.sip_files.specs.EventFile.{Head, config_of, HeadedLine, SaysHeaded, headed_lines, with_ends, version_line, file_text, is_of_kind, SpellsFile, SpellsIn, IsEventFile, IsBegun, IsBadLine, HasVersion, TellsFault, TellsFileFault}
+use Rattle.sip_files.specs.EventFile.{Head, config_of, HeadedLine, SaysHeaded, headed_lines, with_ends, version_line, file_text, is_of_kind, SpellsFile, SpellsIn, IsFile, IsBegun, IsBadLine, HasVersion, TellsFault}
 use Rattle.sip_files.specs.Given.{gathered, plain_with}
 use Rattle.sip_files.specs.Drafting.{is_begun, nothing_read, no_lines, with_event, went, all_gone, drafted, gone}
 use Rattle.sip_files.specs.Lines.{version_at, version_in, FollowsVersion, TellsVersion, TellsLine, Drafts, Stuck}
@@ -468,11 +468,11 @@ line_tells kind version (BadLine number) text after small fits follows tells = (
 )
 line_tells kind version NoMemory text after small fits follows tells = tt
 
--- no fault fits an event file but want of memory
-pub never_bad : (fault : EventsFault) (text : List ℕ) → TellsFileFault fault text → IsEventFile text
-    → fault ≡ NoMemory
-never_bad TooLong text tells file = absurd (omega (arith, file.3, tells))
-never_bad BadVersion text tells file =
-    absurd (tells.1 (has_version file_kind.Events file.0 file.1 text file.2))
-never_bad (BadLine number) text tells file = absurd ((tells.2).none file)
-never_bad NoMemory text tells file = refl
+-- no fault fits a file of the kind but want of memory
+pub never_bad : (kind : FileKind) (fault : EventsFault) (text : List ℕ) → TellsFault kind fault text
+    → IsFile kind text → fault ≡ NoMemory
+never_bad kind TooLong text tells file = absurd (omega (arith, file.3, tells))
+never_bad kind BadVersion text tells file =
+    absurd (tells.1 (has_version kind file.0 file.1 text file.2))
+never_bad kind (BadLine number) text tells file = absurd ((tells.2).none file)
+never_bad kind NoMemory text tells file = refl

@@ -6,7 +6,8 @@ use Rattle.std.specs.Prelude.{Option, Some, None}
 use Rattle.std.specs.List.{zip}
 use Rattle.std.specs.Io.KnownBytes.{Appends, Consumes}
 use Rattle.std.specs.Global.{Vec}
-use Rattle.sip_files.specs.EventFile.{SpellsEvents, IsEventFile}
+use Rattle.sip_files.specs.EventFile.{SpellsFile, IsFile}
+use Rattle.sip_files.specs.declared.version.FileKind.{FileKind}
 use Rattle.sip_files.specs.Outputs.{told, outputs_text}
 use Rattle.sip_round.specs.declared.config.Config.{Config}
 use Rattle.sip_round.specs.declared.output.Output.{Output}
@@ -83,15 +84,15 @@ module _ {R V A B : Type 0} (moment : R → A) (items : V → B) where
       ∙ so_far.whole
 
 -- what was read, run, put beside its moments and written is what the input spells
-pub replays_read : (input : List ℕ) (config : Config) (rounds slice : List Round)
+pub replays_read : (kind : FileKind) (input : List ℕ) (config : Config) (rounds slice : List Round)
     (answered : List (Vec Output)) (made : List (ℕ × Vec Output)) (file : List ℕ) → slice ≡ rounds
-    → SpellsEvents config rounds input → length input ≤ 2 ^ 26 → refused config slice ≡ None
+    → SpellsFile kind config rounds input → length input ≤ 2 ^ 26 → refused config slice ≡ None
     → map (λ outputs. outputs.items) answered ≡ answers config slice
     → told made ≡ zip (map (λ round. round.moment) slice) (map (λ outputs. outputs.items) answered)
-    → file ≡ outputs_text (told made) → Replays input file
+    → file ≡ outputs_text (told made) → Replays kind input file
 unfolding answer_file
-replays_read input config rounds slice answered made file same spelled size unrefused answers_made
-    beside written = record {
+replays_read kind input config rounds slice answered made file same spelled size unrefused
+    answers_made beside written = record {
       config = config;
       rounds = rounds;
       spelled = spelled;
@@ -103,18 +104,19 @@ replays_read input config rounds slice answered made file same spelled size unre
           ∙ ap (λ rs. outputs_text (zip (map (λ round. round.moment) rs) (answers config rs))) same;
     }
 
--- of an event file no fault of the events is told but want of memory
-only_memory : {T : Type 0} (result : Result T ReplayFault) (input : List ℕ) (fault : EventsFault)
-    → IfErr result (λ told. TellsReplay told input) → IsEventFile input
+-- of a file of the kind no fault of the events is told but want of memory
+only_memory : {T : Type 0} (kind : FileKind) (result : Result T ReplayFault) (input : List ℕ)
+    (fault : EventsFault) → IfErr result (λ told. TellsReplay kind told input) → IsFile kind input
     → result ≡ Err (replay_fault.Events fault) → fault ≡ events_fault.NoMemory
-only_memory {T = T} result input fault tells file is =
-    never_bad fault input
-    (subst (λ (r : Result T ReplayFault). IfErr r (λ told. TellsReplay told input)) is tells) file
+only_memory {T = T} kind result input fault tells file is =
+    never_bad kind fault input
+    (subst (λ (r : Result T ReplayFault). IfErr r (λ told. TellsReplay kind told input)) is tells)
+    file
 
-pub only_memory_known : {T : Type 0} (known : Option (List ℕ)) (result : Result T ReplayFault)
-    → IfErr result (λ told. IfSome known (TellsReplay told))
-    → IfSome known (λ input. IsEventFile input → (fault : EventsFault)
+pub only_memory_known : {T : Type 0} (kind : FileKind) (known : Option (List ℕ))
+    (result : Result T ReplayFault) → IfErr result (λ told. IfSome known (TellsReplay kind told))
+    → IfSome known (λ input. IsFile kind input → (fault : EventsFault)
     → result ≡ Err (replay_fault.Events fault) → fault ≡ events_fault.NoMemory)
-only_memory_known None result tells = tt
-only_memory_known (Some input) result tells =
-    λ file fault is. only_memory result input fault tells file is
+only_memory_known kind None result tells = tt
+only_memory_known kind (Some input) result tells =
+    λ file fault is. only_memory kind result input fault tells file is

@@ -1,5 +1,5 @@
--- What is written of a configuration and rounds is their event file; and a line that says an event
--- or a command is read as it.
+-- What is written of a configuration and rounds is their event file; and a line that says an event,
+-- a header or a command is read as it.
 use Rattle.std.proofs.Common.{◌≡◌, ℕ, List, [], ◌∷◌, ◌++◌, Option, Some, None, map, refl, sym, ap, subst, ◌∙◌, append_assoc, append-nil, inl, inr}
 use Rattle.std.specs.Prelude.{IfNone, IfSome}
 use Rattle.std.specs.List.{flat_map, AllByRecursion, AllZip}
@@ -12,14 +12,15 @@ use Rattle.sip_round.specs.declared.round.Event.{Event}
 use Rattle.sip_round.specs.declared.round.Event.TheVariants.{Datagram, Failed, Command}
 use Rattle.sip_round.specs.declared.round.Round.{Round}
 use Rattle.sip_files.specs.declared.version.Version.{Version}
-use Rattle.sip_files.specs.declared.version.Version.TheVariants.{Two}
+use Rattle.sip_files.specs.declared.version.Version.TheVariants.{Two, SessionOne}
 use Rattle.sip_files.specs.declared.version.FileKind.TheVariants as file_kind
 use Rattle.sip_files.specs.declared.event_line.EventLine.{EventLine}
 use Rattle.sip_files.specs.declared.event_line.EventLine.TheVariants as line
-use Rattle.sip_files.specs.Events.{SpellsEvent, SpellsLine}
+use Rattle.sip_files.specs.declared.given_header.GivenHeader.{GivenHeader}
+use Rattle.sip_files.specs.Events.{SpellsEvent, SpellsHeader, SpellsLine}
 use Rattle.sip_files.specs.EventFile.{Head, HeadedLine, SaysHeaded, headed_lines, SpellsEvents, file_lines, head_lines, round_lines, with_ends, version_line}
 use Rattle.sip_files.specs.ReadLine.{line_at}
-use Rattle.sip_files.specs.Written.{IsConfig, IsEvent, IsKey, IsRound, SpellsCommand, SpellsEventLine, user_command_of, ended_text, event_lines, event_of_line, events_text, failed_text, head_in, line_text, round_in, round_text}
+use Rattle.sip_files.specs.Written.{IsConfig, IsEvent, IsKey, IsRound, SpellsCommand, SpellsEventLine, user_command_of, ended_text, event_lines, event_of_line, events_text, failed_text, head_in, header_of_line, line_text, round_in, round_text}
 use Rattle.sip_files.proofs.LineLaws.{line_took, line_again}
 
 -- ---- the lines are spelled
@@ -180,7 +181,7 @@ written_is_spelled config rounds fits each =
       },
     )
 
--- ---- an event or a command by itself
+-- ---- an event, a header or a command by itself
 
 one_event : (text : List ℕ) (event other : Event) → SpellsEventLine text event
     → SpellsEventLine text other → Some (line.Event event) ≡ Some (line.Event other)
@@ -220,6 +221,44 @@ pub says_nothing : (text : List ℕ) → None ≡ line_at Two text
     → (given : Event) → ¬ SpellsEventLine text given
 says_nothing text e given s =
     let no : None ≡ Some (line.Event given) = e ∙ line_again Two text (line.Event given) s in
+    absurd cc
+
+-- the same of a header
+
+header_in_line : (text : List ℕ) (item : EventLine) → SpellsLine SessionOne text item
+    → IfSome (header_of_line item) (SpellsHeader text)
+header_in_line text (line.Local address) s = tt
+header_in_line text (line.Seed seed) s = tt
+header_in_line text (line.First number) s = tt
+header_in_line text (line.Round moment) s = tt
+header_in_line text (line.Event event) s = tt
+header_in_line text (line.Header header) s = s
+
+pub says_header : (text : List ℕ) (item : EventLine) → Some item ≡ line_at SessionOne text
+    → IfSome (header_of_line item) (SpellsHeader text)
+says_header text item e = header_in_line text item (line_took SessionOne text item (sym e))
+
+no_header_said : (text : List ℕ) (item : EventLine) (found : Option GivenHeader)
+    → Some item ≡ line_at SessionOne text → header_of_line item ≡ found
+    → IfNone found ((given : GivenHeader) → ¬ SpellsHeader text given)
+no_header_said text item (Some header) e f = tt
+no_header_said text item None e f =
+    λ given s.
+    let other : Some item ≡ Some (line.Header given) =
+    e ∙ line_again SessionOne text (line.Header given) s in
+    let same : item ≡ line.Header given = cc in
+    let no : Some given ≡ None = sym (ap header_of_line same) ∙ f in
+    absurd cc
+
+pub says_no_header : (text : List ℕ) (item : EventLine) → Some item ≡ line_at SessionOne text
+    → IfNone (header_of_line item) ((given : GivenHeader) → ¬ SpellsHeader text given)
+says_no_header text item e = no_header_said text item (header_of_line item) e refl
+
+pub says_nothing_in_session : (text : List ℕ) → None ≡ line_at SessionOne text
+    → (given : GivenHeader) → ¬ SpellsHeader text given
+says_nothing_in_session text e given s =
+    let no : None ≡ Some (line.Header given) =
+    e ∙ line_again SessionOne text (line.Header given) s in
     absurd cc
 
 pub is_command : (text : List ℕ) (event : Event) → SpellsEventLine text event

@@ -17,7 +17,7 @@ use Rattle.sip_files.specs.declared.event_line.EventLine.TheVariants as line
 use Rattle.sip_files.specs.declared.given_header.GivenHeader.{GivenHeader}
 use Rattle.sip_files.specs.declared.given_headers.GivenHeaders.{GivenHeaders}
 use Rattle.sip_files.specs.EventFile.{HeadedLine, SaysHeaded, SpellsSession, head_lines, headed_lines, round_lines, version_line}
-use Rattle.sip_files.specs.Given.{gathered, command_with, with_given, with_headers}
+use Rattle.sip_files.specs.Given.{gathered, command_with, with_headers}
 use Rattle.sip_files.specs.Written.{HaveHeaders, IsConfig, IsEventOf, IsSessionCommand, IsSessionRound, bare, command_headers, ended_text, event_lines, line_text, round_in, session_round_text, session_text}
 use Rattle.sip_files.proofs.WrittenHeaders.{headers_with, headers_spelled, headers_written, gathered_again}
 use Rattle.sip_files.proofs.WrittenLaws.{Spelled, each_zip, text_of, text_of-append, failed_spelled, whole_head, head_is, head_spelled, unheaded, unheaded_made, unheaded_lines}
@@ -45,7 +45,7 @@ bare_with_none (command.Prack c) other e = same_some (bare (command.Prack c)) ot
 bare_with_none (command.Cancel c) other e = absurd cc
 
 headed_by : (headers : List GivenHeader) (c : UserCommand)
-    → with_given headers (bare c) ≡ Some c
+    → command_with (gathered headers) (bare c) ≡ Some c
     → with_headers headers (line.Event (Command (bare c))) ≡ Some (line.Event (Command c))
 headed_by [] c e =
     ap (λ (d : UserCommand). Some (line.Event (Command d))) (bare_with_none c c e)

@@ -115,9 +115,6 @@ abbrev pub IsFile : FileKind → List ℕ → Type 0
 IsFile kind text = (config : Config) × (rounds : List Round)
     × SpellsFile kind config rounds text × (length text ≤ 2 ^ 26)
 
-abbrev pub IsEventFile : List ℕ → Type 0
-IsEventFile text = IsFile file_kind.Events text
-
 -- ---- the faults
 
 -- the text is how some file of the kind begins
@@ -159,10 +156,6 @@ TellsFault kind NoMemory text = Unit {0}
 -- the fault of a text that is no event file
 abbrev pub TellsFileFault : EventsFault → List ℕ → Type 0
 TellsFileFault fault text = TellsFault file_kind.Events fault text
-
--- the fault of a text that is no session
-abbrev pub TellsSessionFault : EventsFault → List ℕ → Type 0
-TellsSessionFault fault text = TellsFault file_kind.Session fault text
 
 -- the answer is this one, unless memory ran out
 abbrev pub IsReadAs : Config → List Round → Result (Config × List Round) EventsFault → Type 0

@@ -167,8 +167,10 @@ command_with headers (command.Ack c) = option_map command.Ack (body_with headers
 command_with headers (command.Prack c) = option_map command.Prack (body_with headers c)
 command_with headers (command.Cancel c) = None
 
+-- with the headers that are given before it
 abbrev pub with_given : List GivenHeader → UserCommand → Option UserCommand
-with_given headers c = command_with (gathered headers) c
+with_given [] c = Some c
+with_given (header ∷ headers) c = command_with (gathered (header ∷ headers)) c
 
 -- what a line says with the header lines before it, which stand before the line of a command alone
 abbrev pub with_headers : List GivenHeader → EventLine → Option EventLine

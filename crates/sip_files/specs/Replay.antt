@@ -2,7 +2,8 @@
 use Rattle.std.specs.Prelude.{◌≡◌, ℕ, ◌≤◌, ◌^◌, Bool, List, ◌++◌, map, length, Option, None, Some, ◌⊎◌}
 use Rattle.std.specs.List.{zip}
 use Rattle.std.specs.Io.KnownBytes.{Appends}
-use Rattle.sip_files.specs.EventFile.{SpellsEvents, TellsFileFault}
+use Rattle.sip_files.specs.declared.version.FileKind.{FileKind}
+use Rattle.sip_files.specs.EventFile.{SpellsFile, TellsFault}
 use Rattle.sip_files.specs.Outputs.{outputs_text}
 use Rattle.sip_round.specs.declared.config.Config.{Config}
 use Rattle.sip_round.specs.declared.round.Round as round
@@ -17,47 +18,52 @@ unfoldable pub answer_file : Config → List round.Round → List ℕ
 answer_file config rounds =
     outputs_text (zip (map (λ round. round.moment) rounds) (answers config rounds))
 
--- the input is an event file, no round of it is refused, and this is the output file of its rounds
-pub record Replays (input output : List ℕ) : Type 0 where
+-- the input is a file of the kind, no round of it is refused, and this is the output file of its
+-- rounds
+pub record Replays (kind : FileKind) (input output : List ℕ) : Type 0 where
   pub config : Config
   pub rounds : List round.Round
-  pub spelled : SpellsEvents config rounds input
+  pub spelled : SpellsFile kind config rounds input
   pub size : length input ≤ 2 ^ 26
   pub unrefused : refused config rounds ≡ None
   pub answered : output ≡ answer_file config rounds
 
--- the input is an event file, and the first round of it that is refused is the one of this index,
--- for this fault
-pub record RefusesRound (index : ℕ) (fault : RoundFault) (input : List ℕ) : Type 0 where
+-- the input is a file of the kind, and the first round of it that is refused is the one of this
+-- index, for this fault
+pub record RefusesRound (kind : FileKind) (index : ℕ) (fault : RoundFault) (input : List ℕ) :
+    Type 0 where
   pub config : Config
   pub rounds : List round.Round
-  pub spelled : SpellsEvents config rounds input
+  pub spelled : SpellsFile kind config rounds input
   pub size : length input ≤ 2 ^ 26
   pub refuses : refused config rounds ≡ Some (index, fault)
 
--- the input is an event file, and a run of its rounds may end at this index for want of memory
-pub record RunsOutOfMemory (index : ℕ) (broken : Bool) (input : List ℕ) : Type 0 where
+-- the input is a file of the kind, and a run of its rounds may end at this index for want of memory
+pub record RunsOutOfMemory (kind : FileKind) (index : ℕ) (broken : Bool) (input : List ℕ) :
+    Type 0 where
   pub config : Config
   pub rounds : List round.Round
-  pub spelled : SpellsEvents config rounds input
+  pub spelled : SpellsFile kind config rounds input
   pub size : length input ≤ 2 ^ 26
   pub ends : EndsWithoutMemory config rounds index broken
 
 -- what a fault tells of the input; of a stream that failed and of want of memory it tells nothing
-abbrev pub TellsReplay : ReplayFault → List ℕ → Type 0
-TellsReplay Input input = Unit {0}
-TellsReplay (Events fault) input = TellsFileFault fault input
-TellsReplay (Round index fault) input =
-    ((broken : Bool) × (fault ≡ round_fault.NoMemory broken) × RunsOutOfMemory index broken input)
-    ⊎ RefusesRound index fault input
-TellsReplay Output input = Unit {0}
-TellsReplay NoMemory input = Unit {0}
+abbrev pub TellsReplay : FileKind → ReplayFault → List ℕ → Type 0
+TellsReplay kind Input input = Unit {0}
+TellsReplay kind (Events fault) input = TellsFault kind fault input
+TellsReplay kind (Round index fault) input =
+    ((broken : Bool) × (fault ≡ round_fault.NoMemory broken)
+    × RunsOutOfMemory kind index broken input)
+    ⊎ RefusesRound kind index fault input
+TellsReplay kind Output input = Unit {0}
+TellsReplay kind NoMemory input = Unit {0}
 
 -- the writer took the whole output file of the input
-abbrev pub WritesAll : Option (List ℕ) → Option (List ℕ) → List ℕ → Type 0
-WritesAll old new input = (output : List ℕ) × Replays input output × Appends old new output
+abbrev pub WritesAll : FileKind → Option (List ℕ) → Option (List ℕ) → List ℕ → Type 0
+WritesAll kind old new input =
+    (output : List ℕ) × Replays kind input output × Appends old new output
 
 -- the writer took the front of the output file of the input
-abbrev pub WritesFront : Option (List ℕ) → Option (List ℕ) → List ℕ → Type 0
-WritesFront old new input =
-    (front rest : List ℕ) × Replays input (front ++ rest) × Appends old new front
+abbrev pub WritesFront : FileKind → Option (List ℕ) → Option (List ℕ) → List ℕ → Type 0
+WritesFront kind old new input =
+    (front rest : List ℕ) × Replays kind input (front ++ rest) × Appends old new front

@@ -128,11 +128,19 @@ head_in version config =
     version_line version ++ codes "\n" ++ ended_text (line.Local config.local)
     ++ ended_text (line.Seed config.seed) ++ ended_text (line.First config.first)
 
+-- the version of the files of a kind that are written
+abbrev pub written_version : FileKind → Version
+written_version file_kind.Events = Two
+written_version file_kind.Session = SessionOne
+
+abbrev pub file_head : FileKind → Config → List ℕ
+file_head kind config = head_in (written_version kind) config
+
 abbrev pub head_text : Config → List ℕ
-head_text config = head_in Two config
+head_text config = file_head file_kind.Events config
 
 abbrev pub session_head_text : Config → List ℕ
-session_head_text config = head_in SessionOne config
+session_head_text config = file_head file_kind.Session config
 
 -- the round's moment, and its events in order
 unfoldable pub round_in : FileKind → Round → List ℕ
@@ -230,7 +238,7 @@ IsSessionCommand c = IsCommandLine SessionOne (bare c) × HaveHeaders c
 abbrev pub IsSessionRound : Round → Type 0
 IsSessionRound round = IsRoundOf IsSessionCommand round
 
--- ---- an event or a command by itself
+-- ---- an event, a command or a header by itself
 
 -- the event that a line says
 abbrev pub event_of_line : EventLine → Option Event
@@ -240,6 +248,15 @@ event_of_line (line.First number) = None
 event_of_line (line.Round moment) = None
 event_of_line (line.Event event) = Some event
 event_of_line (line.Header header) = None
+
+-- the header that a line says
+abbrev pub header_of_line : EventLine → Option GivenHeader
+header_of_line (line.Local address) = None
+header_of_line (line.Seed seed) = None
+header_of_line (line.First number) = None
+header_of_line (line.Round moment) = None
+header_of_line (line.Event event) = None
+header_of_line (line.Header header) = Some header
 
 abbrev pub user_command_of : Event → Option UserCommand
 user_command_of (Datagram from bytes) = None

@@ -2,9 +2,11 @@
 
 ghost use Rattle.std.specs.Prelude.{◌≡◌, IfNone, IfOk, IfSome};
 ghost use Rattle.sip_common.specs.declared.command.UserCommand as command;
+ghost use Rattle.sip_files.specs.Events.{SpellsHeader};
 ghost use Rattle.sip_files.specs.ReadLine as reading;
 ghost use Rattle.sip_files.specs.Written as written;
 ghost use Rattle.sip_files.specs.Written.{SpellsCommand, SpellsEventLine};
+ghost use Rattle.sip_files.specs.declared.given_header.GivenHeader as header;
 ghost use Rattle.sip_round.specs.declared.round.Event as event;
 
 use crate::command_line::read_command;
@@ -86,6 +88,35 @@ pub fn read_command_line(alloc: Global, line: &[u8]) -> Result<Option<UserComman
     match read_event_line(alloc, line)? {
         Some(event) => Ok(command_of(event)),
         None => Ok(None),
+    }
+}
+
+/// The header that a line says, without its end, where it is a header line.
+///
+/// # Errors
+///
+/// Want of memory.
+pub fn read_header_line(alloc: Global, line: &[u8]) -> Result<Option<GivenHeader>, AllocError>
+    ensures some { IfOk result (λ found. IfSome found (SpellsHeader line.now)) }
+    ensures none { IfOk result (λ found. IfNone found
+        ((given : header.GivenHeader) → ¬ SpellsHeader line.now given)) }
+{
+    match read_line(alloc, Version::SessionOne, line)? {
+        Some(said) => Ok(header_of(said)),
+        None => Ok(None),
+    }
+}
+
+fn header_of(line: EventLine) -> Option<GivenHeader>
+    ensures { result ≡ written.header_of_line line }
+{
+    match line {
+        EventLine::Header(header) => Some(header),
+        EventLine::Local(_)
+        | EventLine::Seed(_)
+        | EventLine::First(_)
+        | EventLine::Round(_)
+        | EventLine::Event(_) => None,
     }
 }
 

@@ -39,24 +39,12 @@ pub fn read_events(alloc: Global, text: &[u8]) -> Result<(Config, Series<Round>)
     read_file(alloc, FileKind::Events, text)
 }
 
-/// The configuration and the rounds that a session file spells, or an event file.
+/// The configuration and the rounds that a file of this kind spells.
 ///
 /// # Errors
 ///
 /// The first fault that fits; `NoMemory` may stand in place of any answer.
-pub fn read_session(alloc: Global, text: &[u8]) -> Result<(Config, Series<Round>), EventsFault>
-    ensures found { IfOk result (λ read. spelling.SpellsSession read.0 read.1 text.now) }
-    ensures size { IfOk result (λ read. length text.now ≤ 2 ^ 26) }
-    ensures only { (config : config.Config) (rounds : List round.Round)
-        → spelling.SpellsSession config rounds text.now → length text.now ≤ 2 ^ 26
-        → spelling.IsReadAs config rounds result }
-    ensures fault { IfErr result (λ fault. spelling.TellsSessionFault fault text.now) }
-{
-    read_file(alloc, FileKind::Session, text)
-}
-
-// The configuration and the rounds that a file of this kind spells.
-fn read_file(
+pub fn read_file(
     alloc: Global,
     kind: FileKind,
     text: &[u8],

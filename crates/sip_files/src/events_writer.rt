@@ -23,29 +23,41 @@ use std::alloc::{AllocError, Global};
 pub fn write_head(alloc: Global, config: &Config) -> Result<Vec<u8>, AllocError>
     ensures { IfOk result (λ text. text.items ≡ written.head_text config.now) }
 {
-    head_in(alloc, Version::Two, config)
+    write_file_head(alloc, FileKind::Events, config)
 }
 
-/// The head of the session file of an agent with this configuration: its version, and the three
-/// lines of an event file's.
-pub fn write_session_head(alloc: Global, config: &Config) -> Result<Vec<u8>, AllocError>
-    ensures { IfOk result (λ text. text.items ≡ written.session_head_text config.now) }
+/// The head of the file of this kind of an agent with this configuration: its version, and its
+/// three lines.
+pub fn write_file_head(
+    alloc: Global,
+    kind: FileKind,
+    config: &Config,
+) -> Result<Vec<u8>, AllocError>
+    ensures { IfOk result (λ text. text.items ≡ written.file_head kind config.now) }
 {
-    head_in(alloc, Version::SessionOne, config)
+    head_in(alloc, kind.written(), config)
 }
 
 /// The lines of a round in an event file.
 pub fn write_round(alloc: Global, round: &Round) -> Result<Vec<u8>, AllocError>
     ensures { IfOk result (λ text. text.items ≡ written.round_text round.now) }
 {
-    round_in(alloc, FileKind::Events, round)
+    write_file_round(alloc, FileKind::Events, round)
 }
 
-/// The lines of a round in a session file, with the headers of its commands.
-pub fn write_session_round(alloc: Global, round: &Round) -> Result<Vec<u8>, AllocError>
-    ensures { IfOk result (λ text. text.items ≡ written.session_round_text round.now) }
+/// The lines of a round in a file of this kind: in a session file with the headers of its commands.
+#[tactic(auto, unfolding(crate::specs::Written::round_in))]
+pub fn write_file_round(
+    alloc: Global,
+    kind: FileKind,
+    round: &Round,
+) -> Result<Vec<u8>, AllocError>
+    ensures { IfOk result (λ text. text.items ≡ written.round_in kind round.now) }
 {
-    round_in(alloc, FileKind::Session, round)
+    let mut file = Vec::new(alloc);
+    push_moment(&mut file, round.moment)?;
+    push_events(&mut file, kind, round.events.as_slice())?;
+    Ok(file)
 }
 
 #[tactic(auto, unfolding(crate::specs::Written::head_in))]
@@ -58,16 +70,6 @@ fn head_in(alloc: Global, version: Version, config: &Config) -> Result<Vec<u8>, 
     push_local(&mut file, config.local)?;
     push_seed(&mut file, &config.seed)?;
     push_first(&mut file, config.first)?;
-    Ok(file)
-}
-
-#[tactic(auto, unfolding(crate::specs::Written::round_in))]
-fn round_in(alloc: Global, kind: FileKind, round: &Round) -> Result<Vec<u8>, AllocError>
-    ensures { IfOk result (λ text. text.items ≡ written.round_in kind round.now) }
-{
-    let mut file = Vec::new(alloc);
-    push_moment(&mut file, round.moment)?;
-    push_events(&mut file, kind, round.events.as_slice())?;
     Ok(file)
 }
 

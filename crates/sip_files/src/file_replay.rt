@@ -1,20 +1,22 @@
-//! Replays: an event file in, its output file out.
+//! Replays: an event file or a session file in, its output file out.
 
 ghost use Rattle.std.specs.Prelude.{◌≡◌, ◌≢◌, ◌<◌, ◌≤◌, ◌+◌, ◌^◌, ◌++◌, ℕ, List, map, IfOk, IfErr, IfSome, OnOk, OnErr, Err};
 ghost use Rattle.std.specs.List.{zip};
 ghost use Rattle.std.specs.Io.KnownBytes.{Appends};
-ghost use Rattle.sip_files.specs.EventFile.{IsEventFile};
+ghost use Rattle.sip_files.specs.EventFile.{IsFile};
 ghost use Rattle.sip_files.specs.Outputs.{told};
 ghost use Rattle.sip_files.specs.Reads.{CountsAtMost};
 ghost use Rattle.sip_files.specs.Replay.{Replays, TellsReplay, WritesAll, WritesFront};
 ghost use Rattle.sip_files.specs.declared.events_fault.EventsFault.{EventsFault};
 ghost use Rattle.sip_files.specs.declared.events_fault.EventsFault.TheVariants as events_fault;
 ghost use Rattle.sip_files.specs.declared.file_replay.ReplayFault.TheVariants as replay_fault;
+ghost use Rattle.sip_files.specs.declared.version.FileKind.{FileKind};
 
 use crate::counted_read::CountedRead;
 use crate::events_fault::EventsFault;
-use crate::events_file::{MAX_EVENTS, read_events};
+use crate::events_file::{MAX_EVENTS, read_file};
 use crate::outputs_file::write_outputs;
+use crate::version::FileKind;
 use sip_message::Cut;
 use sip_round::{Gate, Output, Round, RoundFault, run};
 use std::alloc::{AllocError, Global};
@@ -31,7 +33,7 @@ const CHUNK: usize = 4096;
 pub enum ReplayFault {
     /// A read failed.
     Input,
-    /// What was read is no event file.
+    /// What was read is no file of its kind.
     Events(EventsFault),
     /// The round of this index, from 0, was refused.
     Round(usize, RoundFault),
@@ -63,9 +65,9 @@ impl fmt::Display for ReplayFault {
 
 impl Error for ReplayFault {}
 
-/// Reads an event file, runs its rounds in so many shards, among which names are cut so, on up to
-/// so many workers, and writes the output file: all is read before the first round runs, and all
-/// rounds have run before the first byte is written. The reader is read at most 2^26 + 2 times.
+/// Reads a file of this kind, runs its rounds in so many shards, among which names are cut so, on
+/// up to so many workers, and writes the output file: all is read before the first round runs, and
+/// all rounds have run before the first byte is written. The reader is read at most 2^26 + 2 times.
 ///
 /// # Errors
 ///
@@ -74,6 +76,7 @@ impl Error for ReplayFault {}
 pub fn replay<T: Threads + Sync, R: CountedRead, W: Write, C: Cut + Drop, G: Gate>(
     rt: &T,
     alloc: Global,
+    kind: FileKind,
     reader: &mut R,
     writer: &mut W,
     shards: usize,
@@ -86,24 +89,25 @@ pub fn replay<T: Threads + Sync, R: CountedRead, W: Write, C: Cut + Drop, G: Gat
     requires some_worker { 0 < workers }
     requires most_workers { workers ≤ 64 }
     ensures replays { OnOk result (IfSome (R.remaining reader.old)
-        (WritesAll (W.contents writer.old) (W.contents writer.new))) }
-    ensures fault { IfErr result (λ fault. IfSome (R.remaining reader.old) (TellsReplay fault)) }
+        (WritesAll kind (W.contents writer.old) (W.contents writer.new))) }
+    ensures fault { IfErr result
+        (λ fault. IfSome (R.remaining reader.old) (TellsReplay kind fault)) }
     ensures unwritten { IfErr result
         (λ fault. fault ≢ replay_fault.Output → writer.new ≡ writer.old) }
     ensures front { result ≡ Err replay_fault.Output
         → IfSome (R.remaining reader.old)
-        (WritesFront (W.contents writer.old) (W.contents writer.new)) }
-    ensures only { IfSome (R.remaining reader.old) (λ input. IsEventFile input
+        (WritesFront kind (W.contents writer.old) (W.contents writer.new)) }
+    ensures only { IfSome (R.remaining reader.old) (λ input. IsFile kind input
         → (fault : EventsFault) → result ≡ Err (replay_fault.Events fault)
         → fault ≡ events_fault.NoMemory) }
     ensures reads { CountsAtMost (R.reads reader.old) (R.reads reader.new) (2 ^ 26 + 2) }
 {
     let text = read_all(alloc, reader)?;
-    let file = replayed(rt, alloc, text.as_slice(), shards, workers, cut, gate)?;
+    let file = replayed(rt, alloc, kind, text.as_slice(), shards, workers, cut, gate)?;
     write_whole(writer, file.as_slice())
 }
 
-/// All bytes of the reader, up to the limit of an event file. Each read gives at least one byte,
+/// All bytes of the reader, up to the limit of a file. Each read gives at least one byte,
 /// the end or an error.
 ///
 /// # Errors
@@ -112,7 +116,8 @@ pub fn replay<T: Threads + Sync, R: CountedRead, W: Write, C: Cut + Drop, G: Gat
 pub fn read_all<R: CountedRead>(alloc: Global, reader: &mut R) -> Result<Vec<u8>, ReplayFault>
     ensures all { IfOk result (λ text.
         IfSome (R.remaining reader.old) (λ input. text.items ≡ input)) }
-    ensures fault { IfErr result (λ fault. IfSome (R.remaining reader.old) (TellsReplay fault)) }
+    ensures fault { (kind : FileKind) → IfErr result
+        (λ fault. IfSome (R.remaining reader.old) (TellsReplay kind fault)) }
     ensures unwritten { IfErr result (λ fault. fault ≢ replay_fault.Output) }
     ensures reads { CountsAtMost (R.reads reader.old) (R.reads reader.new) (2 ^ 26 + 2) }
 {
@@ -131,10 +136,11 @@ pub fn read_all<R: CountedRead>(alloc: Global, reader: &mut R) -> Result<Vec<u8>
     Err(ReplayFault::Events(EventsFault::TooLong))
 }
 
-// The output file of an event file.
+// The output file of a file of this kind.
 fn replayed<T: Threads + Sync, C: Cut + Drop, G: Gate>(
     rt: &T,
     alloc: Global,
+    kind: FileKind,
     text: &[u8],
     shards: usize,
     workers: usize,
@@ -145,11 +151,11 @@ fn replayed<T: Threads + Sync, C: Cut + Drop, G: Gate>(
     requires most_shards { shards ≤ 256 }
     requires some_worker { 0 < workers }
     requires most_workers { workers ≤ 64 }
-    ensures replays { IfOk result (λ file. Replays text.now file.items) }
-    ensures fault { IfErr result (λ fault. TellsReplay fault text.now) }
+    ensures replays { IfOk result (λ file. Replays kind text.now file.items) }
+    ensures fault { IfErr result (λ fault. TellsReplay kind fault text.now) }
     ensures unwritten { IfErr result (λ fault. fault ≢ replay_fault.Output) }
 {
-    let (config, events) = match read_events(alloc, text) {
+    let (config, events) = match read_file(alloc, kind, text) {
         Ok(read) => read,
         Err(fault) => return Err(ReplayFault::Events(fault)),
     };

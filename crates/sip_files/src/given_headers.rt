@@ -83,13 +83,32 @@ pub(crate) fn with_headers(
     }
     match line {
         EventLine::Event(Event::Command(command)) => {
-            let Some(command) = command_with(alloc, gathered(alloc, headers)?, command)? else {
+            let Some(command) = with_given(alloc, headers, command)? else {
                 return Ok(None);
             };
             Ok(Some(EventLine::Event(Event::Command(command))))
         }
         _ => Ok(None),
     }
+}
+
+/// A command whose content has its body alone, with the headers that are given before its line, in
+/// order, where it takes them: `cancel` takes none, and only `invite` and `plain` take a route.
+///
+/// # Errors
+///
+/// Want of memory.
+pub fn with_given(
+    alloc: Global,
+    headers: Series<GivenHeader>,
+    command: UserCommand,
+) -> Result<Option<UserCommand>, AllocError>
+    ensures { IfOk result (λ made. made ≡ given.with_given headers command) }
+{
+    if headers.is_empty() {
+        return Ok(Some(command));
+    }
+    command_with(alloc, gathered(alloc, headers)?, command)
 }
 
 fn gathered(alloc: Global, headers: Series<GivenHeader>) -> Result<GivenHeaders, AllocError>

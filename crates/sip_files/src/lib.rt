@@ -24,9 +24,12 @@ mod version;
 mod words;
 
 pub use counted_read::CountedRead;
-pub use event_line::{read_command_line, read_event_line};
+pub use event_line::{read_command_line, read_event_line, read_header_line};
 pub use events_fault::EventsFault;
-pub use events_file::{MAX_EVENTS, read_events, read_session};
-pub use events_writer::{write_head, write_round, write_session_head, write_session_round};
+pub use events_file::{MAX_EVENTS, read_events, read_file};
+pub use events_writer::{write_file_head, write_file_round, write_head, write_round};
 pub use file_replay::{ReplayFault, read_all, replay, write_whole};
+pub use given_header::GivenHeader;
+pub use given_headers::with_given;
 pub use outputs_file::{write_output, write_outputs};
+pub use version::FileKind;

@@ -3,6 +3,7 @@
 ghost use Rattle.std.specs.Prelude.{◌≡◌};
 ghost use Rattle.sip_files.specs.EventFile as spelling;
 ghost use Rattle.sip_files.specs.Lines as lines;
+ghost use Rattle.sip_files.specs.Written.{written_version};
 
 /// The version of a file: which lines it may have.
 #[derive(Clone, Copy)]
@@ -22,6 +23,18 @@ pub enum FileKind {
     Events,
     /// A session file, or an event file.
     Session,
+}
+
+impl FileKind {
+    /// The version of the files of this kind that are written.
+    pub(crate) fn written(self) -> Version
+        ensures { result ≡ written_version self }
+    {
+        match self {
+            FileKind::Events => Version::Two,
+            FileKind::Session => Version::SessionOne,
+        }
+    }
 }
 
 impl Version {
