@@ -4,7 +4,7 @@ use Rattle.std.specs.List.{slice_get}
 use Rattle.sip_message.specs.declared.addr.Addr.{Addr}
 use Rattle.sip_round.specs.NextDue.{IsDueAfter, IsQuietAfter}
 use Rattle.sip_round.specs.declared.config.Config.{Config}
-use Rattle.sip_round.specs.declared.output.Output.{Output}
+use Rattle.sip_round.specs.declared.output.PlacedOutput.{PlacedOutput}
 use Rattle.sip_round.specs.declared.round.Round.{Round}
 use Rattle.sip_timers.specs.Queue.{is_due}
 use Rattle.sip_host.specs.Handing.{head_of, put_in, text_of}
@@ -69,13 +69,13 @@ Calls (Some old) new number Does = IsSomeAnd new (λ after.
     (answer : Answer) × (number ≡ number_of_answer answer) × Does old after answer)
 
 -- the next output is told, or that there is none; for want of memory nothing has changed
-abbrev pub Gives : Option Output → Host → Host → ℕ → Told → List ℕ → List ℕ → Type 0
+abbrev pub Gives : Option PlacedOutput → Host → Host → ℕ → Told → List ℕ → List ℕ → Type 0
 Gives None old new number told before after =
     (number ≡ 0) × (told ≡ told_of None) × (new ≡ old) × (after ≡ before)
-Gives (Some output) old new number told before after =
-    ((number ≡ 0) × (told ≡ told_of (Some (head_of old.taken output)))
-    × (after ≡ put_in (text_of output) before)
-    × (new ≡ after_taking old output (length before)))
+Gives (Some placed) old new number told before after =
+    ((number ≡ 0) × (told ≡ told_of (Some (head_of old.taken placed)))
+    × (after ≡ put_in (text_of placed.output) before)
+    × (new ≡ after_taking old placed.output (length before)))
     ⊎ ((number ≡ 10) × (told ≡ told_of None) × (new ≡ old) × (after ≡ before))
 
 -- the same through a handle, which may hold no agent

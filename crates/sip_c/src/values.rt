@@ -92,7 +92,7 @@ pub(crate) fn told_of(next: Option<NextOutput>) -> Told
             index: 0,
             len: 0,
         },
-        Some(NextOutput { index, to, len }) => Told {
+        Some(NextOutput { index, to, len, .. }) => Told {
             kind: if to.is_some() { 1 } else { 2 },
             to: address_of(to),
             index,

@@ -3,6 +3,7 @@ use Rattle.std.specs.Prelude.{ℕ, List, [], ◌∷◌, ◌++◌, Option, None, 
 use Rattle.sip_message.specs.declared.addr.Addr.{Addr}
 use Rattle.sip_message.specs.declared.key.Key.{Key}
 use Rattle.sip_round.specs.declared.output.Output.{Output}
+use Rattle.sip_round.specs.declared.output.PlacedOutput.{PlacedOutput}
 use Rattle.sip_round.specs.declared.output.Output.TheVariants.{Send, Dropped, Notice}
 use Rattle.sip_round.specs.declared.round.Event.{Event}
 use Rattle.sip_round.specs.declared.round.Event.TheVariants.{Failed}
@@ -22,9 +23,13 @@ target_of (Dropped place reason) = None
 target_of (Notice notice) = None
 
 -- what is said of the output of this index
-abbrev pub head_of : ℕ → Output → NextOutput
-head_of index output =
-    record { index = index; to = target_of output; len = length (text_of output) }
+abbrev pub head_of : ℕ → PlacedOutput → NextOutput
+head_of index placed = record {
+  index = index;
+  place = placed.place;
+  to = target_of placed.output;
+  len = length (text_of placed.output);
+}
 
 -- the buffer with the text at its head, where there is room
 abbrev pub put_in : List ℕ → List ℕ → List ℕ

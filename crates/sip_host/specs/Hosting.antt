@@ -1,12 +1,14 @@
 -- What a host's calls do to it.
-use Rattle.std.specs.Prelude.{◌≡◌, ◌⊎◌, ◌<◌, ◌≤◌, ℕ, ◌+◌, false, true, IfSome, IsSomeAnd, List, [], ◌∷◌, ◌++◌, OnErr, OnOk, Option, None, Some, Result, Err, length, nat_lt, if◌then◌else◌}
+use Rattle.std.specs.Prelude.{◌≡◌, ◌⊎◌, ◌<◌, ◌≤◌, ℕ, zero, suc, ◌+◌, ◌==◌, false, true, IfSome, IsSomeAnd, List, [], ◌∷◌, ◌++◌, OnErr, OnOk, Option, None, Some, Result, Err, length, map, nat_lt, if◌then◌else◌}
 use Rattle.std.specs.List.{slice_get}
+use Rattle.std.specs.Option.{option_map}
 use Rattle.sip_files.specs.Written.{SpellsEventLine}
 use Rattle.sip_message.specs.Cut.{spread_shard}
 use Rattle.sip_message.specs.declared.addr.Addr.{Addr}
 use Rattle.sip_message.specs.declared.cut.Spread.{Spread}
+use Rattle.sip_message.specs.declared.id.Id.{Id}
 use Rattle.sip_round.specs.AgentState.{refusal_of, shard_count}
-use Rattle.sip_round.specs.Answers.{StandsFor, answers}
+use Rattle.sip_round.specs.Answers.{StandsFor, answers, placed_answers}
 use Rattle.sip_round.specs.declared.config.Config.{Config}
 use Rattle.sip_round.specs.declared.output.Output.{Output}
 use Rattle.sip_round.specs.declared.round.Event.{Event}
@@ -26,6 +28,20 @@ shard_of cut name shards = spread_shard name shards
 abbrev pub round_at : ℕ → Host → Round
 round_at moment host = record { moment = moment; events = host.events }
 
+-- the output of this index among those of a host's last round
+abbrev pub output_at : Host → ℕ → Option Output
+output_at host index = option_map (λ placed. placed.output) (slice_get host.outputs.items index)
+
+-- the event of this place in a host's last round; places begin with 1
+abbrev pub event_at : Host → ℕ → Option Event
+event_at host zero = None
+event_at host (suc before) = slice_get host.last_events before
+
+-- the id of the event that a host was given last, if its next round has one
+abbrev pub last_id_of : Host → Option Id
+last_id_of host = if length host.events == 0 then None
+    else Some (record { round = host.agent.next_round; place = length host.events })
+
 -- the host with more events for its next round
 abbrev pub with_events : Host → List Event → Host
 with_events host more = record host { events = host.events ++ more }
@@ -42,20 +58,25 @@ SaysEvent line old new =
 
 -- the output of this index is a send, and the agent is told that it failed
 abbrev pub Reports : ℕ → Host → Host → Type 0
-Reports output old new = IsSomeAnd (sent_key (slice_get old.outputs.items output))
+Reports output old new = IsSomeAnd (sent_key (output_at old output))
     (λ key. new ≡ with_events old (told_failure key))
 
 -- whatever rounds the agent stood for, it stands for these and the one of the host's events at this
--- moment, and the outputs are those with which that one is answered after them; no event is left,
--- and no output is taken
+-- moment, and the outputs are those with which that one is answered after them, each with its place;
+-- its events are kept, no event is left, and no output is taken
 pub record IsAnswered (moment : ℕ) (old new : Host) : Type 0 where
   pub stands : (config : Config) (rounds : List Round)
       → StandsFor shard_of old.agent config rounds
       → StandsFor shard_of new.agent config (rounds ++ round_at moment old ∷ [])
   pub answered : (config : Config) (rounds : List Round)
       → StandsFor shard_of old.agent config rounds
+      → placed_answers config (rounds ++ round_at moment old ∷ [])
+      ≡ placed_answers config rounds ++ new.outputs.items ∷ []
+  pub alone : (config : Config) (rounds : List Round)
+      → StandsFor shard_of old.agent config rounds
       → answers config (rounds ++ round_at moment old ∷ [])
-      ≡ answers config rounds ++ new.outputs.items ∷ []
+      ≡ answers config rounds ++ map (λ placed. placed.output) new.outputs.items ∷ []
+  pub kept : new.last_events ≡ old.events
   pub no_events : new.events ≡ []
   pub none_taken : new.taken ≡ 0
 
@@ -70,6 +91,7 @@ pub record Begins (config : Config) (shards : ℕ) (host : Host) : Type 0 where
   pub stands : StandsFor shard_of host.agent config []
   pub count : shard_count host.agent ≡ shards
   pub no_events : host.events ≡ []
+  pub no_last_events : host.last_events ≡ []
   pub no_outputs : host.outputs.items ≡ []
   pub none_taken : host.taken ≡ 0
 
@@ -93,10 +115,10 @@ pub record TakesLine (line : List ℕ) (old new : Host) (answer : Answer) : Type
 -- so is the failure of the send of this index, where a transaction stands behind the send
 pub record TakesFailure (output : ℕ) (old new : Host) (answer : Answer) : Type 0 where
   pub no_send :
-      sent_key (slice_get old.outputs.items output) ≡ None → answer ≡ Err host_fault.NoSend
+      sent_key (output_at old output) ≡ None → answer ≡ Err host_fault.NoSend
   pub told : OnOk answer (Reports output old new)
   pub same : OnErr answer (new ≡ old)
-  pub fault : IfSome (sent_key (slice_get old.outputs.items output))
+  pub fault : IfSome (sent_key (output_at old output))
       (λ key. OnErr answer ((answer ≡ Err host_fault.NoMemory)
       ⊎ ((answer ≡ Err host_fault.TooManyEvents) × (65536 ≤ length old.events))))
 

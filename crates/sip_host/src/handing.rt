@@ -1,6 +1,6 @@
 //! What a host does with an output: its text goes into a buffer, and a send may fail.
 
-ghost use Rattle.std.specs.Prelude.{◌≡◌, Err, IfOk, IfSome, IsSomeAnd, None, OnErr, OnOk, Some};
+ghost use Rattle.std.specs.Prelude.{◌≡◌, Err, IfOk, IfSome, IsSomeAnd, None, OnErr, OnOk, Some, length};
 ghost use Rattle.std.specs.Option.{option_to_list};
 ghost use Rattle.sip_host.specs.Handing as handing;
 ghost use Rattle.sip_host.specs.declared.host_fault.HostFault.TheVariants as fault;
@@ -8,17 +8,41 @@ ghost use Rattle.sip_host.specs.declared.host_fault.HostFault.TheVariants as fau
 use crate::host_fault::HostFault;
 use crate::next_output::NextOutput;
 use sip_files::write_output;
-use sip_round::{Event, Output};
+use sip_message::Addr;
+use sip_round::{Event, Output, PlacedOutput};
 use std::alloc::{AllocError, Global};
 
 /// What the output of this index is, and its text at the head of the buffer, where there is room.
 pub(crate) fn put_output(
     alloc: Global,
     index: usize,
-    output: &Output,
+    placed: &PlacedOutput,
     buffer: &mut [u8],
 ) -> Result<NextOutput, AllocError>
-    ensures head { IfOk result (λ head. head ≡ handing.head_of index output.now) }
+    ensures head { IfOk result (λ head. head ≡ handing.head_of index placed.now) }
+    ensures put { OnOk result (buffer.new ≡ handing.put_in (handing.text_of placed.now.output)
+        buffer.old) }
+    ensures same { OnErr result (buffer.new ≡ buffer.old) }
+{
+    let place = placed.place;
+    let (to, len) = put_text(alloc, &placed.output, buffer)?;
+    Ok(NextOutput {
+        index,
+        place,
+        to,
+        len,
+    })
+}
+
+// The text of the output at the head of the buffer, where there is room: where a send goes, and how
+// long the text is.
+fn put_text(
+    alloc: Global,
+    output: &Output,
+    buffer: &mut [u8],
+) -> Result<(Option<Addr>, usize), AllocError>
+    ensures told { IfOk result (λ told. told
+        ≡ (handing.target_of output.now, length (handing.text_of output.now))) }
     ensures put { OnOk result (buffer.new ≡ handing.put_in (handing.text_of output.now)
         buffer.old) }
     ensures same { OnErr result (buffer.new ≡ buffer.old) }
@@ -26,14 +50,12 @@ pub(crate) fn put_output(
     match output {
         Output::Send { to, bytes, .. } => {
             put(bytes.as_slice(), buffer);
-            let (to, len) = (Some(*to), bytes.len());
-            Ok(NextOutput { index, to, len })
+            Ok((Some(*to), bytes.len()))
         }
         Output::Dropped { .. } | Output::Notice(_) => {
             let line = write_output(alloc, output)?;
             put(line.as_slice(), buffer);
-            let (to, len) = (None, line.len());
-            Ok(NextOutput { index, to, len })
+            Ok((None, line.len()))
         }
     }
 }

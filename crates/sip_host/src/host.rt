@@ -2,32 +2,34 @@
 
 ghost use Rattle.std.specs.Prelude.{◌≡◌, ◌⊎◌, ◌<◌, ◌≤◌, ◌+◌, ◌++◌, ◌∷◌, [], ℕ, List, IfOk, IfSome, Err, None, Ok, OnErr, OnOk, Some, length, false, nat_lt, if◌then◌else◌};
 ghost use Rattle.std.specs.List.{slice_get};
+ghost use Rattle.std.specs.Option.{option_copied};
 ghost use Rattle.sip_timers.specs.Queue.{is_due};
 ghost use Rattle.sip_round.specs.Answers.{StandsFor};
 ghost use Rattle.sip_round.specs.NextDue.{IsDueAfter, IsQuietAfter};
 ghost use Rattle.sip_round.specs.declared.config.Config.{Config as AConfig};
 ghost use Rattle.sip_round.specs.declared.round.Round.{Round as ARound};
 ghost use Rattle.sip_host.specs.Handing.{head_of, put_in, text_of};
-ghost use Rattle.sip_host.specs.Hosting.{Begins, RunsRound, TakesDatagram, TakesFailure, TakesLine, after_taking, shard_of, with_events};
+ghost use Rattle.sip_host.specs.Hosting.{Begins, RunsRound, TakesDatagram, TakesFailure, TakesLine, after_taking, event_at, last_id_of, output_at, shard_of, with_events};
 ghost use Rattle.sip_host.specs.declared.host_fault.HostFault.TheVariants as fault;
 
 use crate::handing::{failure_of, put_output};
 use crate::host_fault::HostFault;
 use crate::next_output::NextOutput;
 use sip_files::read_event_line;
-use sip_message::{Addr, Spread};
-use sip_round::{Agent, Config, Event, MAX_EVENTS_OF_ROUND, NoMemory, Output, Round};
+use sip_message::{Addr, Id, Spread};
+use sip_round::{Agent, Config, Event, MAX_EVENTS_OF_ROUND, NoMemory, PlacedOutput, Round};
 use sip_text::{Series, Text};
 use std::alloc::Global;
 use std::mem;
 
-/// One user agent, the events of its next round, and the outputs of its last one.
+/// One user agent, the events of its next round, and the events and the outputs of its last one.
 #[derive(Drop)]
 pub struct Host {
     alloc: Global,
     agent: Agent<Spread>,
     events: Series<Event>,
-    outputs: Vec<Output>,
+    last_events: Series<Event>,
+    outputs: Vec<PlacedOutput>,
     taken: usize,
 }
 
@@ -46,6 +48,7 @@ impl Host {
             alloc,
             agent: Agent::new(alloc, config, shards, Spread)?,
             events: Series::new(alloc),
+            last_events: Series::new(alloc),
             outputs: Vec::new(alloc),
             taken: 0,
         })
@@ -93,10 +96,10 @@ impl Host {
     pub fn failed(&mut self, output: usize) -> Result<(), HostFault>
         ensures { TakesFailure output self.old self.new result }
     {
-        let Some(output) = self.outputs.get(output) else {
+        let Some(placed) = self.outputs.get(output) else {
             return Err(HostFault::NoSend);
         };
-        let Some(event) = failure_of(output)? else {
+        let Some(event) = failure_of(&placed.output)? else {
             return Ok(());
         };
         self.add(event)?;
@@ -118,8 +121,9 @@ impl Host {
         }
         let events = mem::replace(&mut self.events, Series::new(self.alloc));
         let round = Round { moment, events };
-        match self.agent.run_round_in_turn(&round) {
+        match self.agent.run_round_in_turn_with_places(&round) {
             Ok(outputs) => {
+                self.last_events = round.events;
                 self.outputs = outputs;
                 self.taken = 0;
                 Ok(())
@@ -138,24 +142,47 @@ impl Host {
     ///
     /// `NoMemory`, and nothing has changed then.
     pub fn next_output(&mut self, buffer: &mut [u8]) -> Result<Option<NextOutput>, HostFault>
-        ensures end { slice_get self.old.outputs.items self.old.taken ≡ None
+        ensures end { output_at self.old self.old.taken ≡ None
             → (result ≡ Ok None) × (self.new ≡ self.old) × (buffer.new ≡ buffer.old) }
         ensures given { IfSome (slice_get self.old.outputs.items self.old.taken)
-            (λ output. OnOk result ((result ≡ Ok (Some (head_of self.old.taken output)))
-            × (buffer.new ≡ put_in (text_of output) buffer.old)
-            × (self.new ≡ after_taking self.old output (length buffer.old)))) }
+            (λ placed. OnOk result ((result ≡ Ok (Some (head_of self.old.taken placed)))
+            × (buffer.new ≡ put_in (text_of placed.output) buffer.old)
+            × (self.new ≡ after_taking self.old placed.output (length buffer.old)))) }
         ensures fault { OnErr result ((result ≡ Err fault.NoMemory) × (self.new ≡ self.old)
             × (buffer.new ≡ buffer.old)) }
     {
         let index = self.taken;
-        let Some(output) = self.outputs.get(index) else {
+        let Some(placed) = self.outputs.get(index) else {
             return Ok(None);
         };
-        let head = put_output(self.alloc, index, output, buffer)?;
+        let head = put_output(self.alloc, index, placed, buffer)?;
         if buffer.len() >= head.len {
             self.taken += 1;
         }
         Ok(Some(head))
+    }
+
+    /// The event of this place in the last round, as an output of that round names it; there is none
+    /// of place 0. A notice of a place tells of the datagram that came in there. Takes no memory.
+    pub fn event(&self, place: u32) -> Option<&Event>
+        ensures { option_copied result ≡ event_at self.now place }
+    {
+        let before = (place as usize).checked_sub(1)?;
+        self.last_events.as_slice().get(before)
+    }
+
+    /// The id of the event that was given last, if the next round has one: a command's request goes
+    /// by it in the notices that tell of it. Takes no memory.
+    pub fn last_id(&self) -> Option<Id>
+        ensures { length self.now.events ≤ 65536 → result ≡ last_id_of self.now }
+    {
+        if self.events.is_empty() {
+            return None;
+        }
+        Some(Id {
+            round: self.agent.next_round(),
+            place: self.events.len() as u32,
+        })
     }
 
     /// The first moment, in ms, at which something is due of what is held, if there is one: until

@@ -132,6 +132,13 @@ impl<C: Cut + Drop> Agent<C> {
         }
     }
 
+    /// The number of the next round, which the ids of its events have. Takes no memory.
+    pub fn next_round(&self) -> u64
+        ensures { result ≡ self.now.next_round }
+    {
+        self.next_round
+    }
+
     /// The first moment, in ms, at which something is due of what is held, if there is one: until
     /// then a host may sleep. Takes no memory.
     pub fn next_due(&self) -> Option<u64>

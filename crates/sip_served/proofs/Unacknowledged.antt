@@ -3,17 +3,20 @@
 use Rattle.std.proofs.Common.{◌≡◌, ℕ, true, false, not, ◌&&◌, ◌==◌, List, [], map, refl, sym, ap, ◌∙◌}
 use Rattle.std.specs.Prelude.{None, Some, fold, if◌then◌else◌}
 use Rattle.sip_message.specs.declared.id.Id.{Id}
+use Rattle.sip_message.specs.declared.message.Message.{Message}
 use Rattle.sip_reliable.specs.declared.tick.Tick.{Tick}
 use Rattle.sip_reliable.specs.declared.tick.Tick.TheVariants as tick
 use Rattle.sip_reliable.specs.Provisional.{Provisional, given_up}
 use Rattle.sip_transactions.specs.declared.input.Command.TheVariants as order
+use Rattle.sip_common.specs.declared.command.Respond.{Respond}
 use Rattle.sip_common.specs.declared.item.CallOut.TheVariants as out
 use Rattle.sip_common.specs.Ids.{is_id}
 use Rattle.sip_common.specs.Requests.{is_final}
 use Rattle.sip_served.specs.declared.held_request.HeldRequest.{HeldRequest}
 use Rattle.sip_served.specs.declared.provisionals.NumberedResponse.{NumberedResponse}
 use Rattle.sip_served.specs.Provisionals.{of_numbers}
-use Rattle.sip_served.specs.Respond.{answer_to}
+use Rattle.sip_served.specs.Arrival.{pracked}
+use Rattle.sip_served.specs.Respond.{answer_to, answered}
 use Rattle.sip_served.specs.Tick.{provisionals_by, provisionals_told}
 use Rattle.sip_served.specs.Unacknowledged.{at_tick, awaited_by, awaited_rseqs, has_final, kept_rseqs, repeated_by, repeated_rseqs, with_number, without_number}
 use Rattle.sip_served.proofs.Mapped.{filter_mapped}
@@ -22,21 +25,19 @@ use Rattle.sip_served.proofs.RequestLives.{provisionals_alone}
 use Rattle.sip_served.proofs.Rseqs.{again_quiet, another_ticked, answer_rseq, answer_start, awaits_answered, given_as, given_up_numbers, keeps_answered, none_open, open_numbers, open_repeated, own_ticked, repeated_numbers, repeats_answered, repeats_pracked, said, said_of_repeats}
 
 -- those that are kept, those whose PRACK gets a 200, and those that are sent again
-abbrev pub keeping : Id → Reading (List ℕ)
-keeping invite = record {
+abbrev pub until_pracked : (HeldRequest → List ℕ) → Id → Reading (List ℕ)
+until_pracked read invite = record {
   none = [];
-  read = kept_rseqs;
+  read = read;
   by = awaited_by invite;
   ticks = at_tick (awaited_by invite);
 }
 
+abbrev pub keeping : Id → Reading (List ℕ)
+keeping = until_pracked kept_rseqs
+
 abbrev pub awaiting : Id → Reading (List ℕ)
-awaiting invite = record {
-  none = [];
-  read = awaited_rseqs;
-  by = awaited_by invite;
-  ticks = at_tick (awaited_by invite);
-}
+awaiting = until_pracked awaited_rseqs
 
 abbrev pub repeating : Id → Reading (List ℕ)
 repeating invite = record {
@@ -46,107 +47,82 @@ repeating invite = record {
   ticks = at_tick (repeated_by invite);
 }
 
--- ---- all of it
+-- ---- those that are kept, and those whose PRACK gets a 200
+
+-- numbers of what awaits its PRACK, which go by answers and by PRACKs alone
+module _ (invite : Id) (numbers : List NumberedResponse → List Provisional → List ℕ) where
+  abbrev read : HeldRequest → List ℕ
+  read held = numbers held.provisionals held.ledger.waiting
+
+  abbrev reading : Reading (List ℕ)
+  reading = until_pracked read invite
+
+  told_quiet : (t : Tick) (held : HeldRequest) → Quiet reading (provisionals_told t held)
+  told_quiet tick.Nothing held numbers = refl
+  told_quiet (tick.Again again) held numbers =
+      again_quiet reading invite (λ id command numbers. refl) (λ call_id id numbers. refl)
+      (λ held success. refl) held (of_numbers again.items held.provisionals) numbers
+  told_quiet tick.GivenUp held numbers = refl
+
+  told_until_pracked : numbers [] [] ≡ []
+      → ((rseq : ℕ) (held : HeldRequest)
+      → without_number (Some rseq) (read held) ≡ read (pracked rseq held))
+      → ((r : Respond) (response : Message) (now : ℕ) (held : HeldRequest)
+      → read (answered r.status r.reliability response now held) ≡ said held r (read held))
+      → ((t : Tick) (now : ℕ) (held : HeldRequest)
+      → read (provisionals_by t now held).0 ≡ read held)
+      → IsTold (List ℕ) reading invite
+  told_until_pracked none pracks answers same = record {
+    another = λ id other key response numbers.
+        ap (λ b. with_number (if b then response.rseq else None) numbers) other;
+    request = λ call_id id method local remote body numbers. refl;
+    ended = λ dialog numbers. refl;
+    refusal = λ call_id place refusal numbers. refl;
+    cancel = λ call_id id numbers. refl;
+    new = λ arrival dialog. none;
+    prack = λ call_id id rseq body own held.
+        sym (ap (λ b. without_number (if b then Some rseq else None) (read held)) own
+        ∙ pracks rseq held);
+    other_prack = λ call_id id rseq body other numbers.
+        ap (λ b. without_number (if b then Some rseq else None) numbers) other;
+    ack = λ call_id id body own held. refl;
+    other_ack = λ call_id id body other numbers. refl;
+    terminated = λ id own of key now held.
+        sym (ap (λ b. with_number (if b then None else None) (read held)) own);
+    given = λ id own local key event r now held.
+        given_as read (λ held numbers. said held r numbers) (λ held dialog. refl)
+        (answer_to local held r) event r now (answers r (answer_to local held r) now) held
+        ∙ sym (λ i. with_number (if own i then answer_rseq local held r i else None) (read held));
+    ticked = own_ticked reading invite (λ id command numbers. refl) (λ call_id id numbers. refl)
+        (λ held success. refl)
+        (λ t now held own. same t now held ∙ sym (told_quiet t held (read held)));
+    other_ticked = another_ticked reading invite (λ id command numbers. refl)
+        (λ call_id id numbers. refl) (λ held success. refl)
+        (λ t held other. told_quiet t held);
+  }
+
+same_waits : (t : Tick) (now : ℕ) (held : HeldRequest)
+    → awaited_rseqs (provisionals_by t now held).0 ≡ awaited_rseqs held
+same_waits tick.Nothing now held = refl
+same_waits (tick.Again again) now held = repeated_numbers now held.ledger.waiting
+same_waits tick.GivenUp now held = given_up_numbers held.ledger.waiting
 
 module _ (invite : Id) where
   pub told_kept : IsTold (List ℕ) (keeping invite) invite
-  told_kept = record {
-    another = λ id other key response numbers.
-        ap (λ b. with_number (if b then response.rseq else None) numbers) other;
-    request = λ call_id id method local remote body numbers. refl;
-    ended = λ dialog numbers. refl;
-    refusal = λ call_id place refusal numbers. refl;
-    cancel = λ call_id id numbers. refl;
-    new = λ arrival dialog. refl;
-    prack = λ call_id id rseq body own held.
-        sym (ap (λ b. without_number (if b then Some rseq else None) (kept_rseqs held)) own
-        ∙ filter_mapped (λ (one : NumberedResponse). one.number) (λ one. not (one == rseq))
-        held.provisionals);
-    other_prack = λ call_id id rseq body other numbers.
-        ap (λ b. without_number (if b then Some rseq else None) numbers) other;
-    ack = λ call_id id body own held. refl;
-    other_ack = λ call_id id body other numbers. refl;
-    terminated = λ id own of key now held.
-        sym (ap (λ b. with_number (if b then None else None) (kept_rseqs held)) own);
-    given = λ id own local key event r now held.
-        given_as kept_rseqs (λ held numbers. said held r numbers) (λ held dialog. refl)
-        (answer_to local held r) event r now (keeps_answered r (answer_to local held r) now) held
-        ∙ sym (λ i. with_number (if own i then answer_rseq local held r i else None)
-        (kept_rseqs held));
-    ticked = own_ticked (keeping invite) invite (λ id command numbers. refl)
-        (λ call_id id numbers. refl) (λ held success. refl)
-        (λ t now held own. by_tick t now held);
-    other_ticked = another_ticked (keeping invite) invite (λ id command numbers. refl)
-        (λ call_id id numbers. refl) (λ held success. refl)
-        (λ t held other. told_quiet t held);
-  }
-    where
-      told_quiet : (t : Tick) (held : HeldRequest)
-          → Quiet (keeping invite) (provisionals_told t held)
-      told_quiet tick.Nothing held numbers = refl
-      told_quiet (tick.Again again) held numbers =
-          again_quiet (keeping invite) invite (λ id command numbers. refl)
-          (λ call_id id numbers. refl) (λ held success. refl) held
-          (of_numbers again.items held.provisionals) numbers
-      told_quiet tick.GivenUp held numbers = refl
-
-      by_tick : (t : Tick) (now : ℕ) (held : HeldRequest)
-          → kept_rseqs (provisionals_by t now held).0
-          ≡ fold (at_tick (awaited_by invite)) (kept_rseqs held) (provisionals_told t held)
-      by_tick t now held =
-          ap kept_rseqs (provisionals_alone t now held) ∙ sym (told_quiet t held (kept_rseqs held))
+  told_kept =
+      told_until_pracked invite (λ kept waiting. map (λ one. one.number) kept) refl
+      (λ rseq held. filter_mapped (λ (one : NumberedResponse). one.number)
+      (λ one. not (one == rseq)) held.provisionals)
+      keeps_answered (λ t now held. ap kept_rseqs (provisionals_alone t now held))
 
   pub told_awaited : IsTold (List ℕ) (awaiting invite) invite
-  told_awaited = record {
-    another = λ id other key response numbers.
-        ap (λ b. with_number (if b then response.rseq else None) numbers) other;
-    request = λ call_id id method local remote body numbers. refl;
-    ended = λ dialog numbers. refl;
-    refusal = λ call_id place refusal numbers. refl;
-    cancel = λ call_id id numbers. refl;
-    new = λ arrival dialog. refl;
-    prack = λ call_id id rseq body own held.
-        sym (ap (λ b. without_number (if b then Some rseq else None) (awaited_rseqs held)) own
-        ∙ filter_mapped (λ (p : Provisional). p.number) (λ one. not (one == rseq))
-        held.ledger.waiting);
-    other_prack = λ call_id id rseq body other numbers.
-        ap (λ b. without_number (if b then Some rseq else None) numbers) other;
-    ack = λ call_id id body own held. refl;
-    other_ack = λ call_id id body other numbers. refl;
-    terminated = λ id own of key now held.
-        sym (ap (λ b. with_number (if b then None else None) (awaited_rseqs held)) own);
-    given = λ id own local key event r now held.
-        given_as awaited_rseqs (λ held numbers. said held r numbers) (λ held dialog. refl)
-        (answer_to local held r) event r now (awaits_answered r (answer_to local held r) now) held
-        ∙ sym (λ i. with_number (if own i then answer_rseq local held r i else None)
-        (awaited_rseqs held));
-    ticked = own_ticked (awaiting invite) invite (λ id command numbers. refl)
-        (λ call_id id numbers. refl) (λ held success. refl)
-        (λ t now held own. by_tick t now held);
-    other_ticked = another_ticked (awaiting invite) invite (λ id command numbers. refl)
-        (λ call_id id numbers. refl) (λ held success. refl)
-        (λ t held other. told_quiet t held);
-  }
-    where
-      told_quiet : (t : Tick) (held : HeldRequest)
-          → Quiet (awaiting invite) (provisionals_told t held)
-      told_quiet tick.Nothing held numbers = refl
-      told_quiet (tick.Again again) held numbers =
-          again_quiet (awaiting invite) invite (λ id command numbers. refl)
-          (λ call_id id numbers. refl) (λ held success. refl) held
-          (of_numbers again.items held.provisionals) numbers
-      told_quiet tick.GivenUp held numbers = refl
+  told_awaited =
+      told_until_pracked invite (λ kept waiting. map (λ one. one.number) waiting) refl
+      (λ rseq held. filter_mapped (λ (one : Provisional). one.number)
+      (λ one. not (one == rseq)) held.ledger.waiting)
+      awaits_answered same_waits
 
-      same_waits : (t : Tick) (now : ℕ) (held : HeldRequest)
-          → awaited_rseqs (provisionals_by t now held).0 ≡ awaited_rseqs held
-      same_waits tick.Nothing now held = refl
-      same_waits (tick.Again again) now held = repeated_numbers now held.ledger.waiting
-      same_waits tick.GivenUp now held = given_up_numbers held.ledger.waiting
-
-      by_tick : (t : Tick) (now : ℕ) (held : HeldRequest)
-          → awaited_rseqs (provisionals_by t now held).0
-          ≡ fold (at_tick (awaited_by invite)) (awaited_rseqs held) (provisionals_told t held)
-      by_tick t now held = same_waits t now held ∙ sym (told_quiet t held (awaited_rseqs held))
+  -- ---- those that are sent again
 
   pub told_repeated : IsTold (List ℕ) (repeating invite) invite
   told_repeated = record {
