@@ -1,7 +1,8 @@
 """A plain, slow model of the whole agent: what `ua replay` has to write for an event file.
 
-Run as `python3 crates/sip_trials/agent.py < FILE.events > FILE.outputs`; with the option `--cases`
-it says which stored cases of a replay differ from what it works out. A fault is told on standard
+Run as `python3 crates/sip_trials/agent.py < FILE.events > FILE.outputs`, with the option
+`--session` for a session file; with the option `--cases` it says which stored cases of a replay
+differ from what it works out. A fault is told on standard
 error, and then nothing is written; the status is that of `ua`.
 
 It was written from the RFCs and from docs/FORMATS.md, and never from the code. `messages.py` has
@@ -17,16 +18,16 @@ from collections import namedtuple
 from pathlib import Path
 
 from calls import NUMBER, Call, is_address, text_of, word_of
-from messages import MOST_NUMBER, MOST_PORT, TOKEN, URI, ReadFault, lower, match, read, rest_of
-from messages import stamped
+from messages import MOST_NUMBER, MOST_PORT, NAMES, TOKEN, URI, ReadFault, header_of, lower, match
+from messages import read, rest_of, stamped, values_of
 from tables import Happening, Told, machine_of, made_name, step, trigger_of
 
 MOST_FILE, MOST_EVENTS, MOST_MOMENT = 2**26, 65536, 2**62
 MOST_WORD = 2**64 - 1
 # An event: its kind is that of its line, `failed` has the key of a transaction.
 FIELDS = """kind call_id source datagram key address method uri from_uri to_uri option body
-    local_tag remote_tag id status is_reliable reason"""
-Event = namedtuple("Event", FIELDS, defaults=(None,) * 17)
+    local_tag remote_tag id status is_reliable reason contacts routes supported require others"""
+Event = namedtuple("Event", FIELDS, defaults=(*(None,) * 17, *((),) * 5))
 Config = namedtuple("Config", "local seed first")
 
 
@@ -190,7 +191,7 @@ LINES = {
 def event_of(line, version):
     """The event of a line, or None."""
     kinds = [kind for kind in LINES if line.startswith(f"{kind} ")]
-    if not kinds or kinds[0] == "cancel" and version == 1:
+    if not kinds or kinds[0] == "cancel" and version == "sip-events 1":
         return None
     kind, fields = kinds[0], LINES[kinds[0]]
     texts = line[len(kind) + 1 :].split(" ", len(fields) - 1)
@@ -204,27 +205,74 @@ def event_of(line, version):
     return Event(kind, **values)
 
 
-def read_events(text):
-    """The configuration and the rounds of an event file (docs/FORMATS.md)."""
+# The headers that the profile reads and that are the user's, and where an event has them.
+GIVEN = {
+    "Contact": "contacts", "Route": "routes", "Supported": "supported", "Require": "require"}
+
+
+def given_by(line):
+    """Where an event has what a header line says, and the values."""
+    plain = unspelled(line[1:])
+    if plain is None:
+        raise ReadFault("BadHeader")
+    header = header_of(plain)
+    if header[0] in GIVEN:
+        return GIVEN[header[0]], tuple(values_of(header[0], [header]))
+    if header[0] in NAMES.values():
+        raise ReadFault("BadHeader")
+    return "others", (header,)
+
+
+def with_headers(event, lines):
+    """An event with the header lines before it; None where they may not stand there."""
+    if not lines:
+        return event
+    if not event or event.kind in ("datagram", "failed", "cancel"):
+        return None
+    for line in lines:
+        try:
+            where, values = given_by(line)
+        except ReadFault:
+            return None
+        event = event._replace(**{where: getattr(event, where) + values})
+    may_have_routes = event.kind in ("invite", "plain")
+    return None if event.routes and not may_have_routes else event
+
+
+def is_header_line(line):
+    """Whether a line is a header line that the user may give."""
+    try:
+        return line.startswith(" ") and bool(given_by(line))
+    except ReadFault:
+        return False
+
+
+def read_events(text, is_session=False):
+    """The configuration and the rounds of an event file or a session file (docs/FORMATS.md)."""
     if len(text) > MOST_FILE:
         raise FileFault(1, "event file too long")
     first, end, rest = text.partition("\n")
-    versions = ["sip-events 1", "sip-events 2"]
+    versions = ["sip-events 1", "sip-events 2", *["sip-session 1"] * is_session]
     if first not in versions or not end:
         told = "event file line 1" if first in versions and not end else "event file version"
         raise FileFault(1, told)
     lines, config, rounds = rest.split("\n"), Config(None, bytes(32), 0), []
-    stage = "local"
+    stage, headers = "local", []
     for at, line in enumerate(lines, 2):
         is_last = at == len(lines) + 1
-        if is_last and not line and stage != "local":
+        if is_last and not line and stage != "local" and not headers:
             break
         if is_last:
             raise FileFault(1, f"event file line {at}")
         if stage != "rounds":
             stage, config = head_line(line, stage, config)
+        may_be_header = first == "sip-session 1" and rounds and not is_last
+        if may_be_header and is_header_line(line):
+            headers.append(line)
+            continue
         if stage == "rounds":
-            read_line(line, rounds, int(first[-1]))
+            read_line(line, rounds, first, headers)
+            headers = []
         if stage is None or rounds[-1:] == [None]:
             raise FileFault(1, f"event file line {at}")
     return config, rounds
@@ -246,11 +294,11 @@ def head_line(line, stage, config):
     return ("rounds" if kind == "round" else None), config
 
 
-def read_line(line, rounds, version):
-    """Adds a round or an event; None where the line is neither."""
+def read_line(line, rounds, version, headers):
+    """Adds a round or an event with its headers; None where the line is neither."""
     kind, _, text = line.partition(" ")
-    moment = number_of(text) if kind == "round" else None
-    event = event_of(line, version)
+    moment = number_of(text) if kind == "round" and not headers else None
+    event = with_headers(event_of(line, version), headers)
     if moment is not None:
         rounds.append((moment, []))
     elif event and rounds:
@@ -273,9 +321,9 @@ def refuse_rounds(config, rounds):
         before = moment
 
 
-def replayed(text):
-    """The output file of an event file."""
-    config, rounds = read_events(text)
+def replayed(text, is_session=False):
+    """The output file of an event file or a session file."""
+    config, rounds = read_events(text, is_session)
     refuse_rounds(config, rounds)
     agent, lines = Agent(config), ["sip-outputs 1"]
     for moment, events in rounds:
@@ -288,13 +336,14 @@ def compare_cases():
     cases, differ = 0, 0
     for events in sorted((Path(__file__).parent / "data").glob("*/*.events")):
         kind = ".outputs"
-        words = events.with_suffix(".args")
-        if words.exists() and (
-                not words.read_text().startswith("replay\n")
+        path = events.with_suffix(".args")
+        words = path.read_text() if path.exists() else "replay\n"
+        if path.exists() and (
+                not words.startswith("replay\n")
                 or "round" not in events.read_text("latin-1")):
             continue  # it is its words, or another command, that are tried
         try:
-            text = replayed(events.read_bytes().decode("latin-1"))
+            text = replayed(events.read_bytes().decode("latin-1"), "--session" in words)
         except FileFault as fault:
             kind, text = ".fault", "{}\nua: {}\n".format(*fault.args)
         stored = events.with_suffix(kind)
@@ -310,7 +359,7 @@ def main(words):
     if "--cases" in words:
         return compare_cases()
     try:
-        output = replayed(sys.stdin.buffer.read().decode("latin-1"))
+        output = replayed(sys.stdin.buffer.read().decode("latin-1"), "--session" in words)
     except FileFault as fault:
         status, told = fault.args
         print(f"ua: {told}", file=sys.stderr)

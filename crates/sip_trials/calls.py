@@ -186,8 +186,15 @@ def party(uri, tag):
     return Party("", uri, (("tag", tag),) if tag else ())
 
 
-def content_type(body):
-    return (("Content-Type", "application/sdp"),) if body else ()
+def with_content(message, event):
+    """A message with what the user puts into it: his headers behind the agent's, but his Contact in
+    place of the agent's, and a body, which is SDP where he doesn't say its type."""
+    is_typed = any(lower(name) == "content-type" for name, _ in event.others)
+    usual = (("Content-Type", "application/sdp"),) if event.body and not is_typed else ()
+    return replace(
+        message, contacts=event.contacts or message.contacts,
+        require=message.require + event.require, supported=message.supported + event.supported,
+        others=message.others + event.others + usual, body=event.body)
 
 
 class Call:
@@ -374,9 +381,8 @@ class Call:
         return is_first_open or is_given_up or len(waiting) >= MOST_UNACKNOWLEDGED
 
     def answer_of(self, event, request):
-        message, body = request.message, event.body
+        message = request.message
         response = message.response(event.status, event.reason, request.tag)
-        response = replace(response, others=content_type(body), body=body)
         if message.method == "INVITE" and event.status < 300:
             contact = Party("", f"sip:{self.agent.local}")
             response = replace(
@@ -384,7 +390,7 @@ class Call:
         if self.is_reliable(event, request):
             response = replace(
                 response, require=("100rel",), rseq=len(request.provisionals) + 1)
-        return response
+        return with_content(response, event)
 
     def answered_in_dialog(self, event, request):
         """An answer of 101 to 299 to an INVITE without a To tag makes its dialog, or a 2xx confirms
@@ -423,7 +429,7 @@ class Call:
             contacts=(Party("", f"sip:{self.agent.local}"),),
             supported=("100rel",) if event.option == "supported" else (),
             require=("100rel",) if event.option == "required" else ())
-        self.start(event_id, message, event.address)
+        self.start(event_id, with_content(message, event), event.address)
 
     def user_plain(self, event_id, event):
         """The user sends a request outside a dialog (8.1.1)."""
@@ -432,26 +438,26 @@ class Call:
         if event.method in ("INVITE", "ACK", "CANCEL", "BYE", "PRACK"):
             return self.refused(event_id, BAD_METHOD)
         message = self.first_request(event_id, event, event.method)
-        self.start(event_id, message, event.address)
+        self.start(event_id, with_content(message, event), event.address)
 
     def first_request(self, event_id, event, method):
         return Message(
             self.own_via(event_id), party(event.from_uri, self.agent.name(event_id, 1)),
             party(event.to_uri, ""), self.name, (1, method), event.uri, max_forwards=70,
-            others=content_type(event.body), body=event.body)
+            routes=event.routes)
 
     def own_via(self, event_id):
         host, port = self.agent.local.split(":")
         branch = "z9hG4bK" + self.agent.name(event_id, 0)
         return (Via("UDP", host, int(port), (("rport", None), ("branch", branch))),)
 
-    def request_in(self, dialog, event_id, number, method, body):
-        """A request in a dialog (12.2.1.1)."""
-        return Message(
+    def request_in(self, dialog, event_id, number, method, event):
+        """A request in a dialog (12.2.1.1); None for an event is one without a content."""
+        message = Message(
             self.own_via(event_id), dialog.local, dialog.remote, self.name, (number, method),
-            dialog.target, max_forwards=70, routes=dialog.routes, others=content_type(body),
-            contacts=(Party("", f"sip:{self.agent.local}"),) if method == "INVITE" else (),
-            body=body)
+            dialog.target, max_forwards=70, routes=dialog.routes,
+            contacts=(Party("", f"sip:{self.agent.local}"),) if method == "INVITE" else ())
+        return with_content(message, event) if event else message
 
     def user_request(self, event_id, event):
         """The user sends a request in a dialog (12.2.1, 14.1, 15.1.1)."""
@@ -459,7 +465,7 @@ class Call:
         number, method = self.why_no_request(event, dialog), event.method
         if number:
             return self.refused(event_id, number)
-        self.send_in(dialog, event_id, method, event.body)
+        self.send_in(dialog, event_id, method, event)
         if method == "BYE":
             self.end(dialog)
 
@@ -481,9 +487,9 @@ class Call:
             return STRICT_ROUTE
         return NUMBERS_USED_UP if dialog.number() >= MOST_LOCAL_NUMBER else None
 
-    def send_in(self, dialog, event_id, method, body, rack=None):
+    def send_in(self, dialog, event_id, method, event, rack=None):
         dialog.requests += 1
-        message = self.request_in(dialog, event_id, dialog.number(), method, body)
+        message = self.request_in(dialog, event_id, dialog.number(), method, event)
         self.start(event_id, replace(message, rack=rack), dialog.next_hop(), dialog)
 
     def user_ack(self, event_id, event):
@@ -503,9 +509,9 @@ class Call:
         elif not owed:
             self.refused(event_id, NOTHING_TO_ACK if method == "ACK" else NOTHING_TO_PRACK)
         else:
-            self.serve(dialog, event_id, owed[0], event.body)
+            self.serve(dialog, event_id, owed[0], event)
 
-    def serve(self, dialog, event_id, owed, body):
+    def serve(self, dialog, event_id, owed, event):
         """An ACK or a PRACK is sent; where it can't be it is owed still (13.2.2.4; RFC 3262, 4)."""
         number = self.why_not_sent(dialog)
         if number == STRICT_ROUTE or number and owed.method == "PRACK":
@@ -513,8 +519,8 @@ class Call:
         dialog.owed.remove(owed)
         if owed.method == "PRACK":
             rack = (owed.rseq, owed.number, "INVITE")
-            return self.send_in(dialog, event_id, "PRACK", body, rack)
-        ack = self.request_in(dialog, event_id, owed.number, "ACK", body)
+            return self.send_in(dialog, event_id, "PRACK", event, rack)
+        ack = self.request_in(dialog, event_id, owed.number, "ACK", event)
         line = f"send {dialog.next_hop()} {ack.text()}"
         self.lines.append(line)
         if owed.invite in self.sent:
@@ -525,7 +531,7 @@ class Call:
         answer to give to an offer in it (RFC 3264; RFC 3261, 13.2.2.4; RFC 3262, 5)."""
         dialog.owed.append(owed)
         if sent.message.body or not response.body:
-            self.serve(dialog, event_id, owed, "")
+            self.serve(dialog, event_id, owed, None)
 
     def told_timeout(self, event_id, told):
         """No response came, or no ACK (8.1.3.1, 17.1, 17.2)."""

@@ -47,11 +47,7 @@ pub fn write_round(alloc: Global, round: &Round) -> Result<Vec<u8>, AllocError>
 
 /// The lines of a round in a file of this kind: in a session file with the headers of its commands.
 #[tactic(auto, unfolding(crate::specs::Written::round_in))]
-pub fn write_file_round(
-    alloc: Global,
-    kind: FileKind,
-    round: &Round,
-) -> Result<Vec<u8>, AllocError>
+pub fn write_file_round(alloc: Global, kind: FileKind, round: &Round) -> Result<Vec<u8>, AllocError>
     ensures { IfOk result (λ text. text.items ≡ written.round_in kind round.now) }
 {
     let mut file = Vec::new(alloc);

@@ -1,8 +1,9 @@
--- The ladder of an event file that was read and run.
+-- The ladder of a file that was read and run.
 use Rattle.std.proofs.Common.{◌≡◌, ◌≢◌, ℕ, ◌≤◌, ◌^◌, List, length, map, refl, ap, sym, ◌∙◌, subst, Result, Ok, Err, IfErr}
 use Rattle.std.specs.Prelude.{Option, None}
 use Rattle.std.specs.Global.{Vec}
-use Rattle.sip_files.specs.EventFile.{SpellsEvents}
+use Rattle.sip_files.specs.EventFile.{SpellsFile}
+use Rattle.sip_files.specs.declared.version.FileKind.{FileKind}
 use Rattle.sip_files.specs.declared.file_replay.ReplayFault.{ReplayFault}
 use Rattle.sip_files.specs.declared.file_replay.ReplayFault.TheVariants as replay_fault
 use Rattle.sip_round.specs.Answers.{answers, refused}
@@ -11,22 +12,23 @@ use Rattle.sip_round.specs.declared.output.Output.{Output}
 use Rattle.sip_round.specs.declared.round.Round.{Round}
 use Rattle.sip_ladder.specs.Drawing.{Draws, DrawsFile}
 
-pub draws_file : (input : List ℕ) (config : Config) (rounds slice : List Round)
+pub draws_file : (kind : FileKind) (input : List ℕ) (config : Config) (rounds slice : List Round)
     (made : List (Vec Output)) (text : List ℕ) → slice ≡ rounds
-    → SpellsEvents config rounds input → length input ≤ 2 ^ 26 → refused config slice ≡ None
+    → SpellsFile kind config rounds input → length input ≤ 2 ^ 26 → refused config slice ≡ None
     → map (λ outputs. outputs.items) made ≡ answers config slice
-    → Draws slice (map (λ outputs. outputs.items) made) text → DrawsFile input text
-draws_file input config rounds slice made text same spelled size unrefused given drawn = record {
-  config = config;
-  rounds = rounds;
-  spelled = spelled;
-  size = size;
-  unrefused = ap (refused config) (sym same) ∙ unrefused;
-  drawn =
-      let P : List Round → Type 0 = λ rs. Draws rs (answers config rs) text in
-      let Q : List (List Output) → Type 0 = λ os. Draws slice os text in
-      subst P same (subst Q given drawn);
-}
+    → Draws slice (map (λ outputs. outputs.items) made) text → DrawsFile kind input text
+draws_file kind input config rounds slice made text same spelled size unrefused given drawn =
+    record {
+      config = config;
+      rounds = rounds;
+      spelled = spelled;
+      size = size;
+      unrefused = ap (refused config) (sym same) ∙ unrefused;
+      drawn =
+          let P : List Round → Type 0 = λ rs. Draws rs (answers config rs) text in
+          let Q : List (List Output) → Type 0 = λ os. Draws slice os text in
+          subst P same (subst Q given drawn);
+    }
 
 -- a writer that nobody touched is as it was
 pub untouched : {T W : Type 0} (result : Result T ReplayFault) (writer : W)

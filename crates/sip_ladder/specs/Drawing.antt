@@ -2,7 +2,8 @@
 use Rattle.std.specs.Prelude.{◌≡◌, ℕ, ◌≤◌, ◌^◌, List, ◌++◌, length, map, Option, None}
 use Rattle.std.specs.List.{flat_map}
 use Rattle.std.specs.Io.KnownBytes.{Appends}
-use Rattle.sip_files.specs.EventFile.{SpellsEvents}
+use Rattle.sip_files.specs.EventFile.{SpellsFile}
+use Rattle.sip_files.specs.declared.version.FileKind.{FileKind}
 use Rattle.sip_round.specs.Answers.{answers, refused}
 use Rattle.sip_round.specs.declared.config.Config.{Config}
 use Rattle.sip_round.specs.declared.output.Output.{Output}
@@ -19,16 +20,16 @@ pub record Draws (rounds : List Round) (outputs : List (List Output)) (text : Li
   pub shown : map shape lines ≡ shapes rounds outputs
   pub spelled : text ≡ head ++ flat_map (row_line columns) lines
 
--- the input is an event file, no round of it is refused, and this is the ladder of its rounds and
--- of what they give
-pub record DrawsFile (input text : List ℕ) : Type 0 where
+-- the input is a file of the kind, no round of it is refused, and this is the ladder of its rounds
+-- and of what they give
+pub record DrawsFile (kind : FileKind) (input text : List ℕ) : Type 0 where
   pub config : Config
   pub rounds : List Round
-  pub spelled : SpellsEvents config rounds input
+  pub spelled : SpellsFile kind config rounds input
   pub size : length input ≤ 2 ^ 26
   pub unrefused : refused config rounds ≡ None
   pub drawn : Draws rounds (answers config rounds) text
 
 -- the writer took a whole ladder of the input
-abbrev pub DrawsAll : Option (List ℕ) → Option (List ℕ) → List ℕ → Type 0
-DrawsAll old new input = (text : List ℕ) × DrawsFile input text × Appends old new text
+abbrev pub DrawsAll : FileKind → Option (List ℕ) → Option (List ℕ) → List ℕ → Type 0
+DrawsAll kind old new input = (text : List ℕ) × DrawsFile kind input text × Appends old new text

@@ -1,4 +1,4 @@
-//! An event file in, its ladder out.
+//! An event file or a session file in, its ladder out.
 
 ghost use Rattle.std.specs.Prelude.{◌≡◌, ◌≢◌, IfErr, IfOk, IfSome, OnOk};
 ghost use Rattle.sip_files.specs.Replay.{TellsReplay};
@@ -6,15 +6,16 @@ ghost use Rattle.sip_files.specs.declared.file_replay.ReplayFault.TheVariants as
 ghost use Rattle.sip_ladder.specs.Drawing.{DrawsAll, DrawsFile};
 
 use crate::picture::draw;
-use sip_files::{CountedRead, ReplayFault, read_all, read_events, write_whole};
+use sip_files::{CountedRead, FileKind, ReplayFault, read_all, read_file, write_whole};
 use sip_message::Spread;
 use sip_round::{Gate, run};
 use std::alloc::Global;
 use std::io::Write;
 use std::thread::Threads;
 
-/// Reads an event file, runs its rounds as a replay does, and writes their ladder: a head, and a
-/// row of at most 100 characters for each event and each output, in order.
+/// Reads a file of this kind, runs its rounds as a replay does, and writes their ladder: a head, and
+/// a row of at most 100 characters for each event and each output, in order. Of a command the row
+/// has its line without its headers.
 ///
 /// # Errors
 ///
@@ -22,33 +23,36 @@ use std::thread::Threads;
 pub fn ladder<T: Threads + Sync, R: CountedRead, W: Write, G: Gate>(
     rt: &T,
     alloc: Global,
+    kind: FileKind,
     reader: &mut R,
     writer: &mut W,
     gate: &G,
 ) -> Result<(), ReplayFault>
     ensures draws { OnOk result (IfSome (R.remaining reader.old)
-        (DrawsAll (W.contents writer.old) (W.contents writer.new))) }
-    ensures fault { IfErr result (λ fault. IfSome (R.remaining reader.old) (TellsReplay fault)) }
+        (DrawsAll kind (W.contents writer.old) (W.contents writer.new))) }
+    ensures fault { IfErr result
+        (λ fault. IfSome (R.remaining reader.old) (TellsReplay kind fault)) }
     ensures unwritten { IfErr result
         (λ fault. fault ≢ replay_fault.Output → writer.new ≡ writer.old) }
 {
     let text = read_all(alloc, reader)?;
-    let picture = drawn(rt, alloc, &text, gate)?;
+    let picture = drawn(rt, alloc, kind, &text, gate)?;
     write_whole(writer, &picture)
 }
 
-// The ladder of an event file.
+// The ladder of a file of this kind.
 fn drawn<T: Threads + Sync, G: Gate>(
     rt: &T,
     alloc: Global,
+    kind: FileKind,
     text: &[u8],
     gate: &G,
 ) -> Result<Vec<u8>, ReplayFault>
-    ensures draws { IfOk result (λ picture. DrawsFile text.now picture.items) }
-    ensures fault { IfErr result (λ fault. TellsReplay fault text.now) }
+    ensures draws { IfOk result (λ picture. DrawsFile kind text.now picture.items) }
+    ensures fault { IfErr result (λ fault. TellsReplay kind fault text.now) }
     ensures unwritten { IfErr result (λ fault. fault ≢ replay_fault.Output) }
 {
-    let (config, events) = match read_events(alloc, text) {
+    let (config, events) = match read_file(alloc, kind, text) {
         Ok(read) => read,
         Err(fault) => return Err(ReplayFault::Events(fault)),
     };

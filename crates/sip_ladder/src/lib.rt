@@ -1,4 +1,4 @@
-//! Ladders: the call flow of an event file as a picture in text.
+//! Ladders: the call flow of an event file or a session file as a picture in text.
 #![tactic(auto)]
 
 mod before;

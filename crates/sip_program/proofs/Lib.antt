@@ -1,1 +1,1 @@
-pub mod NoEventFile
+pub mod NoFile

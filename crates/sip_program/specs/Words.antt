@@ -1,6 +1,9 @@
--- Which command the words ask for.
-use Rattle.std.specs.Prelude.{ℕ, Bool, false, List, [], ◌∷◌, codes}
+-- Which command the words ask for, and of which kind of file.
+use Rattle.std.specs.Prelude.{ℕ, Bool, false, List, [], ◌∷◌, codes, if◌then◌else◌}
+use Rattle.std.specs.List.{list_any}
 use Rattle.std.specs.Str.{bytes_eq}
+use Rattle.sip_files.specs.declared.version.FileKind.{FileKind}
+use Rattle.sip_files.specs.declared.version.FileKind.TheVariants as file_kind
 
 -- the first word names it
 abbrev pub asks_replay : List (List ℕ) → Bool
@@ -10,3 +13,9 @@ asks_replay (word ∷ words) = bytes_eq word (codes "replay")
 abbrev pub asks_ladder : List (List ℕ) → Bool
 asks_ladder [] = false
 asks_ladder (word ∷ words) = bytes_eq word (codes "ladder")
+
+-- a session, where one of the words is its option
+abbrev pub kind_asked : List (List ℕ) → FileKind
+kind_asked words =
+    if list_any (λ word. bytes_eq word (codes "--session")) words then file_kind.Session
+    else file_kind.Events

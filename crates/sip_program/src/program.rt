@@ -1,18 +1,18 @@
 //! The program: what each command does.
 
 ghost use Rattle.std.specs.Prelude.{◌≡◌, ◌≢◌, ◌⊎◌, ◌<◌, ◌≤◌, Err, IfErr, IfSome, IsFalse, IsTrue, OnOk, map};
-ghost use Rattle.sip_files.specs.EventFile.{IsEventFile};
+ghost use Rattle.sip_files.specs.EventFile.{IsFile};
 ghost use Rattle.sip_files.specs.Replay.{TellsReplay, WritesAll, WritesFront};
-ghost use Rattle.sip_program.specs.Inputs.{HasRefusedRound, IsNoEventFile};
+ghost use Rattle.sip_program.specs.Inputs.{HasRefusedRound, IsNoFile};
 ghost use Rattle.sip_ladder.specs.Drawing.{DrawsAll};
-ghost use Rattle.sip_program.specs.Words.{asks_ladder, asks_replay};
+ghost use Rattle.sip_program.specs.Words.{asks_ladder, asks_replay, kind_asked};
 ghost use Rattle.sip_files.specs.declared.file_replay.ReplayFault.TheVariants as replay_fault;
 
 use crate::host::Host;
 use crate::status::{finish, finish_talk, tell_words};
 use crate::talking::talk_by;
 use crate::words::{self, CutName, ReplayWords, parse, replay_words};
-use sip_files::{ReplayFault, replay};
+use sip_files::{FileKind, ReplayFault, replay};
 use sip_ladder::ladder;
 use sip_message::{First, Spread};
 use sip_round::Gate;
@@ -32,11 +32,10 @@ impl Gate for Open {
 /// own name.
 ///
 /// `ua replay` reads an event file from `input` and writes its output file to `output`, and `ua
-/// ladder` writes its ladder there. `ua listen`
-/// and `ua call` read nothing there, and write the lines of their notices to `output`; so does
-/// `ua agent`, which reads commands from the pipe of `rt`. A fault is told on `errors`
-/// after `ua: `, and a fault of the words as `clap` tells it. A write to `errors` that fails is
-/// passed over.
+/// ladder` writes its ladder there; with `--session` both read a session file too. `ua listen` and
+/// `ua call` read nothing there, and write the lines of their notices to `output`; so does `ua
+/// agent`, which reads commands from the pipe of `rt`. A fault is told on `errors` after `ua: `, and
+/// a fault of the words as `clap` tells it. A write to `errors` that fails is passed over.
 pub fn ua<T: Threads + Host, S: AsStr, R: Read, W: Write, E: Write>(
     rt: &T,
     alloc: Global,
@@ -47,31 +46,35 @@ pub fn ua<T: Threads + Host, S: AsStr, R: Read, W: Write, E: Write>(
 ) -> u8
     ensures replays { IsTrue (asks_replay (map S.text words.now)) → result ≡ 0
         → IfSome (R.remaining input.old)
-        (WritesAll (W.contents output.old) (W.contents output.new)) }
+        (WritesAll (kind_asked (map S.text words.now))
+        (W.contents output.old) (W.contents output.new)) }
     ensures unwritten { IsTrue (asks_replay (map S.text words.now)) → result ≢ 0 → result ≢ 4
         → output.new ≡ output.old }
-    ensures no_event_file { IsTrue (asks_replay (map S.text words.now)) → result ≡ 1
-        → IfSome (R.remaining input.old) IsNoEventFile }
+    ensures no_file { IsTrue (asks_replay (map S.text words.now)) → result ≡ 1
+        → IfSome (R.remaining input.old) (IsNoFile (kind_asked (map S.text words.now))) }
     ensures refused_round { IsTrue (asks_replay (map S.text words.now)) → result ≡ 3
-        → IfSome (R.remaining input.old) HasRefusedRound }
+        → IfSome (R.remaining input.old) (HasRefusedRound (kind_asked (map S.text words.now))) }
     ensures only { IsTrue (asks_replay (map S.text words.now))
-        → IfSome (R.remaining input.old) (λ input. IsEventFile input → result ≢ 1) }
+        → IfSome (R.remaining input.old)
+        (λ input. IsFile (kind_asked (map S.text words.now)) input → result ≢ 1) }
     ensures front { IsTrue (asks_replay (map S.text words.now)) → result ≡ 4
         → (output.new ≡ output.old) ⊎ IfSome (R.remaining input.old)
-        (WritesFront (W.contents output.old) (W.contents output.new)) }
+        (WritesFront (kind_asked (map S.text words.now))
+        (W.contents output.old) (W.contents output.new)) }
     ensures draws { IsFalse (asks_replay (map S.text words.now))
         → IsTrue (asks_ladder (map S.text words.now)) → result ≡ 0
         → IfSome (R.remaining input.old)
-        (DrawsAll (W.contents output.old) (W.contents output.new)) }
+        (DrawsAll (kind_asked (map S.text words.now))
+        (W.contents output.old) (W.contents output.new)) }
     ensures undrawn { IsFalse (asks_replay (map S.text words.now))
         → IsTrue (asks_ladder (map S.text words.now)) → result ≢ 0 → result ≢ 4
         → output.new ≡ output.old }
-    ensures no_events_to_draw { IsFalse (asks_replay (map S.text words.now))
+    ensures no_file_to_draw { IsFalse (asks_replay (map S.text words.now))
         → IsTrue (asks_ladder (map S.text words.now)) → result ≡ 1
-        → IfSome (R.remaining input.old) IsNoEventFile }
+        → IfSome (R.remaining input.old) (IsNoFile (kind_asked (map S.text words.now))) }
     ensures refused_to_draw { IsFalse (asks_replay (map S.text words.now))
         → IsTrue (asks_ladder (map S.text words.now)) → result ≡ 3
-        → IfSome (R.remaining input.old) HasRefusedRound }
+        → IfSome (R.remaining input.old) (HasRefusedRound (kind_asked (map S.text words.now))) }
     ensures unread { IsFalse (asks_replay (map S.text words.now))
         → IsFalse (asks_ladder (map S.text words.now)) → input.new ≡ input.old }
     ensures bad_words { result ≡ 2 → output.new ≡ output.old }
@@ -80,11 +83,12 @@ pub fn ua<T: Threads + Host, S: AsStr, R: Read, W: Write, E: Write>(
         Ok(matches) => matches,
         Err(error) => return tell_words(&error, errors),
     };
+    let kind = words::kind_asked(words);
     if words::asks_replay(words) {
         let words = replay_words(&matches);
-        finish(replay_by(rt, alloc, words, input, output), errors)
+        finish(replay_by(rt, alloc, kind, words, input, output), errors)
     } else if words::asks_ladder(words) {
-        finish(ladder(rt, alloc, input, output, &Open), errors)
+        finish(ladder(rt, alloc, kind, input, output, &Open), errors)
     } else {
         let end = talk_by(rt, alloc, &matches, output, errors);
         finish_talk(end, errors)
@@ -95,6 +99,7 @@ pub fn ua<T: Threads + Host, S: AsStr, R: Read, W: Write, E: Write>(
 fn replay_by<T: Threads + Sync, R: Read, W: Write>(
     rt: &T,
     alloc: Global,
+    kind: FileKind,
     words: ReplayWords,
     input: &mut R,
     output: &mut W,
@@ -104,13 +109,14 @@ fn replay_by<T: Threads + Sync, R: Read, W: Write>(
     requires some_worker { 0 < words.workers }
     requires most_workers { words.workers ≤ 64 }
     ensures replays { OnOk result (IfSome (R.remaining input.old)
-        (WritesAll (W.contents output.old) (W.contents output.new))) }
-    ensures fault { IfErr result (λ fault. IfSome (R.remaining input.old) (TellsReplay fault)) }
+        (WritesAll kind (W.contents output.old) (W.contents output.new))) }
+    ensures fault { IfErr result
+        (λ fault. IfSome (R.remaining input.old) (TellsReplay kind fault)) }
     ensures unwritten { IfErr result
         (λ fault. fault ≢ replay_fault.Output → output.new ≡ output.old) }
     ensures front { result ≡ Err replay_fault.Output
         → IfSome (R.remaining input.old)
-        (WritesFront (W.contents output.old) (W.contents output.new)) }
+        (WritesFront kind (W.contents output.old) (W.contents output.new)) }
 {
     let ReplayWords {
         shards,
@@ -118,7 +124,13 @@ fn replay_by<T: Threads + Sync, R: Read, W: Write>(
         cut,
     } = words;
     match cut {
-        CutName::Spread => replay(rt, alloc, input, output, shards, workers, Spread, &Open),
-        CutName::First => replay(rt, alloc, input, output, shards, workers, First, &Open),
+        CutName::Spread => {
+            replay(
+                rt, alloc, kind, input, output, shards, workers, Spread, &Open,
+            )
+        }
+        CutName::First => replay(
+            rt, alloc, kind, input, output, shards, workers, First, &Open,
+        ),
     }
 }

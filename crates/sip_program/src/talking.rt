@@ -115,6 +115,7 @@ fn agent_by<T: Threads + Host, W: Write, E: Write>(
     let local = address_of(alloc, words.local)?.ok_or(TalkFault::BadArgument)?;
     let mut endpoint = endpoint_at(rt, local, words.record, words.stats)?;
     endpoint.division = words.division;
+    endpoint.kind = words.kind;
     let pipe = rt.commands();
     agent(rt, alloc, endpoint, pipe, words.linger, notices, errors).map_err(TalkFault::Ua)
 }

@@ -4,6 +4,7 @@ ghost use Rattle.std.specs.Prelude.{◌≡◌, ◌<◌, ◌≤◌, map};
 ghost use Rattle.sip_program.specs.Words as spec;
 
 use clap::{Arg, ArgAction, ArgMatches, Command, Error, value_parser};
+use sip_files::FileKind;
 use sip_udp::Division;
 use std::alloc::{AllocError, Global};
 use std::convert::AsStr;
@@ -16,6 +17,9 @@ const MAX_SHARDS: usize = 256;
 /// How many workers there may be at most.
 const MAX_WORKERS: usize = 64;
 
+/// The option of session files.
+const SESSION: &str = "--session";
+
 /// What the help of the whole ends in.
 const EXAMPLES: &str = "\
 Examples:
@@ -25,7 +29,7 @@ Examples:
   ua call --local 127.0.0.1:5080 --to 127.0.0.1:5070 --uri sip:b@127.0.0.1 --turns 200
   ua agent --local 127.0.0.1:5080 --record mine.events < commands
 
-Status: 0 success, 1 no event file, 2 bad words, 3 a refused round, 4 a device that failed, \
+Status: 0 success, 1 no event file or session file, 2 bad words, 3 a refused round, 4 a device that failed, \
 5 no memory, 6 not answered";
 
 const REPLAY_EXAMPLE: &str = "\
@@ -111,6 +115,7 @@ pub(crate) struct AgentWords<'a> {
     pub local: &'a str,
     pub linger: u32,
     pub division: Division,
+    pub kind: FileKind,
     pub record: Option<&'a str>,
     pub stats: bool,
 }
@@ -143,6 +148,18 @@ pub(crate) fn asks_ladder<S: AsStr>(words: &[S]) -> bool
         Some(word) => word.as_str() == "ladder",
         None => false,
     }
+}
+
+/// The kind of the file that is asked for: `--session` is the option of a session file.
+pub(crate) fn kind_asked<S: AsStr>(words: &[S]) -> FileKind
+    ensures { result ≡ spec.kind_asked (map S.text words.now) }
+{
+    for word in words {
+        if word.as_str() == SESSION {
+            return FileKind::Session;
+        }
+    }
+    FileKind::Events
 }
 
 /// The words as those of one of the commands.
@@ -232,9 +249,19 @@ pub(crate) fn agent_words<'a>(matches: &ArgMatches<'a>) -> Option<AgentWords<'a>
             shards: count(agent, "shards", MAX_SHARDS),
             workers: count(agent, "workers", MAX_WORKERS),
         },
+        kind: kind_of(agent),
         record: agent.get_str("record"),
         stats: agent.get_flag("stats"),
     })
+}
+
+// With headers the pipe and the record are as the lines of a session file.
+fn kind_of(agent: &ArgMatches) -> FileKind {
+    if agent.get_flag("headers") {
+        FileKind::Session
+    } else {
+        FileKind::Events
+    }
 }
 
 fn ladder_command<'a>(alloc: Global) -> Result<Command<'a>, AllocError> {
@@ -245,7 +272,7 @@ fn ladder_command<'a>(alloc: Global) -> Result<Command<'a>, AllocError> {
             each command, notice and drop",
         )
         .after_help(LADDER_EXAMPLE);
-    Ok(command)
+    command.arg(session_argument(alloc))
 }
 
 fn listen_command<'a>(alloc: Global) -> Result<Command<'a>, AllocError> {
@@ -340,6 +367,13 @@ fn agent_command<'a>(alloc: Global) -> Result<Command<'a>, AllocError> {
         .value_parser(value_parser!(u32))
         .default_value("32000")
         .help("How long it goes on at most after the end of the input, while something is held");
+    let headers = Arg::new(alloc, "headers")
+        .long("headers")
+        .action(ArgAction::SetTrue)
+        .help(
+            "Before a command its header lines may stand, each a space and `Name: value`, and the \
+            record is a session file, for `ua replay --session`",
+        );
     Command::new(alloc, "agent")
         .about(
             "Does over UDP what the lines of standard input ask for, each the command of an event \
@@ -350,8 +384,16 @@ fn agent_command<'a>(alloc: Global) -> Result<Command<'a>, AllocError> {
         .arg(linger)?
         .arg(shards_argument(alloc, "4"))?
         .arg(workers_argument(alloc, "2"))?
+        .arg(headers)?
         .arg(record_argument(alloc))?
         .arg(stats_argument(alloc))
+}
+
+fn session_argument<'a>(alloc: Global) -> Arg<'a> {
+    Arg::new(alloc, "session")
+        .long("session")
+        .action(ArgAction::SetTrue)
+        .help("The file may also be a session file, in which commands have header lines")
 }
 
 fn body_argument<'a>(alloc: Global, help: &'a str) -> Arg<'a> {
@@ -433,6 +475,7 @@ fn replay_command<'a>(alloc: Global) -> Result<Command<'a>, AllocError> {
     Command::new(alloc, "replay")
         .about("Runs the rounds of an event file on standard input, and writes its output file")
         .after_help(REPLAY_EXAMPLE)
+        .arg(session_argument(alloc))?
         .arg(shards_argument(alloc, "1"))?
         .arg(workers_argument(alloc, "1"))?
         .arg(cut)

@@ -3,17 +3,18 @@ use Rattle.std.proofs.Common.{◌≡◌, ℕ, ◌+◌, ◌<◌, List, [], ◌∷
 use Rattle.std.proofs.lemmas.List.{length-append}
 use Rattle.std.specs.Prelude.{Option, Some, None}
 use Rattle.std.specs.Io.BufRead.{take_through, drop_through, DropsThrough}
+use Rattle.sip_files.specs.declared.version.FileKind.{FileKind}
 use Rattle.sip_udp.specs.declared.pipe.PipeLine.{PipeLine}
 use Rattle.sip_udp.specs.Piping.{SaysRead, SayLines, PostsFront}
 
 -- what was read of the pipe was posted, and this number is that of its next line
-pub record FedSoFar (text : List ℕ) (left : Option (List ℕ)) (before now : List PipeLine)
-    (number : ℕ) : Type 0 where
+pub record FedSoFar (kind : FileKind) (text : List ℕ) (left : Option (List ℕ))
+    (before now : List PipeLine) (number : ℕ) : Type 0 where
   pub said : List PipeLine
   pub rest : List ℕ
   pub known : left ≡ Some rest
   pub appended : now ≡ before ++ said
-  pub lines : SayLines 1 text said rest
+  pub lines : SayLines kind 1 text said rest
   pub next : number ≡ 1 + length said
 
 -- a line that has something is the first of what has something
@@ -22,30 +23,30 @@ some_left [] some = some
 some_left (x ∷ rest) some = omega arith
 
 -- one line more at the end
-say_more : (number : ℕ) (text : List ℕ) (said : List PipeLine) (rest : List ℕ) (one : PipeLine)
-    → SayLines number text said rest → 0 < length rest
-    → SaysRead (number + length said) (take_through 10 rest) one
-    → SayLines number text (said ++ one ∷ []) (drop_through 10 rest)
-say_more number text [] rest one lines some says =
+say_more : (kind : FileKind) (number : ℕ) (text : List ℕ) (said : List PipeLine) (rest : List ℕ)
+    (one : PipeLine) → SayLines kind number text said rest → 0 < length rest
+    → SaysRead kind (number + length said) (take_through 10 rest) one
+    → SayLines kind number text (said ++ one ∷ []) (drop_through 10 rest)
+say_more kind number text [] rest one lines some says =
     let same : rest ≡ text = lines in (
       subst (λ t. 0 < length t) same some,
-      subst (λ t. SaysRead number (take_through 10 t) one) same
-          (subst (λ n. SaysRead n (take_through 10 rest) one) (omega arith) says),
+      subst (λ t. SaysRead kind number (take_through 10 t) one) same
+          (subst (λ n. SaysRead kind n (take_through 10 rest) one) (omega arith) says),
       ap (drop_through 10) same,
     )
-say_more number text (first ∷ said) rest one lines some says = (
+say_more kind number text (first ∷ said) rest one lines some says = (
   lines.0,
   lines.1,
-  say_more (number + 1) (drop_through 10 text) said rest one lines.2 some
-      (subst (λ n. SaysRead n (take_through 10 rest) one) (omega arith) says),
+  say_more kind (number + 1) (drop_through 10 text) said rest one lines.2 some
+      (subst (λ n. SaysRead kind n (take_through 10 rest) one) (omega arith) says),
 )
 
 -- ---- of a pipe whose bytes may be known
 
-pub fed_nothing : (known : Option (List ℕ)) (before : List PipeLine)
-    → IfSome known (λ text. FedSoFar text known before before 1)
-fed_nothing None before = tt
-fed_nothing (Some text) before = record {
+pub fed_nothing : (kind : FileKind) (known : Option (List ℕ)) (before : List PipeLine)
+    → IfSome known (λ text. FedSoFar kind text known before before 1)
+fed_nothing kind None before = tt
+fed_nothing kind (Some text) before = record {
   said = [];
   rest = text;
   known = refl;
@@ -54,22 +55,22 @@ fed_nothing (Some text) before = record {
   next = refl;
 }
 
-pub fed_front : (known left : Option (List ℕ)) (before now : List PipeLine) (number : ℕ)
-    → IfSome known (λ text. FedSoFar text left before now number)
-    → IfSome known (PostsFront before now)
-fed_front None left before now number so_far = tt
-fed_front (Some text) left before now number so_far =
+pub fed_front : (kind : FileKind) (known left : Option (List ℕ)) (before now : List PipeLine) (number : ℕ)
+    → IfSome known (λ text. FedSoFar kind text left before now number)
+    → IfSome known (PostsFront kind before now)
+fed_front kind None left before now number so_far = tt
+fed_front kind (Some text) left before now number so_far =
     (so_far.said, so_far.rest, so_far.appended, so_far.lines)
 
 -- a line was read of what is left
-pub fed_more : (known left later : Option (List ℕ)) (before now next : List PipeLine) (number : ℕ)
+pub fed_more : (kind : FileKind) (known left later : Option (List ℕ)) (before now next : List PipeLine) (number : ℕ)
     (line : List ℕ) (one : PipeLine)
-    → IfSome known (λ text. FedSoFar text left before now number)
+    → IfSome known (λ text. FedSoFar kind text left before now number)
     → IfSome left (λ xs. line ≡ take_through 10 xs) → DropsThrough left later 10
-    → 0 < length line → SaysRead number line one → next ≡ now ++ one ∷ []
-    → IfSome known (λ text. FedSoFar text later before next (number + 1))
-fed_more None left later before now next number line one so_far front drops some says more = tt
-fed_more (Some text) left later before now next number line one so_far front drops some says more =
+    → 0 < length line → SaysRead kind number line one → next ≡ now ++ one ∷ []
+    → IfSome known (λ text. FedSoFar kind text later before next (number + 1))
+fed_more kind None left later before now next number line one so_far front drops some says more = tt
+fed_more kind (Some text) left later before now next number line one so_far front drops some says more =
     let rest : List ℕ = so_far.rest in
     let first : line ≡ take_through 10 rest =
     subst (λ l. IfSome l (λ xs. line ≡ take_through 10 xs)) so_far.known front in
@@ -81,10 +82,10 @@ fed_more (Some text) left later before now next number line one so_far front dro
           more ∙ ap (λ l. l ++ one ∷ []) so_far.appended
           ∙ append_assoc before so_far.said (one ∷ []);
       lines =
-          say_more 1 text so_far.said rest one so_far.lines
+          say_more kind 1 text so_far.said rest one so_far.lines
           (some_left rest (subst (λ l. 0 < length l) first some))
-          (subst (λ l. SaysRead l (take_through 10 rest) one) so_far.next
-          (subst (λ l. SaysRead number l one) first says));
+          (subst (λ l. SaysRead kind l (take_through 10 rest) one) so_far.next
+          (subst (λ l. SaysRead kind number l one) first says));
       next = omega (arith, so_far.next, length-append so_far.said (one ∷ []));
     }
 

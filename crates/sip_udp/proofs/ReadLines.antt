@@ -3,8 +3,9 @@ use Rattle.std.proofs.Common.{◌≡◌, ℕ, ◌-◌, List, [], ◌∷◌, ◌+
 use Rattle.std.specs.Cmp.Lexicographic.{pointwise}
 use Rattle.std.proofs.lemmas.Bool.Decides.{Decides-eqb}
 use Rattle.std.proofs.lemmas.Slice.Eq.{slice_eq-Decides}
-use Rattle.sip_udp.specs.declared.pipe.PipeLine.{PipeLine}
-use Rattle.sip_udp.specs.Piping.{Says, SaysRead}
+use Rattle.sip_files.specs.declared.version.FileKind.{FileKind}
+use Rattle.sip_udp.specs.declared.pipe.Said.{Said}
+use Rattle.sip_udp.specs.Piping.{Says, SaysText}
 
 pub with_end : (text suffix line : List ℕ) → suffix ≡ 10 ∷ []
     → pointwise nat_eq (drop (length text - length suffix) text) suffix ≡ true
@@ -17,7 +18,7 @@ with_end text suffix line one last front =
     sym (take-append-drop count text) ∙ ap (λ t. take count text ++ t) (same ∙ one)
     ∙ ap (λ t. t ++ 10 ∷ []) (sym front)
 
-pub says_read : {E : Type 0} (result : Result PipeLine E) (number : ℕ) (text line : List ℕ)
-    → text ≡ line ++ 10 ∷ [] → IfOk result (Says number line) → IfOk result (SaysRead number text)
-says_read (Ok said) number text line whole says = inl (line, whole, says)
-says_read (Err fault) number text line whole says = tt
+pub says_text : {E : Type 0} (result : Result Said E) (kind : FileKind) (text line : List ℕ)
+    → text ≡ line ++ 10 ∷ [] → IfOk result (Says kind line) → IfOk result (SaysText kind text)
+says_text (Ok said) kind text line whole says = inl (line, whole, says)
+says_text (Err fault) kind text line whole says = tt

@@ -1,45 +1,99 @@
 -- What the lines of the pipe say, what is posted of them, and what is asked for.
-use Rattle.std.specs.Prelude.{◌≡◌, ℕ, ◌+◌, ◌<◌, List, [], ◌∷◌, ◌++◌, ◌⊎◌, length}
+use Rattle.std.specs.Prelude.{◌≡◌, ℕ, ◌+◌, ◌<◌, ◌==◌, Bool, false, List, [], ◌∷◌, ◌++◌, ◌⊎◌, length, Option, Some, None, IsTrue, IsFalse}
+use Rattle.std.specs.Option.{option_map}
 use Rattle.std.specs.Io.BufRead.{take_through, drop_through}
 use Rattle.sip_round.specs.declared.round.Event.{Event}
 use Rattle.sip_round.specs.declared.round.Event.TheVariants as event
 use Rattle.sip_common.specs.declared.command.UserCommand.{UserCommand}
+use Rattle.sip_files.specs.declared.given_header.GivenHeader.{GivenHeader}
+use Rattle.sip_files.specs.declared.version.FileKind.{FileKind}
+use Rattle.sip_files.specs.declared.version.FileKind.TheVariants as file_kind
+use Rattle.sip_files.specs.Events.{SpellsHeader}
+use Rattle.sip_files.specs.Given.{with_given}
 use Rattle.sip_files.specs.Written.{SpellsCommand}
 use Rattle.sip_udp.specs.declared.pipe.PipeLine.{PipeLine}
-use Rattle.sip_udp.specs.declared.pipe.PipeLine.TheVariants as line
+use Rattle.sip_udp.specs.declared.pipe.Said.{Said}
+use Rattle.sip_udp.specs.declared.pipe.Said.TheVariants as said
 
--- the command whose line it is, or that it is no command's, with its number
-abbrev pub Says : ℕ → List ℕ → PipeLine → Type 0
-Says number text (line.Command command) = SpellsCommand text command
-Says number text (line.NoCommand told) =
-    (told ≡ number) × ((command : UserCommand) → ¬ SpellsCommand text command)
+-- where there are header lines, as in a session, these begin with a space, and no command does
+abbrev pub is_for_header : FileKind → List ℕ → Bool
+is_for_header file_kind.Events text = false
+is_for_header file_kind.Session [] = false
+is_for_header file_kind.Session (b ∷ text) = b == 32
+
+-- the command or the header whose line it is, or that it is the line of none
+abbrev pub Says : FileKind → List ℕ → Said → Type 0
+Says kind text (said.Command command) =
+    IsFalse (is_for_header kind text) × SpellsCommand text command
+Says kind text said.NoCommand =
+    IsFalse (is_for_header kind text) × ((command : UserCommand) → ¬ SpellsCommand text command)
+Says kind text (said.Header header) =
+    IsTrue (is_for_header kind text) × SpellsHeader text header
+Says kind text said.NoHeader =
+    IsTrue (is_for_header kind text) × ((header : GivenHeader) → ¬ SpellsHeader text header)
 
 -- of what was read, with the end of the line: what the line says, or, where it has no end, that it
 -- is no command
-abbrev pub SaysRead : ℕ → List ℕ → PipeLine → Type 0
-SaysRead number text said =
-    ((line : List ℕ) × (text ≡ line ++ 10 ∷ []) × Says number line said)
-    ⊎ (((line : List ℕ) → ¬ (text ≡ line ++ 10 ∷ [])) × (said ≡ line.NoCommand number))
+abbrev pub SaysText : FileKind → List ℕ → Said → Type 0
+SaysText kind text what =
+    ((line : List ℕ) × (text ≡ line ++ 10 ∷ []) × Says kind line what)
+    ⊎ (((line : List ℕ) → ¬ (text ≡ line ++ 10 ∷ [])) × (what ≡ said.NoCommand))
+
+-- the same, with the number of the line
+abbrev pub SaysRead : FileKind → ℕ → List ℕ → PipeLine → Type 0
+SaysRead kind number text line = (line.number ≡ number) × SaysText kind text line.said
 
 -- these are what the lines of a text say, from its front on, each once and in order, where the
 -- first has this number, and this is left of the text
-abbrev pub SayLines : ℕ → List ℕ → List PipeLine → List ℕ → Type 0
-SayLines number text [] rest = rest ≡ text
-SayLines number text (said ∷ more) rest =
-    (0 < length text) × SaysRead number (take_through 10 text) said
-    × SayLines (number + 1) (drop_through 10 text) more rest
+abbrev pub SayLines : FileKind → ℕ → List ℕ → List PipeLine → List ℕ → Type 0
+SayLines kind number text [] rest = rest ≡ text
+SayLines kind number text (line ∷ lines) rest =
+    (0 < length text) × SaysRead kind number (take_through 10 text) line
+    × SayLines kind (number + 1) (drop_through 10 text) lines rest
 
 -- what was posted before, what is now, and the text of the pipe: its first lines were posted
-abbrev pub PostsFront : List PipeLine → List PipeLine → List ℕ → Type 0
-PostsFront before now text =
-    (said : List PipeLine) × (rest : List ℕ) × (now ≡ before ++ said) × SayLines 1 text said rest
+abbrev pub PostsFront : FileKind → List PipeLine → List PipeLine → List ℕ → Type 0
+PostsFront kind before now text =
+    (lines : List PipeLine) × (rest : List ℕ) × (now ≡ before ++ lines)
+    × SayLines kind 1 text lines rest
 
 -- all its lines were posted
-abbrev pub PostsAll : List PipeLine → List PipeLine → List ℕ → Type 0
-PostsAll before now text =
-    (said : List PipeLine) × (now ≡ before ++ said) × SayLines 1 text said []
+abbrev pub PostsAll : FileKind → List PipeLine → List PipeLine → List ℕ → Type 0
+PostsAll kind before now text =
+    (lines : List PipeLine) × (now ≡ before ++ lines) × SayLines kind 1 text lines []
 
--- a command is asked for, and a line that is none asks for nothing
-abbrev pub events_of_line : PipeLine → List Event
-events_of_line (line.Command command) = event.Command command ∷ []
-events_of_line (line.NoCommand number) = []
+-- ---- what is asked for
+
+abbrev pub event_of : Option UserCommand → List Event
+event_of (Some command) = event.Command command ∷ []
+event_of None = []
+
+-- a command with the header lines that stand right before it, where it takes them; where one of
+-- them is none, they say no headers
+abbrev pub command_with : Option (List GivenHeader) → UserCommand → Option UserCommand
+command_with (Some headers) command = with_given headers command
+command_with None command = None
+
+-- a command is asked for with its headers
+abbrev pub asked_by : Option (List GivenHeader) → Said → List Event
+asked_by headers (said.Command command) = event_of (command_with headers command)
+asked_by headers said.NoCommand = []
+asked_by headers (said.Header header) = []
+asked_by headers said.NoHeader = []
+
+-- the header lines that stand right before the next line
+abbrev pub headers_after : Option (List GivenHeader) → Said → Option (List GivenHeader)
+headers_after headers (said.Command command) = Some []
+headers_after headers said.NoCommand = Some []
+headers_after headers (said.Header header) = option_map (λ given. given ++ header ∷ []) headers
+headers_after headers said.NoHeader = None
+
+-- the same of lines, where such header lines stand before the first
+abbrev pub all_asked : Option (List GivenHeader) → List PipeLine → List Event
+all_asked headers [] = []
+all_asked headers (line ∷ lines) =
+    asked_by headers line.said ++ all_asked (headers_after headers line.said) lines
+
+abbrev pub headers_at_end : Option (List GivenHeader) → List PipeLine → Option (List GivenHeader)
+headers_at_end headers [] = headers
+headers_at_end headers (line ∷ lines) = headers_at_end (headers_after headers line.said) lines

@@ -1,6 +1,7 @@
 //! What a user agent over UDP is run with.
 
 use crate::division::Division;
+use sip_files::FileKind;
 use sip_message::Addr;
 use sip_round::Config;
 use std::net::UdpSocket;
@@ -12,14 +13,18 @@ pub struct Endpoint<F> {
     /// What its agent is started with.
     pub config: Config,
     pub division: Division,
-    /// Where the event file of the run is written, if it is.
+    /// Where the run is recorded, if it is.
     pub record: Option<F>,
+    /// As the lines of which kind of file a pipe is read and the run is recorded. In a session
+    /// commands have header lines.
+    pub kind: FileKind,
     /// Whether it is told at the end what was counted.
     pub is_counted: bool,
 }
 
 impl<F> Endpoint<F> {
-    /// An endpoint at this address, with 4 shards and 2 workers, that begins with round 0.
+    /// An endpoint at this address, with 4 shards and 2 workers, that begins with round 0. It is
+    /// recorded as an event file.
     pub fn new(socket: UdpSocket, local: Addr, seed: [u8; 32], record: Option<F>) -> Endpoint<F> {
         Endpoint {
             socket,
@@ -30,6 +35,7 @@ impl<F> Endpoint<F> {
             },
             division: Division::USUAL,
             record,
+            kind: FileKind::Events,
             is_counted: false,
         }
     }

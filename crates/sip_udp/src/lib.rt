@@ -24,6 +24,7 @@ mod sent;
 mod talk;
 mod turns;
 mod user;
+mod waiting;
 
 pub use call_plan::CallPlan;
 pub use division::Division;
@@ -33,6 +34,6 @@ pub use inlet::{Inlet, Received};
 pub use listen_plan::ListenPlan;
 pub use listener::{Flags, Heard, hear};
 pub use outlet::{Asked, Outlet};
-pub use pipe::{PipeLine, feed};
+pub use pipe::{PipeLine, Said, feed};
 pub use sending::send_all;
 pub use talk::{agent, call, call_from, listen, listen_at};

@@ -1,14 +1,14 @@
-//! The pipe: commands that a user writes, a line each. They are read on a thread of their own and
-//! posted.
+//! The pipe: commands that a user writes, a line each, and their header lines. They are read on a
+//! thread of their own and posted.
 
 ghost use Rattle.std.specs.Prelude.{◌≡◌, true, false, IfOk, IfSome};
 ghost use Rattle.sip_desk.specs.Lines.{posted, Pushes};
-ghost use Rattle.sip_udp.specs.Piping.{Says, SaysRead, PostsAll, PostsFront};
+ghost use Rattle.sip_udp.specs.Piping.{is_for_header, PostsAll, PostsFront, Says, SaysRead, SaysText};
 
 use crate::fault::UaFault;
 use crate::listener::Flags;
 use sip_desk::Poster;
-use sip_files::read_command_line;
+use sip_files::{FileKind, GivenHeader, read_command_line, read_header_line};
 use sip_served::UserCommand;
 use std::alloc::{AllocError, Global};
 use std::io::BufRead;
@@ -16,46 +16,62 @@ use std::sync::Arc;
 use std::sync::atomic::{AtomicBool, Ordering};
 use std::thread;
 
+/// A line of the pipe.
+#[derive(Drop)]
+pub struct PipeLine {
+    /// Lines are numbered from 1.
+    pub number: u64,
+    pub said: Said,
+}
+
 /// What a line of the pipe says.
 #[derive(Drop)]
-pub enum PipeLine {
+pub enum Said {
     /// A command in the form of an event file.
     Command(UserCommand),
-    /// It is no command. Lines are numbered from 1.
-    NoCommand(u64),
+    /// It is no command.
+    NoCommand,
+    /// A header of the command that follows, in the form of a session file.
+    Header(GivenHeader),
+    /// It begins as a header line does, and is none.
+    NoHeader,
 }
 
 /// Posts what each line of the input says, and waits where there is no room, until the input ends
-/// or it is told to stop. It answers whether the input ended.
+/// or it is told to stop. It answers whether the input ended. Header lines are taken where the kind
+/// of file that the lines are those of has them.
 ///
 /// # Errors
 ///
 /// A read that failed, and want of memory.
 pub fn feed<I: BufRead + Drop>(
     alloc: Global,
+    kind: FileKind,
     mut input: I,
     line: &mut Poster<PipeLine>,
     flags: Arc<Flags>,
 ) -> Result<bool, UaFault>
-    ensures front { IfSome (I.remaining input) (PostsFront (posted line.old) (posted line.new)) }
+    ensures front { IfSome (I.remaining input)
+        (PostsFront kind (posted line.old) (posted line.new)) }
     ensures all { IfOk result (λ has_ended. has_ended ≡ true
-        → IfSome (I.remaining input) (PostsAll (posted line.old) (posted line.new))) }
+        → IfSome (I.remaining input) (PostsAll kind (posted line.old) (posted line.new))) }
 {
-    let end = post_lines(alloc, &mut input, line, &flags);
+    let end = post_lines(alloc, kind, &mut input, line, &flags);
     flags.end();
     end
 }
 
 fn post_lines<I: BufRead>(
     alloc: Global,
+    kind: FileKind,
     input: &mut I,
     line: &mut Poster<PipeLine>,
     flags: &Flags,
 ) -> Result<bool, UaFault>
     ensures front { IfSome (I.remaining input.old)
-        (PostsFront (posted line.old) (posted line.new)) }
+        (PostsFront kind (posted line.old) (posted line.new)) }
     ensures all { IfOk result (λ has_ended. has_ended ≡ true
-        → IfSome (I.remaining input.old) (PostsAll (posted line.old) (posted line.new))) }
+        → IfSome (I.remaining input.old) (PostsAll kind (posted line.old) (posted line.new))) }
 {
     for number in 1..u64::MAX {
         let mut text = Vec::new(alloc);
@@ -64,7 +80,7 @@ fn post_lines<I: BufRead>(
             Ok(_) => {}
             Err(_) => return Err(UaFault::Input),
         }
-        let said = said_by(alloc, number, &text)?;
+        let said = said_by(alloc, kind, number, &text)?;
         if !post_in_time(line, said, &flags.stop) {
             break;
         }
@@ -73,22 +89,49 @@ fn post_lines<I: BufRead>(
     Ok(false)
 }
 
+// The line of this number, of its text with its end.
+fn said_by(alloc: Global, kind: FileKind, number: u64, text: &[u8]) -> Result<PipeLine, AllocError>
+    ensures { IfOk result (SaysRead kind number text.now) }
+{
+    let said = text_says(alloc, kind, text)?;
+    Ok(PipeLine { number, said })
+}
+
 // What a line says, with its end; one that has none is no command.
-fn said_by(alloc: Global, number: u64, text: &[u8]) -> Result<PipeLine, AllocError>
-    ensures { IfOk result (SaysRead number text.now) }
+fn text_says(alloc: Global, kind: FileKind, text: &[u8]) -> Result<Said, AllocError>
+    ensures { IfOk result (SaysText kind text.now) }
 {
     match text.strip_suffix(b"\n".as_slice()) {
-        Some(line) => line_says(alloc, number, line),
-        None => Ok(PipeLine::NoCommand(number)),
+        Some(line) => line_says(alloc, kind, line),
+        None => Ok(Said::NoCommand),
     }
 }
 
-fn line_says(alloc: Global, number: u64, line: &[u8]) -> Result<PipeLine, AllocError>
-    ensures { IfOk result (Says number line.now) }
+fn line_says(alloc: Global, kind: FileKind, line: &[u8]) -> Result<Said, AllocError>
+    ensures { IfOk result (Says kind line.now) }
 {
-    match read_command_line(alloc, line)? {
-        Some(command) => Ok(PipeLine::Command(command)),
-        None => Ok(PipeLine::NoCommand(number)),
+    if is_for_header(kind, line) {
+        return Ok(match read_header_line(alloc, line)? {
+            Some(header) => Said::Header(header),
+            None => Said::NoHeader,
+        });
+    }
+    Ok(match read_command_line(alloc, line)? {
+        Some(command) => Said::Command(command),
+        None => Said::NoCommand,
+    })
+}
+
+// Where there are header lines, these begin with a space, and no command does.
+fn is_for_header(kind: FileKind, line: &[u8]) -> bool
+    ensures { result ≡ is_for_header kind line.now }
+{
+    match kind {
+        FileKind::Events => false,
+        FileKind::Session => match line {
+            [] => false,
+            [first, ..] => *first == b' ',
+        },
     }
 }
 

@@ -1,13 +1,13 @@
 //! The user of `agent`: it asks for what comes over the pipe.
 
 ghost use Rattle.std.specs.Prelude.{◌≡◌, ◌++◌, OnOk};
-ghost use Rattle.std.specs.List.{flat_map};
-ghost use Rattle.sip_udp.specs.Piping.{events_of_line};
+ghost use Rattle.sip_udp.specs.Piping as piping;
 
 use crate::listener::Flags;
 use crate::pipe::PipeLine;
 use crate::turns::LINE_CAPACITY;
 use crate::user::User;
+use crate::waiting::Waiting;
 use sip_desk::Desk;
 use sip_round::Event;
 use sip_served::Notice;
@@ -21,6 +21,8 @@ use std::sync::atomic::Ordering;
 #[derive(Drop)]
 pub(crate) struct Piped {
     pipe: Desk<PipeLine>,
+    // The header lines that wait for their command.
+    waiting: Waiting,
     flags: Arc<Flags>,
     linger: u32,
     // The moment at which all that came over the pipe was taken.
@@ -28,9 +30,15 @@ pub(crate) struct Piped {
 }
 
 impl Piped {
-    pub(crate) fn new(pipe: Desk<PipeLine>, flags: Arc<Flags>, linger: u32) -> Piped {
+    pub(crate) fn new(
+        alloc: Global,
+        pipe: Desk<PipeLine>,
+        flags: Arc<Flags>,
+        linger: u32,
+    ) -> Piped {
         Piped {
             pipe,
+            waiting: Waiting::new(alloc),
             flags,
             linger,
             ended_at: None,
@@ -55,7 +63,7 @@ impl User for Piped {
 
     fn turn<E: Write>(
         &mut self,
-        _alloc: Global,
+        alloc: Global,
         now: u64,
         _turns_left: u64,
         events: &mut Vec<Event>,
@@ -70,8 +78,9 @@ impl User for Piped {
         };
         if has_ended && lines.is_empty() {
             self.ended_at = Some(now);
+            self.waiting.refuse(alloc, errors);
         }
-        ask_for(lines, events, errors)
+        ask_for(alloc, lines, &mut self.waiting, events, errors)
     }
 
     fn is_over(&self, now: u64, holds: bool) -> bool {
@@ -90,22 +99,21 @@ impl User for Piped {
     }
 }
 
-// Adds the commands among these lines. A line that is none is told with its number.
+// Adds the commands among these lines, each with the header lines before it.
 fn ask_for<E: Write>(
+    alloc: Global,
     lines: Vec<PipeLine>,
+    waiting: &mut Waiting,
     events: &mut Vec<Event>,
     errors: &mut E,
 ) -> Result<(), AllocError>
-    ensures { OnOk result (events.new.items
-        ≡ events.old.items ++ flat_map events_of_line lines.items) }
+    ensures asked { OnOk result (events.new.items
+        ≡ events.old.items ++ piping.all_asked waiting.old.headers lines.items) }
+    ensures wait { OnOk result (waiting.new.headers
+        ≡ piping.headers_at_end waiting.old.headers lines.items) }
 {
     for line in lines {
-        match line {
-            PipeLine::Command(command) => events.push(Event::Command(command))?,
-            PipeLine::NoCommand(number) => {
-                let _ = writeln!(errors, "ua: line {number} is no command");
-            }
-        }
+        waiting.take(alloc, line, events, errors)?;
     }
     Ok(())
 }

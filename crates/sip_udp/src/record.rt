@@ -1,11 +1,11 @@
-//! Records a run: the event file of its rounds.
+//! Records a run: the event file or the session file of its rounds.
 
 ghost use Rattle.std.specs.Prelude.{List, ℕ, OnOk, Option, IfSome};
 ghost use Rattle.sip_udp.specs.Recording.{Records};
-ghost use Rattle.sip_files.specs.Written.{head_text, round_text};
+ghost use Rattle.sip_files.specs.Written.{file_head, round_in};
 
 use crate::notices::put;
-use sip_files::{write_head, write_round};
+use sip_files::{FileKind, write_file_head, write_file_round};
 use sip_round::{Config, Round};
 use std::alloc::{AllocError, Global};
 use std::io::Write;
@@ -14,11 +14,13 @@ use std::io::Write;
 #[derive(Drop)]
 pub(crate) struct Record<F> {
     file: Option<F>,
+    kind: FileKind,
 }
 
 impl<F: Write + Drop> Record<F> {
-    pub(crate) fn new(file: Option<F>) -> Record<F> {
-        Record { file }
+    /// A record of this kind of file, in this one if there is one.
+    pub(crate) fn new(kind: FileKind, file: Option<F>) -> Record<F> {
+        Record { file, kind }
     }
 
     /// Records the head.
@@ -33,10 +35,10 @@ impl<F: Write + Drop> Record<F> {
         errors: &mut E,
     ) -> Result<(), AllocError>
         ensures { OnOk result (Records F.contents self.old.file self.new.file
-            (head_text config.now)) }
+            (file_head self.old.kind config.now)) }
     {
         if self.file.is_some() {
-            let text = write_head(alloc, config)?;
+            let text = write_file_head(alloc, self.kind, config)?;
             self.write(&text, errors);
         }
         Ok(())
@@ -54,10 +56,10 @@ impl<F: Write + Drop> Record<F> {
         errors: &mut E,
     ) -> Result<(), AllocError>
         ensures { OnOk result (Records F.contents self.old.file self.new.file
-            (round_text round.now)) }
+            (round_in self.old.kind round.now)) }
     {
         if self.file.is_some() {
-            let text = write_round(alloc, round)?;
+            let text = write_file_round(alloc, self.kind, round)?;
             self.write(&text, errors);
         }
         Ok(())

@@ -13,6 +13,7 @@ use crate::listen_plan::ListenPlan;
 use crate::listener::{Flags, Heard, hear};
 use crate::pipe::feed;
 use crate::piped::Piped;
+use crate::record::Record;
 use crate::turns::{LINE_CAPACITY, Turns};
 use crate::user::User;
 use sip_desk::{Desk, NoMemory, Poster, open};
@@ -120,10 +121,10 @@ pub fn call_from<R: Threads + Clock + Sync, F: Write + Drop, W: Write, E: Write>
     talk(rt, alloc, endpoint, user, None, turns, notices, errors)
 }
 
-/// Does what the lines of the input ask for, each the command of an event file, and writes each
-/// notice and each drop as a line of an output file. A line that is no command is told on `errors`
-/// with its number. After the end of the input it goes on until nothing is held or so many ms are
-/// over.
+/// Does what the lines of the input ask for, each the command of an event file, or of a session
+/// with header lines before it, as the endpoint says. It writes each notice and each drop as a line
+/// of an output file. A line that has no part in a command is told on `errors` with its number.
+/// After the end of the input it goes on until nothing is held or so many ms are over.
 ///
 /// # Errors
 ///
@@ -147,8 +148,11 @@ pub fn agent<
     let bell = bell_of(rt, alloc)?;
     let flags = flags_with(alloc, Some(bell.clone()?))?;
     let their_flags = flags.clone()?;
-    let user = Piped::new(pipe, flags.clone()?, linger);
-    let Ok(feeder) = thread::spawn(rt, move || feed(alloc, input, &mut line, their_flags)) else {
+    let user = Piped::new(alloc, pipe, flags.clone()?, linger);
+    let kind = endpoint.kind;
+    let Ok(feeder) = thread::spawn(rt, move || {
+        feed(alloc, kind, input, &mut line, their_flags)
+    }) else {
         return Err(UaFault::Socket);
     };
     let bell = Some(bell);
@@ -208,12 +212,14 @@ fn talk<R: Threads + Clock + Sync, U: User, F: Write + Drop, W: Write, E: Write>
         config,
         division,
         record,
+        kind,
         is_counted,
     } = endpoint;
     let Ok(theirs) = listening(&socket) else {
         return Err(UaFault::Socket);
     };
     let flags = flags_with(alloc, bell.clone()?)?;
+    let record = Record::new(kind, record);
     let mut own = Turns::new(
         rt, alloc, config, division, record, is_counted, user, bell, errors,
     )?;

@@ -63,7 +63,7 @@ impl<U: User, F: Write + Drop> Turns<U, F> {
         alloc: Global,
         config: Config,
         division: Division,
-        record: Option<F>,
+        mut record: Record<F>,
         is_counted: bool,
         mut user: U,
         bell: Option<Arc<Bell>>,
@@ -75,7 +75,6 @@ impl<U: User, F: Write + Drop> Turns<U, F> {
         let Ok(start) = Instant::now(rt) else {
             return Err(UaFault::Socket);
         };
-        let mut record = Record::new(record);
         record.begin(alloc, &config, errors)?;
         Ok(Turns {
             alloc,

@@ -1,5 +1,6 @@
 #!/usr/bin/env python3
-"""Draws ladders from event files and their output files: what `ua ladder` has to write.
+"""Draws ladders from event files, session files and their output files: what `ua ladder` has to
+write.
 
 Usage: draw.py EVENTS OUTPUTS   writes the ladder of these two files
        draw.py                  writes the .outputs of each case of this folder anew
@@ -28,12 +29,12 @@ def plain(text):
 
 
 def rounds_of(lines):
-    """The moment and the lines of each round."""
+    """The moment and the lines of each round, but for header lines."""
     rounds = []
     for line in lines:
         if line.startswith("round "):
             rounds.append((int(line[6:]), []))
-        elif rounds:
+        elif rounds and not line.startswith(" "):
             rounds[-1][1].append(line)
     return rounds
 
@@ -155,7 +156,8 @@ def main():
         if os.path.exists(name + ".fault"):
             continue
         with open(path, "rb") as file:
-            ran = subprocess.run([sys.executable, AGENT], stdin=file, capture_output=True, check=True)
+            words = [sys.executable, AGENT, "--session"]
+            ran = subprocess.run(words, stdin=file, capture_output=True, check=True)
         outputs = ran.stdout.decode("latin-1").split("\n")[:-1]
         with open(name + ".outputs", "w", encoding="latin-1", newline="") as file:
             write(read(path), outputs, file)

@@ -4,7 +4,7 @@ use crate::examples::worked::{CONFIG, EVENTS, OUTPUTS, PEER};
 use crate::messages::token;
 use crate::open::Open;
 use crate::stop::{Stop, check};
-use sip_files::{read_command_line, read_events, replay, write_head, write_round};
+use sip_files::{FileKind, read_command_line, read_events, replay, write_head, write_round};
 use sip_message::{Addr, Key, Spread};
 use sip_round::{Event, Output, Round};
 use sip_served::UserCommand;
@@ -23,7 +23,8 @@ first 0
 pub fn a_file_is_replayed<R: Threads + Sync>(rt: &R, alloc: Global) -> Result<(), Stop> {
     let mut output = Vec::with_capacity(alloc, OUTPUTS.len())?;
     let mut input = EVENTS;
-    let end = replay(rt, alloc, &mut input, &mut output, 2, 2, Spread, &Open);
+    let kind = FileKind::Events;
+    let end = replay(rt, alloc, kind, &mut input, &mut output, 2, 2, Spread, &Open);
     check(end.is_ok() || output.is_empty())?;
     end?;
     check(output.as_slice() == OUTPUTS)

@@ -2,7 +2,7 @@
 //! has, and a reader that counts.
 
 use super::Open;
-use sip_files::{CountedRead, EventsFault, replay, write_output};
+use sip_files::{CountedRead, EventsFault, FileKind, replay, write_output};
 use sip_message::{CallId, Spread};
 use sip_round::Output;
 use sip_served::{Notice, Refusal};
@@ -61,7 +61,18 @@ fn reads_are_counted(rt: HostRuntime) {
         reads: Some(0),
     };
     let mut file = Vec::new(alloc);
-    let end = replay(&rt, alloc, &mut reader, &mut file, 1, 1, Spread, &Open);
+    let kind = FileKind::Events;
+    let end = replay(
+        &rt,
+        alloc,
+        kind,
+        &mut reader,
+        &mut file,
+        1,
+        1,
+        Spread,
+        &Open,
+    );
     assert!(rt; end.is_ok());
     assert!(rt; reader.reads == Some(2));
 }

@@ -2,6 +2,7 @@
 
 use super::loopback::{Answers, Calls, bound, called, listened, stand_in_order};
 use super::run_on;
+use sip_files::FileKind;
 use sip_message::Addr;
 use sip_program::Host;
 use sip_udp::{Endpoint, agent};
@@ -26,8 +27,18 @@ fn lines_after(alloc: Global, text: &[u8], beginning: &str) -> Result<Vec<u8>, F
 
 // What `ua replay` answers to a record.
 fn replayed<T: Threads + Host>(rt: &T, alloc: Global, record: &[u8]) -> Result<Vec<u8>, Fail> {
+    replayed_by(rt, alloc, ["replay"].as_slice(), record)
+}
+
+// What `ua` answers to a record by these words.
+fn replayed_by<T: Threads + Host>(
+    rt: &T,
+    alloc: Global,
+    words: &[&str],
+    record: &[u8],
+) -> Result<Vec<u8>, Fail> {
     let mut input = record;
-    let ended = run_on(rt, alloc, ["replay"].as_slice(), &mut input);
+    let ended = run_on(rt, alloc, words, &mut input);
     if ended.status == 0 {
         Ok(ended.output)
     } else {
@@ -283,6 +294,7 @@ fn piped<R: Threads + Clock + Net + Sync>(
     alloc: Global,
     socket: UdpSocket,
     local: Addr,
+    kind: FileKind,
     commands: PipeReader,
     mut notices: PipeWriter,
 ) -> Option<PipedRun> {
@@ -290,7 +302,8 @@ fn piped<R: Threads + Clock + Net + Sync>(
         record: Vec::new(alloc),
         errors: Vec::new(alloc),
     };
-    let endpoint = Endpoint::new(socket, local, [0; 32], Some(&mut run.record));
+    let mut endpoint = Endpoint::new(socket, local, [0; 32], Some(&mut run.record));
+    endpoint.kind = kind;
     let input = BufReader::new(alloc, commands).ok()?;
     agent(
         rt,
@@ -321,7 +334,15 @@ fn an_agent_on_a_pipe_is_replayed_as_it_was(rt: HostRuntime) -> Result<(), Fail>
     };
     let (run, heard) = thread::join(
         &rt,
-        || piped(&rt, alloc, socket, local, commands, notices),
+        || piped(
+            &rt,
+            alloc,
+            socket,
+            local,
+            FileKind::Events,
+            commands,
+            notices,
+        ),
         || forked_and_cancelled(alloc, script, local, to),
     );
     let heard = heard?;
@@ -335,6 +356,81 @@ fn an_agent_on_a_pipe_is_replayed_as_it_was(rt: HostRuntime) -> Result<(), Fail>
     let words = [" ended ", " y\n", " response ", " 487 ", "notice c2 ended "];
     assert!(rt; stand_in_order(&heard.told, &words));
     assert!(rt; run.errors.as_slice() == b"ua: line 2 is no command\n".as_slice());
+    Ok(())
+}
+
+// A MESSAGE with headers, which is answered, and lines that have no part in a command.
+fn headed(alloc: Global, mut script: Script, from: Addr, to: Addr) -> Result<Heard, Fail> {
+    let uris = format!(in alloc; "sip:b@{to} sip:a@127.0.0.1 sip:b@{to}")?;
+    script.command(" Subject: lunch\n Content-Type: text/plain")?;
+    let message = format!(in alloc; "plain c1 {to} MESSAGE {uris} hello")?;
+    script.command(message.as_str())?;
+    script.command(" Via: none of the user's")?;
+    let options = format!(in alloc; "plain c2 {to} OPTIONS {uris} -")?;
+    script.command(options.as_str())?;
+    script.command(" Subject: tea\ncancel c1 0.1\n Subject: dinner")?;
+    let request = script.datagram(alloc, "MESSAGE ")?;
+    script.answer(alloc, from, &request, "200 OK", "z")?;
+    script.notice(alloc, " 200 ")?;
+    script.finish()
+}
+
+// A command goes with all its header lines or not at all, and the record is a session.
+#[test]
+fn headers_on_a_pipe_are_recorded_as_a_session(rt: HostRuntime) -> Result<(), Fail> {
+    let alloc = rt.alloc();
+    let (socket, local) = bound(&rt)?;
+    let (theirs, to) = bound(&rt)?;
+    let (commands, writer) = io::pipe(&rt)?;
+    let (reader, notices) = io::pipe(&rt)?;
+    let script = Script {
+        commands: writer,
+        notices: BufReader::new(alloc, reader)?,
+        socket: theirs,
+        told: Vec::new(alloc),
+        came: Vec::new(alloc),
+    };
+    let (run, heard) = thread::join(
+        &rt,
+        || piped(
+            &rt,
+            alloc,
+            socket,
+            local,
+            FileKind::Session,
+            commands,
+            notices,
+        ),
+        || headed(alloc, script, local, to),
+    );
+    let heard = heard?;
+    let run = run.ok_or("an agent that ends")?;
+    assert!(rt; run.record.starts_with(b"sip-session 1\n"));
+    let words = [
+        " Subject: lunch\n Content-Type: text/plain\nplain c1 ",
+        "datagram ",
+    ];
+    assert!(rt; stand_in_order(&run.record, &words));
+    let words = ["\\r\\nSubject: lunch\\r\\nContent-Type: text/plain\\r\\n"];
+    assert!(rt; stand_in_order(&heard.came, &words));
+    assert!(rt;
+        run_on(
+            &rt,
+            alloc,
+            ["replay"].as_slice(),
+            &mut run.record.as_slice()
+        )
+        .status
+            == 1
+    );
+    let output = replayed_by(&rt, alloc, ["replay", "--session"].as_slice(), &run.record)?;
+    let sends = format!(in alloc; "send {to} ")?;
+    assert!(rt; lines_after(alloc, &output, sends.as_str())?.starts_with(heard.came.as_slice()));
+    assert!(rt; have_same_lines(alloc, "notice ", &heard.told, &output)?);
+    let told = lines_after(alloc, &run.errors, "ua: line ")?;
+    let expected = b"\
+        4 is no command\n5 is no command\n6 is no command\n7 is no command\n8 is no command\n";
+    assert!(rt; told.as_slice() == expected.as_slice());
     Ok(())
 }
 
@@ -376,7 +472,15 @@ fn a_listener_answers_reliably_and_as_it_is_told(rt: HostRuntime) -> Result<(), 
         || {
             thread::join(
                 &rt,
-                || piped(&rt, alloc, socket, local, commands, notices),
+                || piped(
+                    &rt,
+                    alloc,
+                    socket,
+                    local,
+                    FileKind::Events,
+                    commands,
+                    notices,
+                ),
                 || asked(alloc, script, to),
             )
         },

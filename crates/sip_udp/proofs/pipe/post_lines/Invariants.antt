@@ -6,4 +6,4 @@ use Rattle.sip_udp.proofs.pipe.post_lines.Given as goal
 abbrev pub invariant-loop-number : goal.invariant-loop-number
 invariant-loop-number g l =
     IfSome (g.I.Read.remaining l.fn.input) (λ text.
-    FedSoFar text (g.I.Read.remaining l.input) (posted l.fn.line) (posted l.line) l.number)
+    FedSoFar l.kind text (g.I.Read.remaining l.input) (posted l.fn.line) (posted l.line) l.number)

@@ -1,0 +1,127 @@
+//! The header lines of the pipe that wait for the line of their command.
+
+ghost use Rattle.std.specs.Prelude.{◌≡◌, ◌++◌, Some, [], IfOk, OnOk};
+ghost use Rattle.sip_udp.specs.Piping as piping;
+ghost use Rattle.sip_udp.specs.declared.pipe.Said.TheVariants as said;
+
+use crate::pipe::{PipeLine, Said};
+use sip_files::{GivenHeader, with_given};
+use sip_round::Event;
+use sip_served::UserCommand;
+use sip_text::Series;
+use std::alloc::{AllocError, Global};
+use std::io::Write;
+use std::mem;
+
+/// Lines of the pipe that have no part in a command yet.
+#[derive(Drop)]
+pub(crate) struct Waiting {
+    numbers: Vec<u64>,
+    /// What they say, where each is a header line.
+    pub headers: Option<Series<GivenHeader>>,
+}
+
+impl Waiting {
+    /// No lines.
+    pub(crate) fn new(alloc: Global) -> Waiting
+        ensures { result.headers ≡ Some [] }
+    {
+        Waiting {
+            numbers: Vec::new(alloc),
+            headers: Some(Series::new(alloc)),
+        }
+    }
+
+    /// Takes the next line. A command is asked for with the header lines before it; lines that have
+    /// no part in one are told on `errors`.
+    ///
+    /// # Errors
+    ///
+    /// Want of memory.
+    pub(crate) fn take<E: Write>(
+        &mut self,
+        alloc: Global,
+        line: PipeLine,
+        events: &mut Vec<Event>,
+        errors: &mut E,
+    ) -> Result<(), AllocError>
+        ensures asked { OnOk result (events.new.items
+            ≡ events.old.items ++ piping.asked_by self.old.headers line.said) }
+        ensures wait { OnOk result (self.new.headers
+            ≡ piping.headers_after self.old.headers line.said) }
+    {
+        let PipeLine { number, said } = line;
+        self.numbers.push(number)?;
+        match said {
+            Said::Command(command) => self.ask(alloc, command, events, errors),
+            Said::NoCommand => {
+                self.refuse(alloc, errors);
+                Ok(())
+            }
+            Said::Header(header) => self.add(header),
+            Said::NoHeader => {
+                self.headers = None;
+                Ok(())
+            }
+        }
+    }
+
+    /// Tells these lines with their numbers, and has none then.
+    pub(crate) fn refuse<E: Write>(&mut self, alloc: Global, errors: &mut E)
+        ensures { self.new.headers ≡ Some [] }
+    {
+        let lines = mem::replace(self, Waiting::new(alloc));
+        tell(lines.numbers, errors);
+    }
+
+    // A header line more.
+    fn add(&mut self, header: GivenHeader) -> Result<(), AllocError>
+        ensures { OnOk result (self.new.headers
+            ≡ piping.headers_after self.old.headers (said.Header header)) }
+    {
+        match &mut self.headers {
+            Some(headers) => headers.push(header),
+            None => Ok(()),
+        }
+    }
+
+    // Asks for a command, which is the last of these lines.
+    fn ask<E: Write>(
+        &mut self,
+        alloc: Global,
+        command: UserCommand,
+        events: &mut Vec<Event>,
+        errors: &mut E,
+    ) -> Result<(), AllocError>
+        ensures asked { OnOk result (events.new.items
+            ≡ events.old.items ++ piping.asked_by self.old.headers (said.Command command)) }
+        ensures wait { OnOk result (self.new.headers ≡ Some []) }
+    {
+        let lines = mem::replace(self, Waiting::new(alloc));
+        match command_with(alloc, lines.headers, command)? {
+            Some(command) => events.push(Event::Command(command))?,
+            None => tell(lines.numbers, errors),
+        }
+        Ok(())
+    }
+}
+
+// The command with the header lines before it, where they are such and it takes them.
+fn command_with(
+    alloc: Global,
+    headers: Option<Series<GivenHeader>>,
+    command: UserCommand,
+) -> Result<Option<UserCommand>, AllocError>
+    ensures { IfOk result (λ made. made ≡ piping.command_with headers command) }
+{
+    match headers {
+        Some(headers) => with_given(alloc, headers, command),
+        None => Ok(None),
+    }
+}
+
+fn tell<E: Write>(numbers: Vec<u64>, errors: &mut E) {
+    for number in numbers {
+        let _ = writeln!(errors, "ua: line {number} is no command");
+    }
+}
