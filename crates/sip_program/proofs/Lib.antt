@@ -1,1 +1,2 @@
 pub mod NoFile
+pub mod SessionOption

@@ -14,8 +14,10 @@ abbrev pub asks_ladder : List (List ℕ) → Bool
 asks_ladder [] = false
 asks_ladder (word ∷ words) = bytes_eq word (codes "ladder")
 
+abbrev pub is_session_option : List ℕ → Bool
+is_session_option word = bytes_eq word (codes "--session")
+
 -- a session, where one of the words is its option
 abbrev pub kind_asked : List (List ℕ) → FileKind
 kind_asked words =
-    if list_any (λ word. bytes_eq word (codes "--session")) words then file_kind.Session
-    else file_kind.Events
+    if list_any is_session_option words then file_kind.Session else file_kind.Events

@@ -1,6 +1,7 @@
 //! The words of the command line.
 
 ghost use Rattle.std.specs.Prelude.{◌≡◌, ◌<◌, ◌≤◌, map};
+ghost use Rattle.std.specs.List.{list_any};
 ghost use Rattle.sip_program.specs.Words as spec;
 
 use clap::{Arg, ArgAction, ArgMatches, Command, Error, value_parser};
@@ -16,9 +17,6 @@ const MAX_SHARDS: usize = 256;
 
 /// How many workers there may be at most.
 const MAX_WORKERS: usize = 64;
-
-/// The option of session files.
-const SESSION: &str = "--session";
 
 /// What the help of the whole ends in.
 const EXAMPLES: &str = "\
@@ -150,16 +148,27 @@ pub(crate) fn asks_ladder<S: AsStr>(words: &[S]) -> bool
     }
 }
 
-/// The kind of the file that is asked for: `--session` is the option of a session file.
+/// The kind of the file that is asked for: a session where one of the words is its option.
 pub(crate) fn kind_asked<S: AsStr>(words: &[S]) -> FileKind
     ensures { result ≡ spec.kind_asked (map S.text words.now) }
 {
-    for word in words {
-        if word.as_str() == SESSION {
-            return FileKind::Session;
-        }
+    if asks_session(words) {
+        FileKind::Session
+    } else {
+        FileKind::Events
     }
-    FileKind::Events
+}
+
+fn asks_session<S: AsStr>(words: &[S]) -> bool
+    ensures { result ≡ list_any (λ word. spec.is_session_option (S.text word)) words.now }
+{
+    words.iter().any(|word| is_session_option(word.as_str()))
+}
+
+fn is_session_option(word: &str) -> bool
+    ensures { result ≡ spec.is_session_option word.now }
+{
+    word == "--session"
 }
 
 /// The words as those of one of the commands.

@@ -1,0 +1,13 @@
+use Rattle.std.proofs.Common.{true, false, sym, ◌∙◌}
+use Rattle.sip_program.proofs.SessionOption.{kind_of_words}
+use Rattle.sip_program.proofs.words.kind_asked.Goals as goal
+
+pub returns-then-asks_session : goal.returns-then-asks_session
+returns-then-asks_session g c =
+    kind_of_words g.S.AsStr.text c.args.words.now true
+    (sym c.if-asks_session.true ∙ c.asks_session.ensures)
+
+pub returns : goal.returns
+returns g c =
+    kind_of_words g.S.AsStr.text c.args.words.now false
+    (sym c.if-asks_session.false ∙ c.asks_session.ensures)
