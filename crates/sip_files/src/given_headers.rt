@@ -128,21 +128,27 @@ fn command_with(
 ) -> Result<Option<UserCommand>, AllocError>
     ensures { IfOk result (λ made. made ≡ given.command_with headers command) }
 {
-    Ok(match command {
+    match command {
         UserCommand::Invite(invite) => {
-            Some(UserCommand::Invite(invite_with(alloc, headers, invite)?))
+            let invite = invite_with(alloc, headers, invite)?;
+            Ok(Some(UserCommand::Invite(invite)))
         }
-        UserCommand::Plain(plain) => Some(UserCommand::Plain(plain_with(alloc, headers, plain)?)),
+        UserCommand::Plain(plain) => {
+            let plain = plain_with(alloc, headers, plain)?;
+            Ok(Some(UserCommand::Plain(plain)))
+        }
         UserCommand::Request(request) => {
-            request_with(alloc, headers, request)?.map(UserCommand::Request)
+            let request = request_with(alloc, headers, request)?;
+            Ok(request.map(UserCommand::Request))
         }
         UserCommand::Respond(respond) => {
-            respond_with(alloc, headers, respond)?.map(UserCommand::Respond)
+            let respond = respond_with(alloc, headers, respond)?;
+            Ok(respond.map(UserCommand::Respond))
         }
-        UserCommand::Ack(ack) => body_with(alloc, headers, ack)?.map(UserCommand::Ack),
-        UserCommand::Prack(prack) => body_with(alloc, headers, prack)?.map(UserCommand::Prack),
-        UserCommand::Cancel(_) => None,
-    })
+        UserCommand::Ack(ack) => Ok(body_with(alloc, headers, ack)?.map(UserCommand::Ack)),
+        UserCommand::Prack(prack) => Ok(body_with(alloc, headers, prack)?.map(UserCommand::Prack)),
+        UserCommand::Cancel(_) => Ok(None),
+    }
 }
 
 fn invite_with(
