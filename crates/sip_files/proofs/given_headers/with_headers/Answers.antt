@@ -7,4 +7,4 @@ returns-in-Some c =
     let asked = c.in-Event-Command.command in
     sym (headed_command c.args.headers c.args.line asked c.in-Some.command
     (sym c.is_empty.ensures ∙ c.if-is_empty.false) (search rules)
-    (sym c.in_ok-with_given-in-Event-Command.ensures ∙ c.in-Some.is))
+    (sym c.in_ok-command-in-Event-Command.ensures ∙ c.in-Some.is))
