@@ -11,4 +11,4 @@ returns-in-Some c =
     (sym c.is_empty.ensures ∙ c.if-is_empty.false) (search rules)
     (ap (λ (g : GivenHeaders). command_with g asked)
     (sym c.in_ok-gathered-in-Event-Command.ensures)
-    ∙ sym c.in_ok-command_with-in-Event-Command.ensures ∙ c.in-Some.is))
+    ∙ sym c.in_ok-command-in-Event-Command.ensures ∙ c.in-Some.is))
