@@ -7,7 +7,7 @@ returns-then-asks_session g c =
     kind_of_words g.S.AsStr.text c.args.words.now true
     (sym c.if-asks_session.true ∙ c.asks_session.ensures)
 
-pub returns : goal.returns
-returns g c =
+pub returns-else-asks_session : goal.returns-else-asks_session
+returns-else-asks_session g c =
     kind_of_words g.S.AsStr.text c.args.words.now false
     (sym c.if-asks_session.false ∙ c.asks_session.ensures)
