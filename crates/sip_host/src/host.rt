@@ -176,13 +176,12 @@ impl Host {
     pub fn last_id(&self) -> Option<Id>
         ensures { length self.now.events ≤ 65536 → result ≡ last_id_of self.now }
     {
-        if self.events.is_empty() {
+        let place = u32::try_from(self.events.len()).ok()?;
+        if place == 0 {
             return None;
         }
-        Some(Id {
-            round: self.agent.next_round(),
-            place: self.events.len() as u32,
-        })
+        let round = self.agent.next_round();
+        Some(Id { round, place })
     }
 
     /// The first moment, in ms, at which something is due of what is held, if there is one: until
