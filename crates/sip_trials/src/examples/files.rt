@@ -24,7 +24,17 @@ pub fn a_file_is_replayed<R: Threads + Sync>(rt: &R, alloc: Global) -> Result<()
     let mut output = Vec::with_capacity(alloc, OUTPUTS.len())?;
     let mut input = EVENTS;
     let kind = FileKind::Events;
-    let end = replay(rt, alloc, kind, &mut input, &mut output, 2, 2, Spread, &Open);
+    let end = replay(
+        rt,
+        alloc,
+        kind,
+        &mut input,
+        &mut output,
+        2,
+        2,
+        Spread,
+        &Open,
+    );
     check(end.is_ok() || output.is_empty())?;
     end?;
     check(output.as_slice() == OUTPUTS)
