@@ -1,0 +1,224 @@
+-- The values of a header, found line by line.
+use Rattle.std.proofs.Common.{◌≡◌, ℕ, Bool, true, false, cond, List, [], ◌∷◌, ◌++◌, map, Option, Some, None, refl, sym, ap, ◌∙◌, append_assoc}
+use Rattle.std.specs.Prelude.{is_some}
+use Rattle.std.specs.List.{AllZip, cons_option}
+use Rattle.std.specs.Str.{str_eq_ignore_ascii_case}
+use Rattle.std.proofs.lemmas.List.{append-nil}
+use Rattle.sip_text.specs.Line.{line_at}
+use Rattle.sip_text.proofs.ReadForms.{not_read}
+use Rattle.sip_parts.specs.HeaderEntry.{header_named}
+use Rattle.sip_parts.specs.declared.header_name.HeaderName.{HeaderName}
+use Rattle.sip_parts.specs.declared.header_name.HeaderName.TheVariants as name
+use Rattle.sip_values.proofs.Pieces.{by_bool}
+use Rattle.sip_headers.specs.Draft.{long_name}
+use Rattle.sip_headers.specs.Folding.{folded_onto, whole_lines}
+use Rattle.sip_headers.specs.HeaderLine.{Class, bad, known, other, class_by_name, class_by_parts, line_from}
+use Rattle.sip_headers.specs.Named.{is_same}
+use Rattle.sip_headers.specs.Steps.Drafted.{lines_at, onto_lines}
+use Rattle.sip_headers.proofs.Folds.{line_onto, none_onto}
+use Rattle.sip_headers.proofs.NamedLines.{line_reads}
+use Rattle.sip_reader.specs.Head.{AreHeaderValues, HasHeaderValues, Parts, behind_first, is_one, value_under}
+use Rattle.sip_reader.specs.Layout.{IsFull}
+use Rattle.sip_reader.specs.ReadHead.{head_at, is_known, values_at, whole_lines_at}
+use Rattle.sip_reader.proofs.Heads.{is_head, whole_onto}
+
+-- ---- one line, by its class
+
+none_bad : (name : List ℕ) (parts : List ℕ × List ℕ) (o : Option HeaderName)
+    → bad ≡ class_by_name parts.0 parts.1 o → None ≡ value_under name (Some parts)
+none_bad name parts None e = absurd cc
+none_bad name parts (Some header) e = absurd cc
+
+pub bad_value : (name : List ℕ) (o : Option (List ℕ × List ℕ)) → bad ≡ class_by_parts o
+    → None ≡ value_under name o
+bad_value name None e = refl
+bad_value name (Some parts) e = none_bad name parts (header_named parts.0) e
+
+one_known : (wanted : Option HeaderName) (header : HeaderName) (same : Bool)
+    → is_one wanted (Some header) same ≡ is_known wanted header
+one_known None header same = refl
+one_known (Some wanted) header same = refl
+
+known_by : (name : List ℕ) (wanted : Option HeaderName) (header : HeaderName) (value : List ℕ)
+    (parts : List ℕ × List ℕ) (o : Option HeaderName) (same : Bool)
+    → known header value ≡ class_by_name parts.0 parts.1 o
+    → cond (is_known wanted header) (Some value) None
+    ≡ cond (is_one wanted o same) (Some parts.1) None
+known_by name wanted header value parts None same e = absurd cc
+known_by name wanted header value parts (Some found) same e =
+    let header_is : header ≡ found = cc in
+    let value_is : value ≡ parts.1 = cc in
+    ap (λ (v : List ℕ). cond (is_known wanted header) (Some v) None) value_is
+    ∙ ap (λ (h : HeaderName). cond (is_known wanted h) (Some parts.1) None) header_is
+    ∙ ap (λ (b : Bool). cond b (Some parts.1) None) (sym (one_known wanted found same))
+
+pub known_value : (name : List ℕ) (wanted : Option HeaderName) (header : HeaderName)
+    (value : List ℕ) (o : Option (List ℕ × List ℕ)) → wanted ≡ header_named name
+    → known header value ≡ class_by_parts o
+    → cond (is_known wanted header) (Some value) None ≡ value_under name o
+known_value name wanted header value None w e = absurd cc
+known_value name wanted header value (Some parts) w e =
+    let same = str_eq_ignore_ascii_case (long_name parts.0) (long_name name) in
+    known_by name wanted header value parts (header_named parts.0) same e
+    ∙ ap (λ (o : Option HeaderName).
+    cond (is_one o (header_named parts.0) same) (Some parts.1) None) w
+
+-- no header of the table is looked for, and the names are the same
+abbrev pub is_unknown : Option HeaderName → Bool → Bool
+is_unknown None same = same
+is_unknown (Some wanted) same = false
+
+one_unknown : (wanted : Option HeaderName) (same : Bool)
+    → is_one wanted None same ≡ is_unknown wanted same
+one_unknown None same = refl
+one_unknown (Some wanted) same = refl
+
+other_by : (wanted : Option HeaderName) (own value : List ℕ) (parts : List ℕ × List ℕ)
+    (o : Option HeaderName) (same : List ℕ → Bool)
+    → other own value ≡ class_by_name parts.0 parts.1 o
+    → cond (is_unknown wanted (same own)) (Some value) None
+    ≡ cond (is_one wanted o (same parts.0)) (Some parts.1) None
+other_by wanted own value parts (Some found) same e = absurd cc
+other_by wanted own value parts None same e =
+    let own_is : own ≡ parts.0 = cc in
+    let value_is : value ≡ parts.1 = cc in
+    ap (λ (v : List ℕ). cond (is_unknown wanted (same own)) (Some v) None) value_is
+    ∙ ap (λ (n : List ℕ). cond (is_unknown wanted (same n)) (Some parts.1) None) own_is
+    ∙ ap (λ (b : Bool). cond b (Some parts.1) None) (sym (one_unknown wanted (same parts.0)))
+
+pub other_value : (name : List ℕ) (wanted : Option HeaderName) (own value : List ℕ)
+    (o : Option (List ℕ × List ℕ)) → wanted ≡ header_named name
+    → other own value ≡ class_by_parts o
+    → cond (is_unknown wanted (str_eq_ignore_ascii_case (long_name own) (long_name name)))
+    (Some value) None ≡ value_under name o
+other_value name wanted own value None w e = absurd cc
+other_value name wanted own value (Some parts) w e =
+    let same = λ (n : List ℕ). str_eq_ignore_ascii_case (long_name n) (long_name name) in
+    other_by wanted own value parts (header_named parts.0) same e
+    ∙ ap (λ (o : Option HeaderName).
+    cond (is_one o (header_named parts.0) (same parts.0)) (Some parts.1) None) w
+
+-- ---- one line after the other
+
+-- the values so far, and those of the lines that are left
+abbrev pub AreWith : List ℕ → List ℕ → List (List ℕ) → List (List ℕ) → Type 0
+AreWith name text values total = values ++ values_at name (whole_lines_at text) ≡ total
+
+pub ends_empty : (name text line after : List ℕ) (values total : List (List ℕ))
+    → line_at text ≡ Some (line, after) → line ≡ [] → AreWith name text values total
+    → values ≡ total
+ends_empty name text line after values total e empty so_far =
+    sym (append-nil values)
+    ∙ sym (ap (λ (lines : List (List ℕ)). values ++ values_at name (whole_lines lines))
+    (line_onto text line after e
+    ∙ ap (λ (l : List ℕ). onto_lines l (lines_at after)) empty))
+    ∙ so_far
+
+pub ends_unended : (name text : List ℕ) (values total : List (List ℕ)) → line_at text ≡ None
+    → AreWith name text values total → values ≡ total
+ends_unended name text values total e so_far =
+    sym (append-nil values)
+    ∙ sym (ap (λ (lines : List (List ℕ)). values ++ values_at name (whole_lines lines))
+    (none_onto text e))
+    ∙ so_far
+
+next_whole : (text line after whole rest : List ℕ) → line_at text ≡ Some (line, after)
+    → IsFull line → folded_onto line (lines_at after) ≡ whole ∷ whole_lines_at rest
+    → whole_lines_at text ≡ whole ∷ whole_lines_at rest
+next_whole text line after whole rest e full whole_is =
+    ap whole_lines (line_onto text line after e) ∙ whole_onto line (lines_at after) full ∙ whole_is
+
+pub one_value : (name text line after whole rest value : List ℕ) (values total : List (List ℕ))
+    → line_at text ≡ Some (line, after) → IsFull line
+    → folded_onto line (lines_at after) ≡ whole ∷ whole_lines_at rest
+    → Some value ≡ value_under name (line_from whole) → AreWith name text values total
+    → AreWith name rest (values ++ (value ∷ [])) total
+one_value name text line after whole rest value values total e full whole_is value_is so_far =
+    append_assoc values (value ∷ []) (values_at name (whole_lines_at rest))
+    ∙ sym (ap (λ (lines : List (List ℕ)). values ++ values_at name lines)
+    (next_whole text line after whole rest e full whole_is)
+    ∙ ap (λ (o : Option (List ℕ)). values ++ cons_option o (values_at name (whole_lines_at rest)))
+    (sym value_is))
+    ∙ so_far
+
+pub no_value : (name text line after whole rest : List ℕ) (values total : List (List ℕ))
+    → line_at text ≡ Some (line, after) → IsFull line
+    → folded_onto line (lines_at after) ≡ whole ∷ whole_lines_at rest
+    → None ≡ value_under name (line_from whole) → AreWith name text values total
+    → AreWith name rest values total
+no_value name text line after whole rest values total e full whole_is value_is so_far =
+    sym (ap (λ (lines : List (List ℕ)). values ++ values_at name lines)
+    (next_whole text line after whole rest e full whole_is)
+    ∙ ap (λ (o : Option (List ℕ)). values ++ cons_option o (values_at name (whole_lines_at rest)))
+    (sym value_is))
+    ∙ so_far
+
+-- ---- all lines
+
+parts_of : (line : List ℕ) (o : Option (List ℕ × List ℕ)) → line_from line ≡ o → Parts o line
+parts_of line None e = λ is. not_read line_reads line e is.0 is.1
+parts_of line (Some parts) e = line_reads.takes line parts e
+
+all_parts : (lines : List (List ℕ)) → AllZip Parts (map line_from lines) lines
+all_parts [] = tt
+all_parts (line ∷ lines) = (parts_of line (line_from line) refl, all_parts lines)
+
+pub has_values : (name text : List ℕ) (values : List (List ℕ))
+    → values ≡ values_at name (behind_first (head_at text)) → HasHeaderValues name values text
+has_values name text values e =
+    let lines = behind_first (head_at text) in
+    (head_at text, is_head text, (map line_from lines, all_parts lines, e))
+
+-- ---- the same header of the table
+
+same_itself : (header : HeaderName) → is_same header header ≡ true
+same_itself name.Via = refl
+same_itself name.From = refl
+same_itself name.To = refl
+same_itself name.CallId = refl
+same_itself name.CSeq = refl
+same_itself name.MaxForwards = refl
+same_itself name.ContentLength = refl
+same_itself name.RSeq = refl
+same_itself name.RAck = refl
+same_itself name.Contact = refl
+same_itself name.RecordRoute = refl
+same_itself name.Route = refl
+same_itself name.Require = refl
+same_itself name.Supported = refl
+
+one_header : (header found : HeaderName) → is_same header found ≡ true → header ≡ found
+one_header name.Via name.Via e = refl
+one_header name.From name.From e = refl
+one_header name.To name.To e = refl
+one_header name.CallId name.CallId e = refl
+one_header name.CSeq name.CSeq e = refl
+one_header name.MaxForwards name.MaxForwards e = refl
+one_header name.ContentLength name.ContentLength e = refl
+one_header name.RSeq name.RSeq e = refl
+one_header name.RAck name.RAck e = refl
+one_header name.Contact name.Contact e = refl
+one_header name.RecordRoute name.RecordRoute e = refl
+one_header name.Route name.Route e = refl
+one_header name.Require name.Require e = refl
+one_header name.Supported name.Supported e = refl
+one_header one another e = absurd cc
+
+pub same_one : (header found : HeaderName) → header ≡ found → is_same header found ≡ true
+same_one header found same =
+    ap (λ (h : HeaderName). is_same h found) same ∙ same_itself found
+
+pub not_one : (header found : HeaderName) → (header ≡ found → ⊥) → is_same header found ≡ false
+not_one header found differs =
+    by_bool (is_same header found) (λ b. b ≡ false)
+    (λ same. absurd (differs (one_header header found same))) (λ same. refl)
+
+pub not_same : (wanted : Option HeaderName) (same : Bool) → same ≡ false
+    → is_unknown wanted same ≡ false
+not_same None same e = e
+not_same (Some header) same e = refl
+
+pub not_unknown : (wanted : Option HeaderName) (same : Bool) → is_some wanted ≡ true
+    → is_unknown wanted same ≡ false
+not_unknown None same e = absurd cc
+not_unknown (Some header) same e = refl
