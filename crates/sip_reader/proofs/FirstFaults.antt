@@ -22,7 +22,8 @@ use Rattle.sip_reader.specs.ReadMessage.{◌>>=◌, or_fault, message_of_draft, 
 use Rattle.sip_reader.specs.ReadStart.{start_at}
 use Rattle.sip_reader.specs.SkippedEnds.{without_line_ends}
 use Rattle.sip_reader.specs.Spells.{Spells}
-use Rattle.sip_reader.specs.StartLine.{SpellsStart, first_of}
+use Rattle.sip_reader.specs.Head.{first_of}
+use Rattle.sip_reader.specs.StartLine.{SpellsStart}
 use Rattle.sip_reader.proofs.LastFaults.{last_faults, headers_decided}
 use Rattle.sip_reader.proofs.Layouts.{Laid, laid_takes, laid_again}
 use Rattle.sip_reader.proofs.Making.{some_start, first_spelled}

@@ -1,26 +1,25 @@
 -- The values of a header, found line by line.
-use Rattle.std.proofs.Common.{◌≡◌, ℕ, Bool, true, false, cond, List, [], ◌∷◌, ◌++◌, map, Option, Some, None, refl, sym, ap, ◌∙◌, append_assoc}
+use Rattle.std.proofs.Common.{◌≡◌, ℕ, Bool, true, false, cond, List, [], ◌∷◌, ◌++◌, drop, map, Option, Some, None, refl, sym, ap, subst, ◌∙◌, append_assoc}
 use Rattle.std.specs.Prelude.{is_some}
-use Rattle.std.specs.List.{AllZip, cons_option}
+use Rattle.std.specs.List.{AllZip, cons_option, filter_map}
 use Rattle.std.specs.Str.{str_eq_ignore_ascii_case}
 use Rattle.std.proofs.lemmas.List.{append-nil}
 use Rattle.sip_text.specs.Line.{line_at}
-use Rattle.sip_text.proofs.ReadForms.{not_read}
 use Rattle.sip_parts.specs.HeaderEntry.{header_named}
 use Rattle.sip_parts.specs.declared.header_name.HeaderName.{HeaderName}
 use Rattle.sip_parts.specs.declared.header_name.HeaderName.TheVariants as name
 use Rattle.sip_values.proofs.Pieces.{by_bool}
 use Rattle.sip_headers.specs.Draft.{long_name}
 use Rattle.sip_headers.specs.Folding.{folded_onto, whole_lines}
-use Rattle.sip_headers.specs.HeaderLine.{Class, bad, known, other, class_by_name, class_by_parts, line_from}
+use Rattle.sip_headers.specs.HeaderLine.{IsHeaderLine, bad, known, other, class_by_name, class_by_parts, line_from}
 use Rattle.sip_headers.specs.Named.{is_same}
 use Rattle.sip_headers.specs.Steps.Drafted.{lines_at, onto_lines}
 use Rattle.sip_headers.proofs.Folds.{line_onto, none_onto}
 use Rattle.sip_headers.proofs.NamedLines.{line_reads}
-use Rattle.sip_reader.specs.Head.{AreHeaderValues, HasHeaderValues, Parts, behind_first, is_one, value_under}
+use Rattle.sip_reader.specs.Head.{HasValues, OrNone, is_same_entry, value_under}
 use Rattle.sip_reader.specs.Layout.{IsFull}
 use Rattle.sip_reader.specs.ReadHead.{head_at, is_known, values_at, whole_lines_at}
-use Rattle.sip_reader.proofs.Heads.{is_head, whole_onto}
+use Rattle.sip_reader.proofs.Heads.{is_head, one_head, one_or_none, read_or_none, whole_onto}
 
 -- ---- one line, by its class
 
@@ -35,7 +34,7 @@ bad_value name None e = refl
 bad_value name (Some parts) e = none_bad name parts (header_named parts.0) e
 
 one_known : (wanted : Option HeaderName) (header : HeaderName) (same : Bool)
-    → is_one wanted (Some header) same ≡ is_known wanted header
+    → is_same_entry wanted (Some header) same ≡ is_known wanted header
 one_known None header same = refl
 one_known (Some wanted) header same = refl
 
@@ -43,7 +42,7 @@ known_by : (name : List ℕ) (wanted : Option HeaderName) (header : HeaderName) 
     (parts : List ℕ × List ℕ) (o : Option HeaderName) (same : Bool)
     → known header value ≡ class_by_name parts.0 parts.1 o
     → cond (is_known wanted header) (Some value) None
-    ≡ cond (is_one wanted o same) (Some parts.1) None
+    ≡ cond (is_same_entry wanted o same) (Some parts.1) None
 known_by name wanted header value parts None same e = absurd cc
 known_by name wanted header value parts (Some found) same e =
     let header_is : header ≡ found = cc in
@@ -61,7 +60,7 @@ known_value name wanted header value (Some parts) w e =
     let same = str_eq_ignore_ascii_case (long_name parts.0) (long_name name) in
     known_by name wanted header value parts (header_named parts.0) same e
     ∙ ap (λ (o : Option HeaderName).
-    cond (is_one o (header_named parts.0) same) (Some parts.1) None) w
+    cond (is_same_entry o (header_named parts.0) same) (Some parts.1) None) w
 
 -- no header of the table is looked for, and the names are the same
 abbrev pub is_unknown : Option HeaderName → Bool → Bool
@@ -69,7 +68,7 @@ is_unknown None same = same
 is_unknown (Some wanted) same = false
 
 one_unknown : (wanted : Option HeaderName) (same : Bool)
-    → is_one wanted None same ≡ is_unknown wanted same
+    → is_same_entry wanted None same ≡ is_unknown wanted same
 one_unknown None same = refl
 one_unknown (Some wanted) same = refl
 
@@ -77,7 +76,7 @@ other_by : (wanted : Option HeaderName) (own value : List ℕ) (parts : List ℕ
     (o : Option HeaderName) (same : List ℕ → Bool)
     → other own value ≡ class_by_name parts.0 parts.1 o
     → cond (is_unknown wanted (same own)) (Some value) None
-    ≡ cond (is_one wanted o (same parts.0)) (Some parts.1) None
+    ≡ cond (is_same_entry wanted o (same parts.0)) (Some parts.1) None
 other_by wanted own value parts (Some found) same e = absurd cc
 other_by wanted own value parts None same e =
     let own_is : own ≡ parts.0 = cc in
@@ -96,7 +95,7 @@ other_value name wanted own value (Some parts) w e =
     let same = λ (n : List ℕ). str_eq_ignore_ascii_case (long_name n) (long_name name) in
     other_by wanted own value parts (header_named parts.0) same e
     ∙ ap (λ (o : Option HeaderName).
-    cond (is_one o (header_named parts.0) (same parts.0)) (Some parts.1) None) w
+    cond (is_same_entry o (header_named parts.0) (same parts.0)) (Some parts.1) None) w
 
 -- ---- one line after the other
 
@@ -155,19 +154,22 @@ no_value name text line after whole rest values total e full whole_is value_is s
 
 -- ---- all lines
 
-parts_of : (line : List ℕ) (o : Option (List ℕ × List ℕ)) → line_from line ≡ o → Parts o line
-parts_of line None e = λ is. not_read line_reads line e is.0 is.1
-parts_of line (Some parts) e = line_reads.takes line parts e
-
-all_parts : (lines : List (List ℕ)) → AllZip Parts (map line_from lines) lines
-all_parts [] = tt
-all_parts (line ∷ lines) = (parts_of line (line_from line) refl, all_parts lines)
+all_read : (lines : List (List ℕ)) → AllZip (OrNone IsHeaderLine) (map line_from lines) lines
+all_read [] = tt
+all_read (line ∷ lines) =
+    (read_or_none line_reads line (line_from line) refl, all_read lines)
 
 pub has_values : (name text : List ℕ) (values : List (List ℕ))
-    → values ≡ values_at name (behind_first (head_at text)) → HasHeaderValues name values text
+    → values ≡ values_at name (drop 1 (head_at text)) → HasValues name values text
 has_values name text values e =
-    let lines = behind_first (head_at text) in
-    (head_at text, is_head text, (map line_from lines, all_parts lines, e))
+    let lines = drop 1 (head_at text) in
+    record {
+      lines = head_at text;
+      named = map line_from lines;
+      head_is = is_head text;
+      named_are = all_read lines;
+      values_are = e;
+    }
 
 -- ---- the same header of the table
 
@@ -222,3 +224,27 @@ pub not_unknown : (wanted : Option HeaderName) (same : Bool) → is_some wanted 
     → is_unknown wanted same ≡ false
 not_unknown None same e = absurd cc
 not_unknown (Some header) same e = refl
+
+-- ---- one list of values
+
+same_lines : (named others : List (Option (List ℕ × List ℕ))) (lines : List (List ℕ))
+    → AllZip (OrNone IsHeaderLine) named lines → AllZip (OrNone IsHeaderLine) others lines
+    → named ≡ others
+same_lines [] [] [] is also = refl
+same_lines [] (q ∷ others) [] is also = absurd also
+same_lines (p ∷ named) others [] is also = absurd is
+same_lines [] others (line ∷ lines) is also = absurd is
+same_lines (p ∷ named) [] (line ∷ lines) is also = absurd also
+same_lines (p ∷ named) (q ∷ others) (line ∷ lines) is also =
+    ap (λ o. o ∷ named) (one_or_none line_reads line p q is.0 also.0)
+    ∙ ap (λ os. q ∷ os) (same_lines named others lines is.1 also.1)
+
+pub one_list : (text name : List ℕ) (values others : List (List ℕ)) → HasValues name values text
+    → HasValues name others text → values ≡ others
+one_list text name values others is also =
+    is.values_are
+    ∙ ap (filter_map (value_under name)) (same_lines is.named also.named (drop 1 is.lines)
+    is.named_are (subst (λ (lines : List (List ℕ)).
+    AllZip (OrNone IsHeaderLine) also.named (drop 1 lines))
+    (one_head text also.lines is.lines also.head_is is.head_is) also.named_are))
+    ∙ sym also.values_are

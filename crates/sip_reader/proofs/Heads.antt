@@ -1,24 +1,24 @@
 -- The head of a text, as it is read and as it lies in the text.
-use Rattle.std.proofs.Common.{◌≡◌, ℕ, zero, suc, ◌<◌, ◌≤◌, true, false, cond, List, [], ◌∷◌, ◌++◌, length, replicate, Option, Some, None, refl, sym, subst, ap, ◌∙◌, append_assoc, arith}
+use Rattle.std.proofs.Common.{◌≡◌, ℕ, zero, suc, ◌<◌, ◌≤◌, IsTrue, true, List, [], ◌∷◌, ◌++◌, length, replicate, Option, Some, None, refl, sym, subst, ap, ◌∙◌, append_assoc, arith}
 use Rattle.std.specs.List.{AllByRecursion, take_while}
+use Rattle.std.proofs.lemmas.List.{append-nil}
 use Rattle.std.proofs.lemmas.List.Sums.{take_while-cons}
 use Rattle.sip_text.specs.Line.{line_at}
-use Rattle.sip_text.specs.Lines.{AreLines, IsLine, IsLines}
+use Rattle.sip_text.specs.Lines.{AreLines, IsLines, has_no}
 use Rattle.sip_text.proofs.LineParts.{line_takes, no_line}
-use Rattle.sip_text.proofs.ReadForms.{not_read}
+use Rattle.sip_text.proofs.ReadForms.{Reads, not_read, only_one}
 use Rattle.sip_headers.specs.Folding.{folded_onto, whole_lines}
 use Rattle.sip_headers.specs.Steps.Drafted.{lines_at, onto_lines}
 use Rattle.sip_headers.proofs.Folds.{line_onto, none_onto}
-use Rattle.sip_reader.specs.Head.{BeginsWith, IsFirst, IsHead, behind_empty, is_full}
+use Rattle.sip_reader.specs.Head.{BeginsWith, OrNone, IsFirst, IsHead, from_full, is_full}
 use Rattle.sip_reader.specs.Layout.{IsFull, Lays}
 use Rattle.sip_reader.specs.ReadHead.{first_at, head_at, whole_lines_at}
 use Rattle.sip_reader.specs.ReadStart.{start_at}
 use Rattle.sip_reader.specs.SkippedEnds.{without_line_ends}
-use Rattle.sip_reader.specs.StartLine.{SpellsFirst}
 use Rattle.sip_reader.specs.declared.first_line.FirstLine.{FirstLine}
 use Rattle.sip_reader.proofs.Layouts.{NoEnd, after_shorter, begins_full, empty_line, skips}
 use Rattle.sip_reader.proofs.StartLines.{start_reads}
-use Rattle.sip_reader.proofs.Unfolding.{found_first}
+use Rattle.sip_reader.proofs.Unfolding.{found_first, not_ended}
 
 -- ---- all lines of a text
 
@@ -66,12 +66,12 @@ all_lines text = all_within (length text) text (omega arith)
 -- ---- empty lines at the start
 
 behind_skipped : (n : ℕ) (lines : List (List ℕ))
-    → behind_empty (replicate n [] ++ lines) ≡ behind_empty lines
+    → from_full (replicate n [] ++ lines) ≡ from_full lines
 behind_skipped zero lines = refl
 behind_skipped (suc n) lines = behind_skipped n lines
 
 behind_none : (text : List ℕ) (lines : List (List ℕ)) (rest : List ℕ) → NoEnd text
-    → IsLines text lines rest → behind_empty lines ≡ lines
+    → IsLines text lines rest → from_full lines ≡ lines
 behind_none text [] rest none is = refl
 behind_none text ([] ∷ lines) rest none is = absurd (none is.0 (empty_line text is.0 is.1))
 behind_none text ((b ∷ bs) ∷ lines) rest none is = refl
@@ -96,7 +96,7 @@ is_head text =
 -- ---- the lines of a message
 
 behind_full : (first : List ℕ) (lines : List (List ℕ)) → IsFull first
-    → behind_empty (first ∷ lines) ≡ first ∷ lines
+    → from_full (first ∷ lines) ≡ first ∷ lines
 behind_full [] lines full = absurd (full refl)
 behind_full (b ∷ bs) lines full = refl
 
@@ -119,13 +119,34 @@ head_laid text start lines rest lays head is =
     let laid = replicate lays.skipped [] ++ (full ++ ([] ∷ [])) in
     let found = found_first text laid rest lays.parts is.all is.parts in
     is.whole
-    ∙ ap (λ (all : List (List ℕ)). whole_lines (take_while is_full (behind_empty all)))
+    ∙ ap (λ (all : List (List ℕ)). whole_lines (take_while is_full (from_full all)))
     (found.1 ∙ append_assoc (replicate lays.skipped []) (full ++ ([] ∷ [])) found.0)
     ∙ ap (λ (all : List (List ℕ)). whole_lines (take_while is_full all))
     (behind_skipped lays.skipped ((full ++ ([] ∷ [])) ++ found.0)
     ∙ behind_full lays.first ((lays.more ++ ([] ∷ [])) ++ found.0) lays.first_is)
     ∙ ap whole_lines (upto_empty full found.0 (lays.first_is, lays.more_are))
     ∙ sym lays.whole
+
+-- ---- one head
+
+no_further : (lines : List (List ℕ)) (rest : List ℕ) → AreLines lines rest
+    → IsTrue (has_no 10 rest) → lines ≡ []
+no_further [] rest is none = refl
+no_further (line ∷ lines) rest is none =
+    absurd (not_ended is.parts.1.part is.parts.0
+    (subst (λ t. has_no 10 t ≡ true) is.parts.1.parts none))
+
+pub one_head : (text : List ℕ) (head other : List (List ℕ)) → IsHead head text
+    → IsHead other text → head ≡ other
+one_head text head other is also =
+    let found = found_first text is.all is.parts.rest is.parts.parts also.all also.parts in
+    let all_are : also.all ≡ is.all =
+    found.1 ∙ ap (λ (ls : List (List ℕ)). is.all ++ ls)
+    (no_further found.0 is.parts.rest found.2 is.parts.no_more)
+    ∙ append-nil is.all in
+    is.whole
+    ∙ ap (λ (all : List (List ℕ)). whole_lines (take_while is_full (from_full all))) (sym all_are)
+    ∙ sym also.whole
 
 -- ---- the first line
 
@@ -149,14 +170,22 @@ pub none_first : (text front : List ℕ) → front ≡ without_line_ends text �
 none_first text front front_is none =
     sym (ap whole_lines (none_onto (without_line_ends text) (sym (none ∙ ap line_at front_is))))
 
-read_first : (line : List ℕ) (first : Option (FirstLine (List ℕ))) (lines : List (List ℕ))
-    → start_at line ≡ first → IsFirst first (line ∷ lines)
-read_first line None lines e = λ first spelled. not_read start_reads line e first spelled
-read_first line (Some first) lines e = start_reads.takes line first e
+pub read_or_none : {A X : Type 0} {f : A → Option X} {P : X → A → Type 0} → Reads A X f P
+    → (a : A) (o : Option X) → f a ≡ o → OrNone P o a
+read_or_none reads a None e = λ x is. not_read reads a e x is
+read_or_none reads a (Some x) e = reads.takes a x e
+
+pub one_or_none : {A X : Type 0} {f : A → Option X} {P : X → A → Type 0} → Reads A X f P
+    → (a : A) (o p : Option X) → OrNone P o a → OrNone P p a → o ≡ p
+one_or_none reads a None None is also = refl
+one_or_none reads a None (Some x) is also = absurd (is x also)
+one_or_none reads a (Some x) None is also = absurd (also x is)
+one_or_none reads a (Some x) (Some y) is also =
+    ap (λ z. Some z) (only_one reads a x y is also)
 
 pub is_first : (lines : List (List ℕ)) → IsFirst (first_at lines) lines
-is_first [] = tt
-is_first (line ∷ lines) = read_first line (start_at line) lines refl
+is_first [] = refl
+is_first (line ∷ lines) = read_or_none start_reads line (start_at line) refl
 
 pub begins_with : (text : List ℕ) (first : Option (FirstLine (List ℕ)))
     → first ≡ first_at (head_at text) → BeginsWith first text
@@ -165,3 +194,12 @@ begins_with text first e = (
   is_head text,
   subst (λ f. IsFirst f (head_at text)) (sym e) (is_first (head_at text)),
 )
+
+pub one_start : (text : List ℕ) (says also : Option (FirstLine (List ℕ))) → BeginsWith says text
+    → BeginsWith also text → says ≡ also
+one_start text says also is others =
+    by_lines is.0 is.2 (subst (IsFirst also) (one_head text others.0 is.0 others.1 is.1) others.2)
+  where
+    by_lines : (lines : List (List ℕ)) → IsFirst says lines → IsFirst also lines → says ≡ also
+    by_lines [] e f = e ∙ sym f
+    by_lines (line ∷ lines) e f = one_or_none start_reads line says also e f

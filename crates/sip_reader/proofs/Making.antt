@@ -10,7 +10,8 @@ use Rattle.sip_reader.specs.declared.first_line.FirstLine.{FirstLine}
 use Rattle.sip_reader.specs.declared.first_line.FirstLine.TheVariants as first
 use Rattle.sip_reader.specs.ReadMessage.{start_line_of, body_of}
 use Rattle.sip_reader.specs.Spells.{IsBody}
-use Rattle.sip_reader.specs.StartLine.{SpellsStart, SpellsFirst, IsRequestLine, first_of}
+use Rattle.sip_reader.specs.Head.{SpellsFirst, first_of}
+use Rattle.sip_reader.specs.StartLine.{SpellsStart, IsRequestLine}
 use Rattle.sip_values.proofs.Pieces.{guard_some, by_bool}
 
 -- ---- the start line

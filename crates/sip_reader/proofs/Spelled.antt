@@ -26,7 +26,8 @@ use Rattle.sip_reader.specs.ReadMessage.{◌>>=◌, or_fault, good_vias, vias_of
 use Rattle.sip_reader.specs.ReadStart.{start_at}
 use Rattle.sip_reader.specs.SkippedEnds.{without_line_ends}
 use Rattle.sip_reader.specs.Spells.{Spells}
-use Rattle.sip_reader.specs.StartLine.{SpellsStart, first_of}
+use Rattle.sip_reader.specs.Head.{first_of}
+use Rattle.sip_reader.specs.StartLine.{SpellsStart}
 use Rattle.sip_reader.proofs.Layouts.{laid_takes, laid_again}
 use Rattle.sip_reader.proofs.Making.{start_takes, first_spelled, start_line_again, body_takes, body_again}
 use Rattle.sip_reader.proofs.Outcomes.{same_Ok, step_ok, result_ok, step_again, result_again}

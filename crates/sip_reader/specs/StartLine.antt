@@ -8,8 +8,6 @@ use Rattle.sip_parts.specs.Word.{is_word}
 use Rattle.sip_parts.specs.Reason.{is_reason}
 use Rattle.sip_message.specs.declared.start_line.StartLine.{StartLine}
 use Rattle.sip_message.specs.declared.start_line.StartLine.TheVariants.{Request, Response}
-use Rattle.sip_reader.specs.declared.first_line.FirstLine.{FirstLine}
-use Rattle.sip_reader.specs.declared.first_line.FirstLine.TheVariants as first
 
 -- in any case of its letters
 abbrev pub is_version : List ℕ → Bool
@@ -51,13 +49,3 @@ pub record IsStatusLine (status : ℕ) (reason line : List ℕ) : Type 0 where
 abbrev pub SpellsStart : StartLine → List ℕ → List ℕ → Type 0
 SpellsStart (Request uri) method line = IsRequestLine method uri line
 SpellsStart (Response status reason) method line = IsStatusLine status reason line
-
--- The line says this, a request's method with it.
-abbrev pub SpellsFirst : FirstLine (List ℕ) → List ℕ → Type 0
-SpellsFirst (first.Request method uri) line = IsRequestLine method uri line
-SpellsFirst (first.Response status reason) line = IsStatusLine status reason line
-
--- what a start line says, with the method of a request
-abbrev pub first_of : StartLine → List ℕ → FirstLine (List ℕ)
-first_of (Request uri) method = first.Request method uri
-first_of (Response status reason) method = first.Response status reason

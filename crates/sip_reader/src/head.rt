@@ -43,7 +43,7 @@ pub fn start_line(alloc: Global, text: &[u8]) -> Result<Option<FirstLine<Token>>
 ///
 /// Memory was refused.
 pub fn header_values(alloc: Global, text: &[u8], name: &[u8]) -> Result<Series<Text>, AllocError>
-    ensures { IfOk result (λ values. head.HasHeaderValues name.now values text.now) }
+    ensures { IfOk result (λ values. head.HasValues name.now values text.now) }
 {
     let Some((_, lines)) = first_line_of(alloc, text)? else {
         return Ok(Series::new(alloc));

@@ -1,5 +1,4 @@
-use Rattle.std.proofs.Common.{◌≡◌, length}
-use Rattle.sip_parts.specs.HeaderEntry.{header_named}
+use Rattle.std.proofs.Common.{length}
 use Rattle.sip_reader.specs.ReadHead.{values_at, whole_lines_at}
 use Rattle.sip_reader.proofs.HeadValues.{AreWith}
 use Rattle.sip_reader.proofs.head.values_in.Given as goal
