@@ -38,7 +38,8 @@ first_said text m first is begins =
 -- ---- names and values of lines that are header lines
 
 all_some : (named : List (List ℕ × List ℕ)) (found : List (Option (List ℕ × List ℕ)))
-    (lines : List (List ℕ)) → AllZip IsHeaderLine named lines → AllZip (OrNone IsHeaderLine) found lines
+    (lines : List (List ℕ)) → AllZip IsHeaderLine named lines
+    → AllZip (OrNone IsHeaderLine) found lines
     → found ≡ map (λ (parts : List ℕ × List ℕ). Some parts) named
 all_some [] [] [] all is = refl
 all_some (parts ∷ named) found [] all is = absurd all

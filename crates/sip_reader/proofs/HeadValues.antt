@@ -7,12 +7,9 @@ use Rattle.std.proofs.lemmas.List.{append-nil}
 use Rattle.sip_text.specs.Line.{line_at}
 use Rattle.sip_parts.specs.HeaderEntry.{header_named}
 use Rattle.sip_parts.specs.declared.header_name.HeaderName.{HeaderName}
-use Rattle.sip_parts.specs.declared.header_name.HeaderName.TheVariants as name
-use Rattle.sip_values.proofs.Pieces.{by_bool}
 use Rattle.sip_headers.specs.Draft.{long_name}
 use Rattle.sip_headers.specs.Folding.{folded_onto, whole_lines}
-use Rattle.sip_headers.specs.HeaderLine.{IsHeaderLine, bad, known, other, class_by_name, class_by_parts, line_from}
-use Rattle.sip_headers.specs.Named.{is_same}
+use Rattle.sip_headers.specs.HeaderLine.{IsHeaderLine, known, other, class_by_name, class_by_parts, line_from}
 use Rattle.sip_headers.specs.Steps.Drafted.{lines_at, onto_lines}
 use Rattle.sip_headers.proofs.Folds.{line_onto, none_onto}
 use Rattle.sip_headers.proofs.NamedLines.{line_reads}
@@ -22,16 +19,6 @@ use Rattle.sip_reader.specs.ReadHead.{head_at, is_known, values_at, whole_lines_
 use Rattle.sip_reader.proofs.Heads.{is_head, one_head, one_or_none, read_or_none, whole_onto}
 
 -- ---- one line, by its class
-
-none_bad : (name : List ℕ) (parts : List ℕ × List ℕ) (o : Option HeaderName)
-    → bad ≡ class_by_name parts.0 parts.1 o → None ≡ value_under name (Some parts)
-none_bad name parts None e = absurd cc
-none_bad name parts (Some header) e = absurd cc
-
-pub bad_value : (name : List ℕ) (o : Option (List ℕ × List ℕ)) → bad ≡ class_by_parts o
-    → None ≡ value_under name o
-bad_value name None e = refl
-bad_value name (Some parts) e = none_bad name parts (header_named parts.0) e
 
 one_known : (wanted : Option HeaderName) (header : HeaderName) (same : Bool)
     → is_same_entry wanted (Some header) same ≡ is_known wanted header
@@ -96,6 +83,16 @@ other_value name wanted own value (Some parts) w e =
     other_by wanted own value parts (header_named parts.0) same e
     ∙ ap (λ (o : Option HeaderName).
     cond (is_same_entry o (header_named parts.0) (same parts.0)) (Some parts.1) None) w
+
+pub not_same : (wanted : Option HeaderName) (same : Bool) → same ≡ false
+    → is_unknown wanted same ≡ false
+not_same None same e = e
+not_same (Some header) same e = refl
+
+pub not_unknown : (wanted : Option HeaderName) (same : Bool) → is_some wanted ≡ true
+    → is_unknown wanted same ≡ false
+not_unknown None same e = absurd cc
+not_unknown (Some header) same e = refl
 
 -- ---- one line after the other
 
@@ -170,60 +167,6 @@ has_values name text values e =
       named_are = all_read lines;
       values_are = e;
     }
-
--- ---- the same header of the table
-
-same_itself : (header : HeaderName) → is_same header header ≡ true
-same_itself name.Via = refl
-same_itself name.From = refl
-same_itself name.To = refl
-same_itself name.CallId = refl
-same_itself name.CSeq = refl
-same_itself name.MaxForwards = refl
-same_itself name.ContentLength = refl
-same_itself name.RSeq = refl
-same_itself name.RAck = refl
-same_itself name.Contact = refl
-same_itself name.RecordRoute = refl
-same_itself name.Route = refl
-same_itself name.Require = refl
-same_itself name.Supported = refl
-
-one_header : (header found : HeaderName) → is_same header found ≡ true → header ≡ found
-one_header name.Via name.Via e = refl
-one_header name.From name.From e = refl
-one_header name.To name.To e = refl
-one_header name.CallId name.CallId e = refl
-one_header name.CSeq name.CSeq e = refl
-one_header name.MaxForwards name.MaxForwards e = refl
-one_header name.ContentLength name.ContentLength e = refl
-one_header name.RSeq name.RSeq e = refl
-one_header name.RAck name.RAck e = refl
-one_header name.Contact name.Contact e = refl
-one_header name.RecordRoute name.RecordRoute e = refl
-one_header name.Route name.Route e = refl
-one_header name.Require name.Require e = refl
-one_header name.Supported name.Supported e = refl
-one_header one another e = absurd cc
-
-pub same_one : (header found : HeaderName) → header ≡ found → is_same header found ≡ true
-same_one header found same =
-    ap (λ (h : HeaderName). is_same h found) same ∙ same_itself found
-
-pub not_one : (header found : HeaderName) → (header ≡ found → ⊥) → is_same header found ≡ false
-not_one header found differs =
-    by_bool (is_same header found) (λ b. b ≡ false)
-    (λ same. absurd (differs (one_header header found same))) (λ same. refl)
-
-pub not_same : (wanted : Option HeaderName) (same : Bool) → same ≡ false
-    → is_unknown wanted same ≡ false
-not_same None same e = e
-not_same (Some header) same e = refl
-
-pub not_unknown : (wanted : Option HeaderName) (same : Bool) → is_some wanted ≡ true
-    → is_unknown wanted same ≡ false
-not_unknown None same e = absurd cc
-not_unknown (Some header) same e = refl
 
 -- ---- one list of values
 

@@ -109,7 +109,8 @@ upto_empty : (lines after : List (List ℕ)) → AllByRecursion IsFull lines
 upto_empty [] after all = take_while-cons is_full [] after
 upto_empty (line ∷ lines) after all =
     take_while-cons is_full line ((lines ++ ([] ∷ [])) ++ after)
-    ∙ rw (full_is line all.0) (ap (λ (ls : List (List ℕ)). line ∷ ls) (upto_empty lines after all.1))
+    ∙ rw (full_is line all.0)
+    (ap (λ (ls : List (List ℕ)). line ∷ ls) (upto_empty lines after all.1))
 
 pub head_laid : (text start : List ℕ) (lines : List (List ℕ)) (rest : List ℕ)
     → Lays text start lines rest → (head : List (List ℕ)) → IsHead head text

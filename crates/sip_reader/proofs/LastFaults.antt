@@ -152,7 +152,8 @@ good_some : (vias good : List Via) (r : Bool) → cond r (Some vias) None ≡ So
 good_some vias good true e = (refl, cc)
 good_some vias good false e = absurd cc
 
-branch_decided : (start : List ℕ) (lines : List (List ℕ)) (rest : List ℕ) (line : FirstLine (List ℕ))
+branch_decided : (start : List ℕ) (lines : List (List ℕ)) (rest : List ℕ)
+    (line : FirstLine (List ℕ))
     (h : Headers) (numbers : Numbers) (vias : List Via) → IsRead start lines line h
     → numbers_in (draft_with h) ≡ Some numbers → each via_with h.vias ≡ Some vias
     → Decides (LineCondition start lines rest)
@@ -211,7 +212,8 @@ bad_numbers line h rest e =
     by (Some numbers) (Some vias) f g =
         absurd (true≢false (sym (are_all_numbers h numbers vias f g) ∙ e))
 
-pub headers_decided : (start : List ℕ) (lines : List (List ℕ)) (rest : List ℕ) (line : FirstLine (List ℕ))
+pub headers_decided : (start : List ℕ) (lines : List (List ℕ)) (rest : List ℕ)
+    (line : FirstLine (List ℕ))
     (h : Headers) → IsRead start lines line h
     → Decides (LineCondition start lines rest) last_faults
     (message_of_draft line (draft_with h) rest)

@@ -41,7 +41,8 @@ then_body h rest numbers vias says =
     or_fault fault.Truncated (body_of rest numbers.content_length) >>= λ body.
     or_fault fault.BadHeader (message_with says vias numbers (draft_with h) body)
 
-abbrev pub then_start : FirstLine (List ℕ) → Headers → List ℕ → Numbers → List Via → Result Message ReadFault
+abbrev pub then_start : FirstLine (List ℕ) → Headers → List ℕ → Numbers → List Via
+    → Result Message ReadFault
 then_start line h rest numbers vias =
     or_fault fault.MethodMismatch (start_line_of line h.cseq.method) >>= λ says.
     then_body h rest numbers vias says
@@ -52,7 +53,8 @@ then_branch line h rest numbers vias =
     or_fault fault.OldBranch (good_vias vias) >>= λ good. then_start line h rest numbers good
 
 -- what a message was made of
-pub record IsMade (line : FirstLine (List ℕ)) (h : Headers) (rest : List ℕ) (m : Message) : Type 0 where
+pub record IsMade (line : FirstLine (List ℕ)) (h : Headers) (rest : List ℕ)
+    (m : Message) : Type 0 where
   pub numbers : Numbers
   pub numbers_are : numbers_in (draft_with h) ≡ Some numbers
   pub vias_are : each via_with h.vias ≡ Some m.vias

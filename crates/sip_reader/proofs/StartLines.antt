@@ -138,8 +138,8 @@ status_takes version text says is e =
       reason_is = reason.1;
     })
 
-request_takes : (method text : List ℕ) (says : FirstLine (List ℕ)) → request_at method text ≡ Some says
-    → SpellsFirst says (method ++ (32 ∷ text))
+request_takes : (method text : List ℕ) (says : FirstLine (List ℕ))
+    → request_at method text ≡ Some says → SpellsFirst says (method ++ (32 ∷ text))
 unfolding request_at
 request_takes method text says e =
     let a = bind_some (cut_at 32 text)
@@ -165,7 +165,8 @@ line_from : (front text : List ℕ) (says : FirstLine (List ℕ)) (r : Bool) →
 line_from front text says true is e = status_takes front text says is e
 line_from front text says false is e = request_takes front text says e
 
-start_takes : (line : List ℕ) (says : FirstLine (List ℕ)) → start_at line ≡ Some says → SpellsFirst says line
+start_takes : (line : List ℕ) (says : FirstLine (List ℕ)) → start_at line ≡ Some says
+    → SpellsFirst says line
 unfolding start_at
 start_takes line says e =
     let a = bind_some (cut_at 32 line)
@@ -214,7 +215,8 @@ status_again status reason version code end is code_is end_is reason_is =
       reason_again end reason end_is reason_is,
     ) refl
 
-start_again : (line : List ℕ) (says : FirstLine (List ℕ)) → SpellsFirst says line → start_at line ≡ Some says
+start_again : (line : List ℕ) (says : FirstLine (List ℕ)) → SpellsFirst says line
+    → start_at line ≡ Some says
 start_again line (first.Request method uri) spelled =
     rw spelled.parts (request_again method uri spelled.version spelled.method_is spelled.uri_is
     spelled.version_is)

@@ -33,11 +33,11 @@ pub fn start_line(alloc: Global, text: &[u8]) -> Result<Option<FirstLine<Token>>
     Ok(Some(first.into_owned(alloc)?))
 }
 
-/// The values of a header in the text, also in one that spells no message, in the order of its
-/// lines: of each header line of this name, in any case of its letters, its long or its compact one.
-/// The header lines are those behind the first line up to an empty one, or up to the last that has
-/// its end. A line that is no header line is passed over. A value is without its folds and without
-/// white space round it; a list of values stays one text (RFC 3261, sections 7.3.1 and 7.3.3).
+/// The values of a header in the text, also in one that spells no message: of each header line of
+/// this name, the long or the compact one, in any case of the letters, in the order of the lines.
+/// A value is without its folds and without white space round it, and a list stays one text (RFC
+/// 3261, sections 7.3.1 and 7.3.3). The header lines are those behind the first line up to an empty
+/// one, or up to the last that has its end; a line that is no header line is passed over.
 ///
 /// # Errors
 ///
