@@ -70,8 +70,8 @@ is_same_entry (Some header) (Some other) same = is_same header other
 is_same_entry None None same = same
 is_same_entry one another same = false
 
--- Two names, long or compact, of the same header: the table says which. Those of headers outside of
--- it are the same in any case of the letters.
+-- Two names, long or compact, of the same header: of the same one of the table, or both of none and
+-- the long names are the same in any case of the letters.
 abbrev pub is_same_header : List ℕ → List ℕ → Bool
 is_same_header name other =
     is_same_entry (header_named name) (header_named other)
