@@ -1,6 +1,6 @@
 //! The table of the headers that are read into fields of their own (RFC 3261, sections 7.3.3 and
 //! 20; RFC 3262, section 7).
-ghost use Rattle.std.specs.Prelude.{◌≡◌, ◌==◌, IfNone, IfSome, true};
+ghost use Rattle.std.specs.Prelude.{◌≡◌, ◌==◌, ℕ, List, IfNone, IfSome, find, length, true};
 ghost use Rattle.std.specs.Option.{option_map};
 ghost use Rattle.sip_parts.specs.HeaderEntry as table;
 
@@ -99,11 +99,48 @@ impl HeaderName {
     fn looked_up(name: &[u8]) -> Option<HeaderName>
         ensures { result ≡ table.header_named name.now }
     {
-        HeaderName::ALL
-            .iter()
-            .copied()
-            .find(|header| header.is_named(name))
+        named_in(HeaderName::of_length(name.len()), name)
     }
+
+    /// Those that have a name of so many bytes, in the order of the table.
+    fn of_length(bytes: usize) -> &'static [HeaderName]
+        // A name of this length is found among them where it is found at all.
+        ensures { (name : List ℕ) → length name ≡ bytes
+            → find (λ header. table.is_named header name) result.now ≡ table.header_named name }
+    {
+        match bytes {
+            1 => &[
+                HeaderName::Via,
+                HeaderName::From,
+                HeaderName::To,
+                HeaderName::CallId,
+                HeaderName::ContentLength,
+                HeaderName::Contact,
+                HeaderName::Supported,
+            ],
+            2 => &[HeaderName::To],
+            3 => &[HeaderName::Via],
+            4 => &[
+                HeaderName::From,
+                HeaderName::CSeq,
+                HeaderName::RSeq,
+                HeaderName::RAck,
+            ],
+            5 => &[HeaderName::Route],
+            7 => &[HeaderName::CallId, HeaderName::Contact, HeaderName::Require],
+            9 => &[HeaderName::Supported],
+            12 => &[HeaderName::MaxForwards, HeaderName::RecordRoute],
+            14 => &[HeaderName::ContentLength],
+            _ => &[],
+        }
+    }
+}
+
+/// The first of the headers that has this name.
+fn named_in(headers: &[HeaderName], name: &[u8]) -> Option<HeaderName>
+    ensures { result ≡ find (λ header. table.is_named header name.now) headers.now }
+{
+    headers.iter().copied().find(|header| header.is_named(name))
 }
 
 /// Whether the text is this word, in any case of the letters.
