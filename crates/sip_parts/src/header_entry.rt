@@ -90,10 +90,34 @@ impl HeaderName {
     pub fn of(name: &[u8]) -> Option<HeaderName>
         ensures { result ≡ table.header_named name.now }
     {
-        match likely(name) {
-            Some(header) if name == header.as_str().as_bytes() => Some(header),
-            _ => HeaderName::looked_up(name),
+        match HeaderName::of_exact_name(name) {
+            Some(header) => Some(header),
+            None => HeaderName::looked_up(name),
         }
+    }
+
+    /// The header of this long name, letter for letter as it is written.
+    fn of_exact_name(name: &[u8]) -> Option<HeaderName>
+        ensures { IfSome result (λ header. name.now ≡ (table.entry header).name) }
+    {
+        let header = match name {
+            b"Via" => HeaderName::Via,
+            b"From" => HeaderName::From,
+            b"To" => HeaderName::To,
+            b"Call-ID" => HeaderName::CallId,
+            b"CSeq" => HeaderName::CSeq,
+            b"Contact" => HeaderName::Contact,
+            b"Max-Forwards" => HeaderName::MaxForwards,
+            b"RSeq" => HeaderName::RSeq,
+            b"RAck" => HeaderName::RAck,
+            b"Route" => HeaderName::Route,
+            b"Record-Route" => HeaderName::RecordRoute,
+            b"Require" => HeaderName::Require,
+            b"Supported" => HeaderName::Supported,
+            b"Content-Length" => HeaderName::ContentLength,
+            _ => return None,
+        };
+        Some(header)
     }
 
     fn looked_up(name: &[u8]) -> Option<HeaderName>
@@ -151,24 +175,4 @@ fn is_word_of(name: &[u8], word: Option<&str>) -> bool
         None => false,
         Some(word) => token_eq(name, word.as_bytes()),
     }
-}
-
-/// The one header whose long name the text may be, by its length and one or two letters; None where
-/// there is none, or the letters have another case than they are written in.
-fn likely(name: &[u8]) -> Option<HeaderName> {
-    let header = match name {
-        [b'V', _, _] => HeaderName::Via,
-        [b'F', _, _, _] => HeaderName::From,
-        [b'T', _] => HeaderName::To,
-        [b'C', b'S', _, _] => HeaderName::CSeq,
-        [b'C', b'a', _, _, _, _, _] => HeaderName::CallId,
-        [b'C', b'o', _, _, _, _, _] => HeaderName::Contact,
-        [b'M', _, _, _, _, _, _, _, _, _, _, _] => HeaderName::MaxForwards,
-        [b'R', b'o', _, _, _] => HeaderName::Route,
-        [b'R', _, _, _, _, _, _, _, _, _, _, _] => HeaderName::RecordRoute,
-        [b'S', _, _, _, _, _, _, _, _] => HeaderName::Supported,
-        [b'C', _, _, _, _, _, _, b'-', _, _, _, _, _, _] => HeaderName::ContentLength,
-        _ => return None,
-    };
-    Some(header)
 }
