@@ -96,6 +96,7 @@ impl Draft {
     }
 
     /// Adds what a line of this class says.
+    #[inline(always)]
     pub(crate) fn add_class(
         &mut self,
         alloc: Global,
