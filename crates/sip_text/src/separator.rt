@@ -38,6 +38,8 @@ pub enum Place {
 
 impl Separator {
     /// The parts before and after the first separator that counts, or None where there is none.
+    // Each call names its separator, so that one case is left of it there.
+    #[inline(always)]
     pub fn cut(self, text: &[u8]) -> Option<(&[u8], &[u8])>
         ensures exact { both_now result ≡ separators.cut_from self place.Plain text.now }
         ensures length { IfSome result
