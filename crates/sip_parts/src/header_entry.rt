@@ -120,6 +120,7 @@ impl HeaderName {
         Some(header)
     }
 
+    #[inline(never)]
     fn looked_up(name: &[u8]) -> Option<HeaderName>
         ensures { result ≡ table.header_named name.now }
     {
