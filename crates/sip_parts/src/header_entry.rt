@@ -87,6 +87,8 @@ impl HeaderName {
     }
 
     /// The header of this name, or None where the name is another one.
+    // Apart, since a loop over lines that has it within keeps less in registers.
+    #[inline(never)]
     pub fn of(name: &[u8]) -> Option<HeaderName>
         ensures { result ≡ table.header_named name.now }
     {
@@ -120,6 +122,7 @@ impl HeaderName {
         Some(header)
     }
 
+    // Rare: most names are written as they are in the table.
     #[inline(never)]
     fn looked_up(name: &[u8]) -> Option<HeaderName>
         ensures { result ≡ table.header_named name.now }
