@@ -1,5 +1,5 @@
 -- A header line that is of no header of the table can stay as it stands.
-use Rattle.std.proofs.Common.{◌≡◌, inl, inr, ℕ, Bool, true, false, not, cond, ◌&&◌, ◌||◌, List, [], ◌∷◌, Option, Some, None, refl, ap, ◌∙◌, codes}
+use Rattle.std.proofs.Common.{◌≡◌, inl, inr, ℕ, Bool, true, false, not, cond, ◌&&◌, ◌||◌, List, [], ◌∷◌, Option, Some, None, IsTrue, refl, sym, ap, ◌∙◌, codes}
 use Rattle.std.specs.Prelude.{is_none, is_some}
 use Rattle.std.specs.List.{AllByRecursion, AllZip, list_all}
 use Rattle.std.specs.Str.{str_eq_ignore_ascii_case}
@@ -14,9 +14,10 @@ use Rattle.sip_parts.specs.OtherName.{is_compact_name, is_other_name}
 use Rattle.sip_parts.specs.declared.header_name.HeaderName.{HeaderName}
 use Rattle.sip_message.specs.declared.header.Header.{Header}
 use Rattle.sip_headers.specs.Draft.{long_name}
-use Rattle.sip_headers.specs.HeaderLine.{IsHeaderLine}
+use Rattle.sip_headers.specs.HeaderLine.{Class, bad, known, other, IsHeaderLine, class_by_name, class_by_parts, class_from, line_from}
 use Rattle.sip_headers.specs.Headers.{IsOther}
 use Rattle.sip_headers.specs.Named.{others_in}
+use Rattle.sip_headers.proofs.NamedLines.{line_reads}
 
 and_both : (x y : Bool) → x ≡ true → y ≡ true → (x && y) ≡ true
 and_both x y e f = rw (e, f) refl
@@ -85,6 +86,16 @@ name_fits name token none =
 
 -- ---- a line
 
+abbrev name_in : Class → List ℕ
+name_in bad = []
+name_in (known header value) = []
+name_in (other name value) = name
+
+abbrev value_in : Class → List ℕ
+value_in bad = []
+value_in (known header value) = []
+value_in (other name value) = value
+
 line_fits : (parts : List ℕ × List ℕ) (line : List ℕ) → IsHeaderLine parts line
     → is_none (header_named parts.0) ≡ true → (header : Header) × IsOther header parts
 line_fits parts line (inr whole) none = absurd whole.1
@@ -101,6 +112,31 @@ line_fits parts line (inl cut) none =
             ∙ value_fits valued.0 (ap has_no_line_byte valued.2.0 ∙ valued.2.1);
       },
     )
+
+fits_by_name : (line : List ℕ) (parts : List ℕ × List ℕ) (o : Option HeaderName)
+    (name value : List ℕ) → IsHeaderLine parts line → header_named parts.0 ≡ o
+    → class_by_name parts.0 parts.1 o ≡ other name value
+    → IsTrue (is_other_name (long_name name)) × IsTrue (is_header_value value)
+fits_by_name line parts None name value is none same =
+    let fits = line_fits parts line is (ap is_none none) in (
+      ap is_other_name (ap long_name (sym (ap name_in same)) ∙ sym fits.1.name_is)
+          ∙ fits.1.good_name,
+      ap is_header_value (sym (ap value_in same) ∙ sym fits.1.value_is) ∙ fits.1.good_value,
+    )
+fits_by_name line parts (Some header) name value is some same = absurd cc
+
+fits_by_parts : (line : List ℕ) (o : Option (List ℕ × List ℕ)) (name value : List ℕ)
+    → line_from line ≡ o → class_by_parts o ≡ other name value
+    → IsTrue (is_other_name (long_name name)) × IsTrue (is_header_value value)
+fits_by_parts line None name value read same = absurd cc
+fits_by_parts line (Some parts) name value read same =
+    fits_by_name line parts (header_named parts.0) name value (line_reads.takes line parts read) refl
+    same
+
+-- of a line that is one of no header of the table, the name and the value can stay
+pub other_fits : (line name value : List ℕ) → class_from line ≡ other name value
+    → IsTrue (is_other_name (long_name name)) × IsTrue (is_header_value value)
+other_fits line name value same = fits_by_parts line (line_from line) name value refl same
 
 kept_by : (parts : List ℕ × List ℕ) (more : List (List ℕ × List ℕ)) (none : Bool)
     → (none ≡ true → (header : Header) × IsOther header parts)

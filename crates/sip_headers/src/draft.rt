@@ -1,9 +1,10 @@
 //! All header lines of a message, by header.
-ghost use Rattle.std.specs.Prelude.{◌≡◌, [], ◌∷◌, IfOk, OnOk, Some, true, is_some};
-ghost use Rattle.std.specs.Option.{option_map};
+ghost use Rattle.std.specs.Prelude.{◌≡◌, ℕ, List, [], ◌∷◌, IfOk, IsTrue, OnOk, Some, true, is_some};
+ghost use Rattle.sip_parts.specs.HeaderValue.{is_header_value};
+ghost use Rattle.sip_parts.specs.OtherName.{is_other_name};
 ghost use Rattle.sip_headers.specs.Complete as complete;
 ghost use Rattle.sip_headers.specs.Draft as drafts;
-ghost use Rattle.sip_headers.specs.HeaderLine.{class_now};
+ghost use Rattle.sip_headers.specs.HeaderLine.{class_from, class_now};
 ghost use Rattle.sip_headers.specs.Numbers as numbered;
 
 use crate::header_line::{LineClass, class_of};
@@ -96,11 +97,14 @@ impl Draft {
     }
 
     /// Adds what a line of this class says.
+    #[inline(always)]
     pub(crate) fn add_class(
         &mut self,
         alloc: Global,
         class: LineClass<'_>,
     ) -> Result<(), AllocError>
+        // It is the class of some line.
+        requires { (line : List ℕ) × (class_from line ≡ class_now class) }
         ensures { OnOk result (self.new ≡ drafts.with_class self.old (class_now class.entry)) }
     {
         match class {
@@ -156,12 +160,11 @@ impl Draft {
     }
 
     fn add_other(&mut self, alloc: Global, name: &[u8], value: &[u8]) -> Result<(), AllocError>
+        requires name { IsTrue (is_other_name (drafts.long_name name.now)) }
+        requires value { IsTrue (is_header_value value.now) }
         ensures { OnOk result (self.new ≡ drafts.with_other self.old name.now value.now) }
     {
-        let Some(header) = other_in(alloc, name, value)? else {
-            self.others = None;
-            return Ok(());
-        };
+        let header = other_header(alloc, name, value)?;
         if let Some(others) = &mut self.others {
             others.push(header)?;
         }
@@ -235,18 +238,16 @@ impl<T: Drop> Slot<T> {
     }
 }
 
-/// A list of the one header.
-fn other_in(alloc: Global, name: &[u8], value: &[u8]) -> Result<Option<Header>, AllocError>
-    ensures { IfOk result (λ made. option_map (λ header. header ∷ []) made
-        ≡ drafts.other_from name.now value.now) }
+/// The header that stays as it stands, under its long name.
+fn other_header(alloc: Global, name: &[u8], value: &[u8]) -> Result<Header, AllocError>
+    requires name { IsTrue (is_other_name (drafts.long_name name.now)) }
+    requires value { IsTrue (is_header_value value.now) }
+    ensures { IfOk result (λ header. drafts.other_from name.now value.now ≡ Some (header ∷ [])) }
 {
-    let Some(name) = OtherName::new(Text::copy_of(alloc, long_name(name))?) else {
-        return Ok(None);
-    };
-    let Some(value) = HeaderValue::new(Text::copy_of(alloc, value)?) else {
-        return Ok(None);
-    };
-    Ok(Some(Header { name, value }))
+    Ok(Header {
+        name: OtherName::copy_of(alloc, long_name(name))?,
+        value: HeaderValue::copy_of(alloc, value)?,
+    })
 }
 
 /// The long name where the name is one of three compact names, in any case of the letters: of

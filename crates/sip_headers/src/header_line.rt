@@ -6,9 +6,10 @@ ghost use Rattle.sip_headers.specs.Steps.PlainLine as plain;
 ghost use Rattle.sip_parts.specs.HeaderEntry.{header_named};
 ghost use Rattle.sip_text.specs.Cut.{both_now};
 
-use memchr::memchr2;
 use sip_parts::{HeaderName, has_no_line_byte};
-use sip_text::{Separator, TokenBytes, begins_blank, is_token, run_before, trimmed, trimmed_end};
+use sip_text::{
+    Separator, TokenBytes, begins_blank, find_either, is_token, run_before, trimmed, trimmed_end,
+};
 
 /// What a header line is.
 #[derive(Clone, Copy)]
@@ -59,7 +60,7 @@ pub(crate) fn plain_line(text: &[u8]) -> Option<(LineClass<'_>, &[u8])>
 fn before_line_end(text: &[u8]) -> Option<(&[u8], &[u8])>
     ensures { IfSome result (λ parts. plain.IsPlainEnd text.now parts.0.now parts.1.now) }
 {
-    let place = memchr2(b'\r', b'\n', text)?;
+    let place = find_either(b'\r', b'\n', text)?;
     let (line, rest) = text.split_at(place);
     let after = behind_line_end(rest)?;
     Some((line, after))

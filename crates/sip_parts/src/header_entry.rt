@@ -1,6 +1,6 @@
 //! The table of the headers that are read into fields of their own (RFC 3261, sections 7.3.3 and
 //! 20; RFC 3262, section 7).
-ghost use Rattle.std.specs.Prelude.{◌≡◌, ◌==◌, IfNone, IfSome, true};
+ghost use Rattle.std.specs.Prelude.{◌≡◌, ◌==◌, ℕ, List, IfNone, IfSome, find, length, true};
 ghost use Rattle.std.specs.Option.{option_map};
 ghost use Rattle.sip_parts.specs.HeaderEntry as table;
 
@@ -87,23 +87,88 @@ impl HeaderName {
     }
 
     /// The header of this name, or None where the name is another one.
+    // Apart, since a loop over lines that has it within keeps less in registers.
+    #[inline(never)]
     pub fn of(name: &[u8]) -> Option<HeaderName>
         ensures { result ≡ table.header_named name.now }
     {
-        match likely(name) {
-            Some(header) if name == header.as_str().as_bytes() => Some(header),
-            _ => HeaderName::looked_up(name),
+        match HeaderName::of_exact_name(name) {
+            Some(header) => Some(header),
+            None => HeaderName::looked_up(name),
         }
     }
 
+    /// The header of this long name, letter for letter as it is written.
+    fn of_exact_name(name: &[u8]) -> Option<HeaderName>
+        ensures { IfSome result (λ header. name.now ≡ (table.entry header).name) }
+    {
+        let header = match name {
+            b"Via" => HeaderName::Via,
+            b"From" => HeaderName::From,
+            b"To" => HeaderName::To,
+            b"Call-ID" => HeaderName::CallId,
+            b"CSeq" => HeaderName::CSeq,
+            b"Contact" => HeaderName::Contact,
+            b"Max-Forwards" => HeaderName::MaxForwards,
+            b"RSeq" => HeaderName::RSeq,
+            b"RAck" => HeaderName::RAck,
+            b"Route" => HeaderName::Route,
+            b"Record-Route" => HeaderName::RecordRoute,
+            b"Require" => HeaderName::Require,
+            b"Supported" => HeaderName::Supported,
+            b"Content-Length" => HeaderName::ContentLength,
+            _ => return None,
+        };
+        Some(header)
+    }
+
+    // Rare: most names are written as they are in the table.
+    #[inline(never)]
     fn looked_up(name: &[u8]) -> Option<HeaderName>
         ensures { result ≡ table.header_named name.now }
     {
-        HeaderName::ALL
-            .iter()
-            .copied()
-            .find(|header| header.is_named(name))
+        named_in(HeaderName::of_length(name.len()), name)
     }
+
+    /// Those that have a name of so many bytes, in the order of the table.
+    fn of_length(bytes: usize) -> &'static [HeaderName]
+        // A name of this length is found among them where it is found at all.
+        ensures { (name : List ℕ) → length name ≡ bytes
+            → find (λ header. table.is_named header name) result.now ≡ table.header_named name }
+    {
+        match bytes {
+            1 => &[
+                HeaderName::Via,
+                HeaderName::From,
+                HeaderName::To,
+                HeaderName::CallId,
+                HeaderName::ContentLength,
+                HeaderName::Contact,
+                HeaderName::Supported,
+            ],
+            2 => &[HeaderName::To],
+            3 => &[HeaderName::Via],
+            4 => &[
+                HeaderName::From,
+                HeaderName::CSeq,
+                HeaderName::RSeq,
+                HeaderName::RAck,
+            ],
+            5 => &[HeaderName::Route],
+            7 => &[HeaderName::CallId, HeaderName::Contact, HeaderName::Require],
+            9 => &[HeaderName::Supported],
+            12 => &[HeaderName::MaxForwards, HeaderName::RecordRoute],
+            14 => &[HeaderName::ContentLength],
+            _ => &[],
+        }
+    }
+}
+
+/// The first of the headers that has this name.
+fn named_in(headers: &[HeaderName], name: &[u8]) -> Option<HeaderName>
+    ensures { result ≡ find (λ header. table.is_named header name.now) headers.now }
+{
+    headers.iter().copied().find(|header| header.is_named(name))
 }
 
 /// Whether the text is this word, in any case of the letters.
@@ -114,24 +179,4 @@ fn is_word_of(name: &[u8], word: Option<&str>) -> bool
         None => false,
         Some(word) => token_eq(name, word.as_bytes()),
     }
-}
-
-/// The one header whose long name the text may be, by its length and one or two letters; None where
-/// there is none, or the letters have another case than they are written in.
-fn likely(name: &[u8]) -> Option<HeaderName> {
-    let header = match name {
-        [b'V', _, _] => HeaderName::Via,
-        [b'F', _, _, _] => HeaderName::From,
-        [b'T', _] => HeaderName::To,
-        [b'C', b'S', _, _] => HeaderName::CSeq,
-        [b'C', b'a', _, _, _, _, _] => HeaderName::CallId,
-        [b'C', b'o', _, _, _, _, _] => HeaderName::Contact,
-        [b'M', _, _, _, _, _, _, _, _, _, _, _] => HeaderName::MaxForwards,
-        [b'R', b'o', _, _, _] => HeaderName::Route,
-        [b'R', _, _, _, _, _, _, _, _, _, _, _] => HeaderName::RecordRoute,
-        [b'S', _, _, _, _, _, _, _, _] => HeaderName::Supported,
-        [b'C', _, _, _, _, _, _, b'-', _, _, _, _, _, _] => HeaderName::ContentLength,
-        _ => return None,
-    };
-    Some(header)
 }

@@ -3,8 +3,7 @@ ghost use Rattle.std.specs.Prelude.{◌≡◌};
 ghost use Rattle.sip_parts.specs.HeaderValue as rule;
 
 use crate::checked::{Checked, Rule};
-use memchr::memchr2;
-use sip_text::is_blank;
+use sip_text::{find_either, is_blank};
 
 /// The rule of [`HeaderValue`].
 pub struct HeaderValueRule;
@@ -45,5 +44,5 @@ pub(crate) fn has_no_blank_ends(text: &[u8]) -> bool
 pub fn has_no_line_byte(text: &[u8]) -> bool
     ensures { result ≡ rule.has_no_line_byte text.now }
 {
-    memchr2(b'\r', b'\n', text).is_none()
+    find_either(b'\r', b'\n', text).is_none()
 }

@@ -14,3 +14,4 @@ pub mod Options
 pub mod Cuts
 pub mod Numerals
 pub mod WordOrder
+pub mod Lanes

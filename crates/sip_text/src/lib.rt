@@ -4,6 +4,7 @@
 mod boxed;
 mod character;
 mod fault;
+mod find;
 mod folding;
 mod laws;
 mod line;
@@ -24,6 +25,7 @@ mod values;
 pub use boxed::Boxed;
 pub use character::{TokenBytes, is_blank, is_line_byte};
 pub use fault::TextFault;
+pub use find::{find_byte, find_either};
 pub use folding::{begins_blank, lines, unfold};
 pub use laws::{one_cut, one_list_of_parameters, one_split, quoted_strings};
 pub use line::next_line;

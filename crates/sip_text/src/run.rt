@@ -21,7 +21,7 @@ pub trait ByteClass {
 pub fn each_is<C: ByteClass>(text: &[u8]) -> bool
     ensures { result ≡ list_all C.holds text.now }
 {
-    text.iter().all(|byte| C::test(*byte))
+    run_len::<C>(text) == text.len()
 }
 
 /// Whether the text is one or more bytes of the class.
@@ -39,12 +39,27 @@ pub fn run_len<C: ByteClass>(text: &[u8]) -> usize
     ensures run { result ≡ prefix_len C.holds text.now }
     ensures within { result ≤ length text.now }
 {
-    for (index, byte) in text.iter().enumerate() {
-        if !C::test(*byte) {
+    let mut index = 0;
+    // Four tests a turn spare the loop's own.
+    while 4 <= text.len() - index {
+        if !C::test(text[index]) {
             return index;
         }
+        if !C::test(text[index + 1]) {
+            return index + 1;
+        }
+        if !C::test(text[index + 2]) {
+            return index + 2;
+        }
+        if !C::test(text[index + 3]) {
+            return index + 3;
+        }
+        index += 4;
     }
-    text.len()
+    while index < text.len() && C::test(text[index]) {
+        index += 1;
+    }
+    index
 }
 
 /// The bytes of the class that the text begins with, of which there is one at least, where this

@@ -8,7 +8,7 @@ ghost use Rattle.sip_text.specs.Separator as separators;
 ghost use Rattle.sip_text.specs.declared.separator.Place.TheVariants as place;
 
 use crate::character::is_blank;
-use memchr::{memchr, memchr2};
+use crate::find::{find_byte, find_either};
 
 /// What cuts a text in two (RFC 3261, sections 7.3.1 and 25.1).
 #[derive(Clone, Copy, Debug, PartialEq, Eq)]
@@ -38,6 +38,8 @@ pub enum Place {
 
 impl Separator {
     /// The parts before and after the first separator that counts, or None where there is none.
+    // Each call names its separator, so that one case is left of it there.
+    #[inline(always)]
     pub fn cut(self, text: &[u8]) -> Option<(&[u8], &[u8])>
         ensures exact { both_now result ≡ separators.cut_from self place.Plain text.now }
         ensures length { IfSome result
@@ -56,9 +58,9 @@ impl Separator {
         ensures { IsFirstByte (separators.separates self) text.now result }
     {
         match self {
-            Separator::Byte(at) | Separator::Anywhere(at) => memchr(at, text),
-            Separator::Blank => memchr2(b' ', b'\t', text),
-            Separator::Colon => memchr(b':', text),
+            Separator::Byte(at) | Separator::Anywhere(at) => find_byte(at, text),
+            Separator::Blank => find_either(b' ', b'\t', text),
+            Separator::Colon => find_byte(b':', text),
         }
     }
 
@@ -68,9 +70,9 @@ impl Separator {
             (λ k. separators.opens self (slice_index front.now k) ≡ true) 0 (length front.now)) }
     {
         match self {
-            Separator::Byte(_) => memchr2(b'"', b'<', front).is_some(),
+            Separator::Byte(_) => find_either(b'"', b'<', front).is_some(),
             Separator::Anywhere(_) | Separator::Blank => false,
-            Separator::Colon => memchr(b'[', front).is_some(),
+            Separator::Colon => find_byte(b'[', front).is_some(),
         }
     }
 

@@ -72,6 +72,7 @@ impl<T> Series<T> {
     }
 
     /// Adds a value at its end. Without memory the list stays as it is, and the value is gone.
+    #[inline(always)]
     pub fn push(&mut self, value: T) -> Result<(), AllocError>
     where
         T: Drop,

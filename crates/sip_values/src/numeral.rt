@@ -35,10 +35,11 @@ impl Row for NumberRow {
 pub(crate) fn numeral_in(text: &[u8]) -> Option<Numeral>
     ensures { result ≡ numerals.numeral_from text.now }
 {
-    if !is_word(text) {
-        return None;
+    match number_u32(text) {
+        Ok(number) => Some(Numeral::Number(number)),
+        Err(_) if is_word(text) => Some(Numeral::NotANumber),
+        Err(_) => None,
     }
-    Some(numeral_of(text))
 }
 
 pub(crate) fn numeral_of(word: &[u8]) -> Numeral

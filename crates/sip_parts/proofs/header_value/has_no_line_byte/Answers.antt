@@ -5,5 +5,5 @@ use Rattle.sip_parts.proofs.header_value.has_no_line_byte.Goals as goal
 
 pub returns : goal.returns
 returns c =
-    none_found is_line_byte c.args.text.now c.memchr2.result c.is_none.result
-    (sym c.is_none.ensures) c.memchr2.ensures
+    none_found is_line_byte c.args.text.now c.find_either.result c.is_none.result
+    (sym c.is_none.ensures) c.find_either.ensures
