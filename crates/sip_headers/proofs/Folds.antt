@@ -14,8 +14,8 @@ use Rattle.sip_text.specs.Unfolded.{begins_blank, joined}
 use Rattle.sip_text.proofs.LineParts.{at_lf, longer, split_at, slice_split-cut_at}
 use Rattle.sip_text.proofs.Separators.{mapped}
 use Rattle.sip_headers.specs.Draft.{with_line}
-use Rattle.sip_headers.specs.Folding.{Section, with_line_of, section_from, section_at, whole_section}
-use Rattle.sip_headers.specs.Steps.Drafted.{onto_section, behind_line, drafted_on}
+use Rattle.sip_headers.specs.Folding.{Section, with_line_of, section_from, section_at, folded_onto, whole_lines, whole_section}
+use Rattle.sip_headers.specs.Steps.Drafted.{onto_section, behind_line, drafted_on, onto_lines, lines_from, lines_at}
 use Rattle.sip_headers.specs.declared.draft.Draft.{Draft}
 
 -- ---- the lines of a text
@@ -221,3 +221,68 @@ plain_by whole text (Some (more, after)) e plain =
 pub ends_plain : (whole text : List ℕ) → begins_blank text ≡ false
     → onto_section whole (section_at text) ≡ behind_line whole (whole_section (section_at text))
 ends_plain whole text plain = plain_by whole text (line_at text) refl plain
+
+-- ---- the same of the lines, where no empty one has to end them
+
+lines_behind : (part : List ℕ) (parts : List (List ℕ)) → HasFirst parts
+    → lines_from (part ∷ parts) ≡ onto_lines (strip_carriage_return part) (lines_from parts)
+lines_behind part parts some = rw some.2 refl
+
+pub line_onto : (text line after : List ℕ) → line_at text ≡ Some (line, after)
+    → lines_at text ≡ onto_lines line (lines_at after)
+unfolding line_at
+line_onto text line after e =
+    let m = mapped (λ (p : List ℕ × List ℕ). (strip_carriage_return p.0, p.1)) (cut_at 10 text)
+    (line, after) e in
+    let after_is : m.0.1 ≡ after = ap (λ (p : List ℕ × List ℕ). p.1) m.2 in
+    let line_is : strip_carriage_return m.0.0 ≡ line = ap (λ (p : List ℕ × List ℕ). p.0) m.2 in
+    ap lines_from (slice_split-cut_at text ∙ ap (split_at text) m.1)
+    ∙ lines_behind m.0.0 (slice_split at_lf m.0.1) (split_first m.0.1)
+    ∙ ap (λ (l : List ℕ). onto_lines l (lines_at m.0.1)) line_is
+    ∙ ap (λ (rest : List ℕ). onto_lines line (lines_at rest)) after_is
+
+pub none_onto : (text : List ℕ) → line_at text ≡ None → lines_at text ≡ []
+unfolding line_at
+none_onto text e =
+    let none = not_mapped (λ (p : List ℕ × List ℕ). (strip_carriage_return p.0, p.1))
+    (cut_at 10 text) e in
+    ap lines_from (slice_split-cut_at text ∙ ap (split_at text) none)
+
+folds_blank : (line more : List ℕ) (lines : List (List ℕ)) → begins_blank more ≡ true
+    → folded_onto line (onto_lines more lines) ≡ folded_onto (joined line more) lines
+folds_blank line [] lines e = absurd cc
+folds_blank line (b ∷ bs) lines e = rw e refl
+
+pub lines_go_on : (line text more after : List ℕ) (total : List (List ℕ))
+    → line_at text ≡ Some (more, after) → begins_blank more ≡ true
+    → folded_onto line (lines_at text) ≡ total
+    → folded_onto (joined line more) (lines_at after) ≡ total
+lines_go_on line text more after total e blank so_far =
+    sym (ap (folded_onto line) (line_onto text more after e)
+    ∙ folds_blank line more (lines_at after) blank) ∙ so_far
+
+folds_other : (line more : List ℕ) (lines : List (List ℕ)) → begins_blank more ≡ false
+    → folded_onto line (onto_lines more lines) ≡ line ∷ whole_lines (onto_lines more lines)
+folds_other line [] lines e = refl
+folds_other line (b ∷ bs) lines e = rw e refl
+
+pub lines_end_here : (line text more after : List ℕ) → line_at text ≡ Some (more, after)
+    → begins_blank more ≡ false
+    → folded_onto line (lines_at text) ≡ line ∷ whole_lines (lines_at text)
+lines_end_here line text more after e other =
+    rw (line_onto text more after e) (folds_other line more (lines_at after) other)
+
+pub lines_unended : (line text : List ℕ) → line_at text ≡ None
+    → folded_onto line (lines_at text) ≡ line ∷ whole_lines (lines_at text)
+lines_unended line text e = rw (none_onto text e) refl
+
+lines_by : (line text : List ℕ) (first : Option (List ℕ × List ℕ)) → line_at text ≡ first
+    → begins_blank text ≡ false
+    → folded_onto line (lines_at text) ≡ line ∷ whole_lines (lines_at text)
+lines_by line text None e plain = lines_unended line text e
+lines_by line text (Some (more, after)) e plain =
+    lines_end_here line text more after e (plain_first text more after e plain)
+
+pub lines_plain : (line text : List ℕ) → begins_blank text ≡ false
+    → folded_onto line (lines_at text) ≡ line ∷ whole_lines (lines_at text)
+lines_plain line text plain = lines_by line text (line_at text) refl plain

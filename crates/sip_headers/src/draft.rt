@@ -249,9 +249,10 @@ fn other_in(alloc: Global, name: &[u8], value: &[u8]) -> Result<Option<Header>, 
     Ok(Some(Header { name, value }))
 }
 
-/// The long name where the name is one of three compact names.
+/// The long name where the name is one of three compact names, in any case of the letters: of
+/// Content-Type, Subject and Content-Encoding (RFC 3261, section 7.3.3). Any other name itself.
 #[tactic(auto, unfolding(crate::specs::Draft::long_name))]
-fn long_name(name: &[u8]) -> &[u8]
+pub fn long_name(name: &[u8]) -> &[u8]
     ensures { result.now ≡ drafts.long_name name.now }
 {
     if token_eq(name, b"c") {

@@ -1,5 +1,5 @@
 //! Lines without their folds (RFC 3261, section 7.3.1), gathered up to the empty line.
-ghost use Rattle.std.specs.Prelude.{◌≡◌, ◌≤◌, IfOk, length};
+ghost use Rattle.std.specs.Prelude.{◌≡◌, ◌≤◌, ◌∷◌, IfOk, length};
 ghost use Rattle.std.specs.Option.{option_map};
 ghost use Rattle.sip_text.specs.Trimmed as trims;
 ghost use Rattle.sip_text.specs.Unfolded as folds;
@@ -65,6 +65,8 @@ pub fn whole_line<'a>(
         (λ found. steps.onto_section line.now (folding.section_at text.now)
         ≡ steps.behind_line (whole_now found.0) (folding.whole_section (folding.section_at
         found.1.now))) }
+    ensures lines { IfOk result (λ found. folding.folded_onto line.now (steps.lines_at text.now)
+        ≡ whole_now found.0 ∷ folding.whole_lines (steps.lines_at found.1.now)) }
     ensures shorter { IfOk result (λ found. length found.1.now ≤ length text.now) }
 {
     if !begins_blank(text) {

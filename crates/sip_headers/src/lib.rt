@@ -10,7 +10,7 @@ mod laws;
 mod numbers;
 mod slot;
 
-pub use draft::Draft;
+pub use draft::{Draft, long_name};
 pub use faultless::Faultless;
 pub use faults::Presence;
 pub use folding::{Whole, gather, whole_line};

@@ -1,5 +1,5 @@
 //! What was met of a header so far.
-ghost use Rattle.std.specs.Prelude.{◌≡◌, IfOk, OnOk};
+ghost use Rattle.std.specs.Prelude.{◌≡◌, ◌++◌, IfOk, OnOk};
 ghost use Rattle.sip_headers.specs.Slot as slots;
 
 use sip_text::Series;
@@ -59,12 +59,22 @@ fn listed<T: Drop>(
 ) -> Result<Option<Series<T>>, AllocError>
     ensures { IfOk result (λ all. all ≡ slots.listed before more) }
 {
-    let Some(mut before) = before else {
+    let Some(before) = before else {
         return Ok(None);
     };
     let Some(more) = more else {
         return Ok(None);
     };
+    Ok(Some(joined(before, more)?))
+}
+
+// Most lists have one line: then nothing is copied.
+fn joined<T: Drop>(mut before: Series<T>, more: Series<T>) -> Result<Series<T>, AllocError>
+    ensures { IfOk result (λ all. all ≡ before ++ more) }
+{
+    if before.is_empty() {
+        return Ok(more);
+    }
     before.append(more)?;
-    Ok(Some(before))
+    Ok(before)
 }

@@ -8,18 +8,20 @@ ghost use Rattle.sip_round.specs.Answers.{StandsFor};
 ghost use Rattle.sip_round.specs.NextDue.{IsDueAfter, IsQuietAfter};
 ghost use Rattle.sip_round.specs.declared.config.Config.{Config as AConfig};
 ghost use Rattle.sip_round.specs.declared.round.Round.{Round as ARound};
+ghost use Rattle.sip_reader.specs.Head.{BeginsWith, HasValues};
 ghost use Rattle.sip_host.specs.Handing.{head_of, put_in, text_of};
-ghost use Rattle.sip_host.specs.Hosting.{Begins, RunsRound, TakesDatagram, TakesFailure, TakesLine, after_taking, event_at, last_id_of, output_at, shard_of, with_events};
+ghost use Rattle.sip_host.specs.Hosting.{Begins, RunsRound, TakesDatagram, TakesFailure, TakesLine, after_taking, datagram_at, event_at, last_id_of, output_at, shard_of, with_events};
 ghost use Rattle.sip_host.specs.declared.host_fault.HostFault.TheVariants as fault;
 
 use crate::handing::{failure_of, put_output};
 use crate::host_fault::HostFault;
 use crate::next_output::NextOutput;
 use sip_files::read_event_line;
-use sip_message::{Addr, Id, Spread};
+use sip_message::{Addr, Id, Spread, Token};
+use sip_reader::{FirstLine, header_values, start_line};
 use sip_round::{Agent, Config, Event, MAX_EVENTS_OF_ROUND, NoMemory, PlacedOutput, Round};
 use sip_text::{Series, Text};
-use std::alloc::Global;
+use std::alloc::{AllocError, Global};
 use std::mem;
 
 /// One user agent, the events of its next round, and the events and the outputs of its last one.
@@ -171,6 +173,41 @@ impl Host {
         self.last_events.as_slice().get(before)
     }
 
+    /// What the start line of the datagram says that came in at this place of the last round, also
+    /// of one that was dropped. None where none came in there, or its first line is no start line.
+    ///
+    /// # Errors
+    ///
+    /// Memory was refused.
+    pub fn start_line(&self, place: u32) -> Result<Option<FirstLine<Token>>, AllocError>
+        ensures says { IfOk result (λ says. IfSome (datagram_at self.now place)
+            (BeginsWith says)) }
+        ensures none { IfOk result (λ says. datagram_at self.now place ≡ None → says ≡ None) }
+    {
+        match self.datagram_at(place) {
+            Some(bytes) => start_line(self.alloc, bytes.as_slice()),
+            None => Ok(None),
+        }
+    }
+
+    /// The values of a header of the datagram that came in at this place of the last round, also of
+    /// one that was dropped: of each header line of this name, the long or the compact one, in any
+    /// case of the letters, in order (RFC 3261, section 7.3.1). None where none came in there.
+    ///
+    /// # Errors
+    ///
+    /// Memory was refused.
+    pub fn header_values(&self, place: u32, name: &[u8]) -> Result<Series<Text>, AllocError>
+        ensures values { IfOk result (λ values. IfSome (datagram_at self.now place)
+            (HasValues name.now values)) }
+        ensures none { IfOk result (λ values. datagram_at self.now place ≡ None → values ≡ []) }
+    {
+        match self.datagram_at(place) {
+            Some(bytes) => header_values(self.alloc, bytes.as_slice(), name),
+            None => Ok(Series::new(self.alloc)),
+        }
+    }
+
     /// The id of the event that was given last, if the next round has one: a command's request goes
     /// by it in the notices that tell of it. Takes no memory.
     pub fn last_id(&self) -> Option<Id>
@@ -195,6 +232,16 @@ impl Host {
             → StandsFor shard_of self.now.agent config rounds → IsDueAfter config rounds due) }
     {
         self.agent.next_due()
+    }
+
+    // The datagram that came in at this place of the last round.
+    fn datagram_at(&self, place: u32) -> Option<&Text>
+        ensures { option_copied result ≡ datagram_at self.now place }
+    {
+        match self.event(place) {
+            Some(Event::Datagram { bytes, .. }) => Some(bytes),
+            Some(Event::Failed(_)) | Some(Event::Command(_)) | None => None,
+        }
     }
 
     // Adds an event to those of the next round.

@@ -22,10 +22,11 @@ use Rattle.sip_reader.specs.ReadMessage.{◌>>=◌, or_fault, message_of_draft, 
 use Rattle.sip_reader.specs.ReadStart.{start_at}
 use Rattle.sip_reader.specs.SkippedEnds.{without_line_ends}
 use Rattle.sip_reader.specs.Spells.{Spells}
+use Rattle.sip_reader.specs.Head.{first_of}
 use Rattle.sip_reader.specs.StartLine.{SpellsStart}
 use Rattle.sip_reader.proofs.LastFaults.{last_faults, headers_decided}
 use Rattle.sip_reader.proofs.Layouts.{Laid, laid_takes, laid_again}
-use Rattle.sip_reader.proofs.Making.{some_start, first_of, first_spelled}
+use Rattle.sip_reader.proofs.Making.{some_start, first_spelled}
 use Rattle.sip_reader.proofs.Outcomes.{no_such, step_decides}
 use Rattle.sip_reader.proofs.Spelled.{spelled_again}
 use Rattle.sip_reader.proofs.StartLines.{start_reads}
@@ -56,7 +57,7 @@ more_decided {X = X} C es more (Ok x) f is next = onto (f x) (next x refl)
     onto (Ok y) d = none_both C es more is d
     onto (Err e) d = first_behind C es more e is d
 
-lines_decided : (start : List ℕ) (lines : List (List ℕ)) (rest : List ℕ) (line : FirstLine)
+lines_decided : (start : List ℕ) (lines : List (List ℕ)) (rest : List ℕ) (line : FirstLine (List ℕ))
     → start_at start ≡ Some line → Decides (LineCondition start lines rest) line_faults
     (faultless (draft_of lines) >>= λ d. message_of_draft line d rest)
 lines_decided start lines rest line e =
@@ -78,7 +79,7 @@ start_faults = fault.BadStartLine ∷ line_faults
 no_start : (start : List ℕ) → start_at start ≡ None → (says : StartLine) (method : List ℕ)
     → SpellsStart says method start → ⊥
 no_start start e says method spelled =
-    let f : ◌≡◌ {A = Option FirstLine} None (Some (first_of says method)) =
+    let f : ◌≡◌ {A = Option (FirstLine (List ℕ))} None (Some (first_of says method)) =
     sym e ∙ start_reads.again start (first_of says method)
     (first_spelled says method start spelled) in
     absurd cc

@@ -28,7 +28,8 @@ use Rattle.sip_reader.proofs.Making.{other_method, own_method, body_short, body_
 use Rattle.sip_reader.proofs.Outcomes.{no_such, step_decides, step_again}
 use Rattle.sip_values.proofs.Pieces.{by_bool}
 use Rattle.sip_reader.proofs.Spelled.{then_body, then_start, then_branch}
-use Rattle.sip_reader.proofs.StartLines.{SpellsFirst, start_reads}
+use Rattle.sip_reader.specs.Head.{SpellsFirst}
+use Rattle.sip_reader.proofs.StartLines.{start_reads}
 
 abbrev pub last_faults : List ReadFault
 last_faults = fault.BadNumber ∷ (fault.OldBranch ∷ (fault.MethodMismatch ∷ (fault.Truncated ∷ [])))
@@ -37,7 +38,7 @@ only_these : (P : Headers → Type 0) (h : Headers) (lines : List (List ℕ)) �
     → WithHeaders P lines → P h
 only_these P h lines is has = subst P (only_headers has.0 h lines has.1 is) has.2
 
-pub record IsRead (start : List ℕ) (lines : List (List ℕ)) (line : FirstLine)
+pub record IsRead (start : List ℕ) (lines : List (List ℕ)) (line : FirstLine (List ℕ))
     (h : Headers) : Type 0 where
   pub start_is : start_at start ≡ Some line
   pub headers_are : AreHeaders h lines
@@ -64,7 +65,7 @@ not_truncated (Some (Number n)) count rest body e f short =
     let same : count ≡ Some n = cc in
     body_long rest n body (ap (λ c. body_of rest c) (sym same) ∙ f) short
 
-body_decided : (start : List ℕ) (lines : List (List ℕ)) (rest : List ℕ) (line : FirstLine)
+body_decided : (start : List ℕ) (lines : List (List ℕ)) (rest : List ℕ) (line : FirstLine (List ℕ))
     (h : Headers) (numbers : Numbers) (vias : List Via) (says : StartLine)
     → IsRead start lines line h → numbers_in (draft_with h) ≡ Some numbers
     → Decides (LineCondition start lines rest) (fault.Truncated ∷ [])
@@ -85,18 +86,18 @@ body_decided start lines rest line h numbers vias says is ns =
       tt,
     ))
 
-has_other_method : (start : List ℕ) (line : FirstLine) (method : List ℕ)
+has_other_method : (start : List ℕ) (line : FirstLine (List ℕ)) (method : List ℕ)
     → start_at start ≡ Some line → (own : List ℕ) × (uri : List ℕ) × (line ≡ first.Request own uri)
     × (own ≡ method → ⊥) → HasOtherMethod start method
 has_other_method start line method e other = (
   other.0,
   other.1,
-  subst (λ (l : FirstLine). SpellsFirst l start) other.2
+  subst (λ (l : FirstLine (List ℕ)). SpellsFirst l start) other.2
       (start_reads.takes start line e),
   other.3,
 )
 
-no_other_method : (start : List ℕ) (line : FirstLine) (method : List ℕ) (says : StartLine)
+no_other_method : (start : List ℕ) (line : FirstLine (List ℕ)) (method : List ℕ) (says : StartLine)
     → start_at start ≡ Some line → start_line_of line method ≡ Some says
     → HasOtherMethod start method → ⊥
 no_other_method start line method says e f other =
@@ -105,7 +106,7 @@ no_other_method start line method says e f other =
     let same : line ≡ first.Request other.0 other.1 = cc in
     other.3 (own_method line method says other.0 other.1 f same)
 
-start_decided : (start : List ℕ) (lines : List (List ℕ)) (rest : List ℕ) (line : FirstLine)
+start_decided : (start : List ℕ) (lines : List (List ℕ)) (rest : List ℕ) (line : FirstLine (List ℕ))
     (h : Headers) (numbers : Numbers) (vias : List Via) → IsRead start lines line h
     → numbers_in (draft_with h) ≡ Some numbers → Decides (LineCondition start lines rest)
     (fault.MethodMismatch ∷ (fault.Truncated ∷ [])) (then_start line h rest numbers vias)
@@ -151,7 +152,8 @@ good_some : (vias good : List Via) (r : Bool) → cond r (Some vias) None ≡ So
 good_some vias good true e = (refl, cc)
 good_some vias good false e = absurd cc
 
-branch_decided : (start : List ℕ) (lines : List (List ℕ)) (rest : List ℕ) (line : FirstLine)
+branch_decided : (start : List ℕ) (lines : List (List ℕ)) (rest : List ℕ)
+    (line : FirstLine (List ℕ))
     (h : Headers) (numbers : Numbers) (vias : List Via) → IsRead start lines line h
     → numbers_in (draft_with h) ≡ Some numbers → each via_with h.vias ≡ Some vias
     → Decides (LineCondition start lines rest)
@@ -179,7 +181,7 @@ assoc : (o : Option (List Via)) (f : List Via → Result Message ReadFault)
 assoc None f = refl
 assoc (Some vs) f = refl
 
-in_stages : (line : FirstLine) (h : Headers) (rest : List ℕ)
+in_stages : (line : FirstLine (List ℕ)) (h : Headers) (rest : List ℕ)
     → message_of_draft line (draft_with h) rest
     ≡ (or_fault fault.BadNumber (numbers_in (draft_with h)) >>= λ numbers.
     or_fault fault.BadNumber (each via_with h.vias) >>= λ vias.
@@ -196,7 +198,7 @@ in_stages line h rest = by (numbers_in (draft_with h))
     by None = refl
     by (Some numbers) = assoc (each via_with h.vias) (λ vias. then_start line h rest numbers vias)
 
-bad_numbers : (line : FirstLine) (h : Headers) (rest : List ℕ) → are_numbers h ≡ false
+bad_numbers : (line : FirstLine (List ℕ)) (h : Headers) (rest : List ℕ) → are_numbers h ≡ false
     → message_of_draft line (draft_with h) rest ≡ Err fault.BadNumber
 bad_numbers line h rest e =
     in_stages line h rest ∙ by (numbers_in (draft_with h)) (each via_with h.vias) refl refl
@@ -210,7 +212,8 @@ bad_numbers line h rest e =
     by (Some numbers) (Some vias) f g =
         absurd (true≢false (sym (are_all_numbers h numbers vias f g) ∙ e))
 
-pub headers_decided : (start : List ℕ) (lines : List (List ℕ)) (rest : List ℕ) (line : FirstLine)
+pub headers_decided : (start : List ℕ) (lines : List (List ℕ)) (rest : List ℕ)
+    (line : FirstLine (List ℕ))
     (h : Headers) → IsRead start lines line h
     → Decides (LineCondition start lines rest) last_faults
     (message_of_draft line (draft_with h) rest)

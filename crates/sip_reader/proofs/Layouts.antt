@@ -31,7 +31,7 @@ line_again text line after is =
     ∙ ap (option_map stripped) (at_again 10 is.part after is.one)
     ∙ ap (λ (xs : List ℕ). Some (xs, after)) (sym is.stripped)
 
-after_shorter : (text line after : List ℕ) → IsLine text line after → length after < length text
+pub after_shorter : (text line after : List ℕ) → IsLine text line after → length after < length text
 after_shorter text line after is =
     omega (arith, ap length is.parts, length-append is.part (10 ∷ after))
 
@@ -103,11 +103,11 @@ section_again (line ∷ lines) text rest all is =
 -- ---- empty lines at the start
 
 -- the text begins with a line end
-abbrev HasEnd : List ℕ → List ℕ → Type 0
+abbrev pub HasEnd : List ℕ → List ℕ → Type 0
 HasEnd text after = (text ≡ 10 ∷ after) ⊎ (text ≡ 13 ∷ (10 ∷ after))
 
 -- it doesn't
-abbrev NoEnd : List ℕ → Type 0
+abbrev pub NoEnd : List ℕ → Type 0
 NoEnd text = (after : List ℕ) → HasEnd text after → ⊥
 
 pub strips_later : (b c : ℕ) (cs : List ℕ)
@@ -131,7 +131,7 @@ empty_part (b ∷ []) after e = inr (ap (λ (c : ℕ). c ∷ (10 ∷ after)) (st
 empty_part (b ∷ (c ∷ bs)) after e =
     let none : [] ≡ b ∷ strip_carriage_return (c ∷ bs) = e ∙ strips_later b c bs in absurd cc
 
-empty_line : (text after : List ℕ) → IsLine text [] after → HasEnd text after
+pub empty_line : (text after : List ℕ) → IsLine text [] after → HasEnd text after
 empty_line text after is =
     subst (λ (xs : List ℕ). HasEnd xs after) (sym is.parts) (empty_part is.part after is.stripped)
 
@@ -203,11 +203,11 @@ skip_line text after (inl e) = ap without_line_ends e ∙ skip_lf after
 skip_line text after (inr e) = ap without_line_ends e
 
 -- the empty lines that are skipped, and that no further one is
-record Skips (text : List ℕ) : Type 0 where
-  skipped : ℕ
-  before : (lines : List (List ℕ)) (rest : List ℕ) → IsLines (without_line_ends text) lines rest
+pub record Skips (text : List ℕ) : Type 0 where
+  pub skipped : ℕ
+  pub before : (lines : List (List ℕ)) (rest : List ℕ) → IsLines (without_line_ends text) lines rest
       → IsLines text (replicate skipped [] ++ lines) rest
-  done : NoEnd (without_line_ends text)
+  pub done : NoEnd (without_line_ends text)
 
 skips_by : (text : List ℕ) → ((after : List ℕ) → length after < length text → Skips after)
     → Skips text
@@ -238,7 +238,7 @@ skips_within : (n : ℕ) (text : List ℕ) → length text ≤ n → Skips text
 skips_within zero text short = skips_by text (λ after lt. absurd (omega arith))
 skips_within (suc n) text short = skips_by text (λ after lt. skips_within n after (omega arith))
 
-skips : (text : List ℕ) → Skips text
+pub skips : (text : List ℕ) → Skips text
 skips text = skips_within (length text) text (omega arith)
 
 -- a line that isn't empty doesn't begin with its end
@@ -262,7 +262,7 @@ skip_again (suc n) text start lines rest some_line is =
 -- ---- the whole
 
 -- the first line behind the line ends that are skipped
-begins_full : (text first after : List ℕ)
+pub begins_full : (text first after : List ℕ)
     → line_at (without_line_ends text) ≡ Some (first, after) → IsFull first
 begins_full text first after e none =
     (skips text).done after (empty_line (without_line_ends text) after

@@ -12,3 +12,6 @@ pub mod WrittenStarts
 pub mod EachHeader
 pub mod RoundTrip
 pub mod Unfolding
+pub mod Heads
+pub mod HeadValues
+pub mod HeadMessages

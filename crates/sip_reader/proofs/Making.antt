@@ -10,13 +10,13 @@ use Rattle.sip_reader.specs.declared.first_line.FirstLine.{FirstLine}
 use Rattle.sip_reader.specs.declared.first_line.FirstLine.TheVariants as first
 use Rattle.sip_reader.specs.ReadMessage.{start_line_of, body_of}
 use Rattle.sip_reader.specs.Spells.{IsBody}
+use Rattle.sip_reader.specs.Head.{SpellsFirst, first_of}
 use Rattle.sip_reader.specs.StartLine.{SpellsStart, IsRequestLine}
 use Rattle.sip_values.proofs.Pieces.{guard_some, by_bool}
-use Rattle.sip_reader.proofs.StartLines.{SpellsFirst}
 
 -- ---- the start line
 
-pub start_takes : (line : FirstLine) (method : List ℕ) (says : StartLine) (text : List ℕ)
+pub start_takes : (line : FirstLine (List ℕ)) (method : List ℕ) (says : StartLine) (text : List ℕ)
     → start_line_of line method ≡ Some says → SpellsFirst line text → SpellsStart says method text
 unfolding start_line_of
 start_takes (first.Request own uri) method says text e spelled =
@@ -27,11 +27,6 @@ start_takes (first.Request own uri) method says text e spelled =
 start_takes (first.Response status reason) method says text e spelled =
     subst (λ (s : StartLine). SpellsStart s method text)
     (same_Some (start.Response status reason) says e) spelled
-
--- a start line with the method of a request
-abbrev pub first_of : StartLine → List ℕ → FirstLine
-first_of (start.Request uri) method = first.Request method uri
-first_of (start.Response status reason) method = first.Response status reason
 
 pub first_spelled : (says : StartLine) (method text : List ℕ) → SpellsStart says method text
     → SpellsFirst (first_of says method) text
@@ -45,12 +40,12 @@ start_line_again (start.Request uri) method = rw ((bytes_eq-Decides method metho
 start_line_again (start.Response status reason) method = refl
 
 -- what a start line says, for some method
-pub some_start : (line : FirstLine) (text : List ℕ) → SpellsFirst line text
+pub some_start : (line : FirstLine (List ℕ)) (text : List ℕ) → SpellsFirst line text
     → (says : StartLine) × (method : List ℕ) × SpellsStart says method text
 some_start (first.Request method uri) text spelled = (start.Request uri, method, spelled)
 some_start (first.Response status reason) text spelled = (start.Response status reason, [], spelled)
 
-pub other_method : (line : FirstLine) (method : List ℕ) → start_line_of line method ≡ None
+pub other_method : (line : FirstLine (List ℕ)) (method : List ℕ) → start_line_of line method ≡ None
     → (own : List ℕ) × (uri : List ℕ) × (line ≡ first.Request own uri) × (own ≡ method → ⊥)
 unfolding start_line_of
 other_method (first.Request own uri) method e = (
@@ -66,7 +61,7 @@ other_method (first.Request own uri) method e = (
 other_method (first.Response status reason) method e = absurd cc
 
 -- a request line with this method has no other
-pub own_method : (line : FirstLine) (method : List ℕ) (says : StartLine) (own uri : List ℕ)
+pub own_method : (line : FirstLine (List ℕ)) (method : List ℕ) (says : StartLine) (own uri : List ℕ)
     → start_line_of line method ≡ Some says → line ≡ first.Request own uri → own ≡ method
 unfolding start_line_of
 own_method (first.Request m u) method says own uri e same =

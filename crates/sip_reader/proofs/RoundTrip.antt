@@ -29,7 +29,8 @@ use Rattle.sip_reader.specs.SkippedEnds.{without_line_ends}
 use Rattle.sip_reader.specs.Spells.{Spells}
 use Rattle.sip_reader.proofs.EachHeader.{with_from, identified, with_routes, with_rack, vias_go, hops_go, from_goes, to_goes, call_id_goes, cseq_goes, contacts_go, record_routes_go, routes_go, require_goes, supported_goes, rseq_goes, rack_goes, others_go, length_goes}
 use Rattle.sip_reader.proofs.Layouts.{kept, no_end}
-use Rattle.sip_reader.proofs.Making.{first_of, first_spelled, body_again}
+use Rattle.sip_reader.specs.Head.{first_of}
+use Rattle.sip_reader.proofs.Making.{first_spelled, body_again}
 use Rattle.sip_reader.proofs.Outcomes.{step_again, result_again}
 use Rattle.sip_reader.proofs.Sections.{some_gathered}
 use Rattle.sip_reader.proofs.Spelled.{made_again, spelled_takes}

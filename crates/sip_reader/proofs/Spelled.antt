@@ -26,9 +26,10 @@ use Rattle.sip_reader.specs.ReadMessage.{◌>>=◌, or_fault, good_vias, vias_of
 use Rattle.sip_reader.specs.ReadStart.{start_at}
 use Rattle.sip_reader.specs.SkippedEnds.{without_line_ends}
 use Rattle.sip_reader.specs.Spells.{Spells}
+use Rattle.sip_reader.specs.Head.{first_of}
 use Rattle.sip_reader.specs.StartLine.{SpellsStart}
 use Rattle.sip_reader.proofs.Layouts.{laid_takes, laid_again}
-use Rattle.sip_reader.proofs.Making.{start_takes, first_of, first_spelled, start_line_again, body_takes, body_again}
+use Rattle.sip_reader.proofs.Making.{start_takes, first_spelled, start_line_again, body_takes, body_again}
 use Rattle.sip_reader.proofs.Outcomes.{same_Ok, step_ok, result_ok, step_again, result_again}
 use Rattle.sip_reader.proofs.StartLines.{start_reads}
 use Rattle.sip_reader.proofs.Sections.{by_first_line}
@@ -40,18 +41,20 @@ then_body h rest numbers vias says =
     or_fault fault.Truncated (body_of rest numbers.content_length) >>= λ body.
     or_fault fault.BadHeader (message_with says vias numbers (draft_with h) body)
 
-abbrev pub then_start : FirstLine → Headers → List ℕ → Numbers → List Via → Result Message ReadFault
+abbrev pub then_start : FirstLine (List ℕ) → Headers → List ℕ → Numbers → List Via
+    → Result Message ReadFault
 then_start line h rest numbers vias =
     or_fault fault.MethodMismatch (start_line_of line h.cseq.method) >>= λ says.
     then_body h rest numbers vias says
 
-abbrev pub then_branch : FirstLine → Headers → List ℕ → Numbers → List Via
+abbrev pub then_branch : FirstLine (List ℕ) → Headers → List ℕ → Numbers → List Via
     → Result Message ReadFault
 then_branch line h rest numbers vias =
     or_fault fault.OldBranch (good_vias vias) >>= λ good. then_start line h rest numbers good
 
 -- what a message was made of
-pub record IsMade (line : FirstLine) (h : Headers) (rest : List ℕ) (m : Message) : Type 0 where
+pub record IsMade (line : FirstLine (List ℕ)) (h : Headers) (rest : List ℕ)
+    (m : Message) : Type 0 where
   pub numbers : Numbers
   pub numbers_are : numbers_in (draft_with h) ≡ Some numbers
   pub vias_are : each via_with h.vias ≡ Some m.vias
@@ -78,7 +81,7 @@ some_ok : {A : Type 0} (e : ReadFault) (o : Option A) (x : A) → or_fault e o �
 some_ok e None x p = absurd cc
 some_ok e (Some y) x p = ap (λ z. Some z) (same_Ok y x p)
 
-pub made : (line : FirstLine) (h : Headers) (rest : List ℕ) (m : Message)
+pub made : (line : FirstLine (List ℕ)) (h : Headers) (rest : List ℕ) (m : Message)
     → message_of_draft line (draft_with h) rest ≡ Ok m → IsMade line h rest m
 unfolding message_of_draft
 made line h rest m e =

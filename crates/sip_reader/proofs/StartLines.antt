@@ -19,7 +19,8 @@ use Rattle.sip_text.specs.Lines.{has_no}
 use Rattle.sip_text.proofs.ReadForms.{Reads}
 use Rattle.sip_text.specs.Options.{◌>>=◌}
 use Rattle.sip_reader.specs.ReadStart.{request_at, code_in, code_at, reason_at, status_at, start_at}
-use Rattle.sip_reader.specs.StartLine.{is_version, IsRequestLine, IsStatusCode, IsReasonPart, IsStatusLine}
+use Rattle.sip_reader.specs.Head.{SpellsFirst}
+use Rattle.sip_reader.specs.StartLine.{is_version, IsStatusCode, IsReasonPart}
 use Rattle.sip_values.proofs.Characters.{same_lower, lower_without, token_without, no_space, no_slash, word_without_space}
 use Rattle.sip_values.proofs.Cuts.{at_takes, at_again, run_all}
 use Rattle.sip_values.proofs.Digits.{is_number, all_digits, number_is, number_again}
@@ -30,11 +31,6 @@ bind_some : {A B : Type 0} (o : Option A) (f : A → Option B) (y : B) → (o >>
     → (x : A) × (o ≡ Some x) × (f x ≡ Some y)
 bind_some None f y e = absurd cc
 bind_some (Some x) f y e = (x, refl, e)
-
--- what the start line says, a request's method with it
-abbrev pub SpellsFirst : FirstLine → List ℕ → Type 0
-SpellsFirst (first.Request method uri) line = IsRequestLine method uri line
-SpellsFirst (first.Response status reason) line = IsStatusLine status reason line
 
 -- ---- the status code
 
@@ -118,7 +114,7 @@ reason_again text reason (inr e) is = rw (e.0, e.1) refl
 
 -- ---- the two kinds of start line
 
-status_takes : (version text : List ℕ) (says : FirstLine) → is_version version ≡ true
+status_takes : (version text : List ℕ) (says : FirstLine (List ℕ)) → is_version version ≡ true
     → status_at text ≡ Some says → SpellsFirst says (version ++ (32 ∷ text))
 unfolding status_at
 status_takes version text says is e =
@@ -129,7 +125,7 @@ status_takes version text says is e =
     (λ reason. Some (first.Response a.0 reason)) says a.2 in
     let code = code_takes (take 3 text) a.0 (omega (arith, length-take 3 text)) a.1 in
     let reason = reason_takes (drop 3 text) b.0 b.1 in
-    subst (λ (s : FirstLine). SpellsFirst s (version ++ (32 ∷ text)))
+    subst (λ (s : FirstLine (List ℕ)). SpellsFirst s (version ++ (32 ∷ text)))
     (same_Some (first.Response a.0 b.0) says b.2)
     (record {
       version = version;
@@ -142,8 +138,8 @@ status_takes version text says is e =
       reason_is = reason.1;
     })
 
-request_takes : (method text : List ℕ) (says : FirstLine) → request_at method text ≡ Some says
-    → SpellsFirst says (method ++ (32 ∷ text))
+request_takes : (method text : List ℕ) (says : FirstLine (List ℕ))
+    → request_at method text ≡ Some says → SpellsFirst says (method ++ (32 ∷ text))
 unfolding request_at
 request_takes method text says e =
     let a = bind_some (cut_at 32 text)
@@ -153,7 +149,7 @@ request_takes method text says e =
     (first.Request method a.0.0) says a.2 in
     let both = and_parts (is_version a.0.1) (is_token method && is_word a.0.0) g.0 in
     let words = and_parts (is_token method) (is_word a.0.0) both.1 in
-    subst (λ (s : FirstLine). SpellsFirst s (method ++ (32 ∷ text))) g.1
+    subst (λ (s : FirstLine (List ℕ)). SpellsFirst s (method ++ (32 ∷ text))) g.1
     (record {
       version = a.0.1;
       parts = ap (λ (xs : List ℕ). method ++ (32 ∷ xs))
@@ -163,13 +159,14 @@ request_takes method text says e =
       version_is = both.0;
     })
 
-line_from : (front text : List ℕ) (says : FirstLine) (r : Bool) → is_version front ≡ r
+line_from : (front text : List ℕ) (says : FirstLine (List ℕ)) (r : Bool) → is_version front ≡ r
     → cond r (status_at text) (request_at front text) ≡ Some says
     → SpellsFirst says (front ++ (32 ∷ text))
 line_from front text says true is e = status_takes front text says is e
 line_from front text says false is e = request_takes front text says e
 
-start_takes : (line : List ℕ) (says : FirstLine) → start_at line ≡ Some says → SpellsFirst says line
+start_takes : (line : List ℕ) (says : FirstLine (List ℕ)) → start_at line ≡ Some says
+    → SpellsFirst says line
 unfolding start_at
 start_takes line says e =
     let a = bind_some (cut_at 32 line)
@@ -218,7 +215,8 @@ status_again status reason version code end is code_is end_is reason_is =
       reason_again end reason end_is reason_is,
     ) refl
 
-start_again : (line : List ℕ) (says : FirstLine) → SpellsFirst says line → start_at line ≡ Some says
+start_again : (line : List ℕ) (says : FirstLine (List ℕ)) → SpellsFirst says line
+    → start_at line ≡ Some says
 start_again line (first.Request method uri) spelled =
     rw spelled.parts (request_again method uri spelled.version spelled.method_is spelled.uri_is
     spelled.version_is)
@@ -226,5 +224,5 @@ start_again line (first.Response status reason) spelled =
     rw spelled.parts (status_again status reason spelled.version spelled.code spelled.end
     spelled.version_is spelled.code_is spelled.end_is spelled.reason_is)
 
-pub start_reads : Reads (List ℕ) FirstLine start_at SpellsFirst
+pub start_reads : Reads (List ℕ) (FirstLine (List ℕ)) start_at SpellsFirst
 start_reads = record { takes = start_takes; again = start_again }

@@ -21,7 +21,7 @@ use Rattle.sip_values.proofs.Pieces.{by_bool}
 -- ---- the lines that are found
 
 -- a text that ends in a line has its end
-not_ended : (front after : List ℕ) → has_no 10 (front ++ (10 ∷ after)) ≡ true → ⊥
+pub not_ended : (front after : List ℕ) → has_no 10 (front ++ (10 ∷ after)) ≡ true → ⊥
 not_ended front after free =
     false≢true (and_parts (has_no 10 front) (has_no 10 (10 ∷ after))
     (sym (list_all-append (λ b. not (eqb b 10)) front (10 ∷ after)) ∙ free)).1

@@ -224,12 +224,12 @@ no_header : (o : Option HeaderName) → is_some o ≡ false → o ≡ None
 no_header None e = refl
 no_header (Some h) e = absurd cc
 
-record IsOwn (name : List ℕ) : Type 0 where
+pub record IsOwn (name : List ℕ) : Type 0 where
   pub token : is_token name ≡ true
   pub unknown : header_named name ≡ None
   pub long : long_name name ≡ name
 
-own_name : (name : List ℕ) → is_other_name name ≡ true → IsOwn name
+pub own_name : (name : List ℕ) → is_other_name name ≡ true → IsOwn name
 unfolding is_other_name is_compact_name long_name
 own_name name is =
     let parts = and_parts (is_token name)

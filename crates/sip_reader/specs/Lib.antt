@@ -2,6 +2,8 @@ pub mod Layout
 pub mod StartLine
 pub mod Spells
 pub mod Faults
+pub mod Head
 pub mod SkippedEnds
 pub mod ReadStart
 pub mod ReadMessage
+pub mod ReadHead

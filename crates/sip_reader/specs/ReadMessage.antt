@@ -55,7 +55,7 @@ vias_of drafts = do
   or_fault fault.OldBranch (good_vias vias)
 
 -- the start line; a request's method is that of its CSeq
-unfoldable pub start_line_of : FirstLine → List ℕ → Option StartLine
+unfoldable pub start_line_of : FirstLine (List ℕ) → List ℕ → Option StartLine
 start_line_of (first.Request method uri) cseq_method =
     if bytes_eq method cseq_method then Some (start.Request uri) else None
 start_line_of (first.Response status reason) cseq_method = Some (start.Response status reason)
@@ -66,7 +66,7 @@ body_of text None = Some text
 body_of text (Some n) = if nat_lt (length text) n then None else Some (take n text)
 
 -- of a draft without a fault, which has Via values and a CSeq
-unfoldable pub message_of_draft : FirstLine → Draft → List ℕ → Result Message ReadFault
+unfoldable pub message_of_draft : FirstLine (List ℕ) → Draft → List ℕ → Result Message ReadFault
 message_of_draft line d text = do
   numbers ← or_fault fault.BadNumber (numbers_in d)
   drafts ← or_fault fault.BadHeader d.vias

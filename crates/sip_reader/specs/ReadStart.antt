@@ -12,7 +12,7 @@ use Rattle.sip_reader.specs.declared.first_line.FirstLine.{FirstLine}
 use Rattle.sip_reader.specs.declared.first_line.FirstLine.TheVariants as first
 
 -- a URI, a space and the version
-unfoldable pub request_at : List ℕ → List ℕ → Option FirstLine
+unfoldable pub request_at : List ℕ → List ℕ → Option (FirstLine (List ℕ))
 request_at method rest = do
   p ← cut_at 32 rest
   if is_version p.1 && (is_token method && is_word p.0) then Some (first.Request method p.0)
@@ -37,14 +37,14 @@ reason_at [] = Some []
 reason_at (b ∷ bs) = if b == 32 && is_reason bs then Some bs else None
 
 -- three digits, and a reason
-unfoldable pub status_at : List ℕ → Option FirstLine
+unfoldable pub status_at : List ℕ → Option (FirstLine (List ℕ))
 status_at text = do
   status ← code_at (take 3 text)
   reason ← reason_at (drop 3 text)
   Some (first.Response status reason)
 
 -- a line that begins with the version is a status line; any other is a request line
-unfoldable pub start_at : List ℕ → Option FirstLine
+unfoldable pub start_at : List ℕ → Option (FirstLine (List ℕ))
 start_at line = do
   p ← cut_at 32 line
   if is_version p.0 then status_at p.1 else request_at p.0 p.1

@@ -1,17 +1,24 @@
 //! Laws over the definitions of reading.
-ghost use Rattle.std.specs.Prelude.{◌≡◌, ◌≤◌, ℕ, IfOk, List, [], ◌∷◌, ◌++◌, Ok, length, replicate};
+ghost use Rattle.std.specs.Prelude.{◌≡◌, ◌≤◌, ℕ, IfOk, List, [], ◌∷◌, ◌++◌, Ok, Option, None, Some, length, map, replicate};
+ghost use Rattle.std.specs.List.{filter};
 ghost use Rattle.sip_text.specs.Lines.{AreLines};
 ghost use Rattle.sip_text.specs.Unfolded.{unfolded};
+ghost use Rattle.sip_parts.specs.HeaderEntry.{entry, header_named};
+ghost use Rattle.sip_parts.specs.declared.header_name.HeaderName.{HeaderName};
 ghost use Rattle.sip_headers.specs.Faults.{Decides};
+ghost use Rattle.sip_headers.specs.Headers.{AreRows};
+ghost use Rattle.sip_headers.specs.Numbers.{headers_with};
 ghost use Rattle.sip_message.specs.declared.fault.ReadFault.{ReadFault};
 ghost use Rattle.sip_message.specs.declared.message.Message.{Message};
 ghost use Rattle.sip_message.specs.Written.{written};
 ghost use Rattle.sip_reader.specs.Faults.{Condition, IsFirstFault, faults};
+ghost use Rattle.sip_reader.specs.Head.{BeginsWith, HasValues, IsHead, first_of, is_same_header};
 ghost use Rattle.sip_reader.specs.Layout.{Lays};
 ghost use Rattle.sip_reader.specs.ReadMessage.{message_at};
 ghost use Rattle.sip_message.specs.Rules.{IsMessage};
 ghost use Rattle.sip_reader.specs.SkippedEnds.{without_line_ends};
 ghost use Rattle.sip_reader.specs.Spells.{Spells};
+ghost use Rattle.sip_reader.specs.declared.first_line.FirstLine.{FirstLine};
 
 /// A text spells at most one message.
 pub fn one_message()
@@ -50,4 +57,34 @@ pub fn lines_are_laid()
 pub fn folds_are_laid()
     ensures { (head start : List ℕ) (lines : List (List ℕ)) → Lays head start lines []
         → AreLines (start ∷ (lines ++ ([] ∷ []))) (unfolded (without_line_ends head)) }
+{}
+
+/// A text has one head, one start line or none, and one list of values of each name.
+pub fn one_head()
+    ensures lines { (text : List ℕ) (lines others : List (List ℕ)) → IsHead lines text
+        → IsHead others text → lines ≡ others }
+    ensures start { (text : List ℕ) (says also : Option (FirstLine (List ℕ)))
+        → BeginsWith says text → BeginsWith also text → says ≡ also }
+    ensures values { (text name : List ℕ) (values others : List (List ℕ))
+        → HasValues name values text → HasValues name others text → values ≡ others }
+{}
+
+/// The head of a text that spells a message says what the message says: its lines are the start
+/// line and the header lines of the layout, its first line is the start line, the values of each
+/// header of the table are those of the message, and those of another header are the values of the
+/// headers of its name.
+pub fn head_of_a_message()
+    ensures lines { (text start rest : List ℕ) (lines head : List (List ℕ))
+        → Lays text start lines rest → IsHead head text → head ≡ start ∷ lines }
+    ensures first { (text : List ℕ) (m : Message) (first : Option (FirstLine (List ℕ)))
+        → Spells m text → BeginsWith first text → first ≡ Some (first_of m.start m.cseq.method) }
+    ensures known { (text : List ℕ) (m : Message) (values : HeaderName → List (List ℕ))
+        → Spells m text
+        → ((header : HeaderName) → HasValues (entry header).name (values header) text)
+        → (content_length : Option ℕ) × (others : List (List ℕ × List ℕ))
+        × AreRows (headers_with m content_length) values others }
+    ensures others { (text name : List ℕ) (m : Message) (values : List (List ℕ))
+        → Spells m text → header_named name ≡ None → HasValues name values text
+        → values ≡ map (λ header. header.value)
+        (filter (λ header. is_same_header name header.name) m.others) }
 {}

@@ -2,15 +2,18 @@
 #![tactic(auto)]
 
 mod first_line;
+mod head;
 mod laws;
 mod layout;
 mod reader;
 mod rules;
 mod start_reader;
 
+pub use first_line::FirstLine;
+pub use head::{header_values, start_line};
 pub use laws::{
-    folds_are_laid, lines_are_laid, no_fault_of_a_message, one_message, what_is_read,
-    written_is_spelled,
+    folds_are_laid, head_of_a_message, lines_are_laid, no_fault_of_a_message, one_head,
+    one_message, what_is_read, written_is_spelled,
 };
 pub use reader::{MAX_BYTES, read};
 pub use rules::keeps_rules;

@@ -9,7 +9,10 @@ use std::alloc::{AllocError, Global};
 
 /// What the start line says, or None where it is neither a request line nor a status line.
 #[tactic(auto, unfolding(crate::specs::ReadStart::start_at))]
-pub(crate) fn start_of(alloc: Global, line: &[u8]) -> Result<Option<FirstLine<'_>>, AllocError>
+pub(crate) fn start_of(
+    alloc: Global,
+    line: &[u8],
+) -> Result<Option<FirstLine<Method<'_>>>, AllocError>
     ensures { IfOk result (λ start. start ≡ reading.start_at line.now) }
 {
     let Some((first, rest)) = cut(b' ', line) else {
@@ -27,7 +30,7 @@ fn request_line<'a>(
     alloc: Global,
     method: &'a [u8],
     rest: &[u8],
-) -> Result<Option<FirstLine<'a>>, AllocError>
+) -> Result<Option<FirstLine<Method<'a>>>, AllocError>
     ensures { IfOk result (λ start. start ≡ reading.request_at method.now rest.now) }
 {
     let Some((uri, version)) = cut(b' ', rest) else {
@@ -49,7 +52,7 @@ fn request_line<'a>(
 }
 
 #[tactic(auto, unfolding(crate::specs::ReadStart::status_at))]
-fn status_line<'a>(alloc: Global, text: &[u8]) -> Result<Option<FirstLine<'a>>, AllocError>
+fn status_line<'a>(alloc: Global, text: &[u8]) -> Result<Option<FirstLine<Method<'a>>>, AllocError>
     ensures { IfOk result (λ start. start ≡ reading.status_at text.now) }
 {
     let (code, after) = text.split_at(text.len().min(3));

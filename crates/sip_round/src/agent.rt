@@ -269,6 +269,7 @@ impl<C: Cut + Drop> Agent<C> {
     }
 
     // A round that isn't idle. It stands apart, so that an idle one doesn't pay for its locals.
+    #[inline(never)]
     fn run_phases<F: Form, R: Threads + Sync, G: Gate>(
         &mut self,
         rt: &R,

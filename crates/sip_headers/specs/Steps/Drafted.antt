@@ -1,6 +1,8 @@
 -- A line and those that go on with it, and what a draft says once more lines were added to it.
-use Rattle.std.specs.Prelude.{ℕ, List, ◌∷◌, Option, fold}
+use Rattle.std.specs.Prelude.{ℕ, List, [], ◌∷◌, Option, ◌==◌, fold}
+use Rattle.std.specs.List.{slice_split}
 use Rattle.std.specs.Option.{option_map}
+use Rattle.std.specs.Str.Lines.{strip_carriage_return}
 use Rattle.sip_headers.specs.Draft.{draft_of, with_line}
 use Rattle.sip_headers.specs.Folding.{Section, folded_onto, section_at, whole_section}
 use Rattle.sip_headers.specs.declared.draft.Draft.{Draft}
@@ -12,6 +14,22 @@ onto_section line section = option_map (λ s. (folded_onto line s.0, s.1)) secti
 -- one more line before those of a section, which don't go on with it
 abbrev pub behind_line : List ℕ → Option Section → Option Section
 behind_line line section = option_map (λ s. (line ∷ s.0, s.1)) section
+
+-- one more line before those up to an empty one
+abbrev pub onto_lines : List ℕ → List (List ℕ) → List (List ℕ)
+onto_lines [] lines = []
+onto_lines (b ∷ bs) lines = (b ∷ bs) ∷ lines
+
+-- the same, of a text that is split at each LF
+abbrev pub lines_from : List (List ℕ) → List (List ℕ)
+lines_from [] = []
+lines_from (last ∷ []) = []
+lines_from (part ∷ (next ∷ parts)) =
+    onto_lines (strip_carriage_return part) (lines_from (next ∷ parts))
+
+-- the lines up to the first empty one, or all that have their end where none is empty
+abbrev pub lines_at : List ℕ → List (List ℕ)
+lines_at text = lines_from (slice_split (λ b. b == 10) text)
 
 -- what the header lines of a text say, and what follows the empty line
 abbrev pub gathered_at : List ℕ → Option (Draft × List ℕ)

@@ -1,0 +1,12 @@
+use Rattle.sip_reader.proofs.HeadValues.{one_list}
+use Rattle.sip_reader.proofs.Heads.{one_head, one_start}
+use Rattle.sip_reader.proofs.laws.one_head.Goals as goal
+
+pub returns-clause-lines : goal.returns-clause-lines
+returns-clause-lines c = one_head
+
+pub returns-clause-start : goal.returns-clause-start
+returns-clause-start c = one_start
+
+pub returns-clause-values : goal.returns-clause-values
+returns-clause-values c = one_list

@@ -1,0 +1,92 @@
+-- The head of a text, whether the text spells a message or not: its start line and its header lines
+-- (RFC 3261, sections 7, 7.3.1 and 7.3.3).
+use Rattle.std.specs.Prelude.{◌≡◌, ℕ, Bool, true, false, List, [], ◌∷◌, drop, Option, Some, None, if◌then◌else◌}
+use Rattle.std.specs.List.{AllZip, filter_map, take_while}
+use Rattle.std.specs.Str.{str_eq_ignore_ascii_case}
+use Rattle.sip_text.specs.Lines.{AreLines}
+use Rattle.sip_parts.specs.HeaderEntry.{header_named}
+use Rattle.sip_parts.specs.declared.header_name.HeaderName.{HeaderName}
+use Rattle.sip_message.specs.declared.start_line.StartLine.{StartLine}
+use Rattle.sip_message.specs.declared.start_line.StartLine.TheVariants.{Request, Response}
+use Rattle.sip_headers.specs.Draft.{long_name}
+use Rattle.sip_headers.specs.Folding.{whole_lines}
+use Rattle.sip_headers.specs.HeaderLine.{IsHeaderLine}
+use Rattle.sip_headers.specs.Named.{is_same}
+use Rattle.sip_reader.specs.StartLine.{IsRequestLine, IsStatusLine}
+use Rattle.sip_reader.specs.declared.first_line.FirstLine.{FirstLine}
+use Rattle.sip_reader.specs.declared.first_line.FirstLine.TheVariants as first
+
+-- the form of the value, or of no value where nothing has the form
+abbrev pub OrNone : {A X : Type 0} → (X → A → Type 0) → Option X → A → Type 0
+OrNone {X = X} P None a = (x : X) → P x a → ⊥
+OrNone P (Some x) a = P x a
+
+-- ---- the lines
+
+-- a line that isn't empty
+abbrev pub is_full : List ℕ → Bool
+is_full [] = false
+is_full (b ∷ bs) = true
+
+-- the lines from the first that isn't empty on
+abbrev pub from_full : List (List ℕ) → List (List ℕ)
+from_full [] = []
+from_full ([] ∷ lines) = from_full lines
+from_full ((b ∷ bs) ∷ lines) = (b ∷ bs) ∷ lines
+
+-- The text's lines that have their end, from the first that isn't empty up to an empty one, or to
+-- the last. A line that begins with white space goes on with the line before it.
+pub record IsHead (lines : List (List ℕ)) (text : List ℕ) : Type 0 where
+  pub all : List (List ℕ)
+  pub parts : AreLines all text
+  pub whole : lines ≡ whole_lines (take_while is_full (from_full all))
+
+-- ---- the start line
+
+-- The line says this, a request's method with it.
+abbrev pub SpellsFirst : FirstLine (List ℕ) → List ℕ → Type 0
+SpellsFirst (first.Request method uri) line = IsRequestLine method uri line
+SpellsFirst (first.Response status reason) line = IsStatusLine status reason line
+
+-- what a start line says, and the method of a request
+abbrev pub first_of : StartLine → List ℕ → FirstLine (List ℕ)
+first_of (Request uri) method = first.Request method uri
+first_of (Response status reason) method = first.Response status reason
+
+-- what the first of the lines says; none where it is no start line, or there is no line
+abbrev pub IsFirst : Option (FirstLine (List ℕ)) → List (List ℕ) → Type 0
+IsFirst says [] = says ≡ None
+IsFirst says (line ∷ lines) = OrNone SpellsFirst says line
+
+-- what the start line of the text says
+abbrev pub BeginsWith : Option (FirstLine (List ℕ)) → List ℕ → Type 0
+BeginsWith says text = (lines : List (List ℕ)) × IsHead lines text × IsFirst says lines
+
+-- ---- the header lines
+
+-- both of the same header of the table, or both of none and this holds
+abbrev pub is_same_entry : Option HeaderName → Option HeaderName → Bool → Bool
+is_same_entry (Some header) (Some other) same = is_same header other
+is_same_entry None None same = same
+is_same_entry one another same = false
+
+-- Two names, long or compact, of the same header: of the same one of the table, or both of none and
+-- the long names are the same in any case of the letters.
+abbrev pub is_same_header : List ℕ → List ℕ → Bool
+is_same_header name other =
+    is_same_entry (header_named name) (header_named other)
+    (str_eq_ignore_ascii_case (long_name other) (long_name name))
+
+-- the value of a header line, where its name is one of this header
+abbrev pub value_under : List ℕ → Option (List ℕ × List ℕ) → Option (List ℕ)
+value_under name None = None
+value_under name (Some line) = if is_same_header name line.0 then Some line.1 else None
+
+-- The values of a header in the text, in the order of the lines behind the first. A line that is no
+-- header line has none.
+pub record HasValues (name : List ℕ) (values : List (List ℕ)) (text : List ℕ) : Type 0 where
+  pub lines : List (List ℕ)
+  pub named : List (Option (List ℕ × List ℕ))
+  pub head_is : IsHead lines text
+  pub named_are : AllZip (OrNone IsHeaderLine) named (drop 1 lines)
+  pub values_are : values ≡ filter_map (value_under name) named

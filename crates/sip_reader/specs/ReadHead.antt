@@ -1,0 +1,42 @@
+-- Reading the head of a text from left to right.
+use Rattle.std.specs.Prelude.{ℕ, Bool, false, List, [], ◌∷◌, map, Option, Some, None}
+use Rattle.std.specs.Borrow.{Bor}
+use Rattle.std.specs.List.{filter_map}
+use Rattle.sip_parts.specs.declared.header_name.HeaderName.{HeaderName}
+use Rattle.sip_headers.specs.Folding.{whole_lines}
+use Rattle.sip_headers.specs.HeaderLine.{line_from}
+use Rattle.sip_headers.specs.Named.{is_same}
+use Rattle.sip_headers.specs.Steps.Drafted.{lines_at}
+use Rattle.sip_headers.specs.Whole.{whole_now}
+use Rattle.sip_headers.specs.declared.folding.Whole.{Whole}
+use Rattle.sip_reader.specs.Head.{value_under}
+use Rattle.sip_reader.specs.ReadStart.{start_at}
+use Rattle.sip_reader.specs.SkippedEnds.{without_line_ends}
+use Rattle.sip_reader.specs.declared.first_line.FirstLine.{FirstLine}
+
+-- the lines up to the first empty one, or all that have their end, without folds
+abbrev pub whole_lines_at : List ℕ → List (List ℕ)
+whole_lines_at text = whole_lines (lines_at text)
+
+-- the same of a text from its first line on that isn't empty
+abbrev pub head_at : List ℕ → List (List ℕ)
+head_at text = whole_lines_at (without_line_ends text)
+
+-- a first line, and the lines of the text behind it
+abbrev pub lines_found : Option (Whole × Bor (List ℕ)) → List (List ℕ)
+lines_found None = []
+lines_found (Some found) = whole_now found.0 ∷ whole_lines_at found.1.now
+
+-- what the first of these lines says
+abbrev pub first_at : List (List ℕ) → Option (FirstLine (List ℕ))
+first_at [] = None
+first_at (line ∷ lines) = start_at line
+
+-- the header of the table is the one that is looked for
+abbrev pub is_known : Option HeaderName → HeaderName → Bool
+is_known None header = false
+is_known (Some wanted) header = is_same wanted header
+
+-- the values of a header in these lines
+abbrev pub values_at : List ℕ → List (List ℕ) → List (List ℕ)
+values_at name lines = filter_map (value_under name) (map line_from lines)

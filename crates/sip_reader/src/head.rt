@@ -1,0 +1,119 @@
+//! What a text says in its head, whether it spells a message or not (RFC 3261, section 7).
+ghost use Rattle.std.specs.Prelude.{◌≡◌, IfOk};
+ghost use Rattle.std.specs.Option.{option_copied};
+ghost use Rattle.sip_parts.specs.HeaderEntry.{header_named};
+ghost use Rattle.sip_headers.specs.HeaderLine.{line_from};
+ghost use Rattle.sip_reader.specs.Head as head;
+ghost use Rattle.sip_reader.specs.ReadHead as reading;
+
+use crate::first_line::FirstLine;
+use crate::layout::without_line_ends;
+use crate::start_reader::start_of;
+use sip_headers::{LineClass, Whole, class_of, long_name, whole_line};
+use sip_parts::{HeaderName, Token};
+use sip_text::{Series, Text, next_line, token_eq};
+use std::alloc::{AllocError, Global};
+
+/// What the start line of the text says, also of a text that spells no message: the first line that
+/// isn't empty, with the lines that go on with it. None where that is neither a request line nor a
+/// status line, or no line has its end (RFC 3261, sections 7.1 and 7.2).
+///
+/// # Errors
+///
+/// Memory was refused.
+pub fn start_line(alloc: Global, text: &[u8]) -> Result<Option<FirstLine<Token>>, AllocError>
+    ensures { IfOk result (λ first. head.BeginsWith first text.now) }
+{
+    let Some((line, _)) = first_line_of(alloc, text)? else {
+        return Ok(None);
+    };
+    let Some(first) = start_of(alloc, line.as_slice())? else {
+        return Ok(None);
+    };
+    Ok(Some(first.into_owned(alloc)?))
+}
+
+/// The values of a header in the text, also in one that spells no message: of each header line of
+/// this name, the long or the compact one, in any case of the letters, in the order of the lines.
+/// A value is without its folds and without white space round it, and a list stays one text (RFC
+/// 3261, sections 7.3.1 and 7.3.3). The header lines are those behind the first line up to an empty
+/// one, or up to the last that has its end; a line that is no header line is passed over.
+///
+/// # Errors
+///
+/// Memory was refused.
+pub fn header_values(alloc: Global, text: &[u8], name: &[u8]) -> Result<Series<Text>, AllocError>
+    ensures { IfOk result (λ values. head.HasValues name.now values text.now) }
+{
+    let Some((_, lines)) = first_line_of(alloc, text)? else {
+        return Ok(Series::new(alloc));
+    };
+    values_in(alloc, lines, name)
+}
+
+/// The first line that isn't empty, with those that go on with it, and the text behind it. None
+/// where there is none.
+fn first_line_of(alloc: Global, text: &[u8]) -> Result<Option<(Whole<'_>, &[u8])>, AllocError>
+    ensures { IfOk result (λ found. reading.lines_found found ≡ reading.head_at text.now) }
+{
+    let Some((line, after)) = next_line(without_line_ends(text)) else {
+        return Ok(None);
+    };
+    Ok(Some(whole_line(alloc, line, after)?))
+}
+
+/// The values of a header in the header lines that the text begins with.
+fn values_in(alloc: Global, text: &[u8], name: &[u8]) -> Result<Series<Text>, AllocError>
+    ensures { IfOk result (λ values. values
+        ≡ reading.values_at name.now (reading.whole_lines_at text.now)) }
+{
+    let header = HeaderName::of(name);
+    let mut values = Series::new(alloc);
+    let mut rest = text;
+    while let Some((line, after)) = next_line(rest) {
+        if line.is_empty() {
+            break;
+        }
+        let (whole, after) = whole_line(alloc, line, after)?;
+        if let Some(value) = value_in(name, header, whole.as_slice()) {
+            values.push(Text::copy_of(alloc, value)?)?;
+        }
+        rest = after;
+    }
+    Ok(values)
+}
+
+/// The line's value, where it is a header line of this name. The header of the table that the name
+/// is of is given beside it.
+fn value_in<'a>(name: &[u8], header: Option<HeaderName>, line: &'a [u8]) -> Option<&'a [u8]>
+    requires { header ≡ header_named name.now }
+    ensures { option_copied result ≡ head.value_under name.now (line_from line.now) }
+{
+    match class_of(line) {
+        LineClass::Bad => None,
+        LineClass::Known(other, value) => {
+            if is_known(header, other) {
+                Some(value)
+            } else {
+                None
+            }
+        }
+        LineClass::Other(other, value) => {
+            if header.is_none() && token_eq(long_name(other), long_name(name)) {
+                Some(value)
+            } else {
+                None
+            }
+        }
+    }
+}
+
+/// Whether the header of the table is the one that is looked for.
+fn is_known(wanted: Option<HeaderName>, header: HeaderName) -> bool
+    ensures { result ≡ reading.is_known wanted header }
+{
+    match wanted {
+        None => false,
+        Some(wanted) => wanted == header,
+    }
+}
