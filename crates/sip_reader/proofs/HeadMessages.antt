@@ -5,7 +5,8 @@ use Rattle.std.specs.List.{AllZip, cons_option, filter, filter_map}
 use Rattle.std.specs.Option.{option_map_or}
 use Rattle.std.specs.Str.{str_eq_ignore_ascii_case}
 use Rattle.sip_text.proofs.ReadForms.{only_one}
-use Rattle.sip_parts.specs.HeaderEntry.{entry, header_named, is_named}
+use Rattle.sip_parts.specs.HeaderEntry.{entry, header_named}
+use Rattle.sip_parts.proofs.HeaderNames.{long_names}
 use Rattle.sip_parts.specs.declared.header_name.HeaderName.{HeaderName}
 use Rattle.sip_parts.specs.declared.header_name.HeaderName.TheVariants as name
 use Rattle.sip_message.specs.declared.header.Header.{Header}
@@ -161,24 +162,6 @@ under_known name header e (parts ∷ named) =
     ∙ kept_known (is_name_of header parts.0) parts (under name named)
     (filter (λ line. is_name_of header line.0) named)
     (under_known name header e named)
-
--- the header of a long name
-long_names : (header : HeaderName) → header_named (entry header).name ≡ Some header
-unfolding is_named
-long_names name.Via = refl
-long_names name.From = refl
-long_names name.To = refl
-long_names name.CallId = refl
-long_names name.CSeq = refl
-long_names name.MaxForwards = refl
-long_names name.ContentLength = refl
-long_names name.RSeq = refl
-long_names name.RAck = refl
-long_names name.Contact = refl
-long_names name.RecordRoute = refl
-long_names name.Route = refl
-long_names name.Require = refl
-long_names name.Supported = refl
 
 pub known_said : (text : List ℕ) (m : Message) (values : HeaderName → List (List ℕ))
     → (is : Spells m text)

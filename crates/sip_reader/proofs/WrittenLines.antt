@@ -16,7 +16,8 @@ use Rattle.sip_text.specs.Token.{is_token}
 use Rattle.sip_text.specs.Trimmed.{trimmed, trimmed_end}
 use Rattle.sip_text.specs.Unfolded.{begins_blank}
 use Rattle.sip_text.specs.declared.separator.Separator.TheVariants.{Byte}
-use Rattle.sip_parts.specs.HeaderEntry.{entry, is_named, header_named}
+use Rattle.sip_parts.specs.HeaderEntry.{entry, header_named}
+use Rattle.sip_parts.proofs.HeaderNames.{long_names}
 use Rattle.sip_parts.specs.HeaderValue.{has_no_line_byte, is_header_value}
 use Rattle.sip_parts.specs.OtherName.{is_compact_name, is_other_name}
 use Rattle.sip_parts.specs.declared.header_name.HeaderName.{HeaderName}
@@ -178,23 +179,6 @@ class_goes d name value rest class token good is ready =
     (line_goes d (line_of name value) rest
     (line_free name value token good) full.0 full.1 ready))
 
-named : (h : HeaderName) → header_named (entry h).name ≡ Some h
-unfolding is_named
-named name.Via = refl
-named name.MaxForwards = refl
-named name.From = refl
-named name.To = refl
-named name.CallId = refl
-named name.CSeq = refl
-named name.Contact = refl
-named name.RecordRoute = refl
-named name.Route = refl
-named name.Require = refl
-named name.Supported = refl
-named name.RSeq = refl
-named name.RAck = refl
-named name.ContentLength = refl
-
 name_token : (h : HeaderName) → is_token (entry h).name ≡ true
 unfolding is_token is_token_byte
 name_token name.Via = refl
@@ -216,7 +200,7 @@ pub header_goes : (d : Draft) (h : HeaderName) (value rest : List ℕ) → Good 
     → Goes d (header_line (entry h).name value ++ rest) (with_value d h value) rest
 header_goes d h value rest good ready =
     class_goes d (entry h).name value rest (known h value) (name_token h) good
-    (ap (class_by_name (entry h).name value) (named h)) ready
+    (ap (class_by_name (entry h).name value) (long_names h)) ready
 
 -- ---- headers that stay as they stand
 
