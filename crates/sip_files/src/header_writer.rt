@@ -11,6 +11,19 @@ use sip_round::Event;
 use sip_served::UserCommand;
 use std::alloc::{AllocError, Global};
 
+/// The header line of a session file that has this name and this value, with its end.
+///
+/// # Errors
+///
+/// Want of memory.
+pub fn write_header_line(alloc: Global, name: &[u8], value: &[u8]) -> Result<Vec<u8>, AllocError>
+    ensures { IfOk result (λ line. line.items ≡ written.header_line name.now value.now) }
+{
+    let mut line = Vec::new(alloc);
+    push_line(&mut line, name, value)?;
+    Ok(line)
+}
+
 /// The headers of an event, where it is a command.
 pub(crate) fn push_headers(file: &mut Vec<u8>, event: &Event) -> Result<(), AllocError>
     ensures { OnOk result (file.new.items ≡ file.old.items ++ written.event_headers event.now) }

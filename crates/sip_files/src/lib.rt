@@ -31,5 +31,6 @@ pub use events_writer::{write_file_head, write_file_round, write_head, write_rou
 pub use file_replay::{ReplayFault, read_all, replay, write_whole};
 pub use given_header::GivenHeader;
 pub use given_headers::with_given;
+pub use header_writer::write_header_line;
 pub use outputs_file::{write_output, write_outputs};
 pub use version::FileKind;

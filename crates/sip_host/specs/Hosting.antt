@@ -1,5 +1,5 @@
 -- What a host's calls do to it.
-use Rattle.std.specs.Prelude.{◌≡◌, ◌⊎◌, ◌<◌, ◌≤◌, ℕ, zero, suc, ◌+◌, ◌==◌, false, true, IfSome, IsSomeAnd, List, [], ◌∷◌, ◌++◌, OnErr, OnOk, Option, None, Some, Result, Err, length, map, nat_lt, if◌then◌else◌}
+use Rattle.std.specs.Prelude.{◌≡◌, ◌⊎◌, ◌<◌, ◌≤◌, ℕ, ◌+◌, ◌==◌, false, true, IfSome, IsSomeAnd, List, [], ◌∷◌, ◌++◌, OnErr, OnOk, Option, None, Some, Result, Err, length, map, nat_lt, if◌then◌else◌}
 use Rattle.std.specs.List.{slice_get}
 use Rattle.std.specs.Option.{option_map}
 use Rattle.sip_files.specs.Written.{SpellsEventLine}
@@ -12,7 +12,7 @@ use Rattle.sip_round.specs.Answers.{StandsFor, answers, placed_answers}
 use Rattle.sip_round.specs.declared.config.Config.{Config}
 use Rattle.sip_round.specs.declared.output.Output.{Output}
 use Rattle.sip_round.specs.declared.round.Event.{Event}
-use Rattle.sip_round.specs.declared.round.Event.TheVariants.{Command, Datagram, Failed}
+use Rattle.sip_round.specs.declared.round.Event.TheVariants.{Datagram}
 use Rattle.sip_round.specs.declared.round.Round.{Round}
 use Rattle.sip_round.specs.declared.round_fault.RoundFault.TheVariants as round_fault
 use Rattle.sip_host.specs.Handing.{sent_key, text_of, told_failure}
@@ -31,22 +31,6 @@ round_at moment host = record { moment = moment; events = host.events }
 -- the output of this index among those of a host's last round
 abbrev pub output_at : Host → ℕ → Option Output
 output_at host index = option_map (λ placed. placed.output) (slice_get host.outputs.items index)
-
--- the event of this place in a host's last round; places begin with 1
-abbrev pub event_at : Host → ℕ → Option Event
-event_at host zero = None
-event_at host (suc before) = slice_get host.last_events before
-
--- the bytes of an event that is a datagram
-abbrev pub datagram_of : Option Event → Option (List ℕ)
-datagram_of (Some (Datagram from bytes)) = Some bytes
-datagram_of (Some (Failed key)) = None
-datagram_of (Some (Command command)) = None
-datagram_of None = None
-
--- those of the datagram that came in at this place of a host's last round
-abbrev pub datagram_at : Host → ℕ → Option (List ℕ)
-datagram_at host place = datagram_of (event_at host place)
 
 -- the id of the event that a host was given last, if its next round has one
 abbrev pub last_id_of : Host → Option Id

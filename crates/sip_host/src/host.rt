@@ -6,11 +6,12 @@ ghost use Rattle.std.specs.Option.{option_copied};
 ghost use Rattle.sip_timers.specs.Queue.{is_due};
 ghost use Rattle.sip_round.specs.Answers.{StandsFor};
 ghost use Rattle.sip_round.specs.NextDue.{IsDueAfter, IsQuietAfter};
+ghost use Rattle.sip_round.specs.Places as places;
 ghost use Rattle.sip_round.specs.declared.config.Config.{Config as AConfig};
 ghost use Rattle.sip_round.specs.declared.round.Round.{Round as ARound};
 ghost use Rattle.sip_reader.specs.Head.{BeginsWith, HasValues};
 ghost use Rattle.sip_host.specs.Handing.{head_of, put_in, text_of};
-ghost use Rattle.sip_host.specs.Hosting.{Begins, RunsRound, TakesDatagram, TakesFailure, TakesLine, after_taking, datagram_at, event_at, last_id_of, output_at, shard_of, with_events};
+ghost use Rattle.sip_host.specs.Hosting.{Begins, RunsRound, TakesDatagram, TakesFailure, TakesLine, after_taking, last_id_of, output_at, shard_of, with_events};
 ghost use Rattle.sip_host.specs.declared.host_fault.HostFault.TheVariants as fault;
 
 use crate::handing::{failure_of, put_output};
@@ -19,7 +20,9 @@ use crate::next_output::NextOutput;
 use sip_files::read_event_line;
 use sip_message::{Addr, Id, Spread, Token};
 use sip_reader::{FirstLine, header_values, start_line};
-use sip_round::{Agent, Config, Event, MAX_EVENTS_OF_ROUND, NoMemory, PlacedOutput, Round};
+use sip_round::{
+    Agent, Config, Event, MAX_EVENTS_OF_ROUND, NoMemory, PlacedOutput, Round, datagram_at, event_at,
+};
 use sip_text::{Series, Text};
 use std::alloc::{AllocError, Global};
 use std::mem;
@@ -167,10 +170,9 @@ impl Host {
     /// The event of this place in the last round, as an output of that round names it; there is none
     /// of place 0. A notice of a place tells of the datagram that came in there. Takes no memory.
     pub fn event(&self, place: u32) -> Option<&Event>
-        ensures { option_copied result ≡ event_at self.now place }
+        ensures { option_copied result ≡ places.event_at self.now.last_events place }
     {
-        let before = (place as usize).checked_sub(1)?;
-        self.last_events.as_slice().get(before)
+        event_at(self.last_events.as_slice(), place)
     }
 
     /// What the start line of the datagram says that came in at this place of the last round, also
@@ -180,11 +182,11 @@ impl Host {
     ///
     /// Memory was refused.
     pub fn start_line(&self, place: u32) -> Result<Option<FirstLine<Token>>, AllocError>
-        ensures says { IfOk result (λ says. IfSome (datagram_at self.now place)
+        ensures says { IfOk result (λ says. IfSome (places.datagram_at self.now.last_events place)
             (BeginsWith says)) }
-        ensures none { IfOk result (λ says. datagram_at self.now place ≡ None → says ≡ None) }
+        ensures none { IfOk result (λ says. places.datagram_at self.now.last_events place ≡ None → says ≡ None) }
     {
-        match self.datagram_at(place) {
+        match datagram_at(self.last_events.as_slice(), place) {
             Some(bytes) => start_line(self.alloc, bytes.as_slice()),
             None => Ok(None),
         }
@@ -198,11 +200,11 @@ impl Host {
     ///
     /// Memory was refused.
     pub fn header_values(&self, place: u32, name: &[u8]) -> Result<Series<Text>, AllocError>
-        ensures values { IfOk result (λ values. IfSome (datagram_at self.now place)
+        ensures values { IfOk result (λ values. IfSome (places.datagram_at self.now.last_events place)
             (HasValues name.now values)) }
-        ensures none { IfOk result (λ values. datagram_at self.now place ≡ None → values ≡ []) }
+        ensures none { IfOk result (λ values. places.datagram_at self.now.last_events place ≡ None → values ≡ []) }
     {
-        match self.datagram_at(place) {
+        match datagram_at(self.last_events.as_slice(), place) {
             Some(bytes) => header_values(self.alloc, bytes.as_slice(), name),
             None => Ok(Series::new(self.alloc)),
         }
@@ -232,16 +234,6 @@ impl Host {
             → StandsFor shard_of self.now.agent config rounds → IsDueAfter config rounds due) }
     {
         self.agent.next_due()
-    }
-
-    // The datagram that came in at this place of the last round.
-    fn datagram_at(&self, place: u32) -> Option<&Text>
-        ensures { option_copied result ≡ datagram_at self.now place }
-    {
-        match self.event(place) {
-            Some(Event::Datagram { bytes, .. }) => Some(bytes),
-            Some(Event::Failed(_)) | Some(Event::Command(_)) | None => None,
-        }
     }
 
     // Adds an event to those of the next round.

@@ -8,4 +8,5 @@ pub mod Live
 pub mod NextDue
 pub mod Outputs
 pub mod Phases
+pub mod Places
 pub mod Steps

@@ -26,7 +26,7 @@ pub use laws::{
     nothing_after_each_end, one_request_in_each_life, provisionals_in_each_life,
 };
 pub use output::{Output, PlacedOutput};
-pub use round::{Event, Round};
+pub use round::{Event, Round, datagram_at, event_at};
 pub use round_fault::RoundFault;
 pub use sip_workers::{Gate, NoMemory};
 pub use whole_run::run;

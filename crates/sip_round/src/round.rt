@@ -1,5 +1,9 @@
 //! A round: a moment and its events.
 
+ghost use Rattle.std.specs.Prelude.{◌≡◌};
+ghost use Rattle.std.specs.Option.{option_copied};
+ghost use Rattle.sip_round.specs.Places as spec;
+
 use sip_message::{Addr, Key};
 use sip_served::UserCommand;
 use sip_text::{Series, Text};
@@ -22,4 +26,24 @@ pub struct Round {
     pub moment: u64,
     /// Numbered by place, from 1.
     pub events: Series<Event>,
+}
+
+/// The event of this place, where these are the events of a round; an output names it so. There is
+/// none of place 0. Takes no memory.
+pub fn event_at(events: &[Event], place: u32) -> Option<&Event>
+    ensures { option_copied result ≡ spec.event_at events.now place }
+{
+    let before = (place as usize).checked_sub(1)?;
+    events.get(before)
+}
+
+/// The bytes of the datagram that came in at this place, where these are the events of a round.
+/// None where another event stands there, or none. Takes no memory.
+pub fn datagram_at(events: &[Event], place: u32) -> Option<&Text>
+    ensures { option_copied result ≡ spec.datagram_at events.now place }
+{
+    match event_at(events, place) {
+        Some(Event::Datagram { bytes, .. }) => Some(bytes),
+        Some(Event::Failed(_)) | Some(Event::Command(_)) | None => None,
+    }
 }

@@ -270,6 +270,7 @@ fn send_round<R: Threads + Sync>(
     for event in failed {
         events.push(event)?;
     }
-    let outputs = agent.run_round(rt, &Round { moment, events }, WORKERS, &Open)?;
+    let round = Round { moment, events };
+    let outputs = agent.run_round_with_places(rt, &round, WORKERS, &Open)?;
     Ok(send_all(alloc, outlet, &outputs)?)
 }

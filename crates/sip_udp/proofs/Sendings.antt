@@ -7,6 +7,7 @@ use Rattle.std.proofs.lemmas.List.{map-append}
 use Rattle.sip_message.specs.declared.key.Key.{Key}
 use Rattle.sip_round.specs.declared.output.Output.{Output}
 use Rattle.sip_round.specs.declared.output.Output.TheVariants as output
+use Rattle.sip_round.specs.declared.output.PlacedOutput.{PlacedOutput}
 use Rattle.sip_round.specs.declared.round.Event.{Event}
 use Rattle.sip_udp.specs.declared.outlet.Asked.{Asked}
 use Rattle.sip_udp.specs.Prepared.{prepared}
@@ -23,14 +24,17 @@ asked_more (Some before) b c xs ys p q =
     let at : c ≡ Some ((before ++ xs) ++ ys) = subst (λ x. Asks x c ys) p q in
     at ∙ ap Some (append_assoc before xs ys)
 
+abbrev pub output_of : PlacedOutput → Output
+output_of placed = placed.output
+
 -- after some of the outputs were dealt with: these are left, with their failures, and there is room
 -- for all of those
-pub record SoFar (old now : Option (List Asked)) (outputs left : List Output)
+pub record SoFar (old now : Option (List Asked)) (outputs left : List PlacedOutput)
     (failures : List (Option Event)) (failed : List Event) (capacity : ℕ) : Type 0 where
-  pub done : List Output
+  pub done : List PlacedOutput
   pub split : outputs ≡ done ++ left
-  pub ready : failures ≡ map prepared left
-  pub sent : SendsAll old now done failed
+  pub ready : failures ≡ map (λ placed. prepared placed.output) left
+  pub sent : SendsAll old now (map output_of done) failed
   pub room : length failed + length left ≤ capacity
 
 pub nothing_sent : (now : Option (List Asked)) → SendsAll now now [] []
@@ -57,9 +61,9 @@ one_more old now next done failed output is_sent s asks =
           (append-nil (failures_of (output, is_sent))));
     }
 
-pub begun : (now : Option (List Asked)) (outputs : List Output) (failures : List (Option Event))
-    (failed : List Event) (capacity : ℕ)
-    → failures ≡ map prepared outputs → failed ≡ [] → length outputs ≤ capacity
+pub begun : (now : Option (List Asked)) (outputs : List PlacedOutput)
+    (failures : List (Option Event)) (failed : List Event) (capacity : ℕ)
+    → failures ≡ map (λ placed. prepared placed.output) outputs → failed ≡ [] → length outputs ≤ capacity
     → SoFar now now outputs outputs failures failed capacity
 begun now outputs failures failed capacity ready none room =
     record {
@@ -85,20 +89,24 @@ few (output.Dropped place reason) is_sent = omega arith
 few (output.Notice notice) is_sent = omega arith
 
 -- what comes first of what is left was sent
-pub goes_on : (old now next : Option (List Asked)) (outputs left rest : List Output)
+pub goes_on : (old now next : Option (List Asked)) (outputs left rest : List PlacedOutput)
     (failures more : List (Option Event)) (failed after : List Event) (capacity : ℕ)
-    (output : Output) (failure : Option Event) (is_sent : Bool)
-    → SoFar old now outputs left failures failed capacity → left ≡ output ∷ rest
+    (placed : PlacedOutput) (failure : Option Event) (is_sent : Bool)
+    → SoFar old now outputs left failures failed capacity → left ≡ placed ∷ rest
     → failures ≡ failure ∷ more
-    → Asks now next (calls_for (output, is_sent)) → after ≡ failed ++ failures_of (output, is_sent)
+    → Asks now next (calls_for (placed.output, is_sent))
+    → after ≡ failed ++ failures_of (placed.output, is_sent)
     → SoFar old next outputs rest more after capacity
-goes_on old now next outputs left rest failures more failed after capacity output failure is_sent s
+goes_on old now next outputs left rest failures more failed after capacity placed failure is_sent s
     cut first asks told =
+    let output : Output = placed.output in
     record {
-      done = s.done ++ output ∷ [];
-      split = s.split ∙ ap (λ xs. s.done ++ xs) cut ∙ sym (append_assoc s.done (output ∷ []) rest);
-      ready = tail_of _ _ _ _ (sym first ∙ s.ready ∙ ap (map prepared) cut);
-      sent = rw told (one_more old now next s.done failed output is_sent s.sent asks);
+      done = s.done ++ placed ∷ [];
+      split = s.split ∙ ap (λ xs. s.done ++ xs) cut ∙ sym (append_assoc s.done (placed ∷ []) rest);
+      ready = tail_of _ _ _ _
+          (sym first ∙ s.ready ∙ ap (map (λ placed. prepared placed.output)) cut);
+      sent = rw (told, map-append output_of s.done (placed ∷ []))
+          (one_more old now next (map output_of s.done) failed output is_sent s.sent asks);
       room =
           let r = s.room in let l =
           few output is_sent in let d : length left ≡ suc (length rest) = ap length cut in
@@ -106,9 +114,9 @@ goes_on old now next outputs left rest failures more failed after capacity outpu
           ap length told ∙ length-append failed (failures_of (output, is_sent)) in omega arith;
     }
 
-pub all_sent : (old now : Option (List Asked)) (outputs left : List Output)
+pub all_sent : (old now : Option (List Asked)) (outputs left : List PlacedOutput)
     (failures : List (Option Event)) (failed : List Event) (capacity : ℕ)
     → SoFar old now outputs left failures failed capacity → left ≡ []
-    → SendsAll old now outputs failed
+    → SendsAll old now (map output_of outputs) failed
 all_sent old now outputs left failures failed capacity s none =
     rw (s.split ∙ ap (λ xs. s.done ++ xs) none ∙ append-nil s.done) s.sent

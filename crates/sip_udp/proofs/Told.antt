@@ -1,9 +1,14 @@
 -- One line after another.
-use Rattle.std.proofs.Common.{◌≡◌, ℕ, List, [], ◌∷◌, ◌++◌, sym, ap, ◌∙◌, append-nil, append_assoc, subst}
+use Rattle.std.proofs.Common.{◌≡◌, ℕ, Bool, List, [], ◌∷◌, ◌++◌, refl, sym, ap, ◌∙◌, append-nil, append_assoc, subst}
 use Rattle.std.specs.Prelude.{Option, Some, None}
-use Rattle.std.specs.List.{flat_map}
+use Rattle.std.specs.List.{AllZip, flat_map}
 use Rattle.std.specs.Io.KnownBytes.{Appends}
 use Rattle.std.proofs.lemmas.List.{flat_map_more}
+use Rattle.sip_round.specs.declared.output.PlacedOutput.{PlacedOutput}
+use Rattle.sip_round.specs.declared.round.Event.{Event}
+use Rattle.sip_files.specs.declared.version.FileKind.{FileKind}
+use Rattle.sip_files.proofs.HeadedLines.{zip_push}
+use Rattle.sip_udp.specs.Telling.{Tells, TellsAll}
 
 pub nothing_more : (now : Option (List ℕ)) → Appends now now []
 nothing_more None = tt
@@ -24,3 +29,29 @@ told_more f a b c xs more x m p q =
     let P : List ℕ → Type 0 = λ t. Appends a c t in
     subst P (flat_map_more f [] xs x ∙ ap (flat_map f) (sym m))
     (appended_more a b c (flat_map f xs) (f x) p q)
+
+-- what is told of outputs, and how much of it the writer has
+abbrev pub ToldSoFar : FileKind → Bool → List Event → Option (List ℕ) → Option (List ℕ)
+    → List PlacedOutput → Type 0
+ToldSoFar kind drops events before now outputs =
+    (text : List ℕ) × TellsAll kind drops events outputs text × Appends before now text
+
+pub none_told : (kind : FileKind) (drops : Bool) (events : List Event) (now : Option (List ℕ))
+    → ToldSoFar kind drops events now now []
+none_told kind drops events now =
+    ([], record { texts = []; each = tt; joined = refl }, nothing_more now)
+
+pub output_told : (kind : FileKind) (drops : Bool) (events : List Event)
+    (before now next : Option (List ℕ)) (outputs more : List PlacedOutput) (placed : PlacedOutput)
+    (text : List ℕ) → more ≡ outputs ++ placed ∷ []
+    → ToldSoFar kind drops events before now outputs
+    → Tells kind drops events placed text → Appends now next text
+    → ToldSoFar kind drops events before next more
+output_told kind drops events before now next outputs more placed text m (told, all, has) one is =
+    let each = zip_push (Tells kind drops events) outputs all.texts placed text all.each one in
+    let joined = ap (λ t. t ++ text) all.joined ∙ flat_map_more (λ one. one) [] all.texts text in
+    (told ++ text, record {
+      texts = all.texts ++ text ∷ [];
+      each = rw m each;
+      joined = joined;
+    }, appended_more before now next told text has is)

@@ -2,7 +2,7 @@
 
 use crate::sent::Sent;
 use sip_message::Addr;
-use sip_round::{Event, Output, Round};
+use sip_round::{Event, Output, PlacedOutput, Round};
 use sip_served::{Notice, UserCommand};
 use sip_transactions::DropReason;
 use std::alloc::{AllocError, Global};
@@ -55,7 +55,7 @@ impl Counts {
     pub(crate) fn add(
         &mut self,
         round: &Round,
-        outputs: &[Output],
+        outputs: &[PlacedOutput],
         held: (u128, u128),
     ) -> Result<(), AllocError> {
         self.rounds = self.rounds.saturating_add(1);
@@ -63,8 +63,8 @@ impl Counts {
         for event in round.events.as_slice() {
             self.add_event(event);
         }
-        for output in outputs {
-            self.add_output(round.moment, output)?;
+        for placed in outputs {
+            self.add_output(round.moment, &placed.output)?;
         }
         Ok(())
     }

@@ -1,30 +1,45 @@
-//! Writes the lines of notices and drops.
+//! Writes what the user is told of the outputs of a round.
 
-ghost use Rattle.std.specs.Prelude.{OnOk};
+ghost use Rattle.std.specs.Prelude.{◌≡◌, List, OnOk, ℕ};
 ghost use Rattle.std.specs.List.{flat_map};
+ghost use Rattle.std.specs.Option.{option_copied};
 ghost use Rattle.std.specs.Io.KnownBytes.{Appends};
 ghost use Rattle.sip_files.specs.Outputs.{output_line};
-ghost use Rattle.sip_udp.specs.Telling.{told_text};
+ghost use Rattle.sip_udp.specs.Telling.{Tells, TellsAll, spelled_header, told_datagram, told_line};
 
 use crate::fault::UaFault;
-use sip_files::write_output;
-use sip_round::Output;
+use sip_files::{FileKind, write_header_line, write_output};
+use sip_reader::{HeaderLine, header_lines};
+use sip_round::{Event, Output, PlacedOutput, datagram_at};
+use sip_text::Text;
 use std::alloc::Global;
 use std::io::{self, Write};
 
+/// What the user is told of.
+#[derive(Clone, Copy)]
+pub(crate) struct Telling {
+    /// In a session a notice has before it the header lines of the datagram that it tells of.
+    pub(crate) kind: FileKind,
+    /// Whether drops are told.
+    pub(crate) drops: bool,
+}
+
 /// Writes the line of each notice as it stands in an output file, and flushes after each; those of
-/// drops too, where they are told.
+/// drops too, where they are told. In a session the header lines of the datagram that a notice tells
+/// of stand before its line.
 pub(crate) fn write_notices<W: Write>(
     alloc: Global,
     writer: &mut W,
-    outputs: &[Output],
-    drops: bool,
+    telling: Telling,
+    events: &[Event],
+    outputs: &[PlacedOutput],
 ) -> Result<(), UaFault>
-    ensures { OnOk result (Appends (W.contents writer.old) (W.contents writer.new)
-        (flat_map (told_text drops) outputs.now)) }
+    ensures { OnOk result ((text : List ℕ)
+        × TellsAll telling.kind telling.drops events.now outputs.now text
+        × Appends (W.contents writer.old) (W.contents writer.new) text) }
 {
-    for output in outputs {
-        tell(alloc, writer, output, drops)?;
+    for placed in outputs {
+        tell(alloc, writer, telling, events, placed)?;
     }
     Ok(())
 }
@@ -32,11 +47,57 @@ pub(crate) fn write_notices<W: Write>(
 fn tell<W: Write>(
     alloc: Global,
     writer: &mut W,
-    output: &Output,
-    drops: bool,
+    telling: Telling,
+    events: &[Event],
+    placed: &PlacedOutput,
+) -> Result<(), UaFault>
+    ensures { OnOk result ((text : List ℕ)
+        × Tells telling.kind telling.drops events.now placed.now text
+        × Appends (W.contents writer.old) (W.contents writer.new) text) }
+{
+    if let Some(bytes) = datagram_of(telling.kind, events, placed) {
+        let headers = header_lines(alloc, bytes.as_slice())?;
+        write_headers(alloc, writer, headers.as_slice())?;
+    }
+    tell_line(alloc, writer, telling.drops, &placed.output)
+}
+
+// The datagram whose header lines stand before an output.
+fn datagram_of<'a>(kind: FileKind, events: &'a [Event], placed: &PlacedOutput) -> Option<&'a Text>
+    ensures { option_copied result
+        ≡ told_datagram kind events.now placed.now.place placed.now.output }
+{
+    match (kind, &placed.output) {
+        (FileKind::Session, Output::Notice(_)) => datagram_at(events, placed.place),
+        _ => None,
+    }
+}
+
+fn write_headers<W: Write>(
+    alloc: Global,
+    writer: &mut W,
+    headers: &[HeaderLine],
 ) -> Result<(), UaFault>
     ensures { OnOk result (Appends (W.contents writer.old) (W.contents writer.new)
-        (told_text drops output.now)) }
+        (flat_map spelled_header headers.now)) }
+{
+    for header in headers {
+        let line = write_header_line(alloc, header.name.as_slice(), header.value.as_slice())?;
+        if writer.write_all(&line).is_err() {
+            return Err(UaFault::Output);
+        }
+    }
+    Ok(())
+}
+
+fn tell_line<W: Write>(
+    alloc: Global,
+    writer: &mut W,
+    drops: bool,
+    output: &Output,
+) -> Result<(), UaFault>
+    ensures { OnOk result (Appends (W.contents writer.old) (W.contents writer.new)
+        (told_line drops output.now)) }
 {
     match output {
         Output::Send { .. } => Ok(()),

@@ -14,7 +14,7 @@ use std::io::Write;
 #[derive(Drop)]
 pub(crate) struct Record<F> {
     file: Option<F>,
-    kind: FileKind,
+    pub(crate) kind: FileKind,
 }
 
 impl<F: Write + Drop> Record<F> {

@@ -7,7 +7,7 @@ ghost use Rattle.sip_udp.specs.Sending.{Asks, SendsAll, calls_for, failures_of};
 
 use crate::outlet::Outlet;
 use sip_message::Key;
-use sip_round::{Event, Output};
+use sip_round::{Event, Output, PlacedOutput};
 use std::alloc::{AllocError, Global};
 
 /// Sends each Send of the outputs, in order, also after one that failed, and gives a failed event
@@ -19,32 +19,33 @@ use std::alloc::{AllocError, Global};
 pub fn send_all<O: Outlet>(
     alloc: Global,
     outlet: &mut O,
-    outputs: &[Output],
+    outputs: &[PlacedOutput],
 ) -> Result<Vec<Event>, AllocError>
-    ensures sends { IfOk result (λ failed.
-        SendsAll (O.asked outlet.old) (O.asked outlet.new) outputs.now failed.items) }
+    ensures sends { IfOk result (λ failed. SendsAll (O.asked outlet.old) (O.asked outlet.new)
+        (map (λ placed. placed.output) outputs.now) failed.items) }
     ensures unasked { OnErr result (outlet.new ≡ outlet.old) }
 {
     let failures = prepared(alloc, outputs)?;
     let mut failed = Vec::with_capacity(alloc, outputs.len())?;
     let mut left = outputs;
     for failure in failures {
-        let Some((output, rest)) = left.split_first() else {
+        let Some((placed, rest)) = left.split_first() else {
             return Ok(failed);
         };
-        send_one(outlet, output, failure, &mut failed);
+        send_one(outlet, &placed.output, failure, &mut failed);
         left = rest;
     }
     Ok(failed)
 }
 
 // For each output the event that tells its failure.
-fn prepared(alloc: Global, outputs: &[Output]) -> Result<Vec<Option<Event>>, AllocError>
-    ensures { IfOk result (λ failures. failures.items ≡ map spec.prepared outputs.now) }
+fn prepared(alloc: Global, outputs: &[PlacedOutput]) -> Result<Vec<Option<Event>>, AllocError>
+    ensures { IfOk result (λ failures. failures.items
+        ≡ map (λ placed. spec.prepared placed.output) outputs.now) }
 {
     let mut failures = Vec::with_capacity(alloc, outputs.len())?;
-    for output in outputs {
-        failures.push(failure_of(output)?)?;
+    for placed in outputs {
+        failures.push(failure_of(&placed.output)?)?;
     }
     Ok(failures)
 }

@@ -6,14 +6,16 @@ use crate::bell::Bell;
 use crate::counts::Counts;
 use crate::division::Division;
 use crate::fault::{UaFault, refused_round};
-use crate::notices::write_notices;
+use crate::notices::{Telling, write_notices};
 use crate::outlet::Outlet;
 use crate::record::Record;
 use crate::sending::send_all;
 use crate::user::User;
 use sip_desk::Desk;
 use sip_message::Spread;
-use sip_round::{Agent, Config, Event, Gate, MAX_EVENTS_OF_ROUND, Output, Round};
+use sip_round::{
+    Agent, Config, Event, Gate, MAX_EVENTS_OF_ROUND, Output, PlacedOutput, Round,
+};
 use sip_text::Series;
 use std::alloc::{AllocError, Global};
 use std::io::Write;
@@ -180,11 +182,16 @@ impl<U: User, F: Write + Drop> Turns<U, F> {
         notices: &mut W,
         errors: &mut E,
     ) -> Result<(), UaFault> {
-        let outputs = self.run_round(rt, errors)?;
+        let (round, outputs) = self.run_round(rt, errors)?;
         let mut failed = send_all(self.alloc, outlet, &outputs)?;
         self.waiting.append(&mut failed)?;
         self.tell_user(&outputs)?;
-        write_notices(self.alloc, notices, &outputs, self.user.is_eager())
+        let telling = Telling {
+            kind: self.record.kind,
+            drops: self.user.is_eager(),
+        };
+        let events = round.events.as_slice();
+        write_notices(self.alloc, notices, telling, events, &outputs)
     }
 
     // Sleeps, or waits at the bell for the first event, no longer than nothing is due.
@@ -214,17 +221,21 @@ impl<U: User, F: Write + Drop> Turns<U, F> {
         Ok(())
     }
 
-    // Runs a round of what waits, and records it; what is above its limit waits on.
+    // Runs a round of what waits, records it, and gives it with its outputs; what is above its limit
+    // waits on.
     fn run_round<R: Threads + Clock + Sync, E: Write>(
         &mut self,
         rt: &R,
         errors: &mut E,
-    ) -> Result<Vec<Output>, UaFault> {
+    ) -> Result<(Round, Vec<PlacedOutput>), UaFault> {
         let moment = self.moment_now(rt)?;
         let events = self.events_of_round()?;
         let round = Round { moment, events };
         let workers = self.division.workers;
-        match self.agent.run_round(rt, &round, workers, &Open) {
+        match self
+            .agent
+            .run_round_with_places(rt, &round, workers, &Open)
+        {
             Ok(outputs) => {
                 self.moment = moment;
                 self.number = self.number.saturating_add(1);
@@ -232,7 +243,7 @@ impl<U: User, F: Write + Drop> Turns<U, F> {
                 if let Some(counts) = &mut self.counts {
                     counts.add(&round, &outputs, self.agent.live())?;
                 }
-                Ok(outputs)
+                Ok((round, outputs))
             }
             Err(fault) => Err(refused_round(self.number, fault)),
         }
@@ -254,9 +265,9 @@ impl<U: User, F: Write + Drop> Turns<U, F> {
         Ok(u64::try_from(passed).unwrap_or(u64::MAX).max(self.moment))
     }
 
-    fn tell_user(&mut self, outputs: &[Output]) -> Result<(), AllocError> {
-        for output in outputs {
-            if let Output::Notice(notice) = output {
+    fn tell_user(&mut self, outputs: &[PlacedOutput]) -> Result<(), AllocError> {
+        for placed in outputs {
+            if let Output::Notice(notice) = &placed.output {
                 self.user
                     .told(self.alloc, self.moment, notice, &mut self.waiting)?;
             }

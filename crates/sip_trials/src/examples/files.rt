@@ -6,7 +6,7 @@ use crate::open::Open;
 use crate::stop::{Stop, check};
 use sip_files::{FileKind, read_command_line, read_events, replay, write_head, write_round};
 use sip_message::{Addr, Key, Spread};
-use sip_round::{Event, Output, Round};
+use sip_round::{Event, Output, PlacedOutput, Round};
 use sip_served::UserCommand;
 use sip_text::Text;
 use sip_udp::{Outlet, send_all};
@@ -90,13 +90,14 @@ impl Outlet for FirstFails {
 }
 
 // Sends a datagram of a transaction.
-fn send(alloc: Global) -> Result<Output, Stop> {
+fn send(alloc: Global) -> Result<PlacedOutput, Stop> {
     let key = Key::client(alloc, b"z9hG4bKi", token(alloc, b"INVITE")?)?;
-    Ok(Output::Send {
+    let output = Output::Send {
         key: Some(key),
         to: PEER,
         bytes: Text::copy_of(alloc, b"x")?,
-    })
+    };
+    Ok(PlacedOutput { place: 1, output })
 }
 
 pub fn a_failed_send_is_told(alloc: Global, outlet: &mut FirstFails) -> Result<(), Stop> {
@@ -105,7 +106,11 @@ pub fn a_failed_send_is_told(alloc: Global, outlet: &mut FirstFails) -> Result<(
 }
 
 // Without memory nothing is sent.
-fn sent(alloc: Global, outlet: &mut FirstFails, outputs: &[Output]) -> Result<Vec<Event>, Stop> {
+fn sent(
+    alloc: Global,
+    outlet: &mut FirstFails,
+    outputs: &[PlacedOutput],
+) -> Result<Vec<Event>, Stop> {
     match send_all(alloc, outlet, outputs) {
         Ok(failed) => Ok(failed),
         Err(AllocError) => {

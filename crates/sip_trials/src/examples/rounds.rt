@@ -186,8 +186,9 @@ pub fn outputs_have_the_places_of_their_events<R: Threads + Sync>(
         let bytes = Text::copy_of(alloc, text)?;
         events.push(Event::Datagram { from: PEER, bytes })?;
     }
+    check(agent.next_round() == 0)?;
     let outputs = placed(rt, agent, &Round { moment: 0, events })?;
-    check(are_a_drop_and_a_notice(&outputs))?;
+    check(are_a_drop_and_a_notice(&outputs) && agent.next_round() == 1)?;
     let quiet = agent.run_round_in_turn_with_places(&quiet(alloc, 10))?;
     check(quiet.is_empty())
 }

@@ -413,6 +413,11 @@ fn headers_on_a_pipe_are_recorded_as_a_session(rt: HostRuntime) -> Result<(), Fa
     assert!(rt; stand_in_order(&run.record, &words));
     let words = ["\\r\\nSubject: lunch\\r\\nContent-Type: text/plain\\r\\n"];
     assert!(rt; stand_in_order(&heard.came, &words));
+    let words = [
+        " Via: SIP/2.0/UDP ",
+        ";tag=z\n Call-ID: c1\n CSeq: 1 MESSAGE\nnotice c1 response 0.1 200 ",
+    ];
+    assert!(rt; stand_in_order(&heard.told, &words));
     assert!(rt;
         run_on(
             &rt,

@@ -7,7 +7,7 @@ use super::{Ended, run_on};
 use sip_desk::{Desk, NoMemory, Poster, open};
 use sip_message::{Addr, Key, Token};
 use sip_program::Host;
-use sip_round::{Event, Output};
+use sip_round::{Event, Output, PlacedOutput};
 use sip_text::{Series, Text};
 use sip_transactions::DropReason;
 use sip_udp::{Asked, Flags, Inlet, Outlet, Received, UaFault, call, hear, listen, send_all};
@@ -48,14 +48,15 @@ impl<'a, R: Abort> Outlet for Told<'a, R> {
 }
 
 // A Send of these bytes, with a key of this branch, where it isn't empty.
-fn output(alloc: Global, branch: &[u8], bytes: &[u8]) -> Result<Output, Fail> {
+fn output(alloc: Global, branch: &[u8], bytes: &[u8]) -> Result<PlacedOutput, Fail> {
     let options = Token::new(Text::copy_of(alloc, b"OPTIONS")?).ok_or("a method")?;
     let key = Key::client(alloc, branch, options)?;
-    Ok(Output::Send {
+    let output = Output::Send {
         key: if branch.is_empty() { None } else { Some(key) },
         to: PEER,
         bytes: Text::copy_of(alloc, bytes)?,
-    })
+    };
+    Ok(PlacedOutput { place: 1, output })
 }
 
 // The branches of failed client transactions, with a space after each.
@@ -88,7 +89,8 @@ fn an_outlet_that_fails_each_of_its_sends(rt: HostRuntime) -> Result<(), Fail> {
     let reason = DropReason::NotOurs;
     let mut outputs = Vec::new(alloc);
     outputs.push(output(alloc, b"a", b"1")?)?;
-    outputs.push(Output::Dropped { place: 1, reason })?;
+    let output = Output::Dropped { place: 1, reason };
+    outputs.push(PlacedOutput { place: 1, output })?;
     outputs.push(output(alloc, b"", b"2")?)?;
     outputs.push(output(alloc, b"c", b"3")?)?;
     let cases = [

@@ -8,6 +8,6 @@ loop-failure-init g c = begun _ _ _ _ _ (search rules) (search rules) (search ru
 pub loop-failure-preserved : goal.loop-failure-preserved
 loop-failure-preserved g c =
     let sends = c.send_one.ensures.sends in
-    rw c.send_one.ensures.room (goes_on _ _ _ _ _ _ _ _ _ _ _ c.in-Some-split_first.output.now
+    rw c.send_one.ensures.room (goes_on _ _ _ _ _ _ _ _ _ _ _ c.in-Some-split_first.placed.now
     c.in-Some.failure sends.0 c.loop-failure.invariant (search rules)
     (search rules) sends.1 sends.2)
