@@ -1,0 +1,157 @@
+"""A small phone over `ua agent`: it registers with a password, shows who calls, answers, and calls.
+
+    python3 examples/phone.py UA LOCAL REGISTRAR NAME@DOMAIN PASSWORD [URI]
+
+UA is the program, LOCAL and REGISTRAR are an address and a port as in 192.0.2.1:5060. With a URI it
+calls there once it is registered, and hangs up after three seconds; without, it answers each call.
+A challenge is answered by Digest with MD5 (RFC 3261, section 22), and a 302 is followed.
+"""
+
+import re
+import subprocess
+import sys
+import threading
+from dataclasses import dataclass, replace
+from hashlib import md5
+from secrets import token_hex
+
+SPELLED = {"\r": r"\r", "\n": r"\n", "\t": r"\t", "\\": r"\\", " ": r"\s"}
+PLAIN = {r"\r": "\r", r"\n": "\n", r"\t": "\t", r"\\": "\\", r"\s": " "}
+CHALLENGES = {"401": ("WWW-Authenticate", "Authorization"),
+              "407": ("Proxy-Authenticate", "Proxy-Authorization")}
+
+
+def word(text):
+    """A text of ASCII as a word of a line."""
+    return "".join(SPELLED.get(one, one) for one in text) or "-"
+
+
+def text(spelled):
+    """The text that a word, or the rest of a line, spells."""
+    return re.sub(r"\\(?:x..|.)", lambda one: PLAIN.get(one[0]) or chr(int(one[0][2:], 16)),
+                  "" if spelled == "-" else spelled)
+
+
+@dataclass(frozen=True)
+class Request:
+    """A request outside of any dialog, and where it goes."""
+
+    method: str
+    address: str
+    uri: str
+    to: str
+    headers: tuple = ()
+    is_authorized: bool = False
+
+
+class Phone:
+    def __init__(self, program, local, registrar, user, password):
+        self.local, self.registrar, self.password = local, registrar, password
+        self.name, _, self.domain = user.partition("@")
+        self.sent, self.callee, self.has_ended = {}, None, False
+        self.agent = subprocess.Popen(
+            [program, "agent", "--local", local, "--headers"], stdin=subprocess.PIPE,
+            stdout=subprocess.PIPE, text=True, encoding="latin-1", bufsize=1)
+
+    def command(self, line, headers=()):
+        """A command of the agent; its headers stand before it, a line each."""
+        lines = [f" {name}: {value}" for name, value in headers] + [line]
+        self.agent.stdin.write("".join(f"{one}\n" for one in lines))
+
+    def ask(self, request):
+        call_id = token_hex(8)
+        self.sent[call_id] = request
+        uris = f"{request.uri} sip:{self.name}@{self.domain} {request.to}"
+        if request.method == "INVITE":
+            line = f"invite {call_id} {request.address} {uris} supported {self.offer()}"
+        else:
+            line = f"plain {call_id} {request.address} {request.method} {uris} -"
+        self.command(line, request.headers)
+
+    def register(self):
+        contact = f"<sip:{self.name}@{self.local}>;expires=600"
+        own = f"sip:{self.name}@{self.domain}"
+        self.ask(Request("REGISTER", self.registrar, f"sip:{self.domain}", own,
+                         (("Contact", contact),)))
+
+    def call(self, uri):
+        print("calling", uri)
+        self.ask(Request("INVITE", self.registrar, uri, uri))
+
+    def offer(self):
+        """An SDP without media of its own."""
+        ip = self.local.partition(":")[0]
+        return word(f"v=0\r\no=- 1 1 IN IP4 {ip}\r\ns=-\r\nc=IN IP4 {ip}\r\nt=0 0\r\n"
+                    "m=audio 9 RTP/AVP 0\r\na=inactive\r\n")
+
+    def credentials(self, challenge, request):
+        """The answer to a challenge (RFC 7616, section 3.4)."""
+        found = re.findall(r'(\w+)=(?:"([^"]*)"|([^\s,]+))', challenge)
+        given = {name.lower(): quoted or plain for name, quoted, plain in found}
+        realm, nonce = given["realm"], given["nonce"]
+
+        def digest(*parts):
+            return md5(":".join(parts).encode()).hexdigest()
+
+        secret = digest(self.name, realm, self.password)
+        asked = digest(request.method, request.uri)
+        fields = {"username": self.name, "realm": realm, "nonce": nonce, "uri": request.uri}
+        more = ""
+        if "auth" in given.get("qop", "").split(","):
+            own = token_hex(8)
+            fields["response"] = digest(secret, nonce, "00000001", own, "auth", asked)
+            fields["cnonce"], more = own, ", qop=auth, nc=00000001"
+        else:
+            fields["response"] = digest(secret, nonce, asked)
+        if "opaque" in given:
+            fields["opaque"] = given["opaque"]
+        return "Digest " + ", ".join(f'{key}="{value}"' for key, value in fields.items()) + more
+
+    def told_response(self, headers, call_id, id_, status, local_tag, remote_tag, _body):
+        request = self.sent.get(call_id)
+        if not request or status.startswith("1"):
+            return
+        print(request.method, status)
+        if status in CHALLENGES and not request.is_authorized:
+            challenge, answer = CHALLENGES[status]
+            line = (answer, self.credentials(headers[challenge.lower()], request))
+            self.ask(replace(request, headers=(*request.headers, line), is_authorized=True))
+        elif status == "302":
+            uri = re.search("sip:[^>;?]*", headers["contact"])[0]
+            self.ask(replace(request, uri=uri, address=uri.rpartition("@")[2]))
+        elif request.method == "REGISTER" and status == "200" and self.callee:
+            self.call(self.callee)
+        elif request.method == "INVITE" and status == "200":
+            bye = f"request {call_id} {local_tag} {remote_tag} BYE -"
+            threading.Timer(3, self.command, [bye]).start()
+
+    def told_request(self, headers, call_id, id_, method, _local_tag, _remote_tag, body):
+        if method == "INVITE":
+            print("call from", headers["from"])
+        elif method == "MESSAGE":
+            print(headers["from"], "says", text(body))
+        answer = self.offer() if method == "INVITE" else "-"
+        self.command(f"respond {call_id} {id_} 200 plain {answer} OK")
+
+    def told_ended(self, _headers, *_fields):
+        print("ended")
+        if self.callee:
+            self.agent.stdin.close()
+
+    def run(self, callee=None):
+        self.callee = callee
+        self.register()
+        headers = {}
+        for line in self.agent.stdout:
+            if line.startswith(" "):
+                name, _, value = text(line[1:-1]).partition(":")
+                headers.setdefault(name.strip().lower(), value.strip())
+            elif line.startswith("notice "):
+                call_id, kind, *fields = line.split()[1:]
+                told = getattr(self, f"told_{kind}", lambda *_: print(kind))
+                told(headers, call_id, *fields)
+                headers = {}
+
+
+if __name__ == "__main__":
+    Phone(*sys.argv[1:6]).run(*sys.argv[6:7])
