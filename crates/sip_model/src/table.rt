@@ -77,9 +77,12 @@ impl<M: StateMachine> Live<M> {
     fn is_calm(&self, now: u64, ticks: bool) -> bool
         ensures { IsTrue result → ticks ≡ true → IsCalm M.due (state_in M.Key.cmp self.now) now }
     {
+        if !ticks {
+            return true;
+        }
         match self.next_due() {
-            Some(due) if ticks => now < due,
-            _ => true,
+            Some(due) => now < due,
+            None => true,
         }
     }
 
