@@ -2,10 +2,9 @@
 
     python3 examples/phone.py UA LOCAL REGISTRAR NAME@DOMAIN PASSWORD [URI]
 
-UA is the program, LOCAL and REGISTRAR are an address and a port as in 192.0.2.1:5060. With a URI it
-calls there once it is registered, and hangs up after three seconds; without, it answers each call.
-A challenge is answered by Digest with MD5 (RFC 3261, section 22), and a 302 is followed.
-"""
+LOCAL and REGISTRAR are an address and a port, as in 192.0.2.1:5060. With a URI it calls there once
+it is registered, and hangs up after three seconds; without, it answers each call. A challenge is
+answered by Digest with MD5 (RFC 3261, section 22), and a 302 is followed."""
 
 import re
 import subprocess
@@ -16,9 +15,10 @@ from hashlib import md5
 from secrets import token_hex
 
 SPELLED = {"\r": r"\r", "\n": r"\n", "\t": r"\t", "\\": r"\\", " ": r"\s"}
-PLAIN = {r"\r": "\r", r"\n": "\n", r"\t": "\t", r"\\": "\\", r"\s": " "}
-CHALLENGES = {"401": ("WWW-Authenticate", "Authorization"),
-              "407": ("Proxy-Authenticate", "Proxy-Authorization")}
+PLAIN = {spelled: plain for plain, spelled in SPELLED.items()}
+LONG_NAMES = {"f": "from", "m": "contact"}
+CHALLENGES = {"401": ("www-authenticate", "Authorization"),
+              "407": ("proxy-authenticate", "Proxy-Authorization")}
 
 
 def word(text):
@@ -32,6 +32,10 @@ def text(spelled):
                   "" if spelled == "-" else spelled)
 
 
+def digest(*parts):
+    return md5(":".join(parts).encode()).hexdigest()
+
+
 @dataclass(frozen=True)
 class Request:
     """A request outside of any dialog, and where it goes."""
@@ -41,42 +45,35 @@ class Request:
     uri: str
     to: str
     headers: tuple = ()
-    is_authorized: bool = False
 
 
 class Phone:
-    def __init__(self, program, local, registrar, user, password):
+    def __init__(self, program, local, registrar, user, password, callee=None):
         self.local, self.registrar, self.password = local, registrar, password
         self.name, _, self.domain = user.partition("@")
-        self.sent, self.callee, self.has_ended = {}, None, False
+        self.sent, self.callee = {}, callee
         self.agent = subprocess.Popen(
-            [program, "agent", "--local", local, "--headers"], stdin=subprocess.PIPE,
-            stdout=subprocess.PIPE, text=True, encoding="latin-1", bufsize=1)
+            [program, "agent", "--local", local, "--headers", "--linger", "2000"],
+            stdin=subprocess.PIPE, stdout=subprocess.PIPE, text=True, encoding="latin-1", bufsize=1)
 
     def command(self, line, headers=()):
         """A command of the agent; its headers stand before it, a line each."""
-        lines = [f" {name}: {value}" for name, value in headers] + [line]
-        self.agent.stdin.write("".join(f"{one}\n" for one in lines))
+        before = "".join(f" {name}: {value}\n" for name, value in headers)
+        self.agent.stdin.write(f"{before}{line}\n")
 
     def ask(self, request):
         call_id = token_hex(8)
         self.sent[call_id] = request
         uris = f"{request.uri} sip:{self.name}@{self.domain} {request.to}"
+        kind, method, end = "plain", f" {request.method}", "-"
         if request.method == "INVITE":
-            line = f"invite {call_id} {request.address} {uris} supported {self.offer()}"
-        else:
-            line = f"plain {call_id} {request.address} {request.method} {uris} -"
-        self.command(line, request.headers)
+            kind, method, end = "invite", "", f"supported {self.offer()}"
+        self.command(f"{kind} {call_id} {request.address}{method} {uris} {end}", request.headers)
 
     def register(self):
-        contact = f"<sip:{self.name}@{self.local}>;expires=600"
+        contact = ("Contact", f"<sip:{self.name}@{self.local}>;expires=600")
         own = f"sip:{self.name}@{self.domain}"
-        self.ask(Request("REGISTER", self.registrar, f"sip:{self.domain}", own,
-                         (("Contact", contact),)))
-
-    def call(self, uri):
-        print("calling", uri)
-        self.ask(Request("INVITE", self.registrar, uri, uri))
+        self.ask(Request("REGISTER", self.registrar, f"sip:{self.domain}", own, (contact,)))
 
     def offer(self):
         """An SDP without media of its own."""
@@ -90,62 +87,57 @@ class Phone:
         given = {name.lower(): quoted or plain for name, quoted, plain in found}
         realm, nonce = given["realm"], given["nonce"]
 
-        def digest(*parts):
-            return md5(":".join(parts).encode()).hexdigest()
-
         secret = digest(self.name, realm, self.password)
         asked = digest(request.method, request.uri)
         fields = {"username": self.name, "realm": realm, "nonce": nonce, "uri": request.uri}
-        more = ""
-        if "auth" in given.get("qop", "").split(","):
-            own = token_hex(8)
-            fields["response"] = digest(secret, nonce, "00000001", own, "auth", asked)
-            fields["cnonce"], more = own, ", qop=auth, nc=00000001"
+        fields.update((key, given[key]) for key in ["opaque"] if key in given)
+        if "auth" not in given.get("qop", "").split(","):
+            more, fields["response"] = "", digest(secret, nonce, asked)
         else:
-            fields["response"] = digest(secret, nonce, asked)
-        if "opaque" in given:
-            fields["opaque"] = given["opaque"]
+            more, own = ", qop=auth, nc=00000001", fields.setdefault("cnonce", token_hex(8))
+            fields["response"] = digest(secret, nonce, "00000001", own, "auth", asked)
         return "Digest " + ", ".join(f'{key}="{value}"' for key, value in fields.items()) + more
 
     def told_response(self, headers, call_id, id_, status, local_tag, remote_tag, _body):
         request = self.sent.get(call_id)
-        if not request or status.startswith("1"):
+        if not request or headers["cseq"].split()[1] != request.method or status < "200":
             return
         print(request.method, status)
-        if status in CHALLENGES and not request.is_authorized:
-            challenge, answer = CHALLENGES[status]
-            line = (answer, self.credentials(headers[challenge.lower()], request))
-            self.ask(replace(request, headers=(*request.headers, line), is_authorized=True))
+        challenge, answer = CHALLENGES.get(status, (None, None))
+        if challenge and answer not in dict(request.headers):
+            line = (answer, self.credentials(headers[challenge], request))
+            self.ask(replace(request, headers=(*request.headers, line)))
         elif status == "302":
             uri = re.search("sip:[^>;?]*", headers["contact"])[0]
             self.ask(replace(request, uri=uri, address=uri.rpartition("@")[2]))
         elif request.method == "REGISTER" and status == "200" and self.callee:
-            self.call(self.callee)
+            print("calling", self.callee)
+            self.ask(Request("INVITE", self.registrar, self.callee, self.callee))
         elif request.method == "INVITE" and status == "200":
             bye = f"request {call_id} {local_tag} {remote_tag} BYE -"
             threading.Timer(3, self.command, [bye]).start()
 
     def told_request(self, headers, call_id, id_, method, _local_tag, _remote_tag, body):
+        caller = headers["from"].partition(";tag=")[0]
         if method == "INVITE":
-            print("call from", headers["from"])
+            print("call from", caller)
         elif method == "MESSAGE":
-            print(headers["from"], "says", text(body))
-        answer = self.offer() if method == "INVITE" else "-"
-        self.command(f"respond {call_id} {id_} 200 plain {answer} OK")
+            print(caller, "says", text(body))
+        body = self.offer() if method == "INVITE" else "-"
+        self.command(f"respond {call_id} {id_} 200 plain {body} OK")
 
-    def told_ended(self, _headers, *_fields):
+    def told_ended(self, *_fields):
         print("ended")
         if self.callee:
             self.agent.stdin.close()
 
-    def run(self, callee=None):
-        self.callee = callee
+    def run(self):
         self.register()
         headers = {}
         for line in self.agent.stdout:
             if line.startswith(" "):
-                name, _, value = text(line[1:-1]).partition(":")
-                headers.setdefault(name.strip().lower(), value.strip())
+                name, _, value = text(line[1:-1]).partition(": ")
+                headers.setdefault(LONG_NAMES.get(name.lower(), name.lower()), value)
             elif line.startswith("notice "):
                 call_id, kind, *fields = line.split()[1:]
                 told = getattr(self, f"told_{kind}", lambda *_: print(kind))
@@ -154,4 +146,4 @@ class Phone:
 
 
 if __name__ == "__main__":
-    Phone(*sys.argv[1:6]).run(*sys.argv[6:7])
+    Phone(*sys.argv[1:7]).run()
