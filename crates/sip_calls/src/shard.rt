@@ -130,6 +130,9 @@ impl KeyShard for CallShard {
     ) -> Result<PhaseOutputs<CallId, CallOut>, ShardFault>
         requires { now ≤ 2 ^ 62 }
         ensures shared { self.new.calls ≡ self.old.calls }
+        ensures broken { self.old.held ≡ None → result ≡ Err ShardFault.Broken }
+        ensures only_broken { result ≡ Err ShardFault.Broken → self.old.held ≡ None }
+        ensures err { OnErr result (self.new.held ≡ None) }
         ensures phases { IfOk result (λ replies.
             AddsPhase call_cmp (call_machine self.old.calls) tick_at
             self.old.held self.new.held (phase_at now ticks items.items)

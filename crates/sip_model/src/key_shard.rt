@@ -1,6 +1,6 @@
 //! A shard of a machine's keys, as the phases of a round see it.
 
-ghost use Rattle.std.specs.Prelude.{◌≡◌, ◌≤◌, ◌^◌, ℕ, Bool, List, Some, [], IfOk, IfSome, IsSome, IsTrue, OnOk, cond, count_by, is_some, true, false};
+ghost use Rattle.std.specs.Prelude.{◌≡◌, ◌≤◌, ◌^◌, ℕ, Bool, List, Some, None, Err, [], IfOk, IfSome, IsSome, IsTrue, OnErr, OnOk, cond, count_by, is_some, true, false};
 ghost use Rattle.std.specs.Option.{option_map};
 ghost use Rattle.std.specs.BTreeMap.{is_at};
 ghost use Rattle.sip_timers.specs.Queue.{is_due};
@@ -17,7 +17,8 @@ use std::collections::BTreeMap;
 
 /// Some keys of a machine, held together: what a phase over many shards asks of each.
 ///
-/// After a call answered [`ShardFault::NoMemory`] it holds nothing.
+/// After a call answered [`ShardFault::NoMemory`] it is broken: it holds nothing, and every call
+/// that can fail answers [`ShardFault::Broken`].
 pub trait KeyShard {
     type Machine: StateMachine;
 
@@ -68,6 +69,9 @@ pub trait KeyShard {
     >
         requires { now ≤ 2 ^ 62 }
         ensures machine { machine self.new ≡ machine self.old }
+        ensures broken { held self.old ≡ None → result ≡ Err ShardFault.Broken }
+        ensures only_broken { result ≡ Err ShardFault.Broken → held self.old ≡ None }
+        ensures err { OnErr result (held self.new ≡ None) }
         ensures phases { IfOk result (λ replies. AddsPhase Self.Machine.Key.cmp
             (Self.Machine.machine (machine self.old)) tick_at (held self.old) (held self.new)
             (phase_at now ticks items.items) (groups replies.ticks.items)
@@ -80,6 +84,9 @@ pub trait KeyShard {
         state: <Self::Machine as StateMachine>::State,
     ) -> Result<(), ShardFault>
         ensures machine { machine self.new ≡ machine self.old }
+        ensures broken { held self.old ≡ None → result ≡ Err ShardFault.Broken }
+        ensures only_broken { result ≡ Err ShardFault.Broken → held self.old ≡ None }
+        ensures err { OnErr result (held self.new ≡ None) }
         ensures sound { OnOk result (IsSome (held self.new)) }
         ensures states { OnOk result ((q : Self.Machine.Key)
             → state_at Self.Machine.Key.cmp (held self.new) q

@@ -189,7 +189,10 @@ impl KeyShard for Shard {
         items: Vec<Item<Key, Input>>,
     ) -> Result<PhaseOutputs<Key, Out>, ShardFault>
         requires { now ≤ 2 ^ 62 }
-        ensures { IfOk result (λ replies. AddsPhase key_cmp transaction_machine tick_at
+        ensures broken { self.old.held ≡ None → result ≡ Err ShardFault.Broken }
+        ensures only_broken { result ≡ Err ShardFault.Broken → self.old.held ≡ None }
+        ensures err { OnErr result (self.new.held ≡ None) }
+        ensures phases { IfOk result (λ replies. AddsPhase key_cmp transaction_machine tick_at
             self.old.held self.new.held (phase_at now ticks items.items)
             (groups replies.ticks.items) (groups replies.items.items)) }
     {
