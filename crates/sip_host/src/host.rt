@@ -6,10 +6,10 @@ ghost use Rattle.std.specs.Option.{option_copied};
 ghost use Rattle.sip_timers.specs.Queue.{is_due};
 ghost use Rattle.sip_round.specs.Answers.{StandsFor};
 ghost use Rattle.sip_round.specs.NextDue.{IsDueAfter, IsQuietAfter};
-ghost use Rattle.sip_round.specs.Places as places;
+ghost use Rattle.sip_round.specs.Places.{datagram_at, event_at};
 ghost use Rattle.sip_round.specs.declared.config.Config.{Config as AConfig};
 ghost use Rattle.sip_round.specs.declared.round.Round.{Round as ARound};
-ghost use Rattle.sip_reader.specs.Head.{BeginsWith, HasValues};
+ghost use Rattle.sip_reader.specs.Head.{BeginsWith, HasHeaderLines, HasValues};
 ghost use Rattle.sip_host.specs.Handing.{head_of, put_in, text_of};
 ghost use Rattle.sip_host.specs.Hosting.{Begins, RunsRound, TakesDatagram, TakesFailure, TakesLine, after_taking, last_id_of, output_at, shard_of, with_events};
 ghost use Rattle.sip_host.specs.declared.host_fault.HostFault.TheVariants as fault;
@@ -19,7 +19,7 @@ use crate::host_fault::HostFault;
 use crate::next_output::NextOutput;
 use sip_files::read_event_line;
 use sip_message::{Addr, Id, Spread, Token};
-use sip_reader::{FirstLine, header_values, start_line};
+use sip_reader::{FirstLine, HeaderLine, header_lines, header_values, start_line};
 use sip_round::{
     Agent, Config, Event, MAX_EVENTS_OF_ROUND, NoMemory, PlacedOutput, Round, datagram_at, event_at,
 };
@@ -170,7 +170,7 @@ impl Host {
     /// The event of this place in the last round, as an output of that round names it; there is none
     /// of place 0. A notice of a place tells of the datagram that came in there. Takes no memory.
     pub fn event(&self, place: u32) -> Option<&Event>
-        ensures { option_copied result ≡ places.event_at self.now.last_events place }
+        ensures { option_copied result ≡ event_at self.now.last_events place }
     {
         event_at(self.last_events.as_slice(), place)
     }
@@ -182,9 +182,9 @@ impl Host {
     ///
     /// Memory was refused.
     pub fn start_line(&self, place: u32) -> Result<Option<FirstLine<Token>>, AllocError>
-        ensures says { IfOk result (λ says. IfSome (places.datagram_at self.now.last_events place)
+        ensures says { IfOk result (λ says. IfSome (datagram_at self.now.last_events place)
             (BeginsWith says)) }
-        ensures none { IfOk result (λ says. places.datagram_at self.now.last_events place ≡ None → says ≡ None) }
+        ensures none { IfOk result (λ says. datagram_at self.now.last_events place ≡ None → says ≡ None) }
     {
         match datagram_at(self.last_events.as_slice(), place) {
             Some(bytes) => start_line(self.alloc, bytes.as_slice()),
@@ -200,12 +200,31 @@ impl Host {
     ///
     /// Memory was refused.
     pub fn header_values(&self, place: u32, name: &[u8]) -> Result<Series<Text>, AllocError>
-        ensures values { IfOk result (λ values. IfSome (places.datagram_at self.now.last_events place)
+        ensures values { IfOk result (λ values. IfSome (datagram_at self.now.last_events place)
             (HasValues name.now values)) }
-        ensures none { IfOk result (λ values. places.datagram_at self.now.last_events place ≡ None → values ≡ []) }
+        ensures none { IfOk result (λ values. datagram_at self.now.last_events place ≡ None → values ≡ []) }
     {
         match datagram_at(self.last_events.as_slice(), place) {
             Some(bytes) => header_values(self.alloc, bytes.as_slice(), name),
+            None => Ok(Series::new(self.alloc)),
+        }
+    }
+
+    /// All header lines of the datagram that came in at this place of the last round, also of one
+    /// that was dropped, in order: each name as it is written, each value without its folds. None
+    /// where none came in there.
+    ///
+    /// # Errors
+    ///
+    /// Memory was refused.
+    pub fn header_lines(&self, place: u32) -> Result<Series<HeaderLine>, AllocError>
+        ensures headers { IfOk result (λ headers. IfSome (datagram_at self.now.last_events place)
+            (HasHeaderLines headers)) }
+        ensures none { IfOk result (λ headers. datagram_at self.now.last_events place ≡ None
+            → headers ≡ []) }
+    {
+        match datagram_at(self.last_events.as_slice(), place) {
+            Some(bytes) => header_lines(self.alloc, bytes.as_slice()),
             None => Ok(Series::new(self.alloc)),
         }
     }

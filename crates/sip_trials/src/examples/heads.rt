@@ -50,20 +50,18 @@ fn are_both_of_from(values: &[Text]) -> bool {
     }
 }
 
-// As a session file spells them.
 pub fn header_lines_in_order(alloc: Global) -> Result<(), Stop> {
-    let headers = header_lines(alloc, TEXT)?;
-    let spelled = spelled(alloc, headers.as_slice())?;
-    check(spelled.as_slice() == b" f: <sip:c@d>\n Subject: one two\n FROM: <sip:e@f>\n")
+    are_all_three(alloc, header_lines(alloc, TEXT)?.as_slice())
 }
 
-fn spelled(alloc: Global, headers: &[HeaderLine]) -> Result<Vec<u8>, Stop> {
+// As a session file spells them.
+fn are_all_three(alloc: Global, headers: &[HeaderLine]) -> Result<(), Stop> {
     let mut text = Vec::new(alloc);
     for header in headers {
         let line = write_header_line(alloc, header.name.as_slice(), header.value.as_slice())?;
         text.extend_from_slice(&line)?;
     }
-    Ok(text)
+    check(text.as_slice() == b" f: <sip:c@d>\n Subject: one two\n FROM: <sip:e@f>\n")
 }
 
 pub fn a_host_reads_a_datagram(alloc: Global) -> Result<(), Stop> {
@@ -75,7 +73,8 @@ pub fn a_host_reads_a_datagram(alloc: Global) -> Result<(), Stop> {
     check(host.last_id().is_none() && is_from_peer(host.event(1)) && host.event(2).is_none())?;
     check(is_info(&host.start_line(1)?) && host.start_line(2)?.is_none())?;
     check(are_both_of_from(host.header_values(1, b"f")?.as_slice()))?;
-    check(host.header_values(0, b"f")?.is_empty())
+    check(host.header_values(0, b"f")?.is_empty() && host.header_lines(0)?.is_empty())?;
+    are_all_three(alloc, host.header_lines(1)?.as_slice())
 }
 
 // Where the round is refused memory and the agent stands, the same round is run again.
