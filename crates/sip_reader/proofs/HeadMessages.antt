@@ -61,11 +61,11 @@ under name named =
 values_named : (text name : List ℕ) (m : Message) (values : List (List ℕ)) (is : Spells m text)
     → HasValues name values text → values ≡ under name is.headers_are.0
 values_named text name m values is has =
-    let head_is = head_laid text is.start is.lines is.rest is.laid has.lines has.head_is in
-    has.values_are ∙ ap (filter_map (value_under name))
-    (all_some is.headers_are.0 has.named is.lines is.headers_are.1
-    (subst (λ (lines : List (List ℕ)). AllZip (OrNone IsHeaderLine) has.named (drop 1 lines))
-    head_is has.named_are))
+    let head_is = head_laid text is.start is.lines is.rest is.laid has.1.lines has.1.head_is in
+    has.2 ∙ ap (filter_map (value_under name))
+    (all_some is.headers_are.0 has.0 is.lines is.headers_are.1
+    (subst (λ (lines : List (List ℕ)). AllZip (OrNone IsHeaderLine) has.0 (drop 1 lines))
+    head_is has.1.parts_are))
 
 -- ---- of a header outside of the table
 

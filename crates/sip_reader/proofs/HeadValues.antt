@@ -1,7 +1,8 @@
--- The values of a header, found line by line.
+-- The values of a header, and the header lines, found line by line.
 use Rattle.std.proofs.Common.{◌≡◌, ℕ, Bool, true, false, cond, List, [], ◌∷◌, ◌++◌, drop, map, Option, Some, None, refl, sym, ap, subst, ◌∙◌, append_assoc}
 use Rattle.std.specs.Prelude.{is_some}
 use Rattle.std.specs.List.{AllZip, cons_option, filter_map}
+use Rattle.std.specs.Option.{option_map}
 use Rattle.std.specs.Str.{str_eq_ignore_ascii_case}
 use Rattle.std.proofs.lemmas.List.{append-nil}
 use Rattle.sip_text.specs.Line.{line_at}
@@ -13,9 +14,10 @@ use Rattle.sip_headers.specs.HeaderLine.{IsHeaderLine, known, other, class_by_na
 use Rattle.sip_headers.specs.Steps.Drafted.{lines_at, onto_lines}
 use Rattle.sip_headers.proofs.Folds.{line_onto, none_onto}
 use Rattle.sip_headers.proofs.NamedLines.{line_reads}
-use Rattle.sip_reader.specs.Head.{HasValues, OrNone, is_same_entry, value_under}
+use Rattle.sip_reader.specs.Head.{HasHeaderLines, HasParts, HasValues, OrNone, header_line, is_same_entry, value_under}
 use Rattle.sip_reader.specs.Layout.{IsFull}
-use Rattle.sip_reader.specs.ReadHead.{head_at, is_known, values_at, whole_lines_at}
+use Rattle.sip_reader.specs.ReadHead.{found_at, head_at, header_lines_at, is_known, values_at, whole_lines_at}
+use Rattle.sip_reader.specs.declared.header_line.HeaderLine.{HeaderLine}
 use Rattle.sip_reader.proofs.Heads.{is_head, one_head, one_or_none, read_or_none, whole_onto}
 
 -- ---- one line, by its class
@@ -94,59 +96,56 @@ pub not_unknown : (wanted : Option HeaderName) (same : Bool) → is_some wanted 
 not_unknown None same e = absurd cc
 not_unknown (Some header) same e = refl
 
+-- ---- the next line
+
+pub none_whole : (text : List ℕ) → line_at text ≡ None → [] ≡ whole_lines_at text
+none_whole text e = sym (ap whole_lines (none_onto text e))
+
+pub empty_whole : (text line after : List ℕ) → line_at text ≡ Some (line, after) → line ≡ []
+    → [] ≡ whole_lines_at text
+empty_whole text line after e empty =
+    sym (ap whole_lines (line_onto text line after e
+    ∙ ap (λ (l : List ℕ). onto_lines l (lines_at after)) empty))
+
+pub next_whole : (text line after whole rest : List ℕ) → line_at text ≡ Some (line, after)
+    → IsFull line → folded_onto line (lines_at after) ≡ whole ∷ whole_lines_at rest
+    → whole ∷ whole_lines_at rest ≡ whole_lines_at text
+next_whole text line after whole rest e full whole_is =
+    sym (ap whole_lines (line_onto text line after e) ∙ whole_onto line (lines_at after) full
+    ∙ whole_is)
+
 -- ---- one line after the other
 
--- the values so far, and those of the lines that are left
-abbrev pub AreWith : List ℕ → List ℕ → List (List ℕ) → List (List ℕ) → Type 0
-AreWith name text values total = values ++ values_at name (whole_lines_at text) ≡ total
+-- what was found so far, and what is found in the lines that are left
+abbrev pub AreWith : {X : Type 0} → (Option (List ℕ × List ℕ) → Option X) → List ℕ → List X
+    → List X → Type 0
+AreWith read text found total = found ++ found_at read (whole_lines_at text) ≡ total
 
-pub ends_empty : (name text line after : List ℕ) (values total : List (List ℕ))
-    → line_at text ≡ Some (line, after) → line ≡ [] → AreWith name text values total
-    → values ≡ total
-ends_empty name text line after values total e empty so_far =
-    sym (append-nil values)
-    ∙ sym (ap (λ (lines : List (List ℕ)). values ++ values_at name (whole_lines lines))
-    (line_onto text line after e
-    ∙ ap (λ (l : List ℕ). onto_lines l (lines_at after)) empty))
+pub all_found : {X : Type 0} (read : Option (List ℕ × List ℕ) → Option X) (text : List ℕ)
+    (found total : List X) → [] ≡ whole_lines_at text → AreWith read text found total
+    → found ≡ total
+all_found read text found total none so_far =
+    sym (append-nil found)
+    ∙ ap (λ (lines : List (List ℕ)). found ++ found_at read lines) none
     ∙ so_far
 
-pub ends_unended : (name text : List ℕ) (values total : List (List ℕ)) → line_at text ≡ None
-    → AreWith name text values total → values ≡ total
-ends_unended name text values total e so_far =
-    sym (append-nil values)
-    ∙ sym (ap (λ (lines : List (List ℕ)). values ++ values_at name (whole_lines lines))
-    (none_onto text e))
+pub one_found : {X : Type 0} (read : Option (List ℕ × List ℕ) → Option X)
+    (text whole rest : List ℕ) (x : X) (found total : List X)
+    → whole ∷ whole_lines_at rest ≡ whole_lines_at text → Some x ≡ read (line_from whole)
+    → AreWith read text found total → AreWith read rest (found ++ (x ∷ [])) total
+one_found read text whole rest x found total lines_are x_is so_far =
+    append_assoc found (x ∷ []) (found_at read (whole_lines_at rest))
+    ∙ ap (λ o. found ++ cons_option o (found_at read (whole_lines_at rest))) x_is
+    ∙ ap (λ (lines : List (List ℕ)). found ++ found_at read lines) lines_are
     ∙ so_far
 
-next_whole : (text line after whole rest : List ℕ) → line_at text ≡ Some (line, after)
-    → IsFull line → folded_onto line (lines_at after) ≡ whole ∷ whole_lines_at rest
-    → whole_lines_at text ≡ whole ∷ whole_lines_at rest
-next_whole text line after whole rest e full whole_is =
-    ap whole_lines (line_onto text line after e) ∙ whole_onto line (lines_at after) full ∙ whole_is
-
-pub one_value : (name text line after whole rest value : List ℕ) (values total : List (List ℕ))
-    → line_at text ≡ Some (line, after) → IsFull line
-    → folded_onto line (lines_at after) ≡ whole ∷ whole_lines_at rest
-    → Some value ≡ value_under name (line_from whole) → AreWith name text values total
-    → AreWith name rest (values ++ (value ∷ [])) total
-one_value name text line after whole rest value values total e full whole_is value_is so_far =
-    append_assoc values (value ∷ []) (values_at name (whole_lines_at rest))
-    ∙ sym (ap (λ (lines : List (List ℕ)). values ++ values_at name lines)
-    (next_whole text line after whole rest e full whole_is)
-    ∙ ap (λ (o : Option (List ℕ)). values ++ cons_option o (values_at name (whole_lines_at rest)))
-    (sym value_is))
-    ∙ so_far
-
-pub no_value : (name text line after whole rest : List ℕ) (values total : List (List ℕ))
-    → line_at text ≡ Some (line, after) → IsFull line
-    → folded_onto line (lines_at after) ≡ whole ∷ whole_lines_at rest
-    → None ≡ value_under name (line_from whole) → AreWith name text values total
-    → AreWith name rest values total
-no_value name text line after whole rest values total e full whole_is value_is so_far =
-    sym (ap (λ (lines : List (List ℕ)). values ++ values_at name lines)
-    (next_whole text line after whole rest e full whole_is)
-    ∙ ap (λ (o : Option (List ℕ)). values ++ cons_option o (values_at name (whole_lines_at rest)))
-    (sym value_is))
+pub none_found : {X : Type 0} (read : Option (List ℕ × List ℕ) → Option X)
+    (text whole rest : List ℕ) (found total : List X)
+    → whole ∷ whole_lines_at rest ≡ whole_lines_at text → None ≡ read (line_from whole)
+    → AreWith read text found total → AreWith read rest found total
+none_found read text whole rest found total lines_are none so_far =
+    ap (λ o. found ++ cons_option o (found_at read (whole_lines_at rest))) none
+    ∙ ap (λ (lines : List (List ℕ)). found ++ found_at read lines) lines_are
     ∙ so_far
 
 -- ---- all lines
@@ -156,38 +155,53 @@ all_read [] = tt
 all_read (line ∷ lines) =
     (read_or_none line_reads line (line_from line) refl, all_read lines)
 
+has_parts : (text : List ℕ) → HasParts (map line_from (drop 1 (head_at text))) text
+has_parts text =
+    record {
+      lines = head_at text;
+      head_is = is_head text;
+      parts_are = all_read (drop 1 (head_at text));
+    }
+
 pub has_values : (name text : List ℕ) (values : List (List ℕ))
     → values ≡ values_at name (drop 1 (head_at text)) → HasValues name values text
 has_values name text values e =
-    let lines = drop 1 (head_at text) in
-    record {
-      lines = head_at text;
-      named = map line_from lines;
-      head_is = is_head text;
-      named_are = all_read lines;
-      values_are = e;
-    }
+    (map line_from (drop 1 (head_at text)), has_parts text, e)
 
--- ---- one list of values
+pub has_header_lines : (text : List ℕ) (headers : List HeaderLine)
+    → headers ≡ header_lines_at (drop 1 (head_at text)) → HasHeaderLines headers text
+has_header_lines text headers e =
+    (map line_from (drop 1 (head_at text)), has_parts text, e)
 
-same_lines : (named others : List (Option (List ℕ × List ℕ))) (lines : List (List ℕ))
-    → AllZip (OrNone IsHeaderLine) named lines → AllZip (OrNone IsHeaderLine) others lines
-    → named ≡ others
-same_lines [] [] [] is also = refl
-same_lines [] (q ∷ others) [] is also = absurd also
-same_lines (p ∷ named) others [] is also = absurd is
-same_lines [] others (line ∷ lines) is also = absurd is
-same_lines (p ∷ named) [] (line ∷ lines) is also = absurd also
-same_lines (p ∷ named) (q ∷ others) (line ∷ lines) is also =
-    ap (λ o. o ∷ named) (one_or_none line_reads line p q is.0 also.0)
-    ∙ ap (λ os. q ∷ os) (same_lines named others lines is.1 also.1)
+-- ---- one list of values, and one of header lines
+
+same_parts : (parts others : List (Option (List ℕ × List ℕ))) (lines : List (List ℕ))
+    → AllZip (OrNone IsHeaderLine) parts lines → AllZip (OrNone IsHeaderLine) others lines
+    → parts ≡ others
+same_parts [] [] [] is also = refl
+same_parts [] (q ∷ others) [] is also = absurd also
+same_parts (p ∷ parts) others [] is also = absurd is
+same_parts [] others (line ∷ lines) is also = absurd is
+same_parts (p ∷ parts) [] (line ∷ lines) is also = absurd also
+same_parts (p ∷ parts) (q ∷ others) (line ∷ lines) is also =
+    ap (λ o. o ∷ parts) (one_or_none line_reads line p q is.0 also.0)
+    ∙ ap (λ os. q ∷ os) (same_parts parts others lines is.1 also.1)
+
+one_parts : (text : List ℕ) (parts others : List (Option (List ℕ × List ℕ)))
+    → HasParts parts text → HasParts others text → parts ≡ others
+one_parts text parts others is also =
+    same_parts parts others (drop 1 is.lines) is.parts_are
+    (subst (λ (lines : List (List ℕ)). AllZip (OrNone IsHeaderLine) others (drop 1 lines))
+    (one_head text also.lines is.lines also.head_is is.head_is) also.parts_are)
 
 pub one_list : (text name : List ℕ) (values others : List (List ℕ)) → HasValues name values text
     → HasValues name others text → values ≡ others
 one_list text name values others is also =
-    is.values_are
-    ∙ ap (filter_map (value_under name)) (same_lines is.named also.named (drop 1 is.lines)
-    is.named_are (subst (λ (lines : List (List ℕ)).
-    AllZip (OrNone IsHeaderLine) also.named (drop 1 lines))
-    (one_head text also.lines is.lines also.head_is is.head_is) also.named_are))
-    ∙ sym also.values_are
+    is.2 ∙ ap (filter_map (value_under name)) (one_parts text is.0 also.0 is.1 also.1)
+    ∙ sym also.2
+
+pub one_list_of_lines : (text : List ℕ) (headers others : List HeaderLine)
+    → HasHeaderLines headers text → HasHeaderLines others text → headers ≡ others
+one_list_of_lines text headers others is also =
+    is.2 ∙ ap (filter_map (option_map header_line)) (one_parts text is.0 also.0 is.1 also.1)
+    ∙ sym also.2

@@ -156,21 +156,6 @@ pub whole_onto : (line : List ℕ) (lines : List (List ℕ)) → IsFull line
 whole_onto [] lines full = absurd (full refl)
 whole_onto (b ∷ bs) lines full = refl
 
-pub first_behind : (text front line after whole rest : List ℕ) → front ≡ without_line_ends text
-    → Some (line, after) ≡ line_at front
-    → folded_onto line (lines_at after) ≡ whole ∷ whole_lines_at rest
-    → whole ∷ whole_lines_at rest ≡ head_at text
-first_behind text front line after whole rest front_is line_is whole_is =
-    let e : line_at (without_line_ends text) ≡ Some (line, after) =
-    sym (line_is ∙ ap line_at front_is) in
-    sym (ap whole_lines (line_onto (without_line_ends text) line after e)
-    ∙ whole_onto line (lines_at after) (begins_full text line after e) ∙ whole_is)
-
-pub none_first : (text front : List ℕ) → front ≡ without_line_ends text → None ≡ line_at front
-    → [] ≡ head_at text
-none_first text front front_is none =
-    sym (ap whole_lines (none_onto (without_line_ends text) (sym (none ∙ ap line_at front_is))))
-
 pub read_or_none : {A X : Type 0} {f : A → Option X} {P : X → A → Type 0} → Reads A X f P
     → (a : A) (o : Option X) → f a ≡ o → OrNone P o a
 read_or_none reads a None e = λ x is. not_read reads a e x is

@@ -2,6 +2,7 @@
 -- (RFC 3261, sections 7, 7.3.1 and 7.3.3).
 use Rattle.std.specs.Prelude.{◌≡◌, ℕ, Bool, true, false, List, [], ◌∷◌, drop, Option, Some, None, if◌then◌else◌}
 use Rattle.std.specs.List.{AllZip, filter_map, take_while}
+use Rattle.std.specs.Option.{option_map}
 use Rattle.std.specs.Str.{str_eq_ignore_ascii_case}
 use Rattle.sip_text.specs.Lines.{AreLines}
 use Rattle.sip_parts.specs.HeaderEntry.{header_named}
@@ -15,6 +16,7 @@ use Rattle.sip_headers.specs.Named.{is_same}
 use Rattle.sip_reader.specs.StartLine.{IsRequestLine, IsStatusLine}
 use Rattle.sip_reader.specs.declared.first_line.FirstLine.{FirstLine}
 use Rattle.sip_reader.specs.declared.first_line.FirstLine.TheVariants as first
+use Rattle.sip_reader.specs.declared.header_line.HeaderLine.{HeaderLine}
 
 -- the form of the value, or of no value where nothing has the form
 abbrev pub OrNone : {A X : Type 0} → (X → A → Type 0) → Option X → A → Type 0
@@ -82,11 +84,25 @@ abbrev pub value_under : List ℕ → Option (List ℕ × List ℕ) → Option (
 value_under name None = None
 value_under name (Some line) = if is_same_header name line.0 then Some line.1 else None
 
--- The values of a header in the text, in the order of the lines behind the first. A line that is no
--- header line has none.
-pub record HasValues (name : List ℕ) (values : List (List ℕ)) (text : List ℕ) : Type 0 where
+-- Of each line behind the first: its name and value where it is a header line, otherwise nothing.
+pub record HasParts (parts : List (Option (List ℕ × List ℕ))) (text : List ℕ) : Type 0 where
   pub lines : List (List ℕ)
-  pub named : List (Option (List ℕ × List ℕ))
   pub head_is : IsHead lines text
-  pub named_are : AllZip (OrNone IsHeaderLine) named (drop 1 lines)
-  pub values_are : values ≡ filter_map (value_under name) named
+  pub parts_are : AllZip (OrNone IsHeaderLine) parts (drop 1 lines)
+
+-- The values of a header in the text, in the order of its lines. A line that is no header line has
+-- none.
+abbrev pub HasValues : List ℕ → List (List ℕ) → List ℕ → Type 0
+HasValues name values text =
+    (parts : List (Option (List ℕ × List ℕ))) × HasParts parts text
+    × (values ≡ filter_map (value_under name) parts)
+
+-- a header line with this name and this value
+abbrev pub header_line : List ℕ × List ℕ → HeaderLine
+header_line parts = record { name = parts.0; value = parts.1 }
+
+-- The header lines of the text in their order, the name of each as it is written.
+abbrev pub HasHeaderLines : List HeaderLine → List ℕ → Type 0
+HasHeaderLines headers text =
+    (parts : List (Option (List ℕ × List ℕ))) × HasParts parts text
+    × (headers ≡ filter_map (option_map header_line) parts)

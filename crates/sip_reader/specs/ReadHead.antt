@@ -2,6 +2,7 @@
 use Rattle.std.specs.Prelude.{ℕ, Bool, false, List, [], ◌∷◌, map, Option, Some, None}
 use Rattle.std.specs.Borrow.{Bor}
 use Rattle.std.specs.List.{filter_map}
+use Rattle.std.specs.Option.{option_map}
 use Rattle.sip_parts.specs.declared.header_name.HeaderName.{HeaderName}
 use Rattle.sip_headers.specs.Folding.{whole_lines}
 use Rattle.sip_headers.specs.HeaderLine.{line_from}
@@ -9,10 +10,11 @@ use Rattle.sip_headers.specs.Named.{is_same}
 use Rattle.sip_headers.specs.Steps.Drafted.{lines_at}
 use Rattle.sip_headers.specs.Whole.{whole_now}
 use Rattle.sip_headers.specs.declared.folding.Whole.{Whole}
-use Rattle.sip_reader.specs.Head.{value_under}
+use Rattle.sip_reader.specs.Head.{header_line, value_under}
 use Rattle.sip_reader.specs.ReadStart.{start_at}
 use Rattle.sip_reader.specs.SkippedEnds.{without_line_ends}
 use Rattle.sip_reader.specs.declared.first_line.FirstLine.{FirstLine}
+use Rattle.sip_reader.specs.declared.header_line.HeaderLine.{HeaderLine}
 
 -- the lines up to the first empty one, or all that have their end, without folds
 abbrev pub whole_lines_at : List ℕ → List (List ℕ)
@@ -37,6 +39,14 @@ abbrev pub is_known : Option HeaderName → HeaderName → Bool
 is_known None header = false
 is_known (Some wanted) header = is_same wanted header
 
+-- what is found in these lines: of the name and the value of each, or of nothing
+abbrev pub found_at : {X : Type 0} → (Option (List ℕ × List ℕ) → Option X) → List (List ℕ) → List X
+found_at read lines = filter_map read (map line_from lines)
+
 -- the values of a header in these lines
 abbrev pub values_at : List ℕ → List (List ℕ) → List (List ℕ)
-values_at name lines = filter_map (value_under name) (map line_from lines)
+values_at name lines = found_at (value_under name) lines
+
+-- those of these lines that are header lines
+abbrev pub header_lines_at : List (List ℕ) → List HeaderLine
+header_lines_at lines = found_at (option_map header_line) lines

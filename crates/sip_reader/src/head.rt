@@ -1,5 +1,5 @@
 //! What a text says in its head, whether it spells a message or not (RFC 3261, section 7).
-ghost use Rattle.std.specs.Prelude.{◌≡◌, IfOk};
+ghost use Rattle.std.specs.Prelude.{◌≡◌, ◌<◌, IfOk, IfSome, length};
 ghost use Rattle.std.specs.Option.{option_copied};
 ghost use Rattle.sip_parts.specs.HeaderEntry.{header_named};
 ghost use Rattle.sip_headers.specs.HeaderLine.{line_from};
@@ -7,6 +7,7 @@ ghost use Rattle.sip_reader.specs.Head as head;
 ghost use Rattle.sip_reader.specs.ReadHead as reading;
 
 use crate::first_line::FirstLine;
+use crate::header_line::HeaderLine;
 use crate::layout::without_line_ends;
 use crate::start_reader::start_of;
 use sip_headers::{LineClass, Whole, class_of, long_name, whole_line};
@@ -51,14 +52,45 @@ pub fn header_values(alloc: Global, text: &[u8], name: &[u8]) -> Result<Series<T
     values_in(alloc, lines, name)
 }
 
+/// The header lines of the text, also of one that spells no message: those behind the first line up
+/// to an empty one, or up to the last that has its end, in their order; a line that is no header
+/// line is passed over. A name stays as it is written, and a value is without its folds and without
+/// white space round it (RFC 3261, sections 7.3.1 and 7.3.3).
+///
+/// # Errors
+///
+/// Memory was refused.
+pub fn header_lines(alloc: Global, text: &[u8]) -> Result<Series<HeaderLine>, AllocError>
+    ensures { IfOk result (λ headers. head.HasHeaderLines headers text.now) }
+{
+    let Some((_, lines)) = first_line_of(alloc, text)? else {
+        return Ok(Series::new(alloc));
+    };
+    header_lines_in(alloc, lines)
+}
+
 /// The first line that isn't empty, with those that go on with it, and the text behind it. None
 /// where there is none.
 fn first_line_of(alloc: Global, text: &[u8]) -> Result<Option<(Whole<'_>, &[u8])>, AllocError>
     ensures { IfOk result (λ found. reading.lines_found found ≡ reading.head_at text.now) }
 {
-    let Some((line, after)) = next_line(without_line_ends(text)) else {
+    next_whole(alloc, without_line_ends(text))
+}
+
+/// The first line of the text, with those that go on with it, and the text behind it. None where it
+/// is empty, or no line has its end.
+fn next_whole(alloc: Global, text: &[u8]) -> Result<Option<(Whole<'_>, &[u8])>, AllocError>
+    ensures lines { IfOk result (λ found.
+        reading.lines_found found ≡ reading.whole_lines_at text.now) }
+    ensures shorter { IfOk result (λ found.
+        IfSome found (λ next. length next.1.now < length text.now)) }
+{
+    let Some((line, after)) = next_line(text) else {
         return Ok(None);
     };
+    if line.is_empty() {
+        return Ok(None);
+    }
     Ok(Some(whole_line(alloc, line, after)?))
 }
 
@@ -70,17 +102,29 @@ fn values_in(alloc: Global, text: &[u8], name: &[u8]) -> Result<Series<Text>, Al
     let header = HeaderName::of(name);
     let mut values = Series::new(alloc);
     let mut rest = text;
-    while let Some((line, after)) = next_line(rest) {
-        if line.is_empty() {
-            break;
-        }
-        let (whole, after) = whole_line(alloc, line, after)?;
-        if let Some(value) = value_in(name, header, whole.as_slice()) {
+    while let Some((line, after)) = next_whole(alloc, rest)? {
+        if let Some(value) = value_in(name, header, line.as_slice()) {
             values.push(Text::copy_of(alloc, value)?)?;
         }
         rest = after;
     }
     Ok(values)
+}
+
+/// The header lines that the text begins with.
+fn header_lines_in(alloc: Global, text: &[u8]) -> Result<Series<HeaderLine>, AllocError>
+    ensures { IfOk result (λ headers. headers
+        ≡ reading.header_lines_at (reading.whole_lines_at text.now)) }
+{
+    let mut headers = Series::new(alloc);
+    let mut rest = text;
+    while let Some((line, after)) = next_whole(alloc, rest)? {
+        if let Some(header) = HeaderLine::read(alloc, line.as_slice())? {
+            headers.push(header)?;
+        }
+        rest = after;
+    }
+    Ok(headers)
 }
 
 /// The line's value, where it is a header line of this name. The header of the table that the name

@@ -12,13 +12,14 @@ ghost use Rattle.sip_message.specs.declared.fault.ReadFault.{ReadFault};
 ghost use Rattle.sip_message.specs.declared.message.Message.{Message};
 ghost use Rattle.sip_message.specs.Written.{written};
 ghost use Rattle.sip_reader.specs.Faults.{Condition, IsFirstFault, faults};
-ghost use Rattle.sip_reader.specs.Head.{BeginsWith, HasValues, IsHead, first_of, is_same_header};
+ghost use Rattle.sip_reader.specs.Head.{BeginsWith, HasHeaderLines, HasValues, IsHead, first_of, is_same_header};
 ghost use Rattle.sip_reader.specs.Layout.{Lays};
 ghost use Rattle.sip_reader.specs.ReadMessage.{message_at};
 ghost use Rattle.sip_message.specs.Rules.{IsMessage};
 ghost use Rattle.sip_reader.specs.SkippedEnds.{without_line_ends};
 ghost use Rattle.sip_reader.specs.Spells.{Spells};
 ghost use Rattle.sip_reader.specs.declared.first_line.FirstLine.{FirstLine};
+ghost use Rattle.sip_reader.specs.declared.header_line.HeaderLine.{HeaderLine};
 
 /// A text spells at most one message.
 pub fn one_message()
@@ -59,7 +60,8 @@ pub fn folds_are_laid()
         → AreLines (start ∷ (lines ++ ([] ∷ []))) (unfolded (without_line_ends head)) }
 {}
 
-/// A text has one head, one start line or none, and one list of values of each name.
+/// A text has one head, one start line or none, one list of values of each name, and one list of
+/// header lines.
 pub fn one_head()
     ensures lines { (text : List ℕ) (lines others : List (List ℕ)) → IsHead lines text
         → IsHead others text → lines ≡ others }
@@ -67,6 +69,8 @@ pub fn one_head()
         → BeginsWith says text → BeginsWith also text → says ≡ also }
     ensures values { (text name : List ℕ) (values others : List (List ℕ))
         → HasValues name values text → HasValues name others text → values ≡ others }
+    ensures header_lines { (text : List ℕ) (headers others : List HeaderLine)
+        → HasHeaderLines headers text → HasHeaderLines others text → headers ≡ others }
 {}
 
 /// The head of a text that spells a message says what the message says: its lines are the start

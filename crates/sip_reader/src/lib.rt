@@ -3,6 +3,7 @@
 
 mod first_line;
 mod head;
+mod header_line;
 mod laws;
 mod layout;
 mod reader;
@@ -10,7 +11,8 @@ mod rules;
 mod start_reader;
 
 pub use first_line::FirstLine;
-pub use head::{header_values, start_line};
+pub use head::{header_lines, header_values, start_line};
+pub use header_line::HeaderLine;
 pub use laws::{
     folds_are_laid, head_of_a_message, lines_are_laid, no_fault_of_a_message, one_head,
     one_message, what_is_read, written_is_spelled,

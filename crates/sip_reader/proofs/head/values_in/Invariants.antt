@@ -1,10 +1,12 @@
 use Rattle.std.proofs.Common.{length}
+use Rattle.sip_reader.specs.Head.{value_under}
 use Rattle.sip_reader.specs.ReadHead.{values_at, whole_lines_at}
 use Rattle.sip_reader.proofs.HeadValues.{AreWith}
 use Rattle.sip_reader.proofs.head.values_in.Given as goal
 
-abbrev pub invariant-loop-line : goal.invariant-loop-line
-invariant-loop-line l = AreWith l.name l.rest l.values (values_at l.name (whole_lines_at l.text))
+abbrev pub invariant-loop-values : goal.invariant-loop-values
+invariant-loop-values l =
+    AreWith (value_under l.name) l.rest l.values (values_at l.name (whole_lines_at l.text))
 
-abbrev pub decreases-loop-line : goal.decreases-loop-line
-decreases-loop-line l = length l.rest
+abbrev pub decreases-loop-values : goal.decreases-loop-values
+decreases-loop-values l = length l.rest

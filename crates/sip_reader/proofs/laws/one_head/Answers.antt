@@ -1,4 +1,4 @@
-use Rattle.sip_reader.proofs.HeadValues.{one_list}
+use Rattle.sip_reader.proofs.HeadValues.{one_list, one_list_of_lines}
 use Rattle.sip_reader.proofs.Heads.{one_head, one_start}
 use Rattle.sip_reader.proofs.laws.one_head.Goals as goal
 
@@ -10,3 +10,6 @@ returns-clause-start c = one_start
 
 pub returns-clause-values : goal.returns-clause-values
 returns-clause-values c = one_list
+
+pub returns-clause-header_lines : goal.returns-clause-header_lines
+returns-clause-header_lines c = one_list_of_lines
