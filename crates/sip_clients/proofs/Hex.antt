@@ -1,5 +1,6 @@
 -- Hexadecimal digits, one at a time, and that a made name is a token.
-use Rattle.std.proofs.Common.{◌≡◌, ℕ, zero, suc, ◌-◌, ◌/◌, ◌%◌, ◌<◌, Bool, true, List, [], ◌∷◌, ◌++◌, length, refl, arith, length-append, IsTrue, codes}
+use Rattle.std.proofs.Common.{◌≡◌, ℕ, zero, suc, ◌+◌, ◌*◌, ◌-◌, ◌/◌, ◌%◌, ◌^◌, ◌<◌, ◌≤◌, Bool, true, List, [], ◌∷◌, ◌++◌, length, refl, arith, sym, ap, ◌∙◌, pow-add, length-append, IsTrue, codes}
+use Rattle.std.proofs.Math.Nat.{div-div-eq-div-mul}
 use Rattle.std.specs.List.{list_all}
 use Rattle.std.proofs.lemmas.List.Folds.{list_all-append}
 use Rattle.sip_message.specs.declared.id.Id.{Id}
@@ -20,6 +21,32 @@ hex-last (suc count) number some = let e : suc count - 1 ≡ count = omega arith
 pub hex-none : (number : ℕ) → hex 0 number ≡ []
 unfolding hex
 hex-none number = refl
+
+-- without one digit more
+digit_less : (number left : ℕ) → 0 < left
+    → number / 2 ^ (4 * (left - 1)) / 16 ≡ number / 2 ^ (4 * left)
+digit_less number left some =
+    let e : 4 * (left - 1) + 4 ≡ 4 * left = omega arith in
+    div-div-eq-div-mul number (2 ^ (4 * (left - 1))) 16
+    ∙ ap (λ d. number / d) (sym (pow-add 2 (4 * (left - 1)) 4) ∙ ap (λ x. 2 ^ x) e)
+
+-- the next digit behind those before it
+pub digit_next : (count number left : ℕ) → 0 < left → left ≤ count
+    → hex (count - left) (number / 2 ^ (4 * left))
+    ++ hex_digit (number / 2 ^ (4 * (left - 1)) % 16) ∷ []
+    ≡ hex (count - (left - 1)) (number / 2 ^ (4 * (left - 1)))
+digit_next count number left some most =
+    let fewer : count - (left - 1) - 1 ≡ count - left = omega arith in
+    let more : 0 < count - (left - 1) = omega arith in
+    sym (hex-last (count - (left - 1)) (number / 2 ^ (4 * (left - 1))) more
+    ∙ ap (λ n. hex n (number / 2 ^ (4 * (left - 1)) / 16)
+    ++ hex_digit (number / 2 ^ (4 * (left - 1)) % 16) ∷ []) fewer
+    ∙ ap (λ n. hex (count - left) n ++ hex_digit (number / 2 ^ (4 * (left - 1)) % 16) ∷ [])
+    (digit_less number left some))
+
+pub no_digit_yet : (count number : ℕ) → hex (count - count) (number / 2 ^ (4 * count)) ≡ []
+no_digit_yet count number =
+    let e : count - count ≡ 0 = omega arith in rw e (hex-none (number / 2 ^ (4 * count)))
 
 -- each digit is a byte of a token
 digit-token : (value : ℕ) → value < 16 → is_token_byte (hex_digit value) ≡ true

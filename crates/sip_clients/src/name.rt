@@ -1,6 +1,6 @@
 //! Made names: the tags and branches that the agent makes.
 
-ghost use Rattle.std.specs.Prelude.{◌≡◌, ◌<◌, ◌^◌, ◌++◌, IfOk, OnOk};
+ghost use Rattle.std.specs.Prelude.{◌≡◌, ◌<◌, ◌≤◌, ◌^◌, ◌++◌, IfOk, OnOk};
 ghost use Rattle.sip_clients.specs.Name.{hex, name_of, word_of_name};
 
 use rand_chacha::ChaCha20Rng;
@@ -59,12 +59,13 @@ fn word_of(seed: [u8; 32], id: Id, index: u8) -> u32
 
 // Appends the last so many hexadecimal digits of a number.
 fn push_hex(digits: &mut Vec<u8>, count: u8, number: u64) -> Result<(), AllocError>
+    requires { count ≤ 16 }
     ensures { OnOk result (digits.new.items ≡ digits.old.items ++ hex count number) }
 {
-    if count == 0 {
-        return Ok(());
+    let mut left = count;
+    while left > 0 {
+        left -= 1;
+        digits.push(hex_digit(((number >> (4 * left)) % 16) as u8))?;
     }
-    push_hex(digits, count - 1, number / 16)?;
-    digits.push(hex_digit((number % 16) as u8))?;
     Ok(())
 }

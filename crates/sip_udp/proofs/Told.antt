@@ -49,9 +49,12 @@ pub output_told : (kind : FileKind) (drops : Bool) (events : List Event)
     → ToldSoFar kind drops events before next more
 output_told kind drops events before now next outputs more placed text m (told, all, has) one is =
     let each = zip_push (Tells kind drops events) outputs all.texts placed text all.each one in
-    let joined = ap (λ t. t ++ text) all.joined ∙ flat_map_more (λ one. one) [] all.texts text in
-    (told ++ text, record {
-      texts = all.texts ++ text ∷ [];
-      each = rw m each;
-      joined = joined;
-    }, appended_more before now next told text has is)
+    let joined = ap (λ t. t ++ text) all.joined ∙ flat_map_more (λ one. one) [] all.texts text in (
+      told ++ text,
+      record {
+        texts = all.texts ++ text ∷ [];
+        each = rw m each;
+        joined = joined;
+      },
+      appended_more before now next told text has is,
+    )

@@ -13,9 +13,7 @@ use crate::sending::send_all;
 use crate::user::User;
 use sip_desk::Desk;
 use sip_message::Spread;
-use sip_round::{
-    Agent, Config, Event, Gate, MAX_EVENTS_OF_ROUND, Output, PlacedOutput, Round,
-};
+use sip_round::{Agent, Config, Event, Gate, MAX_EVENTS_OF_ROUND, Output, PlacedOutput, Round};
 use sip_text::Series;
 use std::alloc::{AllocError, Global};
 use std::io::Write;
@@ -232,10 +230,7 @@ impl<U: User, F: Write + Drop> Turns<U, F> {
         let events = self.events_of_round()?;
         let round = Round { moment, events };
         let workers = self.division.workers;
-        match self
-            .agent
-            .run_round_with_places(rt, &round, workers, &Open)
-        {
+        match self.agent.run_round_with_places(rt, &round, workers, &Open) {
             Ok(outputs) => {
                 self.moment = moment;
                 self.number = self.number.saturating_add(1);

@@ -11,7 +11,8 @@ use sip_text::Text;
 use std::alloc::Global;
 
 /// No message: it has no Via, and a line that is no header line.
-const TEXT: &[u8] = b"\r\nINFO sip:a@b SIP/2.0\r\nf: <sip:c@d>\r\nno header line\r\nSubject: one\r\n \
+const TEXT: &[u8] =
+    b"\r\nINFO sip:a@b SIP/2.0\r\nf: <sip:c@d>\r\nno header line\r\nSubject: one\r\n \
 two\r\nFROM:\t<sip:e@f> \r\n\r\nFrom: body";
 
 /// How many shards the agent of the host has.
@@ -68,7 +69,10 @@ pub fn a_host_reads_a_datagram(alloc: Global) -> Result<(), Stop> {
     let mut host = Host::new(alloc, CONFIG, SHARDS)?;
     check(host.last_id().is_none() && host.event(1).is_none())?;
     host.datagram(PEER, TEXT)?;
-    check(host.last_id().is_some_and(|id| id.round == 0 && id.place == 1))?;
+    check(
+        host.last_id()
+            .is_some_and(|id| id.round == 0 && id.place == 1),
+    )?;
     runs(&mut host)?;
     check(host.last_id().is_none() && is_from_peer(host.event(1)) && host.event(2).is_none())?;
     check(is_info(&host.start_line(1)?) && host.start_line(2)?.is_none())?;
