@@ -8,7 +8,6 @@ use Rattle.sip_text.proofs.ReadForms.{only_one}
 use Rattle.sip_parts.specs.HeaderEntry.{entry, header_named}
 use Rattle.sip_parts.proofs.HeaderNames.{long_names}
 use Rattle.sip_parts.specs.declared.header_name.HeaderName.{HeaderName}
-use Rattle.sip_parts.specs.declared.header_name.HeaderName.TheVariants as name
 use Rattle.sip_message.specs.declared.header.Header.{Header}
 use Rattle.sip_message.specs.declared.message.Message.{Message}
 use Rattle.sip_headers.specs.Draft.{long_name}

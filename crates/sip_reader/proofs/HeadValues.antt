@@ -1,10 +1,9 @@
 -- The values of a header, and the header lines, found line by line.
-use Rattle.std.proofs.Common.{◌≡◌, ℕ, Bool, true, false, cond, List, [], ◌∷◌, ◌++◌, drop, map, Option, Some, None, refl, sym, ap, subst, ◌∙◌, append_assoc}
+use Rattle.std.proofs.Common.{◌≡◌, ℕ, Bool, true, false, cond, List, [], ◌∷◌, ◌++◌, drop, map, Option, Some, None, refl, sym, ap, subst, ◌∙◌}
 use Rattle.std.specs.Prelude.{is_some}
-use Rattle.std.specs.List.{AllZip, cons_option, filter_map}
+use Rattle.std.specs.List.{AllZip, filter_map}
 use Rattle.std.specs.Option.{option_map}
 use Rattle.std.specs.Str.{str_eq_ignore_ascii_case}
-use Rattle.std.proofs.lemmas.List.{append-nil}
 use Rattle.sip_text.specs.Line.{line_at}
 use Rattle.sip_parts.specs.HeaderEntry.{header_named}
 use Rattle.sip_parts.specs.declared.header_name.HeaderName.{HeaderName}
@@ -120,33 +119,6 @@ next_whole text line after whole rest e full whole_is =
 abbrev pub AreWith : {X : Type 0} → (Option (List ℕ × List ℕ) → Option X) → List ℕ → List X
     → List X → Type 0
 AreWith read text found total = found ++ found_at read (whole_lines_at text) ≡ total
-
-pub all_found : {X : Type 0} (read : Option (List ℕ × List ℕ) → Option X) (text : List ℕ)
-    (found total : List X) → [] ≡ whole_lines_at text → AreWith read text found total
-    → found ≡ total
-all_found read text found total none so_far =
-    sym (append-nil found)
-    ∙ ap (λ (lines : List (List ℕ)). found ++ found_at read lines) none
-    ∙ so_far
-
-pub one_found : {X : Type 0} (read : Option (List ℕ × List ℕ) → Option X)
-    (text whole rest : List ℕ) (x : X) (found total : List X)
-    → whole ∷ whole_lines_at rest ≡ whole_lines_at text → Some x ≡ read (line_from whole)
-    → AreWith read text found total → AreWith read rest (found ++ (x ∷ [])) total
-one_found read text whole rest x found total lines_are x_is so_far =
-    append_assoc found (x ∷ []) (found_at read (whole_lines_at rest))
-    ∙ ap (λ o. found ++ cons_option o (found_at read (whole_lines_at rest))) x_is
-    ∙ ap (λ (lines : List (List ℕ)). found ++ found_at read lines) lines_are
-    ∙ so_far
-
-pub none_found : {X : Type 0} (read : Option (List ℕ × List ℕ) → Option X)
-    (text whole rest : List ℕ) (found total : List X)
-    → whole ∷ whole_lines_at rest ≡ whole_lines_at text → None ≡ read (line_from whole)
-    → AreWith read text found total → AreWith read rest found total
-none_found read text whole rest found total lines_are none so_far =
-    ap (λ o. found ++ cons_option o (found_at read (whole_lines_at rest))) none
-    ∙ ap (λ (lines : List (List ℕ)). found ++ found_at read lines) lines_are
-    ∙ so_far
 
 -- ---- all lines
 

@@ -15,3 +15,4 @@ pub mod Unfolding
 pub mod Heads
 pub mod HeadValues
 pub mod HeadMessages
+pub mod HeadContents

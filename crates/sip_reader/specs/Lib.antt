@@ -7,3 +7,4 @@ pub mod SkippedEnds
 pub mod ReadStart
 pub mod ReadMessage
 pub mod ReadHead
+pub mod WrittenContent

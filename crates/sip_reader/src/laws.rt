@@ -1,13 +1,17 @@
 //! Laws over the definitions of reading.
-ghost use Rattle.std.specs.Prelude.{◌≡◌, ◌≤◌, ℕ, IfOk, List, [], ◌∷◌, ◌++◌, Ok, Option, None, Some, length, map, replicate};
+ghost use Rattle.std.specs.Prelude.{◌≡◌, ◌≤◌, ℕ, IfOk, IsTrue, List, [], ◌∷◌, ◌++◌, Ok, Option, None, Some, length, map, replicate};
 ghost use Rattle.std.specs.List.{filter};
 ghost use Rattle.sip_text.specs.Lines.{AreLines};
 ghost use Rattle.sip_text.specs.Unfolded.{unfolded};
-ghost use Rattle.sip_parts.specs.HeaderEntry.{entry, header_named};
+ghost use Rattle.sip_parts.specs.HeaderEntry.{entry, header_named, is_single};
 ghost use Rattle.sip_parts.specs.declared.header_name.HeaderName.{HeaderName};
+ghost use Rattle.sip_parts.specs.declared.header_name.HeaderName.TheVariants as table;
+ghost use Rattle.sip_values.specs.Address.{AreNameAddrs};
+ghost use Rattle.sip_values.specs.Sequence.{AreTokens};
 ghost use Rattle.sip_headers.specs.Faults.{Decides};
-ghost use Rattle.sip_headers.specs.Headers.{AreRows};
+ghost use Rattle.sip_headers.specs.Headers.{AreRows, Many};
 ghost use Rattle.sip_headers.specs.Numbers.{headers_with};
+ghost use Rattle.sip_message.specs.Content.{Content, contacts_of_content, with_type_of};
 ghost use Rattle.sip_message.specs.declared.fault.ReadFault.{ReadFault};
 ghost use Rattle.sip_message.specs.declared.message.Message.{Message};
 ghost use Rattle.sip_message.specs.Written.{written};
@@ -18,6 +22,7 @@ ghost use Rattle.sip_reader.specs.ReadMessage.{message_at};
 ghost use Rattle.sip_message.specs.Rules.{IsMessage};
 ghost use Rattle.sip_reader.specs.SkippedEnds.{without_line_ends};
 ghost use Rattle.sip_reader.specs.Spells.{Spells};
+ghost use Rattle.sip_reader.specs.WrittenContent.{IsWrittenWith};
 ghost use Rattle.sip_reader.specs.declared.first_line.FirstLine.{FirstLine};
 ghost use Rattle.sip_reader.specs.declared.header_line.HeaderLine.{HeaderLine};
 
@@ -91,4 +96,29 @@ pub fn head_of_a_message()
         → Spells m text → header_named name ≡ None → HasValues name values text
         → values ≡ map (λ header. header.value)
         (filter (λ header. is_same_header name header.name) m.others) }
+{}
+
+/// What is written for a message with a content of the user's own has the content's headers behind
+/// those of the message, in order: the headers of any name outside the table, the tokens of Require
+/// and those of Supported. The content's contacts stand in place of the message's, where it has any.
+/// No header of the table that may stand once stands twice.
+pub fn headers_of_a_content()
+    ensures others { (m : Message) (content : Content) (text name : List ℕ)
+        (values : List (List ℕ)) → IsWrittenWith content m text → header_named name ≡ None
+        → HasValues name values text → values ≡ map (λ header. header.value)
+        (filter (λ header. is_same_header name header.name)
+        (m.others ++ with_type_of content.body content.others)) }
+    ensures contacts { (m : Message) (content : Content) (text : List ℕ) (values : List (List ℕ))
+        → IsWrittenWith content m text → HasValues (entry table.Contact).name values text
+        → Many AreNameAddrs (contacts_of_content m.contacts content.contacts) values }
+    ensures require { (m : Message) (content : Content) (text : List ℕ) (values : List (List ℕ))
+        → IsWrittenWith content m text → HasValues (entry table.Require).name values text
+        → Many AreTokens (m.require ++ content.require) values }
+    ensures supported { (m : Message) (content : Content) (text : List ℕ) (values : List (List ℕ))
+        → IsWrittenWith content m text → HasValues (entry table.Supported).name values text
+        → Many AreTokens (m.supported ++ content.supported) values }
+    ensures once { (m : Message) (content : Content) (text : List ℕ) (header : HeaderName)
+        (values : List (List ℕ)) → IsWrittenWith content m text
+        → IsTrue (is_single (entry header).kind) → HasValues (entry header).name values text
+        → length values ≤ 1 }
 {}
