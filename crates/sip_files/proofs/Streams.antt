@@ -1,5 +1,5 @@
 -- A replay in the middle of its reading, of its pairs of moments and answers, and of its writing.
-use Rattle.std.proofs.Common.{◌≡◌, ℕ, ◌+◌, ◌-◌, ◌<◌, ◌≤◌, ◌^◌, List, [], ◌∷◌, ◌++◌, map, length, take, drop, refl, sym, ap, ◌∙◌, append_assoc, append-nil, take-append-drop, arith, Result, Err, IfErr, IfSome, subst}
+use Rattle.std.proofs.Common.{◌≡◌, ℕ, zero, suc, ◌+◌, ◌-◌, ◌<◌, ◌≤◌, ◌^◌, List, [], ◌∷◌, ◌++◌, map, length, take, drop, refl, sym, ap, ◌∙◌, append_assoc, append-nil, take-append-drop, arith, Result, Ok, Err, IfErr, IfSome, subst}
 use Rattle.std.proofs.lemmas.List.{take_rest}
 use Rattle.std.proofs.KnownBytes.{Appends-trans}
 use Rattle.std.specs.Prelude.{Option, Some, None}
@@ -13,7 +13,7 @@ use Rattle.sip_round.specs.declared.config.Config.{Config}
 use Rattle.sip_round.specs.declared.output.Output.{Output}
 use Rattle.sip_round.specs.declared.round.Round.{Round}
 use Rattle.sip_round.specs.Answers.{answers, refused}
-use Rattle.sip_files.specs.Reads.{Counts, CountsAtMost}
+use Rattle.sip_files.specs.Counted.{Counts, CountsAtMost, failed_writes}
 use Rattle.sip_files.specs.Replay.{Replays, TellsReplay, answer_file}
 use Rattle.sip_files.specs.declared.events_fault.EventsFault.{EventsFault}
 use Rattle.sip_files.specs.declared.events_fault.EventsFault.TheVariants as events_fault
@@ -24,9 +24,10 @@ use Rattle.sip_files.proofs.FileFaults.{never_bad}
 -- the reader gave this text, in one read for each turn, at least a byte at each, and no more than
 -- an event file has
 pub record ReadSoFar (before now : Option (List ℕ)) (reads_before reads_now : Option ℕ)
-    (text : List ℕ) (turns : ℕ) : Type 0 where
+    (failures_before failures_now : Option ℕ) (text : List ℕ) (turns : ℕ) : Type 0 where
   pub consumed : Consumes before now text
   pub counted : Counts reads_before reads_now turns
+  pub failed : Counts failures_before failures_now 0
   pub progress : turns ≤ length text
   pub within : length text ≤ 2 ^ 26
 
@@ -38,6 +39,26 @@ counts_more None (Some now) (Some after) turns so_far one = elim so_far [ ]
 counts_more (Some before) (Some now) (Some after) turns so_far one =
     omega (arith, so_far, one)
 
+pub counts_both : (before now after : Option ℕ) (some more : ℕ) → Counts before now some
+    → Counts now after more → Counts before after (some + more)
+counts_both before now None some more so_far next = tt
+counts_both before None (Some after) some more so_far next = elim next [ ]
+counts_both None (Some now) (Some after) some more so_far next = elim so_far [ ]
+counts_both (Some before) (Some now) (Some after) some more so_far next =
+    omega (arith, so_far, next)
+
+pub counts_none : (now : Option ℕ) → Counts now now 0
+counts_none None = tt
+counts_none (Some now) = omega arith
+
+-- a write that took something didn't fail
+pub took_some : {E : Type 0} (before now : Option ℕ) (result : Result ℕ E) (count : ℕ)
+    → result ≡ Ok count → 0 < count → Counts before now (failed_writes result)
+    → Counts before now 0
+took_some before now result zero is some counts = absurd (omega arith)
+took_some before now result (suc count) is some counts =
+    subst (λ r. Counts before now (failed_writes r)) is counts
+
 -- with one read more
 pub counts_within : (before now after : Option ℕ) (turns most : ℕ) → turns < most
     → Counts before now turns → Counts now after 1 → CountsAtMost before after most
@@ -45,16 +66,21 @@ counts_within before now after turns most few so_far one =
     (turns + 1, omega arith, counts_more before now after turns so_far one)
 
 -- the writer took the front of these bytes, and this is left
-pub record WrittenSoFar (before now : Option (List ℕ)) (bytes left : List ℕ) : Type 0 where
+pub record WrittenSoFar (before now : Option (List ℕ)) (failures_before failures_now : Option ℕ)
+    (bytes left : List ℕ) : Type 0 where
+  pub failed : Counts failures_before failures_now 0
   pub front : List ℕ
   pub split : bytes ≡ front ++ left
   pub appended : Appends before now front
 
 -- a write takes the front of what is left
-pub written_more : (before now next : Option (List ℕ)) (bytes left : List ℕ) (count : ℕ)
-    → WrittenSoFar before now bytes left → Appends now next (take count left)
-    → WrittenSoFar before next bytes (take (length left - count) (drop count left))
-written_more before now next bytes left count so_far taken = record {
+pub written_more : (before now next : Option (List ℕ)) (failures failures_now failures_next : Option ℕ)
+    (bytes left : List ℕ) (count : ℕ)
+    → WrittenSoFar before now failures failures_now bytes left → Appends now next (take count left)
+    → Counts failures_now failures_next 0
+    → WrittenSoFar before next failures failures_next bytes (take (length left - count) (drop count left))
+written_more before now next failures failures_now failures_next bytes left count so_far taken none = record {
+  failed = counts_both failures failures_now failures_next 0 0 so_far.failed none;
   front = so_far.front ++ take count left;
   split =
       so_far.split ∙ ap (λ l. so_far.front ++ l) (sym (take-append-drop count left))

@@ -5,10 +5,10 @@ pub mod Outputs
 pub mod Events
 pub mod Given
 pub mod Reading
-pub mod Reads
 pub mod Replay
 pub mod ReadLine
 pub mod EventFile
+pub mod Counted
 pub mod Drafting
 pub mod Lines
 pub mod Written

@@ -1,5 +1,5 @@
 -- What a replay writes for what it reads, and what each of its faults tells.
-use Rattle.std.specs.Prelude.{◌≡◌, ℕ, ◌≤◌, ◌^◌, Bool, List, ◌++◌, map, length, Option, None, Some, ◌⊎◌}
+use Rattle.std.specs.Prelude.{◌≡◌, ℕ, ◌≤◌, ◌^◌, Bool, List, ◌++◌, map, length, Option, None, Some, Result, Ok, Err, ◌⊎◌}
 use Rattle.std.specs.List.{zip}
 use Rattle.std.specs.Io.KnownBytes.{Appends}
 use Rattle.sip_files.specs.declared.version.FileKind.{FileKind}
@@ -57,6 +57,24 @@ TellsReplay kind (Round index fault) input =
     ⊎ RefusesRound kind index fault input
 TellsReplay kind Output input = Unit {0}
 TellsReplay kind NoMemory input = Unit {0}
+
+-- how many reads failed in a call that ends so: one where it tells it, and else none
+abbrev pub reads_failed : {T : Type 0} → Result T ReplayFault → ℕ
+reads_failed (Ok value) = 0
+reads_failed (Err Input) = 1
+reads_failed (Err (Events fault)) = 0
+reads_failed (Err (Round index fault)) = 0
+reads_failed (Err Output) = 0
+reads_failed (Err NoMemory) = 0
+
+-- the same of writes and flushes
+abbrev pub writes_failed : {T : Type 0} → Result T ReplayFault → ℕ
+writes_failed (Ok value) = 0
+writes_failed (Err Input) = 0
+writes_failed (Err (Events fault)) = 0
+writes_failed (Err (Round index fault)) = 0
+writes_failed (Err Output) = 1
+writes_failed (Err NoMemory) = 0
 
 -- the writer took the whole output file of the input
 abbrev pub WritesAll : FileKind → Option (List ℕ) → Option (List ℕ) → List ℕ → Type 0

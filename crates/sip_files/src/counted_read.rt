@@ -3,17 +3,20 @@
 ghost use Rattle.std.specs.Prelude.{List, ℕ, Option, None};
 ghost use Rattle.std.specs.Io.{ReadsAtMost};
 ghost use Rattle.std.specs.Io.KnownBytes.{ReadConsumes};
-ghost use Rattle.sip_files.specs.Reads.{Counts};
+ghost use Rattle.sip_files.specs.Counted.{Counts, failed_reads};
 
 use std::io::{self, Read};
 
-/// A reader that may count its reads.
+/// A reader that may count its reads, and those that failed.
 pub trait CountedRead {
     // The bytes that are left, where they are known.
     ghost remaining: { Self → Option (List ℕ) };
 
     // How often it was read, where it tells.
     ghost reads: { Self → Option ℕ };
+
+    // How many reads of it failed, where it tells.
+    ghost failures: { Self → Option ℕ };
 
     /// One read, as `Read::read` does it.
     ///
@@ -23,14 +26,17 @@ pub trait CountedRead {
     fn read_once(&mut self, buf: &mut [u8]) -> io::Result<usize>
         ensures bound { ReadsAtMost result buf.new }
         ensures bytes { ReadConsumes (remaining self.old) (remaining self.new) result buf.new }
-        ensures counted { Counts (reads self.old) (reads self.new) 1 };
+        ensures counted { Counts (reads self.old) (reads self.new) 1 }
+        ensures failed { Counts (failures self.old) (failures self.new) (failed_reads result) };
 }
 
-/// A reader of `std` doesn't tell how often it was read.
+/// A reader of `std` tells neither how often it was read, nor how often that failed.
 impl<R: Read> CountedRead for R {
     ghost remaining = { R.remaining };
 
     ghost reads = { λ _. None };
+
+    ghost failures = { λ _. None };
 
     fn read_once(&mut self, buf: &mut [u8]) -> io::Result<usize> {
         self.read(buf)

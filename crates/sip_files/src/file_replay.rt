@@ -3,16 +3,17 @@
 ghost use Rattle.std.specs.Prelude.{◌≡◌, ◌≢◌, ◌<◌, ◌≤◌, ◌+◌, ◌^◌, ◌++◌, ℕ, List, map, IfOk, IfErr, IfSome, OnOk, OnErr, Err};
 ghost use Rattle.std.specs.List.{zip};
 ghost use Rattle.std.specs.Io.KnownBytes.{Appends};
+ghost use Rattle.sip_files.specs.Counted.{Counts, CountsAtMost};
 ghost use Rattle.sip_files.specs.EventFile.{IsFile};
 ghost use Rattle.sip_files.specs.Outputs.{told};
-ghost use Rattle.sip_files.specs.Reads.{CountsAtMost};
-ghost use Rattle.sip_files.specs.Replay.{Replays, TellsReplay, WritesAll, WritesFront};
+ghost use Rattle.sip_files.specs.Replay.{Replays, TellsReplay, WritesAll, WritesFront, reads_failed, writes_failed};
 ghost use Rattle.sip_files.specs.declared.events_fault.EventsFault.{EventsFault};
 ghost use Rattle.sip_files.specs.declared.events_fault.EventsFault.TheVariants as events_fault;
 ghost use Rattle.sip_files.specs.declared.file_replay.ReplayFault.TheVariants as replay_fault;
 ghost use Rattle.sip_files.specs.declared.version.FileKind.{FileKind};
 
 use crate::counted_read::CountedRead;
+use crate::counted_write::CountedWrite;
 use crate::events_fault::EventsFault;
 use crate::events_file::{MAX_EVENTS, read_file};
 use crate::outputs_file::write_outputs;
@@ -22,7 +23,6 @@ use sip_round::{Gate, Output, Round, RoundFault, run};
 use std::alloc::{AllocError, Global};
 use std::error::Error;
 use std::fmt;
-use std::io::Write;
 use std::thread::Threads;
 
 /// How many bytes one read asks for.
@@ -71,9 +71,10 @@ impl Error for ReplayFault {}
 ///
 /// # Errors
 ///
-/// With every fault but `Output` nothing was written; with `Output` the front of the output file
-/// may have been.
-pub fn replay<T: Threads + Sync, R: CountedRead, W: Write, C: Cut + Drop, G: Gate>(
+/// `Input` at the first read that fails, and `Output` at the first write that fails or takes
+/// nothing, or a flush that fails; neither device is asked again. With every fault but `Output`
+/// nothing was written; with `Output` the front of the output file may have been.
+pub fn replay<T: Threads + Sync, R: CountedRead, W: CountedWrite, C: Cut + Drop, G: Gate>(
     rt: &T,
     alloc: Global,
     kind: FileKind,
@@ -101,6 +102,9 @@ pub fn replay<T: Threads + Sync, R: CountedRead, W: Write, C: Cut + Drop, G: Gat
         → (fault : EventsFault) → result ≡ Err (replay_fault.Events fault)
         → fault ≡ events_fault.NoMemory) }
     ensures reads { CountsAtMost (R.reads reader.old) (R.reads reader.new) (2 ^ 26 + 2) }
+    ensures input { Counts (R.failures reader.old) (R.failures reader.new) (reads_failed result) }
+    ensures output { Counts (W.failures writer.old) (W.failures writer.new)
+        (writes_failed result) }
 {
     let text = read_all(alloc, reader)?;
     let file = replayed(rt, alloc, kind, text.as_slice(), shards, workers, cut, gate)?;
@@ -120,6 +124,7 @@ pub fn read_all<R: CountedRead>(alloc: Global, reader: &mut R) -> Result<Vec<u8>
         (λ fault. IfSome (R.remaining reader.old) (TellsReplay kind fault)) }
     ensures unwritten { IfErr result (λ fault. fault ≢ replay_fault.Output) }
     ensures reads { CountsAtMost (R.reads reader.old) (R.reads reader.new) (2 ^ 26 + 2) }
+    ensures input { Counts (R.failures reader.old) (R.failures reader.new) (reads_failed result) }
 {
     let mut text = Vec::new(alloc);
     let mut chunk = [0u8; CHUNK];
@@ -153,6 +158,7 @@ fn replayed<T: Threads + Sync, C: Cut + Drop, G: Gate>(
     requires most_workers { workers ≤ 64 }
     ensures replays { IfOk result (λ file. Replays kind text.now file.items) }
     ensures fault { IfErr result (λ fault. TellsReplay kind fault text.now) }
+    ensures read { IfErr result (λ fault. fault ≢ replay_fault.Input) }
     ensures unwritten { IfErr result (λ fault. fault ≢ replay_fault.Output) }
 {
     let (config, events) = match read_file(alloc, kind, text) {
@@ -196,20 +202,22 @@ fn with_moments(
 /// # Errors
 ///
 /// `Output`; a front of it may be written.
-pub fn write_whole<W: Write>(writer: &mut W, bytes: &[u8]) -> Result<(), ReplayFault>
+pub fn write_whole<W: CountedWrite>(writer: &mut W, bytes: &[u8]) -> Result<(), ReplayFault>
     ensures all { OnOk result (Appends (W.contents writer.old) (W.contents writer.new) bytes.now) }
     ensures front { OnErr result ((front rest : List ℕ) × (bytes.now ≡ front ++ rest)
         × Appends (W.contents writer.old) (W.contents writer.new) front) }
     ensures fault { OnErr result (result ≡ Err replay_fault.Output) }
+    ensures output { Counts (W.failures writer.old) (W.failures writer.new)
+        (writes_failed result) }
 {
     let mut left = bytes;
     while !left.is_empty() {
-        match writer.write(left) {
+        match writer.write_once(left) {
             Ok(0) | Err(_) => return Err(ReplayFault::Output),
             Ok(count) => left = &left[count..],
         }
     }
-    match writer.flush() {
+    match writer.flush_once() {
         Ok(()) => Ok(()),
         Err(_) => Err(ReplayFault::Output),
     }

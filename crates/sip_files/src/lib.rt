@@ -4,6 +4,7 @@
 mod command_line;
 mod command_writer;
 mod counted_read;
+mod counted_write;
 mod draft;
 mod event_line;
 mod events_fault;
@@ -24,6 +25,7 @@ mod version;
 mod words;
 
 pub use counted_read::CountedRead;
+pub use counted_write::CountedWrite;
 pub use event_line::{read_command_line, read_event_line, read_header_line};
 pub use events_fault::EventsFault;
 pub use events_file::{MAX_EVENTS, read_events, read_file};

@@ -1,16 +1,18 @@
 //! An event file or a session file in, its ladder out.
 
 ghost use Rattle.std.specs.Prelude.{◌≡◌, ◌≢◌, IfErr, IfOk, IfSome, OnOk};
-ghost use Rattle.sip_files.specs.Replay.{TellsReplay};
+ghost use Rattle.sip_files.specs.Counted.{Counts};
+ghost use Rattle.sip_files.specs.Replay.{TellsReplay, reads_failed, writes_failed};
 ghost use Rattle.sip_files.specs.declared.file_replay.ReplayFault.TheVariants as replay_fault;
 ghost use Rattle.sip_ladder.specs.Drawing.{DrawsAll, DrawsFile};
 
 use crate::picture::draw;
-use sip_files::{CountedRead, FileKind, ReplayFault, read_all, read_file, write_whole};
+use sip_files::{
+    CountedRead, CountedWrite, FileKind, ReplayFault, read_all, read_file, write_whole,
+};
 use sip_message::Spread;
 use sip_round::{Gate, run};
 use std::alloc::Global;
-use std::io::Write;
 use std::thread::Threads;
 
 /// Reads a file of this kind, runs its rounds as a replay does, and writes their ladder: a head, and
@@ -20,7 +22,7 @@ use std::thread::Threads;
 /// # Errors
 ///
 /// Those of a replay. With every fault but `Output` nothing was written.
-pub fn ladder<T: Threads + Sync, R: CountedRead, W: Write, G: Gate>(
+pub fn ladder<T: Threads + Sync, R: CountedRead, W: CountedWrite, G: Gate>(
     rt: &T,
     alloc: Global,
     kind: FileKind,
@@ -34,6 +36,9 @@ pub fn ladder<T: Threads + Sync, R: CountedRead, W: Write, G: Gate>(
         (λ fault. IfSome (R.remaining reader.old) (TellsReplay kind fault)) }
     ensures unwritten { IfErr result
         (λ fault. fault ≢ replay_fault.Output → writer.new ≡ writer.old) }
+    ensures input { Counts (R.failures reader.old) (R.failures reader.new) (reads_failed result) }
+    ensures output { Counts (W.failures writer.old) (W.failures writer.new)
+        (writes_failed result) }
 {
     let text = read_all(alloc, reader)?;
     let picture = drawn(rt, alloc, kind, &text, gate)?;
@@ -50,6 +55,7 @@ fn drawn<T: Threads + Sync, G: Gate>(
 ) -> Result<Vec<u8>, ReplayFault>
     ensures draws { IfOk result (λ picture. DrawsFile kind text.now picture.items) }
     ensures fault { IfErr result (λ fault. TellsReplay kind fault text.now) }
+    ensures read { IfErr result (λ fault. fault ≢ replay_fault.Input) }
     ensures unwritten { IfErr result (λ fault. fault ≢ replay_fault.Output) }
 {
     let (config, events) = match read_file(alloc, kind, text) {

@@ -1,13 +1,17 @@
 //! A line of an output file that no event file gives, a fault of event files that no stored case
-//! has, and a reader that counts.
+//! has, and devices that count.
+
+ghost use Rattle.sip_files.specs.Counted.{Counts};
 
 use super::Open;
-use sip_files::{CountedRead, EventsFault, FileKind, replay, write_output};
+use sip_files::{
+    CountedRead, CountedWrite, EventsFault, FileKind, ReplayFault, replay, write_output,
+};
 use sip_message::{CallId, Spread};
 use sip_round::Output;
 use sip_served::{Notice, Refusal};
 use sip_text::Text;
-use std::io::{self, Read};
+use std::io::{self, Read, Write};
 use std::test::Fail;
 
 // No event file can use up the numbers of a dialog.
@@ -31,48 +35,115 @@ fn want_of_memory_is_named(rt: HostRuntime) -> Result<(), Fail> {
     Ok(())
 }
 
-/// A reader that tells how often it was read, as long as it can count so far.
+/// A reader or a writer that tells how often it was read, and how often that failed, as long as it
+/// can count so far.
 #[derive(Drop)]
-struct Counting<R> {
-    reader: R,
+struct Counting<D> {
+    device: D,
     reads: Option<u64>,
+    failures: Option<u64>,
+}
+
+impl<D> Counting<D> {
+    fn new(device: D) -> Counting<D> {
+        Counting {
+            device,
+            reads: Some(0),
+            failures: Some(0),
+        }
+    }
 }
 
 impl<R: Read> CountedRead for Counting<R> {
-    ghost remaining = { λ counting. R.remaining counting.reader };
+    ghost remaining = { λ counting. R.remaining counting.device };
 
     ghost reads = { λ counting. counting.reads };
 
+    ghost failures = { λ counting. counting.failures };
+
     fn read_once(&mut self, buf: &mut [u8]) -> io::Result<usize> {
-        self.reads = match self.reads {
-            Some(reads) => reads.checked_add(1),
-            None => None,
-        };
-        self.reader.read(buf)
+        self.reads = one_more(self.reads);
+        let result = self.device.read(buf);
+        if result.is_err() {
+            self.failures = one_more(self.failures);
+        }
+        result
     }
+}
+
+impl<W: Write> CountedWrite for Counting<W> {
+    ghost contents = { λ counting. W.contents counting.device };
+
+    ghost failures = { λ counting. counting.failures };
+
+    fn write_once(&mut self, bytes: &[u8]) -> io::Result<usize> {
+        let result = self.device.write(bytes);
+        if let Ok(0) | Err(_) = &result {
+            self.failures = one_more(self.failures);
+        }
+        result
+    }
+
+    fn flush_once(&mut self) -> io::Result<()> {
+        let result = self.device.flush();
+        if result.is_err() {
+            self.failures = one_more(self.failures);
+        }
+        result
+    }
+}
+
+// None where it is too much to count.
+fn one_more(count: Option<u64>) -> Option<u64>
+    ensures { Counts count result 1 }
+{
+    match count {
+        Some(count) => count.checked_add(1),
+        None => None,
+    }
+}
+
+/// The event file of no round.
+const EVENTS: &[u8] = b"sip-events 1\nlocal 192.0.2.1:5060\n";
+
+fn replayed<W: CountedWrite>(
+    rt: &HostRuntime,
+    reader: &mut Counting<&[u8]>,
+    writer: &mut W,
+) -> Result<(), ReplayFault> {
+    let (alloc, kind) = (rt.alloc(), FileKind::Events);
+    replay(rt, alloc, kind, reader, writer, 1, 1, Spread, &Open)
 }
 
 // There is a read for what the file has, and one for its end.
 #[test]
 fn reads_are_counted(rt: HostRuntime) {
-    let alloc = rt.alloc();
-    let mut reader = Counting {
-        reader: b"sip-events 1\nlocal 192.0.2.1:5060\n".as_slice(),
-        reads: Some(0),
-    };
-    let mut file = Vec::new(alloc);
-    let kind = FileKind::Events;
-    let end = replay(
-        &rt,
-        alloc,
-        kind,
-        &mut reader,
-        &mut file,
-        1,
-        1,
-        Spread,
-        &Open,
-    );
-    assert!(rt; end.is_ok());
+    let mut reader = Counting::new(EVENTS);
+    let mut writer = Counting::new(Vec::new(rt.alloc()));
+    assert!(rt; replayed(&rt, &mut reader, &mut writer).is_ok());
     assert!(rt; reader.reads == Some(2));
+    assert!(rt; reader.failures == Some(0) && writer.failures == Some(0));
+}
+
+/// A writer that takes all and can't flush it.
+#[derive(Drop)]
+struct Unflushed;
+
+impl Write for Unflushed {
+    fn write(&mut self, bytes: &[u8]) -> io::Result<usize> {
+        Ok(bytes.len())
+    }
+
+    fn flush(&mut self) -> io::Result<()> {
+        Err(io::Error::from(io::ErrorKind::Other))
+    }
+}
+
+#[test]
+fn a_failed_flush_is_told(rt: HostRuntime) {
+    let mut reader = Counting::new(EVENTS);
+    let mut writer = Counting::new(Unflushed);
+    let end = replayed(&rt, &mut reader, &mut writer);
+    assert!(rt; end == Err(ReplayFault::Output));
+    assert!(rt; writer.failures == Some(1));
 }

@@ -4,7 +4,8 @@ use Rattle.sip_files.proofs.file_replay.write_whole.Given as goal
 
 abbrev pub invariant-loop-left : goal.invariant-loop-left
 invariant-loop-left g l =
-    WrittenSoFar (g.W.Write.contents l.fn.writer) (g.W.Write.contents l.writer) l.fn.bytes l.left
+    WrittenSoFar (g.W.CountedWrite.contents l.fn.writer) (g.W.CountedWrite.contents l.writer)
+    (g.W.CountedWrite.failures l.fn.writer) (g.W.CountedWrite.failures l.writer) l.fn.bytes l.left
 
 -- each write takes at least one byte
 abbrev pub decreases-loop-left : goal.decreases-loop-left

@@ -1,0 +1,51 @@
+//! Where the bytes of an output file go.
+
+ghost use Rattle.std.specs.Prelude.{List, ℕ, Option, None};
+ghost use Rattle.std.specs.Io.{WritesAtMost};
+ghost use Rattle.std.specs.Io.KnownBytes.{Keeps, WriteAppends};
+ghost use Rattle.sip_files.specs.Counted.{Counts, failed_flushes, failed_writes};
+
+use std::io::{self, Write};
+
+/// A writer that may count its writes and flushes that failed.
+pub trait CountedWrite {
+    // All bytes that it took, where they are known.
+    ghost contents: { Self → Option (List ℕ) };
+
+    // How many writes of it failed or took nothing, and how many flushes failed, where it tells.
+    ghost failures: { Self → Option ℕ };
+
+    /// One write, as `Write::write` does it.
+    ///
+    /// # Errors
+    ///
+    /// What the writer has against it.
+    fn write_once(&mut self, bytes: &[u8]) -> io::Result<usize>
+        ensures bound { WritesAtMost result bytes.now }
+        ensures bytes { WriteAppends (contents self.old) (contents self.new) result bytes.now }
+        ensures failed { Counts (failures self.old) (failures self.new) (failed_writes result) };
+
+    /// One flush, as `Write::flush` does it.
+    ///
+    /// # Errors
+    ///
+    /// What the writer has against it.
+    fn flush_once(&mut self) -> io::Result<()>
+        ensures bytes { Keeps (contents self.old) (contents self.new) }
+        ensures failed { Counts (failures self.old) (failures self.new) (failed_flushes result) };
+}
+
+/// A writer of `std` doesn't tell how often it failed.
+impl<W: Write> CountedWrite for W {
+    ghost contents = { W.contents };
+
+    ghost failures = { λ _. None };
+
+    fn write_once(&mut self, bytes: &[u8]) -> io::Result<usize> {
+        self.write(bytes)
+    }
+
+    fn flush_once(&mut self) -> io::Result<()> {
+        self.flush()
+    }
+}
