@@ -15,6 +15,9 @@ const TEXT: &[u8] =
     b"\r\nINFO sip:a@b SIP/2.0\r\nf: <sip:c@d>\r\nno header line\r\nSubject: one\r\n \
 two\r\nFROM:\t<sip:e@f> \r\n\r\nFrom: body";
 
+/// Its header lines as a session file has them.
+const HEADERS: &[u8] = b" f: <sip:c@d>\n Subject: one two\n FROM: <sip:e@f>\n";
+
 /// How many shards the agent of the host has.
 const SHARDS: usize = 4;
 
@@ -62,7 +65,7 @@ fn are_all_three(alloc: Global, headers: &[HeaderLine]) -> Result<(), Stop> {
         let line = write_header_line(alloc, header.name.as_slice(), header.value.as_slice())?;
         text.extend_from_slice(&line)?;
     }
-    check(text.as_slice() == b" f: <sip:c@d>\n Subject: one two\n FROM: <sip:e@f>\n")
+    check(text.as_slice() == HEADERS)
 }
 
 pub fn a_host_reads_a_datagram(alloc: Global) -> Result<(), Stop> {
