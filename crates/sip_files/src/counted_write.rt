@@ -1,6 +1,6 @@
 //! Where the bytes of an output file go.
 
-ghost use Rattle.std.specs.Prelude.{List, ℕ, Option, None};
+ghost use Rattle.std.specs.Prelude.{Bool, IfSome, IsTrue, List, OnOk, ℕ, Option, None};
 ghost use Rattle.std.specs.Io.{WritesAtMost};
 ghost use Rattle.std.specs.Io.KnownBytes.{Keeps, WriteAppends};
 ghost use Rattle.sip_files.specs.Counted.{Counts, failed_flushes, failed_writes};
@@ -14,6 +14,9 @@ pub trait CountedWrite {
 
     // How many writes of it failed or took nothing, and how many flushes failed, where it tells.
     ghost failures: { Self → Option ℕ };
+
+    // Whether all that it took is flushed, where it tells.
+    ghost flushed: { Self → Option Bool };
 
     /// One write, as `Write::write` does it.
     ///
@@ -32,14 +35,17 @@ pub trait CountedWrite {
     /// What the writer has against it.
     fn flush_once(&mut self) -> io::Result<()>
         ensures bytes { Keeps (contents self.old) (contents self.new) }
-        ensures failed { Counts (failures self.old) (failures self.new) (failed_flushes result) };
+        ensures failed { Counts (failures self.old) (failures self.new) (failed_flushes result) }
+        ensures flushed { OnOk result (IfSome (flushed self.new) (λ all. IsTrue all)) };
 }
 
-/// A writer of `std` doesn't tell how often it failed.
+/// A writer of `std` tells neither how often it failed nor what it flushed.
 impl<W: Write> CountedWrite for W {
     ghost contents = { W.contents };
 
     ghost failures = { λ _. None };
+
+    ghost flushed = { λ _. None };
 
     fn write_once(&mut self, bytes: &[u8]) -> io::Result<usize> {
         self.write(bytes)

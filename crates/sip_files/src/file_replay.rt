@@ -1,6 +1,6 @@
 //! Replays: an event file or a session file in, its output file out.
 
-ghost use Rattle.std.specs.Prelude.{◌≡◌, ◌≢◌, ◌<◌, ◌≤◌, ◌+◌, ◌^◌, ◌++◌, ℕ, List, map, IfOk, IfErr, IfSome, OnOk, OnErr, Err};
+ghost use Rattle.std.specs.Prelude.{◌≡◌, ◌≢◌, ◌<◌, ◌≤◌, ◌+◌, ◌^◌, ◌++◌, ℕ, List, map, IfOk, IfErr, IfSome, IsTrue, OnOk, OnErr, Err};
 ghost use Rattle.std.specs.List.{zip};
 ghost use Rattle.std.specs.Io.KnownBytes.{Appends};
 ghost use Rattle.sip_files.specs.Counted.{Counts, CountsAtMost};
@@ -105,6 +105,7 @@ pub fn replay<T: Threads + Sync, R: CountedRead, W: CountedWrite, C: Cut + Drop,
     ensures input { Counts (R.failures reader.old) (R.failures reader.new) (reads_failed result) }
     ensures output { Counts (W.failures writer.old) (W.failures writer.new)
         (writes_failed result) }
+    ensures flushed { OnOk result (IfSome (W.flushed writer.new) (λ all. IsTrue all)) }
 {
     let text = read_all(alloc, reader)?;
     let file = replayed(rt, alloc, kind, text.as_slice(), shards, workers, cut, gate)?;
@@ -209,6 +210,7 @@ pub fn write_whole<W: CountedWrite>(writer: &mut W, bytes: &[u8]) -> Result<(), 
     ensures fault { OnErr result (result ≡ Err replay_fault.Output) }
     ensures output { Counts (W.failures writer.old) (W.failures writer.new)
         (writes_failed result) }
+    ensures flushed { OnOk result (IfSome (W.flushed writer.new) (λ all. IsTrue all)) }
 {
     let mut left = bytes;
     while !left.is_empty() {

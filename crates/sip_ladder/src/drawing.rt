@@ -1,6 +1,6 @@
 //! An event file or a session file in, its ladder out.
 
-ghost use Rattle.std.specs.Prelude.{◌≡◌, ◌≢◌, IfErr, IfOk, IfSome, OnOk};
+ghost use Rattle.std.specs.Prelude.{◌≡◌, ◌≢◌, IfErr, IfOk, IfSome, IsTrue, OnOk};
 ghost use Rattle.sip_files.specs.Counted.{Counts};
 ghost use Rattle.sip_files.specs.Replay.{TellsReplay, reads_failed, writes_failed};
 ghost use Rattle.sip_files.specs.declared.file_replay.ReplayFault.TheVariants as replay_fault;
@@ -39,6 +39,7 @@ pub fn ladder<T: Threads + Sync, R: CountedRead, W: CountedWrite, G: Gate>(
     ensures input { Counts (R.failures reader.old) (R.failures reader.new) (reads_failed result) }
     ensures output { Counts (W.failures writer.old) (W.failures writer.new)
         (writes_failed result) }
+    ensures flushed { OnOk result (IfSome (W.flushed writer.new) (λ all. IsTrue all)) }
 {
     let text = read_all(alloc, reader)?;
     let picture = drawn(rt, alloc, kind, &text, gate)?;

@@ -1,6 +1,7 @@
 //! A line of an output file that no event file gives, a fault of event files that no stored case
 //! has, and devices that count.
 
+ghost use Rattle.std.specs.Prelude.{Some};
 ghost use Rattle.sip_files.specs.Counted.{Counts};
 
 use super::Open;
@@ -42,6 +43,7 @@ struct Counting<D> {
     device: D,
     reads: Option<u64>,
     failures: Option<u64>,
+    is_flushed: bool,
 }
 
 impl<D> Counting<D> {
@@ -50,6 +52,7 @@ impl<D> Counting<D> {
             device,
             reads: Some(0),
             failures: Some(0),
+            is_flushed: false,
         }
     }
 }
@@ -76,7 +79,10 @@ impl<W: Write> CountedWrite for Counting<W> {
 
     ghost failures = { λ counting. counting.failures };
 
+    ghost flushed = { λ counting. Some counting.is_flushed };
+
     fn write_once(&mut self, bytes: &[u8]) -> io::Result<usize> {
+        self.is_flushed = false;
         let result = self.device.write(bytes);
         if let Ok(0) | Err(_) = &result {
             self.failures = one_more(self.failures);
@@ -86,6 +92,7 @@ impl<W: Write> CountedWrite for Counting<W> {
 
     fn flush_once(&mut self) -> io::Result<()> {
         let result = self.device.flush();
+        self.is_flushed = result.is_ok();
         if result.is_err() {
             self.failures = one_more(self.failures);
         }
@@ -123,6 +130,7 @@ fn reads_are_counted(rt: HostRuntime) {
     assert!(rt; replayed(&rt, &mut reader, &mut writer).is_ok());
     assert!(rt; reader.reads == Some(2));
     assert!(rt; reader.failures == Some(0) && writer.failures == Some(0));
+    assert!(rt; writer.is_flushed);
 }
 
 /// A writer that takes all and can't flush it.
