@@ -1,24 +1,18 @@
--- A line that was read with its end says what it says without it.
-use Rattle.std.proofs.Common.{◌≡◌, ℕ, ◌-◌, List, [], ◌∷◌, ◌++◌, length, take, drop, ap, refl, sym, ◌∙◌, take-append-drop, nat_eq, true, Result, Ok, Err, IfOk, inl}
-use Rattle.std.specs.Cmp.Lexicographic.{pointwise}
-use Rattle.std.proofs.lemmas.Bool.Decides.{Decides-eqb}
-use Rattle.std.proofs.lemmas.Slice.Eq.{slice_eq-Decides}
-use Rattle.sip_files.specs.declared.version.FileKind.{FileKind}
-use Rattle.sip_udp.specs.declared.pipe.Said.{Said}
-use Rattle.sip_udp.specs.Piping.{Says, SaysText}
+-- A text without a byte at its end.
+use Rattle.std.proofs.Common.{◌≡◌, ℕ, Bool, true, false, List, [], ◌∷◌, ◌++◌, ap, refl, ◌∙◌}
+use Rattle.std.specs.Prelude.{◌==◌, if◌then◌else◌}
+use Rattle.sip_udp.specs.Piping.{without_last}
 
-pub with_end : (text suffix line : List ℕ) → suffix ≡ 10 ∷ []
-    → pointwise nat_eq (drop (length text - length suffix) text) suffix ≡ true
-    → line ≡ take (length text - length suffix) text → text ≡ line ++ 10 ∷ []
-with_end text suffix line one last front =
-    let count : ℕ = length text - length suffix in
-    let same : drop count text ≡ suffix =
-    (slice_eq-Decides {E = nat_eq} (λ a b. Decides-eqb a b) (drop count text) suffix true
-    (sym last)).0 refl in
-    sym (take-append-drop count text) ∙ ap (λ t. take count text ++ t) (same ∙ one)
-    ∙ ap (λ t. t ++ 10 ∷ []) (sym front)
+inside : (b : ℕ) (is : Bool) (xs ys : List ℕ)
+    → b ∷ (if is then xs else ys) ≡ (if is then b ∷ xs else b ∷ ys)
+inside b true xs ys = refl
+inside b false xs ys = refl
 
-pub says_text : {E : Type 0} (result : Result Said E) (kind : FileKind) (text line : List ℕ)
-    → text ≡ line ++ 10 ∷ [] → IfOk result (Says kind line) → IfOk result (SaysText kind text)
-says_text (Ok said) kind text line whole says = inl (line, whole, says)
-says_text (Err fault) kind text line whole says = tt
+-- where the last byte is this one, what stands before it is left, and otherwise all
+pub without_at_end : (byte last : ℕ) (front : List ℕ)
+    → without_last byte (front ++ last ∷ []) ≡ (if last == byte then front else front ++ last ∷ [])
+without_at_end byte last [] = refl
+without_at_end byte last (b ∷ []) = inside b (last == byte) [] (last ∷ [])
+without_at_end byte last (b ∷ c ∷ bs) =
+    ap (λ t. b ∷ t) (without_at_end byte last (c ∷ bs))
+    ∙ inside b (last == byte) (c ∷ bs) ((c ∷ bs) ++ last ∷ [])

@@ -1,5 +1,5 @@
 -- What the lines of the pipe say, what is posted of them, and what is asked for.
-use Rattle.std.specs.Prelude.{◌≡◌, ℕ, ◌+◌, ◌<◌, ◌==◌, Bool, false, List, [], ◌∷◌, ◌++◌, ◌⊎◌, length, Option, Some, None, IsTrue, IsFalse}
+use Rattle.std.specs.Prelude.{◌≡◌, ℕ, ◌+◌, ◌<◌, ◌==◌, Bool, true, false, if◌then◌else◌, List, [], ◌∷◌, ◌++◌, length, Option, Some, None, IsTrue, IsFalse}
 use Rattle.std.specs.Option.{option_map}
 use Rattle.std.specs.Io.BufRead.{take_through, drop_through}
 use Rattle.sip_round.specs.declared.round.Event.{Event}
@@ -15,33 +15,43 @@ use Rattle.sip_udp.specs.declared.pipe.PipeLine.{PipeLine}
 use Rattle.sip_udp.specs.declared.pipe.Said.{Said}
 use Rattle.sip_udp.specs.declared.pipe.Said.TheVariants as said
 
+-- the text without this byte at its end, where it stands there
+abbrev pub without_last : ℕ → List ℕ → List ℕ
+without_last byte [] = []
+without_last byte (b ∷ []) = if b == byte then [] else b ∷ []
+without_last byte (b ∷ c ∷ bs) = b ∷ without_last byte (c ∷ bs)
+
+-- a line without its end, LF or CR LF; the last line may have none
+abbrev pub line_of : List ℕ → List ℕ
+line_of text = without_last 13 (without_last 10 text)
+
+-- an empty line, or a comment, which begins with `#`
+abbrev pub is_comment : List ℕ → Bool
+is_comment [] = true
+is_comment (b ∷ text) = b == 35
+
 -- where there are header lines, as in a session, these begin with a space, and no command does
 abbrev pub is_for_header : FileKind → List ℕ → Bool
 is_for_header file_kind.Events text = false
 is_for_header file_kind.Session [] = false
 is_for_header file_kind.Session (b ∷ text) = b == 32
 
--- the command or the header whose line it is, or that it is the line of none
+-- the command or the header whose line it is, or that it is the line of none; a comment says nothing
 abbrev pub Says : FileKind → List ℕ → Said → Type 0
+Says kind text said.Comment = IsTrue (is_comment text)
 Says kind text (said.Command command) =
     IsFalse (is_for_header kind text) × SpellsCommand text command
 Says kind text said.NoCommand =
-    IsFalse (is_for_header kind text) × ((command : UserCommand) → ¬ SpellsCommand text command)
+    IsFalse (is_comment text) × IsFalse (is_for_header kind text)
+    × ((command : UserCommand) → ¬ SpellsCommand text command)
 Says kind text (said.Header header) =
     IsTrue (is_for_header kind text) × SpellsHeader text header
 Says kind text said.NoHeader =
     IsTrue (is_for_header kind text) × ((header : GivenHeader) → ¬ SpellsHeader text header)
 
--- of what was read, with the end of the line: what the line says, or, where it has no end, that it
--- is no command
-abbrev pub SaysText : FileKind → List ℕ → Said → Type 0
-SaysText kind text what =
-    ((line : List ℕ) × (text ≡ line ++ 10 ∷ []) × Says kind line what)
-    ⊎ (((line : List ℕ) → ¬ (text ≡ line ++ 10 ∷ [])) × (what ≡ said.NoCommand))
-
--- the same, with the number of the line
+-- a line that was read with its end, and its number
 abbrev pub SaysRead : FileKind → ℕ → List ℕ → PipeLine → Type 0
-SaysRead kind number text line = (line.number ≡ number) × SaysText kind text line.said
+SaysRead kind number text line = (line.number ≡ number) × Says kind (line_of text) line.said
 
 -- these are what the lines of a text say, from its front on, each once and in order, where the
 -- first has this number, and this is left of the text
@@ -77,12 +87,14 @@ command_with None command = None
 -- a command is asked for with its headers
 abbrev pub asked_by : Option (List GivenHeader) → Said → List Event
 asked_by headers (said.Command command) = event_of (command_with headers command)
+asked_by headers said.Comment = []
 asked_by headers said.NoCommand = []
 asked_by headers (said.Header header) = []
 asked_by headers said.NoHeader = []
 
--- the header lines that stand right before the next line
+-- the header lines that stand right before the next line, but for comments
 abbrev pub headers_after : Option (List GivenHeader) → Said → Option (List GivenHeader)
+headers_after headers said.Comment = headers
 headers_after headers (said.Command command) = Some []
 headers_after headers said.NoCommand = Some []
 headers_after headers (said.Header header) = option_map (λ given. given ++ header ∷ []) headers

@@ -3,7 +3,7 @@
 
 ghost use Rattle.std.specs.Prelude.{◌≡◌, true, false, IfOk, IfSome};
 ghost use Rattle.sip_desk.specs.Lines.{posted, Pushes};
-ghost use Rattle.sip_udp.specs.Piping.{is_for_header, PostsAll, PostsFront, Says, SaysRead, SaysText};
+ghost use Rattle.sip_udp.specs.Piping.{PostsAll, PostsFront, Says, SaysRead, is_comment, is_for_header, line_of, without_last};
 
 use crate::fault::UaFault;
 use crate::listener::Flags;
@@ -27,6 +27,8 @@ pub struct PipeLine {
 /// What a line of the pipe says.
 #[derive(Drop)]
 pub enum Said {
+    /// It is empty or begins with `#`.
+    Comment,
     /// A command in the form of an event file.
     Command(UserCommand),
     /// It is no command.
@@ -93,23 +95,33 @@ fn post_lines<I: BufRead>(
 fn said_by(alloc: Global, kind: FileKind, number: u64, text: &[u8]) -> Result<PipeLine, AllocError>
     ensures { IfOk result (SaysRead kind number text.now) }
 {
-    let said = text_says(alloc, kind, text)?;
+    let said = line_says(alloc, kind, without_end(text))?;
     Ok(PipeLine { number, said })
 }
 
-// What a line says, with its end; one that has none is no command.
-fn text_says(alloc: Global, kind: FileKind, text: &[u8]) -> Result<Said, AllocError>
-    ensures { IfOk result (SaysText kind text.now) }
+// A line without its end, LF or CR LF; the last line may have none.
+fn without_end(text: &[u8]) -> &[u8]
+    ensures { result.now ≡ line_of text.now }
 {
-    match text.strip_suffix(b"\n".as_slice()) {
-        Some(line) => line_says(alloc, kind, line),
-        None => Ok(Said::NoCommand),
+    without(b'\r', without(b'\n', text))
+}
+
+// The text without this byte at its end.
+fn without(byte: u8, text: &[u8]) -> &[u8]
+    ensures { result.now ≡ without_last byte text.now }
+{
+    match text.split_last() {
+        Some((last, front)) if *last == byte => front,
+        _ => text,
     }
 }
 
 fn line_says(alloc: Global, kind: FileKind, line: &[u8]) -> Result<Said, AllocError>
     ensures { IfOk result (Says kind line.now) }
 {
+    if is_comment(line) {
+        return Ok(Said::Comment);
+    }
     if is_for_header(kind, line) {
         return Ok(match read_header_line(alloc, line)? {
             Some(header) => Said::Header(header),
@@ -120,6 +132,16 @@ fn line_says(alloc: Global, kind: FileKind, line: &[u8]) -> Result<Said, AllocEr
         Some(command) => Said::Command(command),
         None => Said::NoCommand,
     })
+}
+
+// Whether the line is empty or begins with `#`.
+fn is_comment(line: &[u8]) -> bool
+    ensures { result ≡ is_comment line.now }
+{
+    match line {
+        [] => true,
+        [first, ..] => *first == b'#',
+    }
 }
 
 // Where there are header lines, these begin with a space, and no command does.

@@ -51,8 +51,12 @@ impl Waiting {
             ≡ piping.headers_after self.old.headers line.said) }
     {
         let PipeLine { number, said } = line;
+        if let Said::Comment = said {
+            return Ok(());
+        }
         self.numbers.push(number)?;
         match said {
+            Said::Comment => Ok(()),
             Said::Command(command) => self.ask(alloc, command, events, errors),
             Said::NoCommand => {
                 self.refuse(alloc, errors);

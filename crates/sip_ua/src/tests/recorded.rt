@@ -362,7 +362,7 @@ fn an_agent_on_a_pipe_is_replayed_as_it_was(rt: HostRuntime) -> Result<(), Fail>
 // A MESSAGE with headers, which is answered, and lines that have no part in a command.
 fn headed(alloc: Global, mut script: Script, from: Addr, to: Addr) -> Result<Heard, Fail> {
     let uris = format!(in alloc; "sip:b@{to} sip:a@127.0.0.1 sip:b@{to}")?;
-    script.command(" Subject: lunch\n Content-Type: text/plain")?;
+    script.command("# A message.\n Subject: lunch\n\n Content-Type: text/plain\r")?;
     let message = format!(in alloc; "plain c1 {to} MESSAGE {uris} hello")?;
     script.command(message.as_str())?;
     script.command(" Via: none of the user's")?;
@@ -434,7 +434,7 @@ fn headers_on_a_pipe_are_recorded_as_a_session(rt: HostRuntime) -> Result<(), Fa
     assert!(rt; have_same_lines(alloc, "notice ", &heard.told, &output)?);
     let told = lines_after(alloc, &run.errors, "ua: line ")?;
     let expected = b"\
-        4 is no command\n5 is no command\n6 is no command\n7 is no command\n8 is no command\n";
+        6 is no command\n7 is no command\n8 is no command\n9 is no command\n10 is no command\n";
     assert!(rt; told.as_slice() == expected.as_slice());
     Ok(())
 }
