@@ -74,20 +74,22 @@ pub record WrittenSoFar (before now : Option (List ℕ)) (failures_before failur
   pub appended : Appends before now front
 
 -- a write takes the front of what is left
-pub written_more : (before now next : Option (List ℕ)) (failures failures_now failures_next : Option ℕ)
+pub written_more : (before now next : Option (List ℕ)) (failures now_failed next_failed : Option ℕ)
     (bytes left : List ℕ) (count : ℕ)
-    → WrittenSoFar before now failures failures_now bytes left → Appends now next (take count left)
-    → Counts failures_now failures_next 0
-    → WrittenSoFar before next failures failures_next bytes (take (length left - count) (drop count left))
-written_more before now next failures failures_now failures_next bytes left count so_far taken none = record {
-  failed = counts_both failures failures_now failures_next 0 0 so_far.failed none;
-  front = so_far.front ++ take count left;
-  split =
-      so_far.split ∙ ap (λ l. so_far.front ++ l) (sym (take-append-drop count left))
-      ∙ sym (append_assoc so_far.front (take count left) (drop count left))
-      ∙ ap (λ l. (so_far.front ++ take count left) ++ l) (sym (take_rest left count));
-  appended = Appends-trans _ _ _ _ _ so_far.appended taken;
-}
+    → WrittenSoFar before now failures now_failed bytes left → Appends now next (take count left)
+    → Counts now_failed next_failed 0
+    → WrittenSoFar before next failures next_failed bytes
+    (take (length left - count) (drop count left))
+written_more before now next failures now_failed next_failed bytes left count so_far taken none =
+    record {
+      failed = counts_both failures now_failed next_failed 0 0 so_far.failed none;
+      front = so_far.front ++ take count left;
+      split =
+          so_far.split ∙ ap (λ l. so_far.front ++ l) (sym (take-append-drop count left))
+          ∙ sym (append_assoc so_far.front (take count left) (drop count left))
+          ∙ ap (λ l. (so_far.front ++ take count left) ++ l) (sym (take_rest left count));
+      appended = Appends-trans _ _ _ _ _ so_far.appended taken;
+    }
 
 module _ {R V A B : Type 0} (moment : R → A) (items : V → B) where
   -- what was made is the front of the moments beside the answers

@@ -57,8 +57,8 @@ Reports output old new = IsSomeAnd (sent_key (output_at old output))
     (λ key. new ≡ with_events old (told_failure key))
 
 -- whatever rounds the agent stood for, it stands for these and the one of the host's events at this
--- moment, and the outputs are those with which that one is answered after them, each with its place;
--- its events are kept, no event is left, and no output is taken
+-- moment, and the outputs are those with which that one is answered after them, each with its
+-- place; its events are kept, no event is left, and no output is taken
 pub record IsAnswered (moment : ℕ) (old new : Host) : Type 0 where
   pub stands : (config : Config) (rounds : List Round)
       → StandsFor shard_of old.agent config rounds

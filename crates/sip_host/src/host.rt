@@ -167,8 +167,9 @@ impl Host {
         Ok(Some(head))
     }
 
-    /// The event of this place in the last round, as an output of that round names it; there is none
-    /// of place 0. A notice of a place tells of the datagram that came in there. Takes no memory.
+    /// The event of this place in the last round, as an output of that round names it; there is
+    /// none of place 0. A notice of a place tells of the datagram that came in there. Takes no
+    /// memory.
     pub fn event(&self, place: u32) -> Option<&Event>
         ensures { option_copied result ≡ event_at self.now.last_events place }
     {
@@ -184,7 +185,8 @@ impl Host {
     pub fn start_line(&self, place: u32) -> Result<Option<FirstLine<Token>>, AllocError>
         ensures says { IfOk result (λ says. IfSome (datagram_at self.now.last_events place)
             (BeginsWith says)) }
-        ensures none { IfOk result (λ says. datagram_at self.now.last_events place ≡ None → says ≡ None) }
+        ensures none { IfOk result (λ says. datagram_at self.now.last_events place ≡ None
+            → says ≡ None) }
     {
         match datagram_at(self.last_events.as_slice(), place) {
             Some(bytes) => start_line(self.alloc, bytes.as_slice()),
@@ -202,7 +204,8 @@ impl Host {
     pub fn header_values(&self, place: u32, name: &[u8]) -> Result<Series<Text>, AllocError>
         ensures values { IfOk result (λ values. IfSome (datagram_at self.now.last_events place)
             (HasValues name.now values)) }
-        ensures none { IfOk result (λ values. datagram_at self.now.last_events place ≡ None → values ≡ []) }
+        ensures none { IfOk result (λ values. datagram_at self.now.last_events place ≡ None
+            → values ≡ []) }
     {
         match datagram_at(self.last_events.as_slice(), place) {
             Some(bytes) => header_values(self.alloc, bytes.as_slice(), name),

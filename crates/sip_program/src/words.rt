@@ -380,8 +380,8 @@ fn agent_command<'a>(alloc: Global) -> Result<Command<'a>, AllocError> {
         .long("headers")
         .action(ArgAction::SetTrue)
         .help(
-            "Before a command its header lines may stand, each a space and `Name: value`; those of a \
-            message stand so before its notice; the record is a session file, for `ua replay \
+            "Before a command its header lines may stand, each a space and `Name: value`; those of \
+            a message stand so before its notice; the record is a session file, for `ua replay \
             --session`",
         );
     Command::new(alloc, "agent")

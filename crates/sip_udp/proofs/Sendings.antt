@@ -63,7 +63,8 @@ one_more old now next done failed output is_sent s asks =
 
 pub begun : (now : Option (List Asked)) (outputs : List PlacedOutput)
     (failures : List (Option Event)) (failed : List Event) (capacity : ℕ)
-    → failures ≡ map (λ placed. prepared placed.output) outputs → failed ≡ [] → length outputs ≤ capacity
+    → failures ≡ map (λ placed. prepared placed.output) outputs → failed ≡ []
+    → length outputs ≤ capacity
     → SoFar now now outputs outputs failures failed capacity
 begun now outputs failures failed capacity ready none room =
     record {

@@ -25,8 +25,8 @@ pub(crate) struct Telling {
 }
 
 /// Writes the line of each notice as it stands in an output file, and flushes after each; those of
-/// drops too, where they are told. In a session the header lines of the datagram that a notice tells
-/// of stand before its line.
+/// drops too, where they are told. In a session the header lines of the datagram that a notice
+/// tells of stand before its line.
 pub(crate) fn write_notices<W: Write>(
     alloc: Global,
     writer: &mut W,

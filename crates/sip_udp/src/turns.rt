@@ -219,8 +219,8 @@ impl<U: User, F: Write + Drop> Turns<U, F> {
         Ok(())
     }
 
-    // Runs a round of what waits, records it, and gives it with its outputs; what is above its limit
-    // waits on.
+    // Runs a round of what waits, records it, and gives it with its outputs; what is above its
+    // limit waits on.
     fn run_round<R: Threads + Clock + Sync, E: Write>(
         &mut self,
         rt: &R,

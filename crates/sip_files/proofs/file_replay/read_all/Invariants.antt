@@ -5,4 +5,5 @@ abbrev pub invariant-loop : goal.invariant-loop
 invariant-loop g l =
     ReadSoFar (g.R.CountedRead.remaining l.fn.reader) (g.R.CountedRead.remaining l.reader)
     (g.R.CountedRead.reads l.fn.reader) (g.R.CountedRead.reads l.reader)
-    (g.R.CountedRead.failures l.fn.reader) (g.R.CountedRead.failures l.reader) l.text.items l.counter
+    (g.R.CountedRead.failures l.fn.reader) (g.R.CountedRead.failures l.reader) l.text.items
+    l.counter
