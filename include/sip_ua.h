@@ -50,6 +50,12 @@
 extern "C" {
 #endif
 
+/* The version: what a program that uses an earlier one of the same major number can go on with. */
+#define SIP_UA_VERSION_MAJOR 0
+#define SIP_UA_VERSION_MINOR 1
+#define SIP_UA_VERSION_PATCH 0
+#define SIP_UA_VERSION "0.1.0"
+
 /* An agent, or none. Its fields are not for the program. */
 typedef struct sip_ua {
     bool held;
@@ -111,6 +117,50 @@ enum {
     SIP_UA_BAD_CONFIGURATION = 12, /* not 1 to 256 shards, or a first round above 2^62 */
     SIP_UA_NULL = 13              /* a pointer was NULL */
 };
+
+/* What a status means, in English; never NULL. */
+static inline const char *sip_ua_status_text(uint32_t status)
+{
+    switch (status) {
+    case SIP_UA_OK: return "success";
+    case SIP_UA_NOT_HELD: return "no agent is held";
+    case SIP_UA_HELD: return "an agent is held already";
+    case SIP_UA_BAD_LINE: return "not the line of an event";
+    case SIP_UA_TOO_MANY_EVENTS: return "too many events for one round";
+    case SIP_UA_NO_SEND: return "that output is no send";
+    case SIP_UA_OUTPUTS_LEFT: return "outputs of the last round were not taken";
+    case SIP_UA_BACKWARDS: return "the moment lies before that of the last round";
+    case SIP_UA_TOO_LARGE: return "the moment is too large";
+    case SIP_UA_USED_UP: return "the numbers of rounds are used up";
+    case SIP_UA_NO_MEMORY: return "no memory";
+    case SIP_UA_BROKEN: return "no memory within a round; the agent holds nothing";
+    case SIP_UA_BAD_CONFIGURATION: return "not 1 to 256 shards, or a first round that is too large";
+    case SIP_UA_NULL: return "a pointer is NULL";
+    default: return "no status";
+    }
+}
+
+/* Why a command was refused, by the number of a notice `refused`, in English; never NULL. */
+static inline const char *sip_ua_refusal_text(uint32_t number)
+{
+    switch (number) {
+    case 1: return "the Call-ID is in use";
+    case 2: return "no such call";
+    case 3: return "no such dialog";
+    case 4: return "no such request";
+    case 5: return "the request has its final response";
+    case 6: return "the status isn't 101 to 699";
+    case 7: return "reliable responses wait for a PRACK";
+    case 8: return "the response can't be reliable";
+    case 9: return "no ACK is owed";
+    case 10: return "no PRACK is owed";
+    case 11: return "the sequence numbers of the dialog are used up";
+    case 12: return "the first route is a strict router";
+    case 13: return "the dialog has ended";
+    case 14: return "the method can't be sent so";
+    default: return "no reason that is known here";
+    }
+}
 
 /* The functions of the library, which test no pointer. Call those below. */
 uint32_t sip_ua_raw_new(sip_ua *agent, const sip_ua_configuration *configuration, size_t shards);
