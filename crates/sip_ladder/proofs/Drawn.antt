@@ -16,7 +16,8 @@ pub draws_file : (kind : FileKind) (input : List ℕ) (config : Config) (rounds 
     (made : List (Vec Output)) (text : List ℕ) → slice ≡ rounds
     → SpellsFile kind config rounds input → length input ≤ 2 ^ 26 → refused config slice ≡ None
     → map (λ outputs. outputs.items) made ≡ answers config slice
-    → Draws config.local slice (map (λ outputs. outputs.items) made) text → DrawsFile kind input text
+    → Draws config.local slice (map (λ outputs. outputs.items) made) text
+    → DrawsFile kind input text
 draws_file kind input config rounds slice made text same spelled size unrefused given drawn =
     record {
       config = config;

@@ -1,5 +1,5 @@
 -- Labels have printable characters only.
-use Rattle.std.proofs.Common.{◌≡◌, ℕ, ◌-◌, ◌==◌, ◌&&◌, Bool, true, false, cond, List, [], ◌∷◌, ◌++◌, length, take, drop, refl, ap, ◌∙◌, decimal, codes}
+use Rattle.std.proofs.Common.{◌≡◌, ℕ, ◌-◌, ◌==◌, Bool, true, false, cond, List, [], ◌∷◌, ◌++◌, length, take, drop, refl, ap, ◌∙◌, decimal, codes}
 use Rattle.std.specs.Prelude.{Option, Some, None, nat_le}
 use Rattle.std.specs.Option.{option_map_or}
 use Rattle.std.specs.List.{list_all}
@@ -41,7 +41,8 @@ shown_is (byte ∷ text) =
 pub word_is : (text : List ℕ) → AreShown (word text)
 unfolding word
 word_is text =
-    either (nat_le (length text) 21) (shown text) (codes ".." ++ shown (drop (length text - 9) text))
+    either (nat_le (length text) 21) (shown text)
+    (codes ".." ++ shown (drop (length text - 9) text))
     (shown_is text)
     (both (codes "..") (shown (drop (length text - 9) text)) refl
     (shown_is (drop (length text - 9) text)))
@@ -51,13 +52,15 @@ unfolding named
 named_is name text p =
     both (codes " " ++ name) (word text) (both (codes " ") name refl p) (word_is text)
 
-number_is : (name : List ℕ) (number : Option ℕ) → AreShown name → AreShown (number_named name number)
+number_is : (name : List ℕ) (number : Option ℕ) → AreShown name
+    → AreShown (number_named name number)
 number_is name None p = refl
 number_is name (Some number) p = named_is name (decimal number) p
 
 status_is : (start : StartLine) → AreShown (status_text start)
 status_is (Request uri) = refl
-status_is (Response status reason) = both (word (decimal status)) (codes " ") (word_is (decimal status)) refl
+status_is (Response status reason) =
+    both (word (decimal status)) (codes " ") (word_is (decimal status)) refl
 
 again_is : (is_again : Bool) → AreShown (again_text is_again)
 again_is true = refl

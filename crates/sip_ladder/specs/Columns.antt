@@ -1,5 +1,5 @@
 -- The columns of a ladder: one for each of the first eleven peers, and one for all others.
-use Rattle.std.specs.Prelude.{ℕ, ◌/◌, min, max, not, List, [], ◌∷◌, length, take, filter, Option, Some, None}
+use Rattle.std.specs.Prelude.{◌/◌, min, max, not, List, [], ◌∷◌, length, take, filter, Option, Some, None}
 use Rattle.std.specs.List.{filter_map}
 use Rattle.sip_message.specs.declared.addr.Addr.{Addr}
 use Rattle.sip_ladder.specs.Row.{is_same_address}
