@@ -1,0 +1,39 @@
+//! Laws of conversations.
+
+ghost use Rattle.std.specs.Prelude.{List};
+ghost use Rattle.sip_conversation.specs.Address.{IsAddress};
+ghost use Rattle.sip_conversation.specs.Conversation.{Turn, of_sides};
+ghost use Rattle.sip_conversation.specs.Messages.{CallsHearUnchanged, MessagesComeUnchanged};
+
+use sip_message::Addr;
+use sip_model::laws_of_phases;
+use sip_round::Config;
+use sip_transactions::Transactions;
+
+/// In a carried conversation, each message that a transaction of one side is given is one that the
+/// other side said: that a call of it asked to send, or that its transaction made of what it was
+/// given. It comes unchanged, but for the stamp of its source in a request (RFC 3261, section
+/// 18.2.1). It takes that all that calls ask to send keeps the rules of messages.
+pub fn messages_come_unchanged(one: Config, other: Config)
+    ensures { (turns : List Turn) → MessagesComeUnchanged (of_sides one other) turns }
+{
+    numbers_fit(one.local);
+    numbers_fit(other.local);
+    laws_of_phases(&Transactions);
+}
+
+/// So is each message that comes up to a call.
+pub fn calls_hear_unchanged(one: Config, other: Config)
+    ensures { (turns : List Turn) → CallsHearUnchanged (of_sides one other) turns }
+{
+    numbers_fit(one.local);
+    numbers_fit(other.local);
+    laws_of_phases(&Transactions);
+}
+
+fn numbers_fit(address: Addr)
+    ensures { IsAddress address }
+{
+    let [_a, _b, _c, _d] = address.ip;
+    let _port = address.port;
+}

@@ -1,0 +1,6 @@
+//! Laws of two agents over a network: what one user is told is what the other user said.
+#![tactic(auto)]
+
+mod laws;
+
+pub use laws::{calls_hear_unchanged, messages_come_unchanged};
