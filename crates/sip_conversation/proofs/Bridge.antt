@@ -1,6 +1,6 @@
 -- What is written for a message that keeps the rules arrives as that message, stamped with its
 -- source where it is a request.
-use Rattle.std.proofs.Common.{◌≡◌, ◌⊎◌, inl, inr, ℕ, Bool, true, false, cond, List, length, refl, sym, ap, ◌∙◌, subst}
+use Rattle.std.proofs.Common.{◌≡◌, ◌⊎◌, inl, inr, ℕ, Bool, true, false, List, length, sym, ap, subst}
 use Rattle.std.specs.Prelude.{nat_lt, Result, Ok, Err, Some, None, if◌then◌else◌}
 use Rattle.std.proofs.lemmas.Bool.{ltb-false}
 use Rattle.sip_message.specs.declared.addr.Addr.{Addr}

@@ -1,5 +1,5 @@
 -- What each datagram of a carried conversation is.
-use Rattle.std.proofs.Common.{◌≡◌, ℕ, Bool, true, false, cond, List, [], ◌∷◌, ◌++◌, map, refl, sym, ap, ◌∙◌, subst, append_assoc}
+use Rattle.std.proofs.Common.{◌≡◌, Bool, true, false, cond, List, [], ◌∷◌, ◌++◌, map, refl, sym, subst, append_assoc}
 use Rattle.std.specs.Prelude.{Contains, filter}
 use Rattle.std.specs.List.{AllByRecursion}
 use Rattle.sip_round.specs.declared.config.Config.{Config}
@@ -9,7 +9,7 @@ use Rattle.sip_round.specs.declared.round.Event.TheVariants.{Command, Datagram, 
 use Rattle.sip_round.specs.declared.round.Round.{Round}
 use Rattle.sip_round.specs.Answers.{answers}
 use Rattle.sip_round.specs.Given.{all_given}
-use Rattle.sip_conversation.specs.Conversation.{Carried, CarriedAfter, IsCarried, Side, Turn, is_side, peer, rounds_of}
+use Rattle.sip_conversation.specs.Conversation.{CarriedAfter, IsCarried, Side, Turn, is_side, peer, rounds_of}
 use Rattle.sip_conversation.specs.Conversation as side
 use Rattle.sip_conversation.proofs.Among.{all_go}
 use Rattle.sip_conversation.proofs.Longer.{given_longer, rounds_of-append}

@@ -3,6 +3,7 @@ pub mod Bridge
 pub mod Carrying
 pub mod Longer
 pub mod OneTransaction
+pub mod Provisionals
 pub mod Rounds
 pub mod Rules
 pub mod Sends

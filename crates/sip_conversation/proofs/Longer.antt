@@ -1,13 +1,12 @@
 -- What is given and said in rounds, is so in those and more.
-use Rattle.std.proofs.Common.{◌≡◌, ℕ, ◌+◌, Bool, true, false, cond, List, [], ◌∷◌, ◌++◌, map, length, refl, sym, ap, ◌∙◌, subst, ⊎_elim}
+use Rattle.std.proofs.Common.{◌≡◌, ℕ, ◌+◌, Bool, List, [], ◌∷◌, ◌++◌, map, length, sym, ap, ◌∙◌, subst, ⊎_elim}
 use Rattle.std.specs.Prelude.{Contains, filter}
-use Rattle.std.specs.List.{flat_map}
 use Rattle.std.specs.declared.cmp.Ordering.{Ordering}
 use Rattle.std.proofs.lemmas.Grind.{flat_map-append}
 use Rattle.std.proofs.lemmas.List.{map-append}
 use Rattle.std.proofs.lemmas.List.Elements.{Contains-append_cases, Contains-append_left, Contains-append_right, filter-append}
 use Rattle.sip_model.specs.Laws.{said_by, said_from}
-use Rattle.sip_model.specs.Machine.{Machine, Timed, tick_at}
+use Rattle.sip_model.specs.Machine.{Machine, tick_at}
 use Rattle.sip_model.specs.Phase.{Phase, told_next}
 use Rattle.sip_common.specs.declared.item.CallOut.{CallOut}
 use Rattle.sip_calls.specs.Call.{call_machine}
@@ -15,9 +14,8 @@ use Rattle.sip_calls.specs.CallShard.{call_cmp}
 use Rattle.sip_round.specs.declared.config.Config.{Config}
 use Rattle.sip_round.specs.declared.output.Output.{Output}
 use Rattle.sip_round.specs.declared.round.Round.{Round}
-use Rattle.sip_round.specs.Answers.{Past, answer, answers, calls_of, each_from, no_past, past_from, past_of}
+use Rattle.sip_round.specs.Answers.{answer, answers, calls_of, each_from, no_past, past_from, past_of}
 use Rattle.sip_round.specs.Given.{all_given}
-use Rattle.sip_round.specs.Laws.{said_of_call}
 use Rattle.sip_round.proofs.GivenNotices.{calls_are, calls_from}
 use Rattle.sip_round.proofs.Runs.{each_from-append, past_from-append}
 use Rattle.sip_conversation.specs.Conversation.{Side, Turn, is_side, rounds_of}

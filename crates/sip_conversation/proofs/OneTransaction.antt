@@ -1,7 +1,7 @@
 -- What a transaction sends is the text of a message that it was given or made, and what it hands up
 -- is a message that came to it.
-use Rattle.std.proofs.Common.{◌≡◌, ℕ, Bool, true, false, cond, List, [], ◌∷◌, ◌++◌, refl, sym, ap, ◌∙◌, subst, codes}
-use Rattle.std.specs.Prelude.{Contains, IfSome, Option, None, Some, not, option_and_then, option_map, option_to_list}
+use Rattle.std.proofs.Common.{◌≡◌, ℕ, Bool, true, false, cond, List, [], ◌∷◌, refl, sym, ap, ◌∙◌, codes}
+use Rattle.std.specs.Prelude.{Contains, IfSome, Option, None, Some, not, option_map, option_to_list}
 use Rattle.std.specs.List.{AllByRecursion}
 use Rattle.std.proofs.lemmas.Bool.{false≢true}
 use Rattle.std.proofs.lemmas.Option.{same_Some}
@@ -33,9 +33,9 @@ use Rattle.sip_transactions.specs.declared.step.Step.{Step}
 use Rattle.sip_transactions.specs.declared.trigger.Trigger.{Trigger}
 use Rattle.sip_transactions.specs.declared.trigger.Trigger.TheVariants as on
 use Rattle.sip_transactions.specs.Input.{answer_of, arrival_of, arrived_in, class_of, is_same_method, message_in, role_of, trigger_of}
-use Rattle.sip_transactions.specs.Life.{acted_if, armed, begun, context_by, context_of, entered, keeps_request, last_of, life_after, life_in, state_of, stepped}
+use Rattle.sip_transactions.specs.Life.{acted_if, armed, begun, context_of, entered, keeps_request, last_of, life_after, life_in, state_of, stepped}
 use Rattle.sip_transactions.specs.Machine.{transaction_machine}
-use Rattle.sip_transactions.specs.Output.{handed_out, kind_of, made_bytes, made_of, outputs_of, send_out, sent_bytes, trying_of, up_out}
+use Rattle.sip_transactions.specs.Output.{handed_out, kind_of, made_bytes, made_of, outputs_of, send_out, sent_bytes, trying_of}
 use Rattle.sip_transactions.specs.Rows.{rows_of}
 use Rattle.sip_transactions.proofs.LawSteps.{RowFor, by_step}
 use Rattle.sip_transactions.proofs.RowFacts.{row_passes, table_passes}

@@ -1,5 +1,5 @@
 -- What transactions and calls are given in rounds, and what they say, each as a list.
-use Rattle.std.proofs.Common.{◌≡◌, ℕ, suc, Bool, true, false, cond, List, [], ◌∷◌, ◌++◌, map, refl, sym, ap, ◌∙◌, subst, ⊎_elim, append-nil, append_assoc}
+use Rattle.std.proofs.Common.{◌≡◌, ℕ, suc, Bool, true, false, cond, List, [], ◌∷◌, ◌++◌, map, refl, sym, ◌∙◌, subst, ⊎_elim, append-nil, append_assoc}
 use Rattle.std.specs.Prelude.{Contains, IfSome, Option, None, Some, filter, option_to_list}
 use Rattle.std.specs.declared.cmp.Ordering.{Ordering}
 use Rattle.std.specs.Cmp.{IsTotalOrder}
@@ -7,15 +7,13 @@ use Rattle.std.specs.BTreeMap.{is_at}
 use Rattle.std.specs.List.{AllByRecursion, flat_map}
 use Rattle.std.proofs.lemmas.Cmp.{nat_list_cmp_total}
 use Rattle.std.proofs.lemmas.List.Elements.{Contains-append_cases, Contains-append_left, Contains-append_right}
-use Rattle.std.proofs.lemmas.Map.Lookups.{CmpEqualImpliesEq}
-use Rattle.sip_message.specs.declared.addr.Addr.{Addr}
 use Rattle.sip_message.specs.declared.id.Id.{Id}
 use Rattle.sip_message.specs.declared.key.Key.{Key}
 use Rattle.sip_message.specs.Key.{key_cmp, keys_total}
 use Rattle.sip_model.specs.declared.item.Item as model
 use Rattle.sip_model.specs.Laws.{said_by, said_from}
 use Rattle.sip_model.specs.Machine.{Machine, Timed, tick_at}
-use Rattle.sip_model.specs.Phase.{Phase, PhaseOutputs, history, inputs_of, own_inputs, timed_item, timed_items, told_next}
+use Rattle.sip_model.specs.Phase.{Phase, PhaseOutputs, history, inputs_of, own_inputs, timed_items}
 use Rattle.sip_model.proofs.Ordered.{exact_at, is_at_itself}
 use Rattle.sip_transactions.specs.declared.input.Command.{Command}
 use Rattle.sip_transactions.specs.declared.input.Input.{Input}
@@ -30,10 +28,10 @@ use Rattle.sip_calls.specs.CallShard.{call_cmp}
 use Rattle.sip_round.specs.declared.config.Config.{Config}
 use Rattle.sip_round.specs.declared.round.Event.{Event}
 use Rattle.sip_round.specs.declared.round.Round.{Round}
-use Rattle.sip_round.specs.Answers.{Past, arrivals, calls_of, each_from, first, given_second, no_past, past_after, past_from, past_of, said_by_calls, second, third}
+use Rattle.sip_round.specs.Answers.{Past, arrivals, calls_of, first, given_second, no_past, past_after, past_from, past_of, said_by_calls, second, third}
 use Rattle.sip_round.specs.Arrivals.{Arrival, arrival_of, arrivals_from}
 use Rattle.sip_round.specs.Arrivals as arrival
-use Rattle.sip_round.specs.Laws.{call_inputs_of, inputs_of as inputs_of_rounds, said_of_call}
+use Rattle.sip_round.specs.Laws.{inputs_of as inputs_of_rounds}
 use Rattle.sip_round.specs.Outputs.{all_said, command_of, joined}
 use Rattle.sip_round.specs.Phases.{command_items, transaction_item, transaction_items}
 use Rattle.sip_round.proofs.GivenNotices.{calls_are, calls_from}

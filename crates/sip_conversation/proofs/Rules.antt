@@ -1,7 +1,7 @@
 -- What is made of messages that keep the rules keeps them: a 100, an ACK, and a request with the
 -- stamp of its source.
-use Rattle.std.proofs.Common.{◌≡◌, ℕ, ◌<◌, ◌≤◌, ◌^◌, Bool, true, false, cond, List, [], ◌∷◌, ◌++◌, refl, sym, ap, ◌∙◌, subst, codes, decimal, slice_index, arith, take}
-use Rattle.std.specs.Prelude.{IsTrue, Some, None, Option}
+use Rattle.std.proofs.Common.{ℕ, Bool, true, false, cond, List, [], ◌∷◌, refl, ap, ◌∙◌, codes, decimal, arith, take}
+use Rattle.std.specs.Prelude.{IsTrue, Some}
 use Rattle.std.specs.List.{AllByRecursion}
 use Rattle.std.specs.Str.{bytes_eq, str_eq_ignore_ascii_case}
 use Rattle.sip_text.specs.Parameter.{is_parameter_value}

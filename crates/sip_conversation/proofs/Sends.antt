@@ -1,11 +1,11 @@
 -- What is sent in rounds: by transactions with their keys, and by calls directly.
-use Rattle.std.proofs.Common.{◌≡◌, ℕ, suc, Bool, List, [], ◌∷◌, ◌++◌, refl, sym, ap, ◌∙◌, subst}
-use Rattle.std.specs.Prelude.{Contains, Option, None, Some}
+use Rattle.std.proofs.Common.{ℕ, suc, List, [], ◌∷◌, ◌++◌, sym, subst}
+use Rattle.std.specs.Prelude.{Contains, None, Some}
 use Rattle.std.specs.List.{AllByRecursion, flat_map}
 use Rattle.sip_message.specs.declared.addr.Addr.{Addr}
 use Rattle.sip_message.specs.declared.id.Id.{Id}
 use Rattle.sip_message.specs.declared.key.Key.{Key}
-use Rattle.sip_message.specs.Key.{key_cmp, keys_total}
+use Rattle.sip_message.specs.Key.{keys_total}
 use Rattle.sip_model.proofs.Ordered.{is_at_itself}
 use Rattle.sip_transactions.specs.declared.output.Out.{Out}
 use Rattle.sip_transactions.specs.declared.output.Out.TheVariants as out
@@ -18,7 +18,7 @@ use Rattle.sip_round.specs.declared.output.Output.TheVariants as output
 use Rattle.sip_round.specs.declared.round.Round.{Round}
 use Rattle.sip_round.specs.Answers.{Past, answer, answers, answers_from, arrivals, first, given_second, no_past, past_after, said_by_transactions, third}
 use Rattle.sip_round.specs.Arrivals.{Arrival}
-use Rattle.sip_round.specs.Given.{all_given, is_send_with, send_in, sends_with}
+use Rattle.sip_round.specs.Given.{all_given, is_send_with, send_in}
 use Rattle.sip_round.specs.Laws.{said_of}
 use Rattle.sip_round.specs.Outputs.{all_said, joined, outs_of, said_at, sent_of, shown_of}
 use Rattle.sip_round.proofs.AnswerParts.{answer_parts, sent_first}

@@ -1,5 +1,5 @@
 -- Messages come unchanged in a carried conversation.
-use Rattle.std.proofs.Common.{◌≡◌, ℕ, Bool, true, false, cond, List, [], ◌∷◌, ◌++◌, map, refl, sym, ap, ◌∙◌, subst, append-nil, append_assoc}
+use Rattle.std.proofs.Common.{◌≡◌, ℕ, Bool, true, false, List, [], ◌∷◌, ◌++◌, refl, sym, ap, subst, append-nil, append_assoc}
 use Rattle.std.specs.Prelude.{Contains, IfSome, Option, None, Some, if◌then◌else◌}
 use Rattle.std.specs.List.{AllByRecursion}
 use Rattle.sip_message.specs.declared.addr.Addr.{Addr}
@@ -8,12 +8,11 @@ use Rattle.sip_message.specs.declared.key.Key.{Key}
 use Rattle.sip_message.specs.declared.message.Message.{Message}
 use Rattle.sip_message.specs.Key.{key_cmp}
 use Rattle.sip_message.specs.Message.{is_request_message}
-use Rattle.sip_message.specs.MessageKey.{key_of_message}
 use Rattle.sip_message.specs.Rules.{IsMessage}
 use Rattle.sip_message.specs.Source.{stamped}
 use Rattle.sip_message.specs.Written.{written}
 use Rattle.sip_model.specs.Laws.{EachKeyAlone}
-use Rattle.sip_model.specs.Machine.{Timed, given_at, outputs_from, tick_at}
+use Rattle.sip_model.specs.Machine.{given_at, outputs_from, tick_at}
 use Rattle.sip_transactions.specs.declared.input.Command.{Command}
 use Rattle.sip_transactions.specs.declared.input.Command.TheVariants as command
 use Rattle.sip_transactions.specs.declared.input.Input.{Input}
@@ -38,7 +37,7 @@ use Rattle.sip_round.specs.Arrivals.{arrival_of}
 use Rattle.sip_round.specs.Laws.{call_inputs_of, inputs_of, said_of}
 use Rattle.sip_conversation.specs.Address.{IsAddress}
 use Rattle.sip_conversation.specs.Conversation.{Carried, CarriedAfter, IsCarried, Side, Turn, given_by, peer, rounds_of}
-use Rattle.sip_conversation.specs.Messages.{CallSays, CallsHearUnchanged, CallsKeepRules, ComesUnchanged, IsGiven, IsSaid, KeepsRules, MessagesComeUnchanged, come_from, message_of, message_up}
+use Rattle.sip_conversation.specs.Messages.{CallSays, CallsHearUnchanged, CallsKeepRules, ComesUnchanged, IsSaid, KeepsRules, MessagesComeUnchanged, come_from, message_up}
 use Rattle.sip_conversation.specs.Messages.IsSaid.{Acknowledges, Asked, Direct, Trying}
 use Rattle.sip_conversation.proofs.Among.{all_go, all_of, each_of}
 use Rattle.sip_conversation.proofs.Bridge.{text_fits}

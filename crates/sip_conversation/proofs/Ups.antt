@@ -1,6 +1,6 @@
 -- What comes up to calls came to transactions.
-use Rattle.std.proofs.Common.{◌≡◌, ℕ, suc, Bool, true, false, cond, List, [], ◌∷◌, ◌++◌, map, refl, sym, ap, ◌∙◌, subst}
-use Rattle.std.specs.Prelude.{Contains, IfSome, Option, None, Some, filter, option_to_list}
+use Rattle.std.proofs.Common.{ℕ, suc, Bool, true, false, cond, List, [], ◌∷◌, ◌++◌, map, sym, subst}
+use Rattle.std.specs.Prelude.{IfSome, filter}
 use Rattle.std.specs.BTreeMap.{is_at}
 use Rattle.std.specs.List.{AllByRecursion, flat_map}
 use Rattle.sip_message.specs.declared.id.Id.{Id}
@@ -10,8 +10,7 @@ use Rattle.sip_message.specs.Key.{key_cmp, keys_total}
 use Rattle.sip_model.specs.declared.item.Item as model
 use Rattle.sip_model.specs.Laws.{said_by, said_from}
 use Rattle.sip_model.specs.Machine.{Timed, tick_at}
-use Rattle.sip_model.specs.Phase.{Phase, PhaseOutputs, history, inputs_of, own_inputs, timed_item, timed_items}
-use Rattle.sip_transactions.specs.declared.input.Input.{Input}
+use Rattle.sip_model.specs.Phase.{PhaseOutputs, history, inputs_of, own_inputs, timed_item, timed_items}
 use Rattle.sip_transactions.specs.declared.output.Out.{Out}
 use Rattle.sip_transactions.specs.declared.output.Out.TheVariants as out
 use Rattle.sip_transactions.specs.Machine.{transaction_machine}

@@ -1,3 +1,4 @@
 pub mod Address
 pub mod Conversation
 pub mod Messages
+pub mod Provisionals

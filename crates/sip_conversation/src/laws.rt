@@ -4,10 +4,11 @@ ghost use Rattle.std.specs.Prelude.{List};
 ghost use Rattle.sip_conversation.specs.Address.{IsAddress};
 ghost use Rattle.sip_conversation.specs.Conversation.{Turn, of_sides};
 ghost use Rattle.sip_conversation.specs.Messages.{CallsHearUnchanged, MessagesComeUnchanged};
+ghost use Rattle.sip_conversation.specs.Provisionals.{ProvisionalsToldAsSaid};
 
 use sip_message::Addr;
 use sip_model::laws_of_phases;
-use sip_round::Config;
+use sip_round::{Config, provisionals_in_each_life};
 use sip_transactions::Transactions;
 
 /// In a carried conversation, each message that a transaction of one side is given is one that the
@@ -29,6 +30,20 @@ pub fn calls_hear_unchanged(one: Config, other: Config)
     numbers_fit(one.local);
     numbers_fit(other.local);
     laws_of_phases(&Transactions);
+}
+
+/// In a carried conversation, of the reliable provisional responses to an INVITE in one life of a
+/// dialog a user is told of those with consecutive RSeqs, of each once; and of each of these RSeqs
+/// the other side said such a response (RFC 3262, section 4). It takes that all that calls ask to
+/// send keeps the rules of messages.
+pub fn provisionals_told_were_said(one: Config, other: Config)
+    ensures { (turns : List Turn) → ProvisionalsToldAsSaid (of_sides one other) turns }
+{
+    numbers_fit(one.local);
+    numbers_fit(other.local);
+    laws_of_phases(&Transactions);
+    provisionals_in_each_life(&one);
+    provisionals_in_each_life(&other);
 }
 
 fn numbers_fit(address: Addr)

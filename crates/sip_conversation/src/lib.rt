@@ -3,4 +3,4 @@
 
 mod laws;
 
-pub use laws::{calls_hear_unchanged, messages_come_unchanged};
+pub use laws::{calls_hear_unchanged, messages_come_unchanged, provisionals_told_were_said};
