@@ -1,8 +1,8 @@
 -- What is written for a message that keeps the rules arrives as that message, stamped with its
 -- source where it is a request.
-use Rattle.std.proofs.Common.{◌≡◌, ◌⊎◌, inl, inr, ℕ, Bool, true, false, List, length, sym, ap, subst}
+use Rattle.std.proofs.Common.{◌≡◌, ◌⊎◌, inl, inr, ℕ, Bool, true, false, List, length, sym, ap, subst, ◌<◌, ◌≤◌}
 use Rattle.std.specs.Prelude.{nat_lt, Result, Ok, Err, Some, None, if◌then◌else◌}
-use Rattle.std.proofs.lemmas.Bool.{ltb-false}
+use Rattle.std.proofs.lemmas.Bool.{ltb-false, ltb-true}
 use Rattle.sip_message.specs.declared.addr.Addr.{Addr}
 use Rattle.sip_message.specs.declared.fault.ReadFault.{ReadFault}
 use Rattle.sip_message.specs.declared.fault.ReadFault.TheVariants as fault
@@ -28,17 +28,30 @@ use Rattle.sip_round.specs.Arrivals.{arrival_for, arrival_of, datagram_arrival, 
 use Rattle.sip_conversation.specs.Messages.{come_from}
 use Rattle.sip_conversation.proofs.Rounds.{ArrivalFits}
 
--- the text is read as the message, or is too long
+-- a text that isn't too long is read as the message
+read_again : (message : Message) → IsMessage message → length (written message) ≤ 65535
+    → message_at (written message) ≡ Ok message
+read_again message rules short =
+    spelled_again (written message) message (written_spelled message rules short)
+
 what_comes : (message : Message) → IsMessage message
-    → (message_at (written message) ≡ Ok message) ⊎ (message_at (written message) ≡ Err fault.TooLong)
+    → (message_at (written message) ≡ Ok message)
+    ⊎ (message_at (written message) ≡ Err fault.TooLong)
 what_comes message rules =
     let text = written message in
     let read : Bool → Result Message ReadFault =
     λ long. if long then Err fault.TooLong else message_in (without_line_ends text) in
     by_bool (nat_lt 65535 (length text))
     (λ long. inr (ap read long))
-    (λ short. inl (spelled_again text message
-    (written_spelled message rules (ltb-false 65535 (length text) short))))
+    (λ short. inl (read_again message rules (ltb-false 65535 (length text) short)))
+
+pub read_or_long : (message : Message) → IsMessage message
+    → (message_at (written message) ≡ Ok message) ⊎ (65535 < length (written message))
+read_or_long message rules =
+    let text = written message in
+    by_bool (nat_lt 65535 (length text))
+    (λ long. inr (ltb-true 65535 (length text) long))
+    (λ short. inl (read_again message rules (ltb-false 65535 (length text) short)))
 
 module _ (config : Config) (Fits : Key → Input → Type 0) (id : Id) (from : Addr) where
   abbrev ReceiptFits : Message → Addr → Type 0

@@ -36,8 +36,8 @@ use Rattle.sip_round.specs.declared.round.Round.{Round}
 use Rattle.sip_round.specs.Answers.{calls_of}
 use Rattle.sip_round.specs.Laws.{ProvisionalsInLives, call_inputs_of}
 use Rattle.sip_conversation.specs.Address.{IsAddress}
-use Rattle.sip_conversation.specs.Conversation.{Side, Turn, peer, rounds_of}
-use Rattle.sip_conversation.specs.Messages.{ComesUnchanged, come_from}
+use Rattle.sip_conversation.specs.Conversation.{Carried, Side, Turn, peer, rounds_of}
+use Rattle.sip_conversation.specs.Messages.{CallsKeepRules, ComesUnchanged, come_from}
 use Rattle.sip_conversation.specs.Provisionals.{ProvisionalsToldAsSaid, SaidReliably}
 use Rattle.sip_conversation.proofs.OneTransaction.{KindCame}
 use Rattle.sip_conversation.proofs.Unchanged.{inputs_unchanged}
@@ -154,7 +154,8 @@ module _ (configs : Side → Config) (turns : List Turn) (s : Side) where
 pub provisionals_said : (configs : Side → Config) → ((s : Side) → IsAddress (configs s).local)
     → EachKeyAlone key_cmp transaction_machine tick_at
     → ((s : Side) (rounds : List Round) → ProvisionalsInLives (configs s) rounds)
-    → (turns : List Turn) → ProvisionalsToldAsSaid configs turns
+    → (turns : List Turn) → Carried configs turns → CallsKeepRules configs turns
+    → ProvisionalsToldAsSaid configs turns
 provisionals_said configs addresses alone in_lives turns carried keep s call_id invite life =
     let rounds = rounds_of s turns in
     let order = in_lives s rounds call_id invite life in

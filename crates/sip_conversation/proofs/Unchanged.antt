@@ -1,6 +1,6 @@
 -- Messages come unchanged in a carried conversation.
-use Rattle.std.proofs.Common.{◌≡◌, ℕ, Bool, true, false, List, [], ◌∷◌, ◌++◌, refl, sym, ap, subst, append-nil, append_assoc}
-use Rattle.std.specs.Prelude.{Contains, IfSome, Option, None, Some, if◌then◌else◌}
+use Rattle.std.proofs.Common.{◌≡◌, ℕ, Bool, true, false, List, [], ◌∷◌, ◌++◌, refl, sym, ap, subst, append-nil, append_assoc, ◌<◌, ◌⊎◌, length}
+use Rattle.std.specs.Prelude.{Contains, IfSome, Ok, Option, None, Some, if◌then◌else◌}
 use Rattle.std.specs.List.{AllByRecursion}
 use Rattle.sip_message.specs.declared.addr.Addr.{Addr}
 use Rattle.sip_message.specs.declared.id.Id.{Id}
@@ -13,6 +13,7 @@ use Rattle.sip_message.specs.Source.{stamped}
 use Rattle.sip_message.specs.Written.{written}
 use Rattle.sip_model.specs.Laws.{EachKeyAlone}
 use Rattle.sip_model.specs.Machine.{given_at, outputs_from, tick_at}
+use Rattle.sip_reader.specs.ReadMessage.{message_at}
 use Rattle.sip_transactions.specs.declared.input.Command.{Command}
 use Rattle.sip_transactions.specs.declared.input.Command.TheVariants as command
 use Rattle.sip_transactions.specs.declared.input.Input.{Input}
@@ -37,10 +38,11 @@ use Rattle.sip_round.specs.Arrivals.{arrival_of}
 use Rattle.sip_round.specs.Laws.{call_inputs_of, inputs_of, said_of}
 use Rattle.sip_conversation.specs.Address.{IsAddress}
 use Rattle.sip_conversation.specs.Conversation.{Carried, CarriedAfter, IsCarried, Side, Turn, given_by, peer, rounds_of}
+use Rattle.sip_conversation.specs.Datagrams.{DatagramsAreTextsSaid, IsTextSaid}
 use Rattle.sip_conversation.specs.Messages.{CallSays, CallsHearUnchanged, CallsKeepRules, ComesUnchanged, IsSaid, KeepsRules, MessagesComeUnchanged, come_from, message_up}
 use Rattle.sip_conversation.specs.Messages.IsSaid.{Acknowledges, Asked, Direct, Trying}
 use Rattle.sip_conversation.proofs.Among.{all_go, all_of, each_of}
-use Rattle.sip_conversation.proofs.Bridge.{text_fits}
+use Rattle.sip_conversation.proofs.Bridge.{read_or_long, text_fits}
 use Rattle.sip_conversation.proofs.Carrying.{TurnHolds, all_carried, each_turn, in_rounds}
 use Rattle.sip_conversation.proofs.Longer.{rounds_of-append, says_longer}
 use Rattle.sip_conversation.proofs.OneTransaction.{AreSaid, IsFaithful, IsTextOf, KindCame, faithful}
@@ -270,7 +272,8 @@ module _ (alone : EachKeyAlone key_cmp transaction_machine tick_at) where
     out_unchanged turns s (call_out.Command id c) = command_unchanged turns s id c
     out_unchanged turns s (call_out.Direct to bytes) = tt
 
-    pub messages_unchanged : (turns : List Turn) → MessagesComeUnchanged configs turns
+    pub messages_unchanged : (turns : List Turn) → Carried configs turns → CallsKeepRules configs turns
+        → MessagesComeUnchanged configs turns
     messages_unchanged turns carried keep s key id message reply_to given =
         let fine = fine_after [] turns tt carried keep in
         let rounds = rounds_of s turns in
@@ -284,6 +287,38 @@ module _ (alone : EachKeyAlone key_cmp transaction_machine tick_at) where
         (all_of (OutFits (configs s) (IsUnchanged turns s))
         (calls_give (configs s) (configs s).first no_past rounds)
         (λ out among. out_unchanged turns s out))) given.1
+
+    -- ---- datagrams
+
+    abbrev IsSaidText : List Turn → Side → Event → Type 0
+    IsSaidText turns s (event.Datagram from bytes) = IsTextSaid configs turns s bytes
+    IsSaidText turns s (event.Failed key) = Unit {0}
+    IsSaidText turns s (event.Command c) = Unit {0}
+
+    carried_text : (turns : List Turn) → AreFine turns → CallsKeepRules configs turns → (s : Side)
+        (e : Event) → IsCarried configs turns s e → IsSaidText turns s e
+    carried_text turns fine keep s (event.Datagram from bytes) carried =
+        let text = texts turns fine keep (peer s) (carried.1).0 (configs s).local bytes
+        (carried.1).1 in
+        record {
+          original = text.0;
+          said = (text.2).1;
+          text = text.1;
+          read = subst (λ b. (message_at b ≡ Ok text.0) ⊎ (65535 < length b)) (sym text.1)
+              (read_or_long text.0 (text.2).0);
+        }
+    carried_text turns fine keep s (event.Failed key) carried = tt
+    carried_text turns fine keep s (event.Command c) carried = tt
+
+    pub datagrams_said : (turns : List Turn) → Carried configs turns → CallsKeepRules configs turns
+        → DatagramsAreTextsSaid configs turns
+    datagrams_said turns carried keep s round among from bytes has =
+        let fine = fine_after [] turns tt carried keep in
+        each_of (IsSaidText turns s) round.events (event.Datagram from bytes)
+        (each_of (λ r. AllByRecursion (IsSaidText turns s) r.events) (rounds_of s turns) round
+        (in_rounds (IsSaidText turns) s turns
+        (each_turn {P = IsCarried configs turns} {Q = IsSaidText turns}
+        (carried_text turns fine keep) turns (all_carried configs [] turns carried))) among) has
 
     -- ---- what comes up to calls
 
@@ -327,7 +362,8 @@ module _ (alone : EachKeyAlone key_cmp transaction_machine tick_at) where
     kind_unchanged turns s kind.Timeout came = tt
     kind_unchanged turns s kind.Failed came = tt
 
-    pub calls_hear : (turns : List Turn) → CallsHearUnchanged configs turns
+    pub calls_hear : (turns : List Turn) → Carried configs turns → CallsKeepRules configs turns
+        → CallsHearUnchanged configs turns
     calls_hear turns carried keep s call_id up comes =
         kind_unchanged turns s up.kind
         (each_of (TimedCame (ComesUnchanged configs turns s))

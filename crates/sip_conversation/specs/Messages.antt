@@ -24,7 +24,7 @@ use Rattle.sip_common.specs.declared.item.Item.TheVariants as item
 use Rattle.sip_round.specs.declared.config.Config.{Config}
 use Rattle.sip_round.specs.declared.round.Round.{Round}
 use Rattle.sip_round.specs.Laws.{call_inputs_of, inputs_of, said_of_call}
-use Rattle.sip_conversation.specs.Conversation.{Carried, Side, Turn, peer, rounds_of}
+use Rattle.sip_conversation.specs.Conversation.{Side, Turn, peer, rounds_of}
 
 -- the message that a command asks a transaction to send
 abbrev pub message_of : Command → Message
@@ -81,12 +81,10 @@ pub record ComesUnchanged (configs : Side → Config) (turns : List Turn) (side 
   pub rules : IsMessage original
   pub same : message ≡ come_from (configs (peer side)).local original
 
--- so is each message that a transaction is given in a carried conversation in which what calls ask
--- to send keeps the rules
+-- so is each message that a transaction is given
 abbrev pub MessagesComeUnchanged : (Side → Config) → List Turn → Type 0
 MessagesComeUnchanged configs turns =
-    Carried configs turns → CallsKeepRules configs turns
-    → (side : Side) (key : Key) (id : Id) (message : Message) (reply_to : Addr)
+    (side : Side) (key : Key) (id : Id) (message : Message) (reply_to : Addr)
     → IsGiven (configs side) (rounds_of side turns) key (input.Receive id message reply_to)
     → ComesUnchanged configs turns side message
 
@@ -108,7 +106,6 @@ ComesUp config rounds call_id up = (now : ℕ) × (event : Id)
 -- so is each message that comes up to a call
 abbrev pub CallsHearUnchanged : (Side → Config) → List Turn → Type 0
 CallsHearUnchanged configs turns =
-    Carried configs turns → CallsKeepRules configs turns
-    → (side : Side) (call_id : List ℕ) (up : Up)
+    (side : Side) (call_id : List ℕ) (up : Up)
     → ComesUp (configs side) (rounds_of side turns) call_id up
     → IfSome (message_up up.kind) (ComesUnchanged configs turns side)

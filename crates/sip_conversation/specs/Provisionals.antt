@@ -10,8 +10,8 @@ use Rattle.sip_calls.specs.Provisionals.{IsConsecutive, shown}
 use Rattle.sip_round.specs.declared.config.Config.{Config}
 use Rattle.sip_round.specs.Answers.{calls_of}
 use Rattle.sip_round.specs.Laws.{call_inputs_of}
-use Rattle.sip_conversation.specs.Conversation.{Carried, Side, Turn, peer, rounds_of}
-use Rattle.sip_conversation.specs.Messages.{CallsKeepRules, IsSaid}
+use Rattle.sip_conversation.specs.Conversation.{Side, Turn, peer, rounds_of}
+use Rattle.sip_conversation.specs.Messages.{IsSaid}
 
 -- the other side said in these turns a reliable provisional response of this RSeq, in a dialog
 pub record SaidReliably (configs : Side → Config) (turns : List Turn) (side : Side)
@@ -33,9 +33,8 @@ module _ (configs : Side → Config) (turns : List Turn) (side : Side) where
     pub said : AllByRecursion (SaidReliably configs turns side)
         (told_reliably call_id invite life)
 
--- so it is in a carried conversation in which what calls ask to send keeps the rules
+-- of every call, INVITE and life of a dialog
 abbrev pub ProvisionalsToldAsSaid : (Side → Config) → List Turn → Type 0
 ProvisionalsToldAsSaid configs turns =
-    Carried configs turns → CallsKeepRules configs turns
-    → (side : Side) (call_id : List ℕ) (invite : AnInvite) (life : DialogLife)
+    (side : Side) (call_id : List ℕ) (invite : AnInvite) (life : DialogLife)
     → ToldAsSaid configs turns side call_id invite life

@@ -3,4 +3,7 @@
 
 mod laws;
 
-pub use laws::{calls_hear_unchanged, messages_come_unchanged, provisionals_told_were_said};
+pub use laws::{
+    calls_hear_unchanged, datagrams_are_texts_said, messages_come_unchanged,
+    provisionals_told_were_said,
+};
